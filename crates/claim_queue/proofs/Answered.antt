@@ -1,22 +1,9 @@
 -- What the end did, and its place among the ends, by each answer of a queue.
-use Rattle.claim_queue.proofs.Common.{◌≡◌, ℕ, List, [], ◌∷◌, ◌++◌, refl, sym, subst, inl, inr, ⊎_elim, Result, Ok, Err, Positions, Step, Adds, Made, Did, ClaimRefusal, NoItems, TooLong, Closed, Spent, Full, Lost, TakeRefusal, RefusedBy, Refused, ClaimedItems, run_of, View, run, taking, with_run, with_taking, Looks, Try, tried, IsPut, PutAnswer, TookItems, RefusedTake}
+use Rattle.claim_queue.proofs.Common.{ℕ, List, ◌++◌, inl, inr, ⊎_elim, Result, Ok, Err, Positions, Step, Did, ClaimRefusal, NoItems, TooLong, Closed, Spent, Full, Lost, TakeRefusal, RefusedBy, Refused, ClaimedItems, run_of, View, run, taking, with_run, with_taking, Looks, Try, tried, IsPut, PutAnswer, TookItems, RefusedTake}
 use Rattle.std.specs.Prelude.{length}
 use Rattle.claim_queue.specs.declared.take.TakeRefusal.TheVariants as takes
-use Rattle.table_theory.proofs.Reaching.{adds_none}
-
--- the end did this, and stands among the ends as it stood; these are its steps
-pub record Does (v : View) (own : Did) (w : View) : Type 0 where
-  pub steps : List (Step Positions)
-  pub adds : Adds v steps w
-  pub did : w.own ≡ own
-  pub member : w.member ≡ v.member
-
-pub does : (v w : View) (own : Did) (entries : List (Step Positions)) → Made v entries own w → Does v own w
-does v w own entries m = record { steps = entries; adds = m.adds; did = m.did; member = m.member }
-
-pub looks_does : (v w : View) (entries : List (Step Positions)) → Looks v entries w → Does v v.own w
-looks_does v w [] h = subst (λ (z : View). Does v v.own z) (sym h) (record { steps = []; adds = adds_none v; did = refl; member = refl })
-looks_does v w (e ∷ entries) h = does v w v.own (e ∷ entries) h
+pub use Rattle.table_theory.proofs.Looking.{Does, does}
+use Rattle.table_theory.proofs.Looking.{looks_does}
 
 -- the entries of a refused claim, of which it says the same wherever they stand
 pub refused_at : (Added : List (Step Positions) → Type 0) (room count : ℕ) (r : ClaimRefusal) → RefusedBy Added room count r → (entries : List (Step Positions)) × Added entries × ((Behind : List (Step Positions) → Type 0) → Behind entries → RefusedBy Behind room count r)

@@ -1,5 +1,5 @@
 -- No number that a call has found is below one that its end had seen; and two ends have nothing in common.
-use Rattle.claim_queue.proofs.Common.{◌≡◌, ℕ, ◌%◌, ◌+◌, ◌≤◌, List, [], ◌∷◌, ◌++◌, map, arith, at_map, Batch, QueueView, Positions, Moment, Step, Adds, IsReal, IsHonest, Grows, head_of, tail_of, take, passes_since, passes_split, head_word, tail_word, View, of_queues, part_of, IsRuled}
+use Rattle.claim_queue.proofs.Common.{◌≡◌, ◌%◌, ◌≤◌, List, ◌∷◌, ◌++◌, map, arith, at_map, Batch, QueueView, Positions, Step, Adds, IsReal, IsHonest, Grows, head_of, tail_of, take, passes_since, passes_split, head_word, tail_word, View, of_queues, part_of, IsRuled}
 use Rattle.table_theory.specs.Apart.{AreApart}
 use Rattle.table_theory.specs.Listing.{runs_of, takes_of}
 use Rattle.table_theory.proofs.Apart.{lists_apart}

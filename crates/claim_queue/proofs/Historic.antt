@@ -1,5 +1,5 @@
 -- Which event the change of a real step is, of the queue with each of its histories.
-use Rattle.claim_queue.proofs.Common.{◌≡◌, ℕ, ◌+◌, ◌-◌, ◌<◌, false, List, [], ◌∷◌, ◌++◌, length, length-append, length-map, map, set, ap, ◌∙◌, subst, sym, refl, place_at, arith, Ok, some, get_elem?, Batch, Cell, Positions, Moment, Step, change, IsReal, written_to, Lawful, fresh, written_at, head_of, tail_of, with_claim, with_take, with_shut, Owned, IsPlace, head_word, tail_word, mark, of_queues, run}
+use Rattle.claim_queue.proofs.Common.{◌≡◌, ℕ, ◌+◌, ◌-◌, ◌<◌, false, List, [], ◌∷◌, ◌++◌, length, length-append, length-map, map, set, ap, subst, sym, refl, place_at, arith, Ok, some, get_elem?, Batch, Cell, Positions, Moment, Step, change, IsReal, written_to, Lawful, fresh, written_at, head_of, tail_of, with_claim, with_take, with_shut, Owned, IsPlace, head_word, tail_word, mark, of_queues, run}
 use Rattle.event_theory.specs.Marks.{shut}
 use Rattle.event_theory.specs.Queues.{claim, raise, take_first}
 use Rattle.table_theory.specs.QueueOf.{IsEventOf, IsHistory, no_event}

@@ -1,5 +1,5 @@
 -- What the number of a real step says, and which event its change is.
-use Rattle.claim_queue.proofs.Common.{◌≡◌, ◌≢◌, ℕ, ◌+◌, ◌-◌, ◌*◌, ◌%◌, ◌<◌, ◌≤◌, Bool, true, false, List, [], ◌∷◌, ◌++◌, map, length, length-append, get_or, set, refl, sym, ap, ◌∙◌, subst, arith, Ok, length-map, some, get_elem?, Batch, Cell, Positions, QueueView, Moment, Step, load, change, IsReal, ViewsShow, written_to, Lawful, Grows, blank, fresh, place_at, item_at, written_at, head_of, tail_of, with_claim, with_take, with_shut, spot, own, run_stands, IsPlace, FIRST_PLACE, head_word, tail_word, data_word, flag_word, mark, data_in, flag_in, of_queues, run, taking}
+use Rattle.claim_queue.proofs.Common.{◌≡◌, ◌≢◌, ℕ, ◌+◌, ◌-◌, ◌*◌, ◌%◌, ◌<◌, ◌≤◌, Bool, true, false, List, [], ◌∷◌, ◌++◌, map, length, length-append, get_or, set, refl, sym, ap, ◌∙◌, subst, arith, Ok, length-map, some, get_elem?, Batch, Cell, Positions, QueueView, Moment, Step, load, change, IsReal, ViewsShow, written_to, Lawful, Grows, blank, fresh, place_at, item_at, written_at, head_of, tail_of, with_claim, with_take, with_shut, spot, own, run_stands, IsPlace, head_word, tail_word, data_word, flag_word, mark, data_in, flag_in, of_queues, run, taking}
 use Rattle.event_theory.specs.Marks.{shut}
 use Rattle.event_theory.specs.Queues.{claim, raise, take_first}
 use Rattle.table_theory.specs.QueueOf.{IsEvent, no_event}

@@ -13,7 +13,6 @@ pub mod Answered
 pub mod Lining
 pub mod Scanning
 pub mod Emptying
-pub mod Cutting
 pub mod Settling
 pub mod Betweens
 pub mod Lawful

@@ -3,7 +3,7 @@ use Rattle.claim_queue.proofs.Common.{◌≡◌, ℕ, suc, ◌+◌, ◌<◌, Lis
 use Rattle.std.proofs.Common.{true≢false}
 use Rattle.std.specs.Prelude.{MatchResult}
 use Rattle.std.specs.List.{AllByRecursion}
-use Rattle.std.proofs.lemmas.List.{append-nil}
+use Rattle.table_theory.proofs.Looking.{looks_on, looks_made}
 use Rattle.table_theory.proofs.Reaching.{all_on}
 use Rattle.claim_queue.specs.Puts.{Raise, IsRaise, AreRaises, raising, raise_entries, IsLost, is_lost}
 use Rattle.std.proofs.lemmas.List.{take_more}
@@ -83,16 +83,6 @@ lost_by room v w items (Err (Lost now)) is (fits, head, tail, m, n, o, there, is
 tried_on : (xs ys : List Try) → tried (xs ++ ys) ≡ tried xs ++ tried ys
 tried_on [] ys = refl
 tried_on (x ∷ xs) ys = ap (λ (z : List (Step Positions)). tried (x ∷ []) ++ z) (tried_on xs ys)
-
--- looks, one behind the other
-looks_on : (v u w : View) (xs ys : List (Step Positions)) → Looks v xs u → Looks u ys w → Looks v (xs ++ ys) w
-looks_on v u w [] ys a b = subst (λ (z : View). Looks z ys w) a b
-looks_on v u w (x ∷ xs) [] a b = subst (λ (z : List (Step Positions)). Made v z v.own w) (sym (append-nil (x ∷ xs))) (subst (λ (z : View). Made v (x ∷ xs) v.own z) (sym b) a)
-looks_on v u w (x ∷ xs) (y ∷ ys) a b = made_then v u w (x ∷ xs) (y ∷ ys) v.own (λ d. d) a b
-
-looks_made : (F : Did → Did) (v u w : View) (xs ys : List (Step Positions)) → Looks v xs u → Made u ys (F u.own) w → Made v (xs ++ ys) (F v.own) w
-looks_made F v u w [] ys a b = subst (λ (z : View). Made z ys (F z.own) w) a b
-looks_made F v u w (x ∷ xs) ys a b = made_then v u w (x ∷ xs) ys v.own F a b
 
 looks_runs : (v u : View) (xs : List (Step Positions)) → Looks v xs u → u.own.runs ≡ v.own.runs
 looks_runs v u [] a = ap (λ (z : View). z.own.runs) a

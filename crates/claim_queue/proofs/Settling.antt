@@ -12,7 +12,7 @@ use Rattle.table_theory.proofs.Reading.{read_word}
 use Rattle.table_theory.proofs.Totals.{sole_total}
 use Rattle.atomic_table.specs.Table.{Final, Seen}
 use Rattle.claim_queue.specs.Closings.{ClosedNow}
-use Rattle.claim_queue.proofs.Cutting.{settled, all_left}
+use Rattle.table_theory.proofs.Cutting.{settled, all_left}
 use Rattle.claim_queue.proofs.Stepping.{St}
 
 -- a place that is left reads as its item, if it was raised
@@ -51,6 +51,19 @@ closed_lists v l = record { lists = l; seen = first_seen v.seen.object (part_of 
 
 pub whole_lists : (v : View) → IsRuled v → IsWhole v.member.share → ViewsShow v.seen.object (part_of v ∷ [])
 whole_lists v r whole = closed_lists v (subst (λ (z : Moment Positions). PartsShow z.object (part_of v ∷ [])) (sym r.seen) (sole r.key r.state r.rule r.number v r.here whole))
+
+-- the tail and the head of a closed queue that began at this position, with so many places
+pub record Spans (first room tail head : ℕ) : Type 0 where
+  pub started : first ≤ tail
+  pub behind : tail ≤ head
+  pub within : head ≤ tail + room
+  pub bounded : head < 4294967296
+
+pub spans : (key : Shape) (w : View) (id h t : ℕ) (ws : List ℕ) (xs : List Unit) → Final (Seen (Rule key) id w) ws xs → get_elem? ws head_word ≡ maybe.some h → get_elem? ws tail_word ≡ maybe.some t → Spans key.first key.room t (h % 4294967296)
+spans key w id h t ws xs fin at_h at_t = let k = fin.1.0 in let q : Positions = k.now.object in let sh : WordsShow q ws = subst (WordsShow q) fin.2 k.stands.shows in
+    let first = k.first in let room = k.room in let bounded = sh.bounded in let behind = k.stands.lawful.behind in let most = k.stands.lawful.within in
+    let hd : h % 4294967296 ≡ head_of q = low_of (head_of q) h q.shut bounded (sym (read_word ws head_word h at_h) ∙ sh.head) in let tl : t ≡ q.first + q.taken = sym (read_word ws tail_word t at_t) ∙ sh.tail in
+    record { started = omega arith; behind = omega arith; within = omega arith; bounded = omega arith }
 
 pub closes : (key : Shape) (v w : View) (found id h t put taken : ℕ) (ws : List ℕ) (xs : List Unit) (left : List (Option ℕ)) (at : ℕ) → v.member.ends ≡ 1 → key.first ≡ at → Tallied ends_word v found w → found ≡ 1 → Final (Seen (Rule key) id w) ws xs → get_elem? ws head_word ≡ maybe.some h → get_elem? ws tail_word ≡ maybe.some t
     → put ≡ h % 4294967296 - key.first → taken ≡ t - key.first → left ≡ left_from key.room ws t (h % 4294967296 - t) → ClosedNow v at put taken left

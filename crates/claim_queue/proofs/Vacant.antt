@@ -1,5 +1,5 @@
 -- What was left before a place that was found not raised.
-use Rattle.claim_queue.proofs.Common.{◌≡◌, ◌≢◌, ℕ, zero, suc, ◌+◌, ◌-◌, ◌<◌, ◌≤◌, List, [], ◌∷◌, ◌++◌, length, map, drop, take, get_or, get_or-drop, get_or-map, length-map, sym, refl, ap, ◌∙◌, subst, arith, append_assoc, Positions, Moment, Step, load, IsReal, IsHonest, passes_since, passes_split, blank, item_at, item_of, written_at, tail_of, raised_below, head_word, tail_word, data_word, flag_word, View, of_queues, Scan, scanned, stopping, behind, RefusedTake, Empty}
+use Rattle.claim_queue.proofs.Common.{◌≡◌, ℕ, zero, suc, ◌+◌, ◌-◌, ◌<◌, ◌≤◌, List, [], ◌∷◌, ◌++◌, length, drop, take, get_or, get_or-drop, get_or-map, sym, refl, ap, ◌∙◌, subst, arith, append_assoc, Positions, Moment, Step, load, IsHonest, passes_since, passes_split, blank, item_at, item_of, written_at, tail_of, raised_below, head_word, tail_word, data_word, flag_word, View, of_queues, Scan, scanned, stopping, behind, RefusedTake, Empty}
 use Rattle.std.proofs.lemmas.List.{get_or-take, length-drop}
 use Rattle.table_theory.specs.Ledgers.{Passes}
 use Rattle.table_theory.specs.Positioned.{left_of}

@@ -1,10 +1,10 @@
 -- What closing a queue and shutting it answer.
 use Rattle.std.specs.Prelude.{◌≡◌, ◌+◌, ◌%◌, ◌==◌, ◌≤◌, ℕ, Bool, List, [], ◌∷◌, Option, Some, None}
 use Rattle.std.specs.Prelude.{if◌then◌else◌, length, map, drop, nat_lt}
-use Rattle.table_theory.specs.declared.queues.Cell.{Cell}
 use Rattle.table_theory.specs.declared.queues.Positions.{Positions}
 use Rattle.table_theory.specs.declared.views.Moment.{Moment}
 use Rattle.table_theory.specs.Ledgers as ends
+pub use Rattle.table_theory.specs.Positioned.{shown}
 use Rattle.table_theory.specs.Positioned.{item_of, left_of, with_shut}
 use Rattle.table_theory.specs.Listing.{AllRaised, PartsShow}
 use Rattle.table_theory.specs.Reads.{read_from}
@@ -27,10 +27,6 @@ left_at room words p = if flag_in words (p % room) == p + 1 then Some (data_in w
 -- what is read at the n positions from p on
 abbrev pub left_from : ℕ → List ℕ → ℕ → ℕ → List (Option ℕ)
 left_from room words p n = read_from (left_at room words) p n
-
--- a place that is left: its item, if it was raised
-abbrev pub shown : Cell → Option ℕ
-shown p = if nat_lt p.written 2 then None else Some p.item
 
 -- The queue is closed, by an end that has the whole and so has seen all of it, and each split was joined: what is left
 -- is what was put behind what was taken, no more than the queue has places; the lines put are the items put, and the

@@ -1,12 +1,14 @@
 -- What is an end's own: its runs, what it took, and how often it shut the queue.
-use Rattle.std.specs.Prelude.{◌≡◌, ℕ, ◌+◌, Bool, if◌then◌else◌, List, [], ◌∷◌, ◌++◌, map, take, drop, slice_set}
+use Rattle.std.specs.Prelude.{◌+◌, Bool, if◌then◌else◌, [], ◌∷◌, ◌++◌, slice_set}
 use Rattle.table_theory.specs.declared.queues.Batch.{Batch}
 use Rattle.table_theory.specs.declared.queues.Positions.{Positions}
 use Rattle.table_theory.specs.declared.queues.QueueView.{QueueView}
 use Rattle.table_theory.specs.declared.views.Ledger.{Ledger}
-use Rattle.table_theory.specs.Ledgers.{Step, Subject, Made}
+pub use Rattle.table_theory.specs.Batches.{run, taking}
+use Rattle.table_theory.specs.Ledgers.{Subject}
+pub use Rattle.table_theory.specs.Ledgers.{Looks}
 use Rattle.table_theory.specs.Listing.{number_of}
-use Rattle.table_theory.specs.Positioned.{Lawful, fresh, tail_of}
+use Rattle.table_theory.specs.Positioned.{Lawful}
 use Rattle.claim_queue.specs.declared.rule.Did.{Did}
 use Rattle.claim_queue.specs.Changes.{Becomes}
 use Rattle.claim_queue.specs.Layout.{ends_word}
@@ -32,14 +34,6 @@ of_queues = record { ends_word = ends_word; Shows = WordsShow; IsLawful = Lawful
 abbrev pub part_of : View → QueueView
 part_of v = record { queue = v.seen.object; runs = v.own.runs; takes = v.own.takes }
 
--- a run of which nothing is raised
-abbrev pub run : ℕ → List ℕ → Batch
-run head items = record { start = head; places = map fresh items }
-
--- what a taking of n takes
-abbrev pub taking : Positions → ℕ → Batch
-taking q n = record { start = tail_of q; places = take n (drop q.taken q.places) }
-
 -- one run more was claimed
 abbrev pub with_run : Did → Batch → Did
 with_run d e = record d { runs = d.runs ++ e ∷ [] }
@@ -55,8 +49,3 @@ with_taking d e = record d { takes = d.takes ++ e ∷ [] }
 -- a shut counts where the queue was open
 abbrev pub with_shutting : Did → Bool → Did
 with_shutting d was_open = record d { shuts = d.shuts + (if was_open then 1 else 0) }
-
--- the end made these steps, and did nothing but look; where it made none, all is as it was
-abbrev pub Looks : View → List (Step Positions) → View → Type 0
-Looks v [] w = w ≡ v
-Looks v (step ∷ steps) w = Made v (step ∷ steps) v.own w

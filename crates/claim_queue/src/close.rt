@@ -9,9 +9,10 @@ ghost use Rattle.table_theory.specs.declared.positions.TheConstants.{POSITIONS};
 ghost use Rattle.claim_queue.specs.Layout.{width, ends_word};
 ghost use Rattle.claim_queue.specs.Lines.{SameLines};
 
+use crate::counting::{close_by, count};
 use crate::ends::{ClaimQueue, QueueEnd};
 use crate::layout::{HEAD, SHUT, TAIL, data_word, flag_word};
-use crate::steps::{count, or_head};
+use crate::steps::or_head;
 use arrayvec::ArrayVec;
 use std::alloc::Global;
 use table_theory::OpenEnds;
@@ -84,14 +85,15 @@ impl<const N: usize> ClaimQueue<N> {
         ensures steps { IfErr result (λ e. WereOpen ends_word (view_of end.entry) e.2.others (view_of e.1)) }
         ensures same { IfErr result (λ e. (e.0 ≡ self.entry) × IsSameEnd end.entry e.1) }
     {
-        let mut end = end;
-        let ends = count(&self.table.shared, &mut end.seat);
-        if ends != 1 {
-            return Err((self, end, OpenEnds { others: ends - 1 }));
-        }
         let QueueEnd { seat } = end;
+        let last = match count(&self.table.shared, seat) {
+            Ok(last) => last,
+            Err((seat, ends)) => {
+                return Err((self, QueueEnd { seat }, OpenEnds { others: ends - 1 }));
+            }
+        };
         let ClaimQueue { table, first } = self;
-        let closed = table.close_with(seat);
+        let closed = close_by(table, last);
         let head = closed.word(HEAD) % SHUT;
         let tail = closed.word(TAIL);
         let left = read_left(&closed, tail, head);

@@ -37,6 +37,7 @@
 mod between;
 mod claim;
 mod close;
+mod counting;
 mod ends;
 pub mod laws;
 mod layout;

@@ -3,7 +3,7 @@ ghost use Rattle.std.specs.Prelude.{ℕ, List, []};
 ghost use Rattle.table_theory.specs.Ledgers.{rest_of, newborn, both};
 ghost use Rattle.claim_queue.specs.Own.{View, nothing_did, did_both};
 ghost use Rattle.claim_queue.specs.Rules.{newcomer};
-ghost use Rattle.claim_queue.specs.Steps.{finds, claims, writes, takes, shuts, counts_up, counts_down, counts};
+ghost use Rattle.claim_queue.specs.Steps.{finds, claims, writes, takes, shuts, counts_up, counts_down};
 
 use crate::rule::View;
 use atomic_table::{Join, Play, Split};
@@ -83,12 +83,6 @@ pub struct CountsDown;
 
 impl Play<(), View> for CountsDown {
     ghost then = { counts_down };
-}
-
-pub struct Counts;
-
-impl Play<(), View> for Counts {
-    ghost then = { counts };
 }
 
 pub struct Gives;

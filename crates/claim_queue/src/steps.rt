@@ -1,7 +1,7 @@
 //! The atomic steps. No signature has a const parameter, since a call of such a function could not pick ghost members.
 ghost use Rattle.std.specs.Prelude.{◌≡◌, ◌≢◌, ◌+◌, ◌-◌, ◌%◌, ◌<◌, ◌≤◌, ℕ, false, [], length};
 ghost use Rattle.table_theory.specs.declared.positions.TheConstants.{POSITIONS};
-ghost use Rattle.table_theory.specs.Ledgers.{CountedUp, CountedDown, Tallied, rest_of, newborn, both, emptied};
+ghost use Rattle.table_theory.specs.Ledgers.{CountedUp, CountedDown, rest_of, newborn, both, emptied};
 ghost use Rattle.table_theory.specs.Positioned.{fresh, tail_of, item_at, written_at};
 ghost use Rattle.table_theory.specs.Seating.{IsSame};
 ghost use Rattle.claim_queue.specs.Layout.{head_word, tail_word, ends_word, data_word, flag_word};
@@ -13,15 +13,15 @@ ghost use Rattle.claim_queue.specs.Takings.{HasRaised};
 
 use crate::layout::{ENDS, HEAD, SHUT, TAIL, data_word, flag_word};
 use crate::plays::{
-    ClaimItems, Claims, Counts, CountsDown, CountsUp, Finds, Gives, Joins, Shuts, Spent, Spot,
-    StoresData, StoresFlag, Takes,
+    ClaimItems, Claims, CountsDown, CountsUp, Finds, Gives, Joins, Shuts, Spent, Spot, StoresData,
+    StoresFlag, Takes,
 };
 use crate::rule::{ClaimRule, Shape, View};
 use atomic_table::{Seat, Shared};
 
 pub(crate) type Words = Shared<(), View, Shape, ClaimRule>;
 
-pub(crate) fn load(words: &Words, seat: &mut Seat<(), View>, word: usize) -> u64
+fn load(words: &Words, seat: &mut Seat<(), View>, word: usize) -> u64
     requires queue { (seat.old.table_id ≡ words.now.table_id) × (word < words.now.table_id.words) }
     requires live { 1 ≤ seat.old.me.0.member.ends }
     ensures queue { IsSame seat.old seat.new × Stays seat.old.me seat.new.me }
@@ -172,15 +172,6 @@ pub(crate) fn count_down(words: &Words, seat: &mut Seat<(), View>) -> u64
     ensures counted { CountedDown ends_word seat.old.me.0 seat.new.me.0 }
 {
     words.fetch_sub::<CountsDown>(seat, ENDS, 1)
-}
-
-pub(crate) fn count(words: &Words, seat: &mut Seat<(), View>) -> u64
-    requires queue { (seat.old.table_id ≡ words.now.table_id) × (FIRST_PLACE ≤ words.now.table_id.words) }
-    requires live { seat.old.me.0.member.ends ≡ 1 }
-    ensures queue { IsSame seat.old seat.new × Stays seat.old.me seat.new.me }
-    ensures tallied { Tallied ends_word seat.old.me.0 result seat.new.me.0 }
-{
-    words.load::<Counts>(seat, ENDS)
 }
 
 pub(crate) fn split_off(words: &Words, seat: &mut Seat<(), View>) -> Seat<(), View>

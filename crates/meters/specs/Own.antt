@@ -34,7 +34,7 @@ abbrev pub of_meters : Subject Reading
 of_meters = record { ends_word = ends_word; Shows = WordsShow; IsLawful = IsLawful; Happens = Becomes }
 
 -- its ticks, the ticks that it moved the clock on to, the alarms that it set, fired and cancelled, how often it was
--- split and took in another end, and its share
+-- split and took in another end, its loads that no list has, and its share
 pub record Own : Type 0 where
   pub ticks : List Tick
   pub advances : List ℕ
@@ -43,6 +43,7 @@ pub record Own : Type 0 where
   pub cancelled : List Alarm
   pub splits : ℕ
   pub joins : ℕ
+  pub unlisted : ℕ
   pub share : ℕ
 
 -- what is the end's own
@@ -55,20 +56,8 @@ own_of v = record {
   cancelled = v.own.cancelled;
   splits = v.member.splits;
   joins = v.member.joins;
+  unlisted = v.member.unlisted;
   share = v.member.share;
-}
-
--- the own of an end that did nothing, and has no share
-abbrev pub nothing_own : Own
-nothing_own = record {
-  ticks = [];
-  advances = [];
-  set = [];
-  fired = [];
-  cancelled = [];
-  splits = 0;
-  joins = 0;
-  share = 0;
 }
 
 -- the end's own is as it was
@@ -93,11 +82,15 @@ DidCancel alarm v w = own_of w ≡ record (own_of v) { cancelled = v.own.cancell
 abbrev pub DidFire : List Alarm → SeatView → SeatView → Type 0
 DidFire alarms v w = own_of w ≡ record (own_of v) { fired = v.own.fired ++ alarms }
 
--- a split more, and the share that is kept
+-- a split more, by one load that no list has, and the share that is kept
 abbrev pub DidSplit : SeatView → SeatView → Type 0
-DidSplit v w = own_of w ≡ record (own_of v) { splits = v.member.splits + 1; share = kept v.member.share }
+DidSplit v w = own_of w ≡ record (own_of v) {
+  splits = v.member.splits + 1;
+  unlisted = v.member.unlisted + 1;
+  share = kept v.member.share;
+}
 
--- the end then has what both had, and one join more
+-- the end then has what both had, and one join more, by one load that no list has
 abbrev pub DidBoth : SeatView → SeatView → SeatView → Type 0
 DidBoth v u w = own_of w ≡ record {
   ticks = v.own.ticks ++ u.own.ticks;
@@ -107,5 +100,6 @@ DidBoth v u w = own_of w ≡ record {
   cancelled = v.own.cancelled ++ u.own.cancelled;
   splits = v.member.splits + u.member.splits;
   joins = v.member.joins + u.member.joins + 1;
+  unlisted = v.member.unlisted + u.member.unlisted + 1;
   share = v.member.share + u.member.share;
 }

@@ -6,9 +6,9 @@ ghost use Rattle.meters.specs.Layout.{gauges_in, width};
 ghost use Rattle.meters.specs.Words.{SlotsShow, standing};
 ghost use Rattle.meters.specs.Closings.{ClosedNow, WereOpen};
 
+use crate::counting::{close_by, count};
 use crate::ends::{MeterSeat, Meters};
 use crate::layout::{CLOCK, FIRST_GAUGE, FIRST_SLOT, GAUGES, SLOTS};
-use crate::steps::count;
 use crate::word::AlarmWord;
 use arrayvec::ArrayVec;
 use atomic_table::Closed;
@@ -62,14 +62,15 @@ impl Meters {
         ensures steps { IfErr result (λ e. WereOpen (view_of seat) e.2.others (view_of e.1)) }
         ensures same { IfErr result (λ e. (e.0 ≡ self) × IsSameSeat seat e.1) }
     {
-        let mut seat = seat;
-        let ends = count(&self.table.shared, &mut seat.seat);
-        if ends != 1 {
-            return Err((self, seat, OpenEnds { others: ends - 1 }));
-        }
-        let MeterSeat { seat: last } = seat;
+        let MeterSeat { seat } = seat;
+        let last = match count(&self.table.shared, seat) {
+            Ok(last) => last,
+            Err((seat, ends)) => {
+                return Err((self, MeterSeat { seat }, OpenEnds { others: ends - 1 }));
+            }
+        };
         let Meters { table } = self;
-        let closed = table.close_with(last);
+        let closed = close_by(table, last);
         let gauges = read_gauges(&closed);
         let clock = closed.word(CLOCK) as u32;
         let alarms = read_alarms(&closed);

@@ -38,6 +38,7 @@
 mod alarms;
 mod between;
 mod close;
+mod counting;
 mod ends;
 mod gauges;
 pub mod laws;

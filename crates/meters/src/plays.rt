@@ -1,6 +1,6 @@
 //! What each step tells. These types are for the proofs alone.
 ghost use Rattle.table_theory.specs.Ledgers.{rest_of, newborn, both};
-ghost use Rattle.table_theory.specs.Plays.{finds, counts_up, counts};
+ghost use Rattle.table_theory.specs.Plays.{finds, counts_up};
 ghost use Rattle.meters.specs.Own.{SeatView, of_meters, nothing_did, did_both};
 ghost use Rattle.meters.specs.Rules.{newcomer};
 ghost use Rattle.meters.specs.Steps.{ticks, advances, sets, fires, cancels, counts_down};
@@ -55,12 +55,6 @@ pub struct CountsDown;
 
 impl Play<(), View> for CountsDown {
     ghost then = { counts_down };
-}
-
-pub struct Counts;
-
-impl Play<(), View> for Counts {
-    ghost then = { counts of_meters };
 }
 
 pub struct Gives;

@@ -1,7 +1,7 @@
 //! The atomic steps, one function for each kind.
 ghost use Rattle.std.specs.Prelude.{◌≡◌, ◌≢◌, ◌+◌, ◌<◌, ◌≤◌, [], IsTrue, IsFalse, Option, Some, None};
 ghost use Rattle.table_theory.specs.Seating.{IsSame};
-ghost use Rattle.table_theory.specs.Ledgers.{Looked, CountedUp, CountedDown, Tallied};
+ghost use Rattle.table_theory.specs.Ledgers.{Looked, CountedUp, CountedDown};
 ghost use Rattle.table_theory.specs.Ledgers.{rest_of, newborn, both, emptied};
 ghost use Rattle.meters.specs.Layout.{ends_word, clock_word, width, word_of};
 ghost use Rattle.meters.specs.declared.layout.TheConstants.{GAUGES, SLOTS, TICKS, LAST_TICK};
@@ -12,7 +12,7 @@ ghost use Rattle.meters.specs.Views.{IsPart};
 
 use crate::layout::{CLOCK, ENDS, FIRST_GAUGE, FIRST_SLOT};
 use crate::plays::{
-    Advances, Cancels, Counts, CountsDown, CountsUp, Finds, Fires, Gives, Joins, Sets, Spent, Ticks,
+    Advances, Cancels, CountsDown, CountsUp, Finds, Fires, Gives, Joins, Sets, Spent, Ticks,
 };
 use crate::rule::{MeterRule, Shape, View};
 use crate::word::AlarmWord;
@@ -21,7 +21,7 @@ use event_theory::Alarm;
 
 pub(crate) type Words = Shared<(), View, Shape, MeterRule>;
 
-pub(crate) fn load(words: &Words, seat: &mut Seat<(), View>, word: usize) -> u64
+fn load(words: &Words, seat: &mut Seat<(), View>, word: usize) -> u64
     requires seat { (seat.old.table_id ≡ words.now.table_id) × (word < words.now.table_id.words) }
     requires live { 1 ≤ seat.old.me.0.member.ends }
     ensures seat { HasStepped seat.old seat.new }
@@ -147,15 +147,6 @@ pub(crate) fn count_down(words: &Words, seat: &mut Seat<(), View>) -> u64
     ensures counted { CountedDown ends_word seat.old.me.0 seat.new.me.0 × IsPart seat.new.me.0 }
 {
     words.fetch_sub::<CountsDown>(seat, ENDS, 1)
-}
-
-pub(crate) fn count(words: &Words, seat: &mut Seat<(), View>) -> u64
-    requires seat { (seat.old.table_id ≡ words.now.table_id) × (width ≤ words.now.table_id.words) }
-    requires one { seat.old.me.0.member.ends ≡ 1 }
-    ensures seat { HasStepped seat.old seat.new }
-    ensures tallied { Tallied ends_word seat.old.me.0 result seat.new.me.0 }
-{
-    words.load::<Counts>(seat, ENDS)
 }
 
 pub(crate) fn split_off(words: &Words, seat: &mut Seat<(), View>) -> Seat<(), View>

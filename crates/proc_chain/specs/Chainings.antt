@@ -45,8 +45,8 @@ pub record AreShown (o : GatedQueue) (views : List View) : Type 0 where
   pub listed : ViewsShow o.queue (map part_of views)
   pub gate : GateShows o.queue o.gate views
 
--- where the end `seat` then has the view w, it is this event of the chain that the gate and the views of all ends show
--- that makes p of o
+-- where the end `seat` then has the view w, it is this event of the chain that the gate and these views show that makes
+-- p of o
 pub record IsChainEvent (o p : GatedQueue) (views : List View) (shown : AreShown o views) (seat : ℕ) (w : View)
     (event : Chain → Result Chain Refusal) : Type 0 where
   pub new_shown : ViewsShow p.queue (slice_set (map part_of views) seat (part_of w))

@@ -1,5 +1,5 @@
--- What a change of the queue and the gate is: one event of the core, at a moment at which views of all ends showed
--- them.
+-- What a change of the queue and the gate is: one event of the core, of a chain that views of ends show. A proof
+-- chooses these views.
 use Rattle.std.specs.Prelude.{◌≡◌, ℕ, List, [], ◌∷◌, Result}
 use mathlib.Core.Option.{some}
 use lib.ListN.{get_elem?}
@@ -41,8 +41,8 @@ Does notifies o p = p ≡ with_gate o MORE
 Does rounds o p = p ≡ with_gate o RUNNING
 Does leaves o p = p ≡ with_gate o IDLE
 
--- Views of all ends showed the queue and the gate, one of them that of the end that then stepped. With its view after
--- the step in that place, they show what the event made
+-- Some views show the queue and the gate, one of them that of an end that then steps. With its view after the step in
+-- that place, they show what the event made
 pub record IsEvent (o p : GatedQueue) : Type 0 where
   pub kind : Kind
   pub does : Does kind o p

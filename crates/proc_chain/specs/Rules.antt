@@ -38,7 +38,7 @@ pub record Rule {Q W : Type 0} (made : W → Q → List ℕ → Type 0) (fits : 
   pub undoubled : (j : ℕ) (v : View) → get_elem? s.views j ≡ some v → v.own.doubled ≡ false
 
 -- What the end lists is true. It sees a lawful queue with the chain's room, whose head is a position, and a gate that
--- views of all ends show, its own among them
+-- some views show, its own among them
 pub record IsTold (v : View) : Type 0 where
   pub honest : ends.IsHonest of_chains v
   pub lawful : IsLawful v.seen.object

@@ -1,7 +1,9 @@
 //! The look at the number of ends before a close.
 //!
 //! An end that found no other is a `Last`, which can do nothing but close the table: it can't be let go, copied or made
-//! elsewhere. So a close that succeeds makes one look at the table, and none behind it that stands in no list.
+//! elsewhere. So a close that succeeds makes one look at the table, and none after it. None comes before it either: an
+//! end that isn't alone comes back with this one look in its list, and no other load of the number of ends could say
+//! sooner that it is alone.
 ghost use Rattle.std.specs.Prelude.{◌≡◌, ◌≢◌, IfOk, IfErr};
 ghost use Rattle.std.specs.Mem.Slots.{slots_items, slots_len, IsFull};
 ghost use Rattle.atomic_table.specs.Table.{Final, Seen};
@@ -9,17 +11,22 @@ ghost use Rattle.table_theory.specs.Ledgers.{Tallied};
 ghost use Rattle.table_theory.specs.Seating.{IsSame};
 ghost use Rattle.proc_chain.specs.Layout.{ends_word, width};
 ghost use Rattle.proc_chain.specs.Rules.{Rule, suits, makes};
-ghost use Rattle.proc_chain.specs.Steps.{Meets, Stays};
+ghost use Rattle.proc_chain.specs.Steps.{Meets, Stays, counts};
 
 use crate::layout::ENDS;
-use crate::plays::Counts;
 use crate::quaject::Quaject;
 use crate::rule::{ChainRule, Pact, Shape, View};
-use atomic_table::{Closed, Seat, Shared, Table};
+use atomic_table::{Closed, Play, Seat, Shared, Table};
 use std::alloc::Global;
 
 /// The number of ends where there is no other.
 const ALONE: u64 = 1;
+
+struct Counts;
+
+impl<Q> Play<Q, View> for Counts {
+    ghost then = { counts };
+}
 
 /// An end that found no other.
 pub(crate) struct Last<Q> {

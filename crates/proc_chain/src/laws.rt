@@ -130,8 +130,8 @@ pub fn joins_are_true<Q: Quaject>()
         → ∥ IsReal of_chains (count_down ends_word t.0.found) ∥₁ }
 {}
 
-/// What an end sees is lawful, and views of all ends show it, the end's own among them. Its runs stand in the queue
-/// that it sees.
+/// What an end sees is lawful, and some views show it, the end's own among them. Its runs stand in the queue that it
+/// sees.
 pub fn ends_are_shown<Q: Quaject>()
     ensures lawful { (end : ChainEnd Q Q.World Q.Quaject) → ∥ IsLawful (view_of end).seen.object ∥₁ }
     ensures shown { (end : ChainEnd Q Q.World Q.Quaject) → ∥ ((views : List View) × (seat : ℕ)
@@ -160,8 +160,8 @@ pub fn numbers_say()
         → mark_of e.found ≢ e.then.object.queue.first + i + 1 → written_at e.then.object.queue i < 2 }
 {}
 
-/// Each change that an answer lists is one event of the core: as the step was made, views of all ends showed the queue
-/// and the gate that it found, one of them that of the end that stepped. It is the event that its name says, for all
+/// Each change that an answer lists is one event of the core: some views, which a proof chooses, show the queue and the
+/// gate that the step found, and with one of them changed what it left. It is the event that its name says, for all
 /// views that show the queue and the gate as the step found them, if one of them is that of the end.
 pub fn changes_are_events()
     ensures each { (e : Step GatedQueue) → IsReal of_chains e

@@ -4,7 +4,7 @@ ghost use Rattle.table_theory.specs.Ledgers.{rest_of, newborn, both, emptied};
 ghost use Rattle.proc_chain.specs.Own.{View, nothing_did, did_both};
 ghost use Rattle.proc_chain.specs.Rules.{view_from};
 ghost use Rattle.proc_chain.specs.Steps.{finds, claims, raises, spies, takes, notifies, rounds, leaves};
-ghost use Rattle.proc_chain.specs.Steps.{counts_up, counts_down, counts};
+ghost use Rattle.proc_chain.specs.Steps.{counts_up, counts_down};
 
 use crate::quaject::Quaject;
 use crate::rule::View;
@@ -95,12 +95,6 @@ pub struct CountsDown;
 
 impl<Q> Play<Q, View> for CountsDown {
     ghost then = { counts_down };
-}
-
-pub struct Counts;
-
-impl<Q> Play<Q, View> for Counts {
-    ghost then = { counts };
 }
 
 pub struct Gives;

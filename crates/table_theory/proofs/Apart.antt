@@ -1,6 +1,6 @@
 -- Stretches of one list that have nothing in common.
 use Rattle.table_theory.proofs.Common.{◌≡◌, ℕ, suc, zero, ◌+◌, ◌<◌, ◌≤◌, List, [], ◌∷◌, ◌++◌, length, sym, ap, ◌∙◌, subst, arith, some, some-injective, some-ne-none, dite, dec_lt, ℕ_discrete, get_elem?, at_longer, Batch, Cell, Owned, Adjacent, IsListed}
-use Rattle.table_theory.specs.Apart.{IsWithin, AreApart}
+use Rattle.table_theory.specs.Apart.{AreApart}
 use Rattle.table_theory.proofs.Logs.{starts_past}
 use Rattle.table_theory.proofs.Owned.{at_below, at_behind}
 

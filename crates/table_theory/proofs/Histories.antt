@@ -7,7 +7,6 @@ use Rattle.event_theory.specs.Marks.{shut}
 use Rattle.table_theory.specs.QueueOf.{IsEventOf, no_event}
 use Rattle.table_theory.proofs.Logs.{flat_push, adjacent_push, lies}
 use Rattle.table_theory.proofs.Owned.{at_push}
-use Rattle.table_theory.proofs.Positioned.{claim_lawful}
 use Rattle.table_theory.proofs.QueueOf.{Log, left_long, is_lawful_queue}
 use Rattle.table_theory.proofs.QueueEvents.{claim_goes, claimed_is, raise_goes, raised_is, stored_is, take_goes, first_raised}
 

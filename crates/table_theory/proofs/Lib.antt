@@ -3,6 +3,7 @@ pub mod Apart
 pub mod Batches
 pub mod Counting
 pub mod Courses
+pub mod Cutting
 pub mod Ends
 pub mod Histories
 pub mod Interleaving
@@ -11,6 +12,7 @@ pub mod Leaving
 pub mod Ledgers
 pub mod Listing
 pub mod Logs
+pub mod Looking
 pub mod Ordering
 pub mod Moving
 pub mod Orders

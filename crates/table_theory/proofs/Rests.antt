@@ -4,7 +4,7 @@ use Rattle.std.proofs.Common.{mod-lt}
 use native.Mathlib.Nat.{add-mod_right}
 use Rattle.table_theory.specs.Rests.{PlaceRests, PlacesRest}
 use Rattle.table_theory.specs.Windows.{spot, PlacesShow}
-use Rattle.table_theory.proofs.Positioned.{claim_old, claim_new, past_written, write_here, write_else}
+use Rattle.table_theory.proofs.Positioned.{claim_old, past_written, write_here, write_else}
 use Rattle.table_theory.proofs.Windows.{apart}
 
 pub rests_same : (q : Positions) (f d f' d' : ℕ → ℕ) → 0 < q.room → PlacesRest q f d → ((k : ℕ) → k < q.room → f' k ≡ f k) → ((k : ℕ) → k < q.room → d' k ≡ d k) → PlacesRest q f' d'

@@ -1,9 +1,18 @@
--- What a run or a taking is as a line, and where runs lie.
-use Rattle.std.specs.Prelude.{ℕ, ◌+◌, ◌≤◌, ◌≡◌, List, map, length}
+-- What a claim and a taking list, each as a line, and where runs lie.
+use Rattle.std.specs.Prelude.{ℕ, ◌+◌, ◌≤◌, ◌≡◌, List, map, take, drop, length}
 use mathlib.Core.Option.{some}
 use lib.ListN.{get_elem?}
 use Rattle.table_theory.specs.declared.queues.Batch.{Batch}
-use Rattle.table_theory.specs.Positioned.{item_of}
+use Rattle.table_theory.specs.declared.queues.Positions.{Positions}
+use Rattle.table_theory.specs.Positioned.{fresh, item_of, tail_of}
+
+-- a run of which nothing is raised
+abbrev pub run : ℕ → List ℕ → Batch
+run head items = record { start = head; places = map fresh items }
+
+-- what a taking of n takes
+abbrev pub taking : Positions → ℕ → Batch
+taking q n = record { start = tail_of q; places = take n (drop q.taken q.places) }
 
 -- the items of a run, or of a taking, in order
 abbrev pub line_of : Batch → List ℕ

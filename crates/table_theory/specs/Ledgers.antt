@@ -164,6 +164,11 @@ pub record Made {K O : Type 0} (v : Ledger K O) (entries : List (Step O)) (own :
   pub did : w.own ≡ own
   pub member : w.member ≡ v.member
 
+-- the end made these steps, and did nothing but look; where it made none, all is as it was
+abbrev pub Looks : {K O : Type 0} → Ledger K O → List (Step O) → Ledger K O → Type 0
+Looks v [] w = w ≡ v
+Looks v (step ∷ steps) w = Made v (step ∷ steps) v.own w
+
 -- a number was found in a word, and nothing else changed for the end
 pub record Looked {K O : Type 0} (v : Ledger K O) (word found : ℕ) (w : Ledger K O) : Type 0 where
   pub at : Moment O

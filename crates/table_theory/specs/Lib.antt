@@ -5,6 +5,7 @@ pub mod Ends
 pub mod Filing
 pub mod Interleaving
 pub mod Ledgers
+pub mod Lines
 pub mod Listing
 pub mod Orders
 pub mod Plays

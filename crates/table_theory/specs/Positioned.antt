@@ -1,6 +1,6 @@
 -- A queue by its positions, what keeps it lawful, and its events.
 use Rattle.std.specs.Prelude.{◌≡◌, ℕ, ◌+◌, ◌<◌, ◌≤◌, true, List, ◌++◌, map, drop, length, slice_index_or}
-use Rattle.std.specs.Prelude.{slice_set}
+use Rattle.std.specs.Prelude.{slice_set, if◌then◌else◌, nat_lt, Option, Some, None}
 use Rattle.table_theory.specs.declared.queues.Cell.{Cell}
 use Rattle.table_theory.specs.declared.queues.Positions.{Positions}
 
@@ -65,6 +65,10 @@ with_shut q = record q { shut = true }
 
 abbrev pub item_of : Cell → ℕ
 item_of p = p.item
+
+-- a place that is left: its item, if it was raised
+abbrev pub shown : Cell → Option ℕ
+shown p = if nat_lt p.written 2 then None else Some p.item
 
 -- the items that are left, in order
 abbrev pub left_of : Positions → List ℕ

@@ -44,7 +44,7 @@ pub record IsHistory (q : Positions) (runs : List (Owned Batch)) : Type 0 where
   pub adjacent : Adjacent q.first runs
 
 -- A step of the end `seat`, which knew v and then knows w, makes r of the positions q: it is this event of the queue
--- that the views of all ends show
+-- that some views show, of which v is the end's
 pub record IsEvent (q r : Positions) (seat : ℕ) (v w : QueueView) (event : Queue → Result Queue Refusal) : Type 0 where
   pub views : List QueueView
   pub here : get_elem? views seat ≡ some v

@@ -1,7 +1,7 @@
 //! A table's positions are a queue of the core, and each step on them is one of its events: statements over plain data.
 
 ghost use Rattle.std.specs.Prelude.{◌≡◌, ◌+◌, ◌<◌, ◌≤◌, ℕ, List, [], ◌∷◌, ◌++◌, map, length, false, Ok};
-ghost use Rattle.std.specs.Prelude.{take, drop, slice_index_or, slice_set};
+ghost use Rattle.std.specs.Prelude.{take, drop, slice_index_or, slice_set, ◌/◌, min};
 ghost use mathlib.Core.Option.{some};
 ghost use lib.ListN.{get_elem?};
 ghost use Rattle.event_theory.specs.Queues.{claim, raise, take_first, join_queue, left};
@@ -10,6 +10,7 @@ ghost use Rattle.event_theory.specs.Marks.{shut};
 ghost use Rattle.table_theory.specs.declared.queues.Batch.{Batch};
 ghost use Rattle.table_theory.specs.declared.queues.Positions.{Positions};
 ghost use Rattle.table_theory.specs.declared.queues.QueueView.{QueueView};
+ghost use Rattle.table_theory.specs.Sharing.{given};
 ghost use Rattle.table_theory.specs.Positioned.{Lawful, head_of, left_of, fresh, written_at, with_claim, with_take};
 ghost use Rattle.table_theory.specs.Positioned.{Grows, blank, tail_of, with_shut, with_write};
 ghost use Rattle.table_theory.specs.Filing.{Owned, entry_of, moved, ListedOnce};
@@ -66,4 +67,9 @@ pub fn logs_interleave()
         → Adjacent first log → ((k : ℕ) (o : Owned Batch) → get_elem? log k ≡ some o → 0 < length o.2.places)
         → ListedOnce log (joined lists ∷ []) → ((k : ℕ) (l : List Batch) → get_elem? lists k ≡ some l → Ascending l)
         → Interleaves (map entry_of log) lists }
+{}
+
+/// A split gives the new end half of the old end's share, and 2^43 parts at most, whatever the code's constant is called.
+pub fn split_gives()
+    ensures { (share : ℕ) → given share ≡ min (share / 2) 8796093022208 }
 {}

@@ -8,10 +8,10 @@ ghost use Rattle.thread_table.specs.declared.places.Place.TheVariants as places;
 ghost use Rattle.thread_table.specs.Closings.{ClosedNow, WereOpen, PlaceOf, word_at};
 ghost use Rattle.thread_table.specs.Handles.{view_of, call_of, IsHandOf, IsOnlyHand, IsSameHand};
 
+use crate::counting::{close_by, count};
 use crate::hand::{Hand, ThreadTable};
 use crate::layout::{done_word, state_word};
 use crate::places::{Place, place_of};
-use crate::steps::count;
 use crate::words::StateWord;
 use atomic_table::Closed;
 use std::alloc::Global;
@@ -104,19 +104,26 @@ impl ThreadTable {
         ensures steps { IfErr result (λ e. WereOpen (view_of hand) e.2.others (view_of e.1)) }
         ensures same { IfErr result (λ e. (e.0 ≡ self) × IsSameHand hand e.1) }
     {
-        let mut hand = hand;
-        let ends = count::<Brand>(&self.table.shared, &mut hand.seat);
-        if ends != 1 {
-            return Err((self, hand, OpenEnds { others: ends - 1 }));
-        }
         let Hand {
             seat,
-            held: _,
-            served: _,
-            running: _,
+            held,
+            served,
+            running,
         } = hand;
+        let last = match count::<Brand>(&self.table.shared, seat) {
+            Ok(last) => last,
+            Err((seat, ends)) => {
+                let hand = Hand {
+                    seat,
+                    held,
+                    served,
+                    running,
+                };
+                return Err((self, hand, OpenEnds { others: ends - 1 }));
+            }
+        };
         let ThreadTable { table, first: _ } = self;
-        let closed = table.close_with(seat);
+        let closed = close_by(table, last);
         let all = Places {
             places: read_places(&closed),
             pcs: read_pcs(&closed),

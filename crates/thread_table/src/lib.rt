@@ -44,6 +44,7 @@
 
 mod between;
 mod close;
+mod counting;
 mod first_words;
 mod hand;
 mod laws;

@@ -2,7 +2,7 @@
 ghost use Rattle.std.specs.Prelude.{ℕ, List, Bool, []};
 ghost use Rattle.event_theory.specs.declared.event.Event.{Event};
 ghost use Rattle.event_theory.specs.declared.event.Event.TheVariants as events;
-ghost use Rattle.thread_table.specs.Steps.{finds, makes, stores, tries, reads_pc, counts_up, counts_down, tallies};
+ghost use Rattle.thread_table.specs.Steps.{finds, makes, stores, tries, reads_pc, counts_up, counts_down};
 ghost use Rattle.thread_table.specs.Steps.{rest_of, newborn, both};
 ghost use Rattle.thread_table.specs.Rules.{newcomer};
 ghost use Rattle.thread_table.specs.Own.{View};
@@ -91,14 +91,6 @@ pub struct CountDown<J> {
 
 impl<J: Caller> Play<(), View> for CountDown<J> {
     ghost then = { counts_down J.call };
-}
-
-pub struct LoadCount<J> {
-    marker: PhantomData<J>,
-}
-
-impl<J: Caller> Play<(), View> for LoadCount<J> {
-    ghost then = { tallies J.call };
 }
 
 /// The processors that a new hand serves.

@@ -16,7 +16,7 @@ ghost use Rattle.thread_table.specs.Rules.{HasStood, IsActive, MayStep, has, ser
 ghost use Rattle.thread_table.specs.Views.{count_of, HasClaimed};
 ghost use Rattle.thread_table.specs.Entries.{claim_event, take_event};
 ghost use Rattle.thread_table.specs.Answers.{raise_event};
-ghost use Rattle.thread_table.specs.Steps.{Found, Did, IsTurn, ReadPc, CountedUp, CountedDown, Tallied};
+ghost use Rattle.thread_table.specs.Steps.{Found, Did, IsTurn, ReadPc, CountedUp, CountedDown};
 ghost use Rattle.thread_table.specs.Steps.{rest_of, newborn, both, emptied};
 ghost use Rattle.event_theory.specs.declared.event.Event.TheVariants as events;
 ghost use Rattle.thread_table.specs.Reads.{Peeked, StateIs};
@@ -26,8 +26,8 @@ use crate::layout::{
     wait_ring,
 };
 use crate::plays::{
-    Caller, CountDown, CountUp, Deed, Halves, Joins, LoadCount, LoadDone, Look, Makes, Mask, Spent,
-    Stores, Tries,
+    Caller, CountDown, CountUp, Deed, Halves, Joins, LoadDone, Look, Makes, Mask, Spent, Stores,
+    Tries,
 };
 use crate::rule::{Shape, ThreadRule, View};
 use atomic_table::{Seat, Shared};
@@ -35,7 +35,7 @@ use std::marker::Brand;
 
 pub(crate) type Words = Shared<(), View, Shape, ThreadRule>;
 
-pub(crate) fn load<J: Caller>(words: &Words, seat: &mut Seat<(), View>, word: usize) -> u64
+fn load<J: Caller>(words: &Words, seat: &mut Seat<(), View>, word: usize) -> u64
     requires queue { (seat.old.table_id ≡ words.now.table_id) × (word < words.now.table_id.words) }
     requires live { IsActive seat.old.me.0 }
     requires deed { J.call ≡ seat.old.id }
@@ -330,17 +330,6 @@ pub(crate) fn count_down<J: Caller>(words: &Words, seat: &mut Seat<(), View>) ->
     ensures counted { CountedDown seat.old.me.0 result seat.new.me.0 }
 {
     words.fetch_sub::<CountDown<J>>(seat, ENDS, 1)
-}
-
-pub(crate) fn count<J: Caller>(words: &Words, seat: &mut Seat<(), View>) -> u64
-    requires queue { (seat.old.table_id ≡ words.now.table_id) × (words.now.table_id.words ≡ WORDS) }
-    requires deed { J.call ≡ seat.old.id }
-    requires live { (seat.old.me.0.member.ends ≡ 1) × (seat.old.me.0.own.fresh ≡ true) }
-    ensures queue { IsSame seat.old seat.new × (seat.new.me.1 ≡ seat.old.me.1) }
-    ensures stands { ∥ HasStood seat.new.id seat.new.me.0 ∥₁ }
-    ensures tallied { Tallied seat.old.me.0 result seat.new.me.0 }
-{
-    words.load::<LoadCount<J>>(seat, ENDS)
 }
 
 // The new hand serves the processors of the mask, which are the hand's and empty.

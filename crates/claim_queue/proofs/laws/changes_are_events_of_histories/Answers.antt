@@ -1,4 +1,4 @@
-use Rattle.claim_queue.proofs.Common.{refl, arith, fresh}
+use Rattle.claim_queue.proofs.Common.{arith, fresh}
 use Rattle.claim_queue.proofs.Historic.{claim_has, store_has, raise_has, take_has, shut_has}
 use Rattle.table_theory.proofs.Histories.{some_history}
 use Rattle.claim_queue.proofs.laws.changes_are_events_of_histories.Goals as goal

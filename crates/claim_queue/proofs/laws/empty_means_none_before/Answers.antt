@@ -1,4 +1,4 @@
-use Rattle.claim_queue.proofs.Common.{◌≡◌, ◌≢◌, ℕ, ◌+◌, ◌-◌, ◌<◌, ◌≤◌, List, [], length, map, get_or, take, sym, ap, ◌∙◌, subst, arith, length-map, le_prop, ℕ_set, written_at, tail_of, QueueEnd, Empty, RefusedTake, IsNone, IsOne, IsBegun, IsLine, behind, view_of}
+use Rattle.claim_queue.proofs.Common.{◌≡◌, ℕ, ◌+◌, ◌-◌, ◌<◌, ◌≤◌, List, length, take, sym, ap, ◌∙◌, subst, arith, length-map, le_prop, ℕ_set, written_at, tail_of, QueueEnd, Empty, RefusedTake, IsNone, IsOne, IsBegun, IsLine, view_of}
 use mathlib.Core.HLevel.{⊥_prop}
 use Rattle.std.proofs.lemmas.List.{length-take}
 use Rattle.table_theory.specs.Positioned.{left_of}

@@ -1,12 +1,21 @@
--- What a closed queue was put and taken, by the lines of the end that lists all of it.
-use Rattle.claim_queue.proofs.Common.{◌≡◌, ◌≤◌, ◌<◌, ℕ, zero, suc, List, [], ◌∷◌, ◌++◌, map, length, take, drop, get_or, Some, None, refl, sym, ap, subst, ◌∙◌, arith, Bool, ◌+◌, length-drop, if◌then◌else◌, map-append, length-map, get_or-drop, le-ltb, get_elem?, Cell, Batch, Positions, blank, item_of, Owned, ListedOnce, all_places, PartsShow, AllRaised, QueueView, shown, line_of}
+-- What a queue was put and taken, by the lines of the one end that lists all of it.
+use Rattle.table_theory.proofs.Common.{◌≡◌, ◌≤◌, ◌<◌, ℕ, zero, suc, List, [], ◌∷◌, ◌++◌, map, length, take, drop, get_or, refl, sym, ap, subst, ◌∙◌, arith, Bool, ◌+◌, length-drop}
+use Rattle.std.specs.Prelude.{if◌then◌else◌, Some, None}
 use Rattle.std.specs.List.{concat}
-use Rattle.std.proofs.lemmas.List.{take-map}
+use Rattle.std.proofs.lemmas.Bool.{le-ltb}
+use Rattle.std.proofs.lemmas.List.{map-append, length-map, get_or-drop, take-map}
 use mathlib.Core.Option as maybe
-use Rattle.table_theory.specs.Positioned.{left_of}
-use Rattle.table_theory.specs.Filing.{entry_of}
+use lib.ListN.{get_elem?}
+use Rattle.table_theory.specs.declared.queues.Cell.{Cell}
+use Rattle.table_theory.specs.declared.queues.Batch.{Batch}
+use Rattle.table_theory.specs.declared.queues.Positions.{Positions}
+use Rattle.table_theory.specs.declared.queues.QueueView.{QueueView}
+use Rattle.table_theory.specs.Batches.{line_of}
+use Rattle.table_theory.specs.Filing.{Owned, ListedOnce, entry_of}
+use Rattle.table_theory.specs.Lines.{IsCut, IsSettled}
+use Rattle.table_theory.specs.Listing.{AllRaised, PartsShow, all_places}
+use Rattle.table_theory.specs.Positioned.{blank, item_of, left_of, shown}
 use Rattle.table_theory.proofs.Owned.{told, file_map}
-use Rattle.claim_queue.specs.Lines.{IsCut, IsSettled}
 
 flat_lines : (log : List (Owned Batch)) → concat (map entry_of (map (told line_of) log)) ≡ map item_of (all_places log)
 flat_lines [] = refl

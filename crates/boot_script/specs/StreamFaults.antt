@@ -1,27 +1,63 @@
--- Why a reader or a writer is at fault. `answers` and `fails` say what the calls on it did.
-use Rattle.std.specs.Prelude.{◌≡◌, ◌≢◌, ◌⊎◌, ℕ, zero, suc, Result, Err}
+-- How reading ends, and why a reader or a writer is at fault. `answers` and `fails` have what each call on it did.
+use Rattle.std.specs.Prelude.{◌≡◌, ◌≢◌, ◌⊎◌, ◌<◌, ◌≤◌, ◌+◌, ℕ, List, [], ◌∷◌, length, All, Result, Ok, Err}
 use Rattle.std.specs.IoError.{error_kind}
 use Rattle.std.specs.declared.io.Error.{Error}
 use Rattle.std.specs.declared.io.ErrorKind.TheVariants.{Interrupted}
 
--- so many calls of read lead from one reader to the other
-abbrev pub Calls : {R : Type 0} → (R → Result ℕ Error → R → Type 0) → ℕ → R → R → Type 0
-Calls answers zero old new = old ≡ new
-Calls {R} answers (suc calls) old new =
-    (between : R) × (result : Result ℕ Error) × Calls answers calls old between × answers between result new
+-- calls of read with these answers, the last one first, lead from one reader to the other
+abbrev pub Calls : {R : Type 0} → (R → Result ℕ Error → R → Type 0) → List (Result ℕ Error) → R → R → Type 0
+Calls answers [] old new = old ≡ new
+Calls {R} answers (last ∷ calls) old new = (between : R) × Calls answers calls old between × answers between last new
 
--- the last call of read answered an error other than that it was interrupted
-abbrev pub HasFailed : {R : Type 0} → (R → Result ℕ Error → R → Type 0) → R → Type 0
-HasFailed {R} answers new =
-    (before : R) × (error : Error) × answers before (Err error) new × (error_kind error ≢ Interrupted)
+-- how many bytes were read by calls with these answers
+abbrev pub bytes_of : List (Result ℕ Error) → ℕ
+bytes_of [] = 0
+bytes_of (Ok n ∷ calls) = bytes_of calls + n
+bytes_of (Err error ∷ calls) = bytes_of calls
 
--- there were 131,072 calls of read, interrupted ones counted
+-- reading goes on after a call that read a byte or more, and after one that was interrupted
+abbrev pub GoesOn : Result ℕ Error → Type 0
+GoesOn (Ok n) = n ≢ 0
+GoesOn (Err error) = error_kind error ≡ Interrupted
+
+-- reading went on after each of these calls, and they read no more than a script may have
+abbrev pub WentOn : List (Result ℕ Error) → Type 0
+WentOn calls = All GoesOn calls × (bytes_of calls ≤ 65536)
+
+-- this call was the last; fewer than 131,072 came before it, and reading went on after each of those
+abbrev pub EndsWith :
+    {R : Type 0} → (R → Result ℕ Error → R → Type 0) → Result ℕ Error → List (Result ℕ Error) → R → R → Type 0
+EndsWith answers last calls old new = Calls answers (last ∷ calls) old new × WentOn calls × (length calls < 131072)
+
+-- the last call answered an error other than that it was interrupted
+abbrev pub HasFailed : {R : Type 0} → (R → Result ℕ Error → R → Type 0) → R → R → Type 0
+HasFailed answers old new =
+    (calls : List (Result ℕ Error)) × (error : Error) × EndsWith answers (Err error) calls old new
+    × (error_kind error ≢ Interrupted)
+
+-- there were 131,072 calls of read, interrupted ones counted, and reading would go on
 abbrev pub WasCalledMost : {R : Type 0} → (R → Result ℕ Error → R → Type 0) → R → R → Type 0
-WasCalledMost answers old new = (calls : ℕ) × (calls ≡ 131072) × Calls answers calls old new
+WasCalledMost answers old new =
+    (calls : List (Result ℕ Error)) × Calls answers calls old new × WentOn calls × (length calls ≡ 131072)
 
 -- why there is a read fault: the reader failed, or was called as often as a script may take
 abbrev pub IsReadFault : {R : Type 0} → (R → Result ℕ Error → R → Type 0) → R → R → Type 0
-IsReadFault answers old new = HasFailed answers new ⊎ WasCalledMost answers old new
+IsReadFault answers old new = HasFailed answers old new ⊎ WasCalledMost answers old new
+
+-- so many bytes were read, and the last call found the end
+abbrev pub HasEnded : {R : Type 0} → (R → Result ℕ Error → R → Type 0) → ℕ → R → R → Type 0
+HasEnded answers n old new =
+    (calls : List (Result ℕ Error)) × EndsWith answers (Ok 0) calls old new × (n ≡ bytes_of calls)
+
+-- so many bytes were read, which is more than a script may have, and the last call read the first that is too much
+abbrev pub IsTooMuch : {R : Type 0} → (R → Result ℕ Error → R → Type 0) → ℕ → R → R → Type 0
+IsTooMuch answers n old new =
+    (calls : List (Result ℕ Error)) × (more : ℕ) × EndsWith answers (Ok more) calls old new
+    × (n ≡ bytes_of calls + more) × (65536 < n)
+
+-- how reading ends with so many bytes, where the reader is not at fault
+abbrev pub HasRead : {R : Type 0} → (R → Result ℕ Error → R → Type 0) → ℕ → R → R → Type 0
+HasRead answers n old new = HasEnded answers n old new ⊎ IsTooMuch answers n old new
 
 -- why there is a write fault: the last call on the writer answered an error
 abbrev pub IsWriteFault : {W : Type 0} → (W → W → Type 0) → W → Type 0

@@ -3,8 +3,9 @@
 //! Things that are as they were at first have no line, but for queues and chains. Both go out as one text, for which
 //! the longest status of a core has room, so that who reads a pipe sees whole lines.
 
-ghost use Rattle.std.specs.Prelude.{◌≡◌, ◌<◌, OnOk, OnErr};
+ghost use Rattle.std.specs.Prelude.{◌≡◌, ◌<◌, ◌++◌, OnOk, OnErr};
 ghost use Rattle.std.specs.Io.KnownBytes.{Appends};
+ghost use Rattle.event_theory.specs.RefusalNames.{refusal_name, refusal_number};
 ghost use Rattle.boot_script.specs.Printed.{word_if, numbered_lines, queue_line, gate_word, chain_line, place_words};
 ghost use Rattle.boot_script.specs.Printed.{hex_digit, hex_digits, is_first_state, element_words, element_line};
 ghost use Rattle.boot_script.specs.Printed.{gauge_line, clock_line, alarm_line, notified_line, status_text};
@@ -12,12 +13,26 @@ ghost use Rattle.boot_script.specs.Printed.{refused_text};
 ghost use Rattle.boot_script.specs.StreamFaults.{IsWriteFault};
 
 use crate::page::Page;
-use crate::streams::{Lines, Sink};
+use crate::streams::Sink;
 use event_theory::{
     AlarmStatus, ChainStatus, ElementStatus, Gate, Place, QueueStatus, Refusal, Status,
 };
+use itoa::{Buffer, Integer};
 use std::io;
-use std::io::Write;
+
+/// A word, and a number behind it.
+pub(crate) fn print_number<W: Sink, I: Integer>(
+    word: &'static str,
+    number: I,
+    out: &mut W,
+) -> io::Result<()>
+    ensures effect { OnOk result (Appends (W.contents out.old) (W.contents out.new) (word.now ++ I.text number)) }
+    ensures error { OnErr result (IsWriteFault W.fails out.new) }
+{
+    let mut digits = Buffer::new();
+    out.write_text(word.as_bytes())?;
+    out.write_text(digits.format(number).as_bytes())
+}
 
 /// A word that is there only where the test holds.
 fn word_where(test: bool, word: &'static str) -> &'static str
@@ -28,25 +43,27 @@ fn word_where(test: bool, word: &'static str) -> &'static str
 
 /// The line of one queue.
 #[tactic(auto, unfolding(crate::specs::Printed::queue_line))]
-fn print_queue<W: Write>(number: usize, queue: &QueueStatus, out: &mut W) -> io::Result<()>
-    ensures { OnOk result (Appends (W.contents out.old) (W.contents out.new) (queue_line number queue.now)) }
+fn print_queue<W: Sink>(number: usize, queue: &QueueStatus, out: &mut W) -> io::Result<()>
+    ensures effect { OnOk result (Appends (W.contents out.old) (W.contents out.new) (queue_line number queue.now)) }
+    ensures error { OnErr result (IsWriteFault W.fails out.new) }
 {
-    let capacity = queue.capacity;
-    let runs = queue.runs;
-    let put = queue.put;
-    let taken = queue.taken;
-    let left = queue.left;
-    let raised = queue.raised;
     let shut = word_where(queue.shut, " shut");
-    writeln!(
-        out,
-        "queue q{number} capacity {capacity} runs {runs} put {put} taken {taken} left {left} raised {raised}{shut}"
-    )
+    print_number("queue q", number, out)?;
+    print_number(" capacity ", queue.capacity, out)?;
+    print_number(" runs ", queue.runs, out)?;
+    print_number(" put ", queue.put, out)?;
+    print_number(" taken ", queue.taken, out)?;
+    print_number(" left ", queue.left, out)?;
+    print_number(" raised ", queue.raised, out)?;
+    out.write_text(shut.as_bytes())?;
+    out.write_text(b"\n")
 }
 
 /// The lines of the byte queues.
-fn print_queues<W: Write>(queues: &[QueueStatus], out: &mut W) -> io::Result<()>
-    ensures { OnOk result (Appends (W.contents out.old) (W.contents out.new) (numbered_lines queue_line 0 queues.now)) }
+fn print_queues<W: Sink>(queues: &[QueueStatus], out: &mut W) -> io::Result<()>
+    ensures effect { OnOk result (Appends (W.contents out.old) (W.contents out.new)
+        (numbered_lines queue_line 0 queues.now)) }
+    ensures error { OnErr result (IsWriteFault W.fails out.new) }
 {
     for (number, queue) in queues.iter().enumerate() {
         print_queue(number, queue, out)?;
@@ -67,22 +84,25 @@ fn gate_name(gate: Gate) -> &'static str
 
 /// The line of one chain.
 #[tactic(auto, unfolding(crate::specs::Printed::chain_line))]
-fn print_chain<W: Write>(number: usize, chain: &ChainStatus, out: &mut W) -> io::Result<()>
-    ensures { OnOk result (Appends (W.contents out.old) (W.contents out.new) (chain_line number chain.now)) }
+fn print_chain<W: Sink>(number: usize, chain: &ChainStatus, out: &mut W) -> io::Result<()>
+    ensures effect { OnOk result (Appends (W.contents out.old) (W.contents out.new) (chain_line number chain.now)) }
+    ensures error { OnErr result (IsWriteFault W.fails out.new) }
 {
-    let put = chain.put;
-    let taken = chain.taken;
-    let left = chain.left;
     let gate = gate_name(chain.gate);
-    writeln!(
-        out,
-        "chain k{number} put {put} taken {taken} left {left} gate {gate}"
-    )
+    print_number("chain k", number, out)?;
+    print_number(" put ", chain.put, out)?;
+    print_number(" taken ", chain.taken, out)?;
+    print_number(" left ", chain.left, out)?;
+    out.write_text(b" gate ")?;
+    out.write_text(gate.as_bytes())?;
+    out.write_text(b"\n")
 }
 
 /// The lines of the chains.
-fn print_chains<W: Write>(chains: &[ChainStatus], out: &mut W) -> io::Result<()>
-    ensures { OnOk result (Appends (W.contents out.old) (W.contents out.new) (numbered_lines chain_line 0 chains.now)) }
+fn print_chains<W: Sink>(chains: &[ChainStatus], out: &mut W) -> io::Result<()>
+    ensures effect { OnOk result (Appends (W.contents out.old) (W.contents out.new)
+        (numbered_lines chain_line 0 chains.now)) }
+    ensures error { OnErr result (IsWriteFault W.fails out.new) }
 {
     for (number, chain) in chains.iter().enumerate() {
         print_chain(number, chain, out)?;
@@ -91,25 +111,17 @@ fn print_chains<W: Write>(chains: &[ChainStatus], out: &mut W) -> io::Result<()>
 }
 
 /// The words of a place.
-fn print_place<W: Write>(place: Place, out: &mut W) -> io::Result<()>
-    ensures { OnOk result (Appends (W.contents out.old) (W.contents out.new) (place_words place)) }
+fn print_place<W: Sink>(place: Place, out: &mut W) -> io::Result<()>
+    ensures effect { OnOk result (Appends (W.contents out.old) (W.contents out.new) (place_words place)) }
+    ensures error { OnErr result (IsWriteFault W.fails out.new) }
 {
     match place {
-        Place::Processor(processor) => {
-            let number = processor.number();
-            write!(out, "processor{number}")
-        }
-        Place::Ready => write!(out, "ready"),
-        Place::Wait(wait) => {
-            let number = wait.number();
-            write!(out, "wait{number}")
-        }
-        Place::Stopped => write!(out, "stopped"),
-        Place::Free => write!(out, "free"),
-        Place::Held(call) => {
-            let number = call.number();
-            write!(out, "held{number}")
-        }
+        Place::Processor(processor) => print_number("processor", processor.number(), out),
+        Place::Ready => out.write_text(b"ready"),
+        Place::Wait(wait) => print_number("wait", wait.number(), out),
+        Place::Stopped => out.write_text(b"stopped"),
+        Place::Free => out.write_text(b"free"),
+        Place::Held(call) => print_number("held", call.number(), out),
     }
 }
 
@@ -150,22 +162,27 @@ fn is_untouched(element: &ElementStatus) -> bool
 
 /// The words of one element.
 #[tactic(auto, unfolding(crate::specs::Printed::element_words))]
-fn print_element<W: Write>(number: usize, element: &ElementStatus, out: &mut W) -> io::Result<()>
-    ensures { OnOk result (Appends (W.contents out.old) (W.contents out.new) (element_words number element.now)) }
+fn print_element<W: Sink>(number: usize, element: &ElementStatus, out: &mut W) -> io::Result<()>
+    ensures effect { OnOk result (Appends (W.contents out.old) (W.contents out.new)
+        (element_words number element.now)) }
+    ensures error { OnErr result (IsWriteFault W.fails out.new) }
 {
-    let done = element.done;
     let stop = word_where(element.stop, " stop");
-    write!(out, "element e{number} ")?;
+    print_number("element e", number, out)?;
+    out.write_text(b" ")?;
     print_place(element.place, out)?;
-    write!(out, " done {done} pending ")?;
-    out.write_all(digits_of(element.pending).as_slice())?;
-    writeln!(out, "{stop}")
+    print_number(" done ", element.done, out)?;
+    out.write_text(b" pending ")?;
+    out.write_text(digits_of(element.pending).as_slice())?;
+    out.write_text(stop.as_bytes())?;
+    out.write_text(b"\n")
 }
 
 /// The lines of the elements that aren't as they were at first.
-fn print_elements<W: Write>(elements: &[ElementStatus], out: &mut W) -> io::Result<()>
-    ensures { OnOk result (Appends (W.contents out.old) (W.contents out.new)
+fn print_elements<W: Sink>(elements: &[ElementStatus], out: &mut W) -> io::Result<()>
+    ensures effect { OnOk result (Appends (W.contents out.old) (W.contents out.new)
         (numbered_lines element_line 0 elements.now)) }
+    ensures error { OnErr result (IsWriteFault W.fails out.new) }
 {
     for (number, element) in elements.iter().enumerate() {
         if !is_untouched(element) {
@@ -177,18 +194,23 @@ fn print_elements<W: Write>(elements: &[ElementStatus], out: &mut W) -> io::Resu
 
 /// The line of one gauge, where it isn't 0.
 #[tactic(auto, unfolding(crate::specs::Printed::gauge_line))]
-fn print_gauge<W: Write>(number: usize, value: u64, out: &mut W) -> io::Result<()>
-    ensures { OnOk result (Appends (W.contents out.old) (W.contents out.new) (gauge_line number value)) }
+fn print_gauge<W: Sink>(number: usize, value: u64, out: &mut W) -> io::Result<()>
+    ensures effect { OnOk result (Appends (W.contents out.old) (W.contents out.new) (gauge_line number value)) }
+    ensures error { OnErr result (IsWriteFault W.fails out.new) }
 {
     if value == 0 {
         return Ok(());
     }
-    writeln!(out, "gauge g{number} {value}")
+    print_number("gauge g", number, out)?;
+    print_number(" ", value, out)?;
+    out.write_text(b"\n")
 }
 
 /// The lines of the gauges.
-fn print_gauges<W: Write>(gauges: &[u64], out: &mut W) -> io::Result<()>
-    ensures { OnOk result (Appends (W.contents out.old) (W.contents out.new) (numbered_lines gauge_line 0 gauges.now)) }
+fn print_gauges<W: Sink>(gauges: &[u64], out: &mut W) -> io::Result<()>
+    ensures effect { OnOk result (Appends (W.contents out.old) (W.contents out.new)
+        (numbered_lines gauge_line 0 gauges.now)) }
+    ensures error { OnErr result (IsWriteFault W.fails out.new) }
 {
     for (number, value) in gauges.iter().enumerate() {
         print_gauge(number, *value, out)?;
@@ -198,44 +220,51 @@ fn print_gauges<W: Write>(gauges: &[u64], out: &mut W) -> io::Result<()>
 
 /// The line of the clock, where it isn't 0.
 #[tactic(auto, unfolding(crate::specs::Printed::clock_line))]
-fn print_clock<W: Write>(clock: u32, out: &mut W) -> io::Result<()>
-    ensures { OnOk result (Appends (W.contents out.old) (W.contents out.new) (clock_line clock)) }
+fn print_clock<W: Sink>(clock: u32, out: &mut W) -> io::Result<()>
+    ensures effect { OnOk result (Appends (W.contents out.old) (W.contents out.new) (clock_line clock)) }
+    ensures error { OnErr result (IsWriteFault W.fails out.new) }
 {
     if clock == 0 {
         return Ok(());
     }
-    writeln!(out, "clock {clock}")
+    print_number("clock ", clock, out)?;
+    out.write_text(b"\n")
 }
 
 /// The line of the alarms, where one was set.
 #[tactic(auto, unfolding(crate::specs::Printed::alarm_line))]
-fn print_alarms<W: Write>(alarms: &AlarmStatus, out: &mut W) -> io::Result<()>
-    ensures { OnOk result (Appends (W.contents out.old) (W.contents out.new) (alarm_line alarms.now)) }
+fn print_alarms<W: Sink>(alarms: &AlarmStatus, out: &mut W) -> io::Result<()>
+    ensures effect { OnOk result (Appends (W.contents out.old) (W.contents out.new) (alarm_line alarms.now)) }
+    ensures error { OnErr result (IsWriteFault W.fails out.new) }
 {
-    let set = alarms.set;
-    let fired = alarms.fired;
-    let cancelled = alarms.cancelled;
-    if set == 0 {
+    if alarms.set == 0 {
         return Ok(());
     }
-    writeln!(out, "alarms set {set} fired {fired} cancelled {cancelled}")
+    print_number("alarms set ", alarms.set, out)?;
+    print_number(" fired ", alarms.fired, out)?;
+    print_number(" cancelled ", alarms.cancelled, out)?;
+    out.write_text(b"\n")
 }
 
 /// The line of one wait queue, where it had a notify.
 #[tactic(auto, unfolding(crate::specs::Printed::notified_line))]
-fn print_notified<W: Write>(number: usize, count: u32, out: &mut W) -> io::Result<()>
-    ensures { OnOk result (Appends (W.contents out.old) (W.contents out.new) (notified_line number count)) }
+fn print_notified<W: Sink>(number: usize, count: u32, out: &mut W) -> io::Result<()>
+    ensures effect { OnOk result (Appends (W.contents out.old) (W.contents out.new) (notified_line number count)) }
+    ensures error { OnErr result (IsWriteFault W.fails out.new) }
 {
     if count == 0 {
         return Ok(());
     }
-    writeln!(out, "notified w{number} {count}")
+    print_number("notified w", number, out)?;
+    print_number(" ", count, out)?;
+    out.write_text(b"\n")
 }
 
 /// The lines of the wait queues that had a notify.
-fn print_notifies<W: Write>(counts: &[u32], out: &mut W) -> io::Result<()>
-    ensures { OnOk result (Appends (W.contents out.old) (W.contents out.new)
+fn print_notifies<W: Sink>(counts: &[u32], out: &mut W) -> io::Result<()>
+    ensures effect { OnOk result (Appends (W.contents out.old) (W.contents out.new)
         (numbered_lines notified_line 0 counts.now)) }
+    ensures error { OnErr result (IsWriteFault W.fails out.new) }
 {
     for (number, count) in counts.iter().enumerate() {
         print_notified(number, *count, out)?;
@@ -245,11 +274,12 @@ fn print_notifies<W: Write>(counts: &[u32], out: &mut W) -> io::Result<()>
 
 /// The lines of a status.
 #[tactic(auto, unfolding(crate::specs::Printed::status_text))]
-fn print_lines<W: Write>(status: &Status, out: &mut W) -> io::Result<()>
-    ensures { OnOk result (Appends (W.contents out.old) (W.contents out.new) (status_text status.now)) }
+fn print_lines<W: Sink>(status: &Status, out: &mut W) -> io::Result<()>
+    ensures effect { OnOk result (Appends (W.contents out.old) (W.contents out.new) (status_text status.now)) }
+    ensures error { OnErr result (IsWriteFault W.fails out.new) }
 {
-    let events = status.events;
-    writeln!(out, "events {events}")?;
+    print_number("events ", status.events, out)?;
+    out.write_text(b"\n")?;
     print_queues(status.queues.as_slice(), out)?;
     print_chains(status.chains.as_slice(), out)?;
     print_elements(status.elements.as_slice(), out)?;
@@ -257,14 +287,6 @@ fn print_lines<W: Write>(status: &Status, out: &mut W) -> io::Result<()>
     print_clock(status.clock, out)?;
     print_alarms(&status.alarms, out)?;
     print_notifies(status.notified.as_slice(), out)
-}
-
-impl Lines for Status {
-    ghost text = { status_text };
-
-    fn print<W: Write>(&self, out: &mut W) -> io::Result<()> {
-        print_lines(self, out)
-    }
 }
 
 /// Prints the status of a core: how many events were allowed, a line for each queue and chain, and one for each
@@ -279,32 +301,53 @@ pub fn print_status<W: Sink>(status: &Status, out: &mut W) -> io::Result<()>
     let mut page = Page::new();
     match print_lines(status, &mut page) {
         Ok(()) => out.write_text(page.text()),
-        Err(_) => out.write_lines(status),
+        Err(_) => print_lines(status, out),
+    }
+}
+
+/// The number of a refusal.
+fn number_of(refusal: Refusal) -> u8
+    ensures { result ≡ refusal_number refusal }
+{
+    refusal as u8
+}
+
+/// The name of a refusal.
+fn refusal_word(refusal: Refusal) -> &'static str
+    ensures { result.now ≡ refusal_name refusal }
+{
+    match refusal {
+        Refusal::UnknownName => "UnknownName",
+        Refusal::NoItems => "NoItems",
+        Refusal::TooLong => "TooLong",
+        Refusal::Full => "Full",
+        Refusal::NotOwner => "NotOwner",
+        Refusal::AlreadyRaised => "AlreadyRaised",
+        Refusal::NotRaised => "NotRaised",
+        Refusal::NotHeld => "NotHeld",
+        Refusal::ProcessorBusy => "ProcessorBusy",
+        Refusal::ProcessorEmpty => "ProcessorEmpty",
+        Refusal::NotStopped => "NotStopped",
+        Refusal::GateBusy => "GateBusy",
+        Refusal::NotRunner => "NotRunner",
+        Refusal::OutOfMemory => "OutOfMemory",
+        Refusal::Closed => "Closed",
+        Refusal::Moved => "Moved",
     }
 }
 
 /// The line of an event that was refused.
 #[tactic(auto, unfolding(crate::specs::Printed::refused_text))]
-fn print_refusal<W: Write>(line: u32, refusal: Refusal, out: &mut W) -> io::Result<()>
-    ensures { OnOk result (Appends (W.contents out.old) (W.contents out.new) (refused_text line refusal)) }
+fn print_refusal<W: Sink>(line: u32, refusal: Refusal, out: &mut W) -> io::Result<()>
+    ensures effect { OnOk result (Appends (W.contents out.old) (W.contents out.new) (refused_text line refusal)) }
+    ensures error { OnErr result (IsWriteFault W.fails out.new) }
 {
-    let number = refusal as u8;
-    writeln!(out, "refused {line} {number} {refusal}")
-}
-
-/// The line of an event that was refused.
-#[derive(Clone, Copy)]
-struct RefusedLine {
-    line: u32,
-    refusal: Refusal,
-}
-
-impl Lines for RefusedLine {
-    ghost text = { λ refused. refused_text refused.line refused.refusal };
-
-    fn print<W: Write>(&self, out: &mut W) -> io::Result<()> {
-        print_refusal(self.line, self.refusal, out)
-    }
+    let number = number_of(refusal);
+    print_number("refused ", line, out)?;
+    print_number(" ", number, out)?;
+    out.write_text(b" ")?;
+    out.write_text(refusal_word(refusal).as_bytes())?;
+    out.write_text(b"\n")
 }
 
 /// Prints the line of an event that was refused: its line in the script, and the refusal's number and name.
@@ -318,6 +361,6 @@ pub fn print_refused<W: Sink>(line: u32, refusal: Refusal, out: &mut W) -> io::R
     let mut page = Page::new();
     match print_refusal(line, refusal, &mut page) {
         Ok(()) => out.write_text(page.text()),
-        Err(_) => out.write_lines(&RefusedLine { line, refusal }),
+        Err(_) => print_refusal(line, refusal, out),
     }
 }

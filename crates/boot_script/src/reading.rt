@@ -3,7 +3,7 @@
 ghost use Rattle.std.specs.Prelude.{◌≡◌, ◌≤◌, length, take, IfOk, IfSome, OnErr};
 ghost use Rattle.boot_script.specs.Plans.{text_plan};
 ghost use Rattle.boot_script.specs.Scripts.{text_events};
-ghost use Rattle.boot_script.specs.StreamFaults.{IsReadFault};
+ghost use Rattle.boot_script.specs.StreamFaults.{HasRead, IsReadFault};
 
 use crate::opening::MOST_BYTES;
 use crate::streams::Source;
@@ -33,8 +33,8 @@ impl StdError for ReadFault {}
 /// Fills the front of the buffer up to the end of the reader, or just past the length that a script may have, and gives
 /// the length of that front. It says what all bytes of the reader say, as a list of events and as a boot script.
 ///
-/// Takes no memory, so that a fault of the text is told where memory is wanting. A read fault has its cause in the
-/// calls on the reader.
+/// Takes no memory, so that a fault of the text is told where memory is wanting. After a call that reads a byte or is
+/// interrupted, reading goes on. Any other call is the last one, and so is the 131,072nd.
 ///
 /// Condition: the buffer has 65,537 bytes.
 pub fn read_script<R: Source>(reader: &mut R, buffer: &mut [u8]) -> Result<usize, ReadFault>
@@ -46,6 +46,7 @@ pub fn read_script<R: Source>(reader: &mut R, buffer: &mut [u8]) -> Result<usize
     ensures within { IfOk result (λ n. n ≤ 65537) }
     ensures long { length buffer.new ≡ 65537 }
     ensures error { OnErr result (IsReadFault R.answers reader.old reader.new) }
+    ensures trace { IfOk result (λ n. HasRead R.answers n reader.old reader.new) }
 {
     let mut filled = 0;
     for _ in 0..MOST_READS {

@@ -14,7 +14,7 @@ ghost use Rattle.boot_script.specs.Reports.{heard_text, heard_line, chained_line
 ghost use Rattle.boot_script.specs.Heard.{shown};
 ghost use Rattle.boot_script.specs.StreamFaults.{IsWriteFault};
 
-use crate::printing::digits_of;
+use crate::printing::{digits_of, print_number};
 use crate::streams::{Lines, Sink};
 use arrayvec::{ArrayVec, CapacityError};
 use boot_data::{
@@ -22,29 +22,31 @@ use boot_data::{
     QueueLine, Report, ThreadLine, ThreadState, TtyLines,
 };
 use std::io;
-use std::io::Write;
 
 /// Lines that go out in one write.
 type Buffer = ArrayVec<u8, 8192>;
 
 /// A line's first word, and a name.
 #[tactic(auto, unfolding(crate::specs::Reports::named))]
-fn print_named<W: Write>(word: &'static str, name: &Name, out: &mut W) -> io::Result<()>
-    ensures { OnOk result (Appends (W.contents out.old) (W.contents out.new) (named word.now name.now)) }
+fn print_named<W: Sink>(word: &'static str, name: &Name, out: &mut W) -> io::Result<()>
+    ensures effect { OnOk result (Appends (W.contents out.old) (W.contents out.new) (named word.now name.now)) }
+    ensures error { OnErr result (IsWriteFault W.fails out.new) }
 {
-    write!(out, "{word} ")?;
-    out.write_all(name.as_slice())
+    out.write_text(word.as_bytes())?;
+    out.write_text(b" ")?;
+    out.write_text(name.as_slice())
 }
 
 /// The counts of a queue, which end its line.
 #[tactic(auto, unfolding(crate::specs::Reports::counts_words))]
-fn print_counts<W: Write>(items: ItemCounts, out: &mut W) -> io::Result<()>
-    ensures { OnOk result (Appends (W.contents out.old) (W.contents out.new) (counts_words items)) }
+fn print_counts<W: Sink>(items: ItemCounts, out: &mut W) -> io::Result<()>
+    ensures effect { OnOk result (Appends (W.contents out.old) (W.contents out.new) (counts_words items)) }
+    ensures error { OnErr result (IsWriteFault W.fails out.new) }
 {
-    let put = items.put;
-    let taken = items.taken;
-    let left = items.left;
-    writeln!(out, " put {put} taken {taken} left {left}")
+    print_number(" put ", items.put, out)?;
+    print_number(" taken ", items.taken, out)?;
+    print_number(" left ", items.left, out)?;
+    out.write_text(b"\n")
 }
 
 /// The word that declares a queue or a pipe.
@@ -61,7 +63,7 @@ impl Lines for QueueLine {
     ghost text = { queue_line };
 
     #[tactic(auto, unfolding(crate::specs::Reports::queue_line))]
-    fn print<W: Write>(&self, out: &mut W) -> io::Result<()> {
+    fn print<W: Sink>(&self, out: &mut W) -> io::Result<()> {
         print_named(word_of_queue(self.kind), &self.name, out)?;
         print_counts(self.items, out)
     }
@@ -69,40 +71,41 @@ impl Lines for QueueLine {
 
 /// The line of one queue of a tty.
 #[tactic(auto, unfolding(crate::specs::Reports::tty_queue))]
-fn print_tty_queue<W: Write>(
+fn print_tty_queue<W: Sink>(
     name: &Name,
     queue: &'static str,
     items: ItemCounts,
     out: &mut W,
 ) -> io::Result<()>
-    ensures { OnOk result (Appends (W.contents out.old) (W.contents out.new) (tty_queue name.now queue.now items)) }
+    ensures effect { OnOk result (Appends (W.contents out.old) (W.contents out.new)
+        (tty_queue name.now queue.now items)) }
+    ensures error { OnErr result (IsWriteFault W.fails out.new) }
 {
     print_named("tty", name, out)?;
-    write!(out, " {queue}")?;
+    out.write_text(b" ")?;
+    out.write_text(queue.as_bytes())?;
     print_counts(items, out)
 }
 
 /// The first line of a tty.
 #[tactic(auto, unfolding(crate::specs::Reports::tty_line))]
-fn print_tty<W: Write>(tty: &TtyLines, out: &mut W) -> io::Result<()>
-    ensures { OnOk result (Appends (W.contents out.old) (W.contents out.new) (tty_line tty.now)) }
+fn print_tty<W: Sink>(tty: &TtyLines, out: &mut W) -> io::Result<()>
+    ensures effect { OnOk result (Appends (W.contents out.old) (W.contents out.new) (tty_line tty.now)) }
+    ensures error { OnErr result (IsWriteFault W.fails out.new) }
 {
-    let typed = tty.typed;
-    let overrun = tty.overrun;
-    let notes = tty.notes;
-    let held = tty.held;
     print_named("tty", &tty.name, out)?;
-    writeln!(
-        out,
-        " typed {typed} overrun {overrun} notes {notes} held {held}"
-    )
+    print_number(" typed ", tty.typed, out)?;
+    print_number(" overrun ", tty.overrun, out)?;
+    print_number(" notes ", tty.notes, out)?;
+    print_number(" held ", tty.held, out)?;
+    out.write_text(b"\n")
 }
 
 impl Lines for TtyLines {
     ghost text = { tty_lines };
 
     #[tactic(auto, unfolding(crate::specs::Reports::tty_lines))]
-    fn print<W: Write>(&self, out: &mut W) -> io::Result<()> {
+    fn print<W: Sink>(&self, out: &mut W) -> io::Result<()> {
         print_tty(self, out)?;
         print_tty_queue(&self.name, "raw", self.raw, out)?;
         print_tty_queue(&self.name, "line", self.line, out)?;
@@ -124,13 +127,13 @@ impl Lines for MoverLine {
     ghost text = { mover_line };
 
     #[tactic(auto, unfolding(crate::specs::Reports::mover_line))]
-    fn print<W: Write>(&self, out: &mut W) -> io::Result<()> {
-        let notes = self.notes;
-        let taken = self.taken;
-        let put = self.put;
-        let held = self.held;
+    fn print<W: Sink>(&self, out: &mut W) -> io::Result<()> {
         print_named(word_of_mover(self.kind), &self.name, out)?;
-        writeln!(out, " notes {notes} taken {taken} put {put} held {held}")
+        print_number(" notes ", self.notes, out)?;
+        print_number(" taken ", self.taken, out)?;
+        print_number(" put ", self.put, out)?;
+        print_number(" held ", self.held, out)?;
+        out.write_text(b"\n")
     }
 }
 
@@ -138,10 +141,10 @@ impl Lines for GaugeLine {
     ghost text = { gauge_line };
 
     #[tactic(auto, unfolding(crate::specs::Reports::gauge_line))]
-    fn print<W: Write>(&self, out: &mut W) -> io::Result<()> {
-        let value = self.value;
+    fn print<W: Sink>(&self, out: &mut W) -> io::Result<()> {
         print_named("gauge", &self.name, out)?;
-        writeln!(out, " {value}")
+        print_number(" ", self.value, out)?;
+        out.write_text(b"\n")
     }
 }
 
@@ -149,57 +152,55 @@ impl Lines for AlarmCounts {
     ghost text = { alarms_line };
 
     #[tactic(auto, unfolding(crate::specs::Reports::alarms_line))]
-    fn print<W: Write>(&self, out: &mut W) -> io::Result<()> {
-        let set = self.set;
-        let fired = self.fired;
-        let left = self.left;
-        if set == 0 {
+    fn print<W: Sink>(&self, out: &mut W) -> io::Result<()> {
+        if self.set == 0 {
             return Ok(());
         }
-        writeln!(out, "alarms set {set} fired {fired} left {left}")
+        print_number("alarms set ", self.set, out)?;
+        print_number(" fired ", self.fired, out)?;
+        print_number(" left ", self.left, out)?;
+        out.write_text(b"\n")
     }
 }
 
 /// The word of a thread's state.
-fn print_state<W: Write>(state: ThreadState, out: &mut W) -> io::Result<()>
-    ensures { OnOk result (Appends (W.contents out.old) (W.contents out.new) (state_word state)) }
+fn print_state<W: Sink>(state: ThreadState, out: &mut W) -> io::Result<()>
+    ensures effect { OnOk result (Appends (W.contents out.old) (W.contents out.new) (state_word state)) }
+    ensures error { OnErr result (IsWriteFault W.fails out.new) }
 {
     match state {
-        ThreadState::Ended => write!(out, "ended"),
-        ThreadState::Ready => write!(out, "ready"),
-        ThreadState::Wait(wait) => {
-            let number = wait.number();
-            write!(out, "wait{number}")
-        }
-        ThreadState::Stopped => write!(out, "stopped"),
-        ThreadState::Held => write!(out, "held"),
+        ThreadState::Ended => out.write_text(b"ended"),
+        ThreadState::Ready => out.write_text(b"ready"),
+        ThreadState::Wait(wait) => print_number("wait", wait.number(), out),
+        ThreadState::Stopped => out.write_text(b"stopped"),
+        ThreadState::Held => out.write_text(b"held"),
     }
 }
 
 /// The signals that were delivered, where one was.
 #[tactic(auto, unfolding(crate::specs::Reports::signals_words))]
-fn print_signals<W: Write>(signals: u16, out: &mut W) -> io::Result<()>
-    ensures { OnOk result (Appends (W.contents out.old) (W.contents out.new) (signals_words signals)) }
+fn print_signals<W: Sink>(signals: u16, out: &mut W) -> io::Result<()>
+    ensures effect { OnOk result (Appends (W.contents out.old) (W.contents out.new) (signals_words signals)) }
+    ensures error { OnErr result (IsWriteFault W.fails out.new) }
 {
     if signals == 0 {
         return Ok(());
     }
-    write!(out, " signals ")?;
-    out.write_all(digits_of(signals).as_slice())
+    out.write_text(b" signals ")?;
+    out.write_text(digits_of(signals).as_slice())
 }
 
 impl Lines for ThreadLine {
     ghost text = { thread_line };
 
     #[tactic(auto, unfolding(crate::specs::Reports::thread_line))]
-    fn print<W: Write>(&self, out: &mut W) -> io::Result<()> {
-        let steps = self.steps;
+    fn print<W: Sink>(&self, out: &mut W) -> io::Result<()> {
         print_named("thread", &self.name, out)?;
-        write!(out, " ")?;
+        out.write_text(b" ")?;
         print_state(self.state, out)?;
-        write!(out, " {steps}")?;
+        print_number(" ", self.steps, out)?;
         print_signals(self.signals, out)?;
-        writeln!(out)
+        out.write_text(b"\n")
     }
 }
 
@@ -224,18 +225,20 @@ fn is_plain(byte: u8) -> bool
 
 /// A byte of a text: itself, or `\` and two digits.
 #[tactic(auto, unfolding(crate::specs::Reports::written_byte))]
-fn print_byte<W: Write>(byte: u8, out: &mut W) -> io::Result<()>
-    ensures { OnOk result (Appends (W.contents out.old) (W.contents out.new) (written_byte byte)) }
+fn print_byte<W: Sink>(byte: u8, out: &mut W) -> io::Result<()>
+    ensures effect { OnOk result (Appends (W.contents out.old) (W.contents out.new) (written_byte byte)) }
+    ensures error { OnErr result (IsWriteFault W.fails out.new) }
 {
     if is_plain(byte) {
-        return out.write_all(&[byte]);
+        return out.write_text(&[byte]);
     }
-    out.write_all(&[b'\\', upper_digit_of(byte / 16), upper_digit_of(byte % 16)])
+    out.write_text(&[b'\\', upper_digit_of(byte / 16), upper_digit_of(byte % 16)])
 }
 
 /// The bytes of a line.
-fn print_bytes<W: Write>(bytes: &[u8], out: &mut W) -> io::Result<()>
-    ensures { OnOk result (Appends (W.contents out.old) (W.contents out.new) (heard_text bytes.now)) }
+fn print_bytes<W: Sink>(bytes: &[u8], out: &mut W) -> io::Result<()>
+    ensures effect { OnOk result (Appends (W.contents out.old) (W.contents out.new) (heard_text bytes.now)) }
+    ensures error { OnErr result (IsWriteFault W.fails out.new) }
 {
     for byte in bytes {
         print_byte(*byte, out)?;
@@ -253,23 +256,25 @@ struct HeardLine<'a> {
 
 /// The first word of a line that was heard, and the name of its thread.
 #[tactic(auto, unfolding(crate::specs::Reports::named))]
-fn print_hearer<W: Write>(thread: &[u8], out: &mut W) -> io::Result<()>
-    ensures { OnOk result (Appends (W.contents out.old) (W.contents out.new) (named (codes "heard") thread.now)) }
+fn print_hearer<W: Sink>(thread: &[u8], out: &mut W) -> io::Result<()>
+    ensures effect { OnOk result (Appends (W.contents out.old) (W.contents out.new)
+        (named (codes "heard") thread.now)) }
+    ensures error { OnErr result (IsWriteFault W.fails out.new) }
 {
-    write!(out, "heard ")?;
-    out.write_all(thread)
+    out.write_text(b"heard ")?;
+    out.write_text(thread)
 }
 
 impl<'a> Lines for HeardLine<'a> {
     ghost text = { λ line. heard_line (shown line) };
 
     #[tactic(auto, unfolding(crate::specs::Reports::heard_line))]
-    fn print<W: Write>(&self, out: &mut W) -> io::Result<()> {
-        let step = self.step;
+    fn print<W: Sink>(&self, out: &mut W) -> io::Result<()> {
         print_hearer(self.thread, out)?;
-        write!(out, " {step} ")?;
+        print_number(" ", self.step, out)?;
+        out.write_text(b" ")?;
         print_bytes(self.bytes, out)?;
-        writeln!(out)
+        out.write_text(b"\n")
     }
 }
 
@@ -295,9 +300,9 @@ impl Lines for Chained {
     ghost text = { λ chained. chained_line chained.notes };
 
     #[tactic(auto, unfolding(crate::specs::Reports::chained_line))]
-    fn print<W: Write>(&self, out: &mut W) -> io::Result<()> {
-        let notes = self.notes;
-        writeln!(out, "chained {notes}")
+    fn print<W: Sink>(&self, out: &mut W) -> io::Result<()> {
+        print_number("chained ", self.notes, out)?;
+        out.write_text(b"\n")
     }
 }
 
@@ -346,7 +351,7 @@ fn put<L: Lines, W: Sink>(
         Err(_) => {
             // Longer than a buffer, as no lines of one thing are today.
             write_out(buffer, out)?;
-            out.write_lines(lines)
+            lines.print(out)
         }
     }
 }

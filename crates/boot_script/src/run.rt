@@ -1,12 +1,12 @@
 //! Reading a list of events, running it on a fresh core, and printing the core's status.
 
-ghost use Rattle.std.specs.Prelude.{◌≡◌, ◌≢◌, ◌≤◌, IfOk, IfErr, IfSome, OnOk, OnErr};
+ghost use Rattle.std.specs.Prelude.{◌≡◌, ◌≢◌, ◌≤◌, ℕ, Err, IfOk, IfErr, IfSome, OnOk, OnErr};
 ghost use Rattle.std.specs.Io.KnownBytes.{Appends, Keeps};
 ghost use Rattle.event_theory.specs.States.{first_state};
 ghost use Rattle.quaject_core.specs.ShownCores.{state};
 ghost use Rattle.boot_script.specs.Scripts.{text_events};
 ghost use Rattle.boot_script.specs.Replays.{Replays, replay_text, IsReplay, IsAnswer, IsReplayFault, Ends};
-ghost use Rattle.boot_script.specs.StreamFaults.{IsReadFault, IsWriteFault};
+ghost use Rattle.boot_script.specs.StreamFaults.{HasRead, IsReadFault, IsWriteFault};
 
 use crate::events::parse_events;
 use crate::fault::ScriptRefusal;
@@ -99,8 +99,10 @@ fn run_text<W: Sink>(alloc: Global, text: &[u8], writer: &mut W) -> Result<Repla
 ///
 /// Printed is the status after the events before the first that isn't allowed, and then that event's `refused` line,
 /// where there is one. After a fault other than `Write` nothing was written. `Memory` is answered only where the text
-/// has no fault. `Read` comes only where the last call on the reader answered an error other than an interruption, or
-/// at 131,072 calls, and `Write` only where the last call on the writer answered an error.
+/// has no fault. After each call of read but the last, reading went on: it read a byte or more, or was interrupted.
+/// `Read` comes only where the last call on the reader answered an error other than an interruption, or at 131,072
+/// calls. Any other answer comes only where the last call found the end, or read a byte too much. `Write` comes only
+/// where the last call on the writer answered an error.
 pub fn replay_on<R: Source, W: Sink>(
     alloc: Global,
     reader: &mut R,
@@ -113,6 +115,7 @@ pub fn replay_on<R: Source, W: Sink>(
     ensures unwritten { IfErr result (λ fault. fault ≢ ReplayFault.Write
         → Keeps (W.contents writer.old) (W.contents writer.new)) }
     ensures read { IfErr result (λ fault. fault ≡ ReplayFault.Read → IsReadFault R.answers reader.old reader.new) }
+    ensures trace { result ≢ Err ReplayFault.Read → (n : ℕ) × HasRead R.answers n reader.old reader.new }
     ensures write { IfErr result (λ fault. fault ≡ ReplayFault.Write → IsWriteFault W.fails writer.new) }
 {
     let mut buffer = [0u8; MOST_BYTES + 1];
@@ -132,6 +135,7 @@ pub fn replay<R: Source + Drop, W: Sink + Drop>(
         (text_events bytes) fault)) }
     ensures read { IfErr result (λ fault. fault ≡ ReplayFault.Read
         → (last : R) × IsReadFault R.answers reader last) }
+    ensures trace { result ≢ Err ReplayFault.Read → (last : R) × (n : ℕ) × HasRead R.answers n reader last }
     ensures write { IfErr result (λ fault. fault ≡ ReplayFault.Write → (last : W) × IsWriteFault W.fails last) }
 {
     replay_on(alloc, &mut reader, &mut writer)

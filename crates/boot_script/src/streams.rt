@@ -7,6 +7,7 @@ ghost use Rattle.std.specs.Prelude.{◌≡◌, ℕ, List, Result, ⊤, OnOk, OnE
 ghost use Rattle.std.specs.declared.io.Error.{Error};
 ghost use Rattle.std.specs.Io.{ReadsAtMost};
 ghost use Rattle.std.specs.Io.KnownBytes.{Appends, ReadConsumes};
+ghost use Rattle.boot_script.specs.StreamFaults.{IsWriteFault};
 
 use std::io;
 use std::io::{Read, Write};
@@ -31,16 +32,6 @@ impl<R: Read> Source for R {
     }
 }
 
-/// What has lines to be printed.
-pub trait Lines {
-    /// The bytes of its lines.
-    ghost text: { Self → List ℕ };
-
-    /// Prints its lines.
-    fn print<W: Write>(&self, out: &mut W) -> io::Result<()>
-        ensures { OnOk result (Appends (W.contents out.old) (W.contents out.new) (text self.now)) };
-}
-
 /// What text is written on. Every writer is one.
 pub trait Sink: Write {
     /// One call on the first of these writers answered an error, and left the second.
@@ -50,11 +41,6 @@ pub trait Sink: Write {
     fn write_text(&mut self, text: &[u8]) -> io::Result<()>
         ensures bytes { OnOk result (Appends (Self.contents self.old) (Self.contents self.new) text.now) }
         ensures failed { OnErr result (fails self.old self.new) };
-
-    /// Writes the lines of a thing part by part, where they are too long for a buffer.
-    fn write_lines<L: Lines>(&mut self, lines: &L) -> io::Result<()>
-        ensures bytes { OnOk result (Appends (Self.contents self.old) (Self.contents self.new) (L.text lines.now)) }
-        ensures failed { OnErr result (fails self.old self.new) };
 }
 
 impl<W: Write> Sink for W {
@@ -63,8 +49,15 @@ impl<W: Write> Sink for W {
     fn write_text(&mut self, text: &[u8]) -> io::Result<()> {
         self.write_all(text)
     }
+}
 
-    fn write_lines<L: Lines>(&mut self, lines: &L) -> io::Result<()> {
-        lines.print(self)
-    }
+/// What has lines to be printed.
+pub trait Lines {
+    /// The bytes of its lines.
+    ghost text: { Self → List ℕ };
+
+    /// Prints its lines, part by part.
+    fn print<W: Sink>(&self, out: &mut W) -> io::Result<()>
+        ensures effect { OnOk result (Appends (W.contents out.old) (W.contents out.new) (text self.now)) }
+        ensures error { OnErr result (IsWriteFault W.fails out.new) };
 }

@@ -35,3 +35,11 @@ texts_more text old new later i things x is h k =
 -- what was appended before, and what a call appends where it answers Ok
 pub then_appends : {A E : Type 0} (result : Result A E) (a b c : Option (List ℕ)) (x y z : List ℕ) → Appends a b x → OnOk result (Appends b c y) → x ++ y ≡ z → OnOk result (Appends a c z)
 then_appends result a b c x y z first h e = on_ok_weaker result (λ k. subst (Appends a c) e (appends_join a b c x y first k)) h
+
+-- an appended text, by another name
+pub appends_as : (a b : Option (List ℕ)) (x y : List ℕ) → Appends a b x → x ≡ y → Appends a b y
+appends_as a b x y h e = subst (Appends a b) e h
+
+-- a word was appended, and then what stands behind it
+pub appends_word : (a b c : Option (List ℕ)) (x word y : List ℕ) → Appends a b x → Appends b c (word ++ y) → Appends a c (x ++ word ++ y)
+appends_word a b c x word y h k = subst (Appends a c) (sym (append_assoc x word y)) (appends_join a b c x (word ++ y) h k)

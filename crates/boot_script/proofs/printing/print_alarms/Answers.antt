@@ -1,12 +1,15 @@
-use Rattle.std.proofs.Common.{◌≡◌, append_assoc, false, arith}
+use Rattle.std.proofs.Common.{arith, codes, false, ◌≡◌}
 use Rattle.std.proofs.Math.Dec.{eqb}
 use Rattle.std.proofs.lemmas.Bool.Decides.{nat_tests}
 use Rattle.std.proofs.lemmas.Result.{on_ok_weaker}
 use Rattle.boot_script.specs.Printed.{alarm_line}
+use Rattle.boot_script.proofs.LineWords.KnownBytes.{appends_join, appends_word}
 use Rattle.boot_script.proofs.printing.print_alarms.Goals as goal
 
-pub returns : goal.returns
+pub returns-clause-effect : goal.returns-clause-effect
 unfolding alarm_line
-returns g c =
+returns-clause-effect g c =
     let some : eqb c.args.alarms.now.set 0 ≡ false = grind (arith, nat_tests) in
-    rw some (on_ok_weaker c.writeln.result (λ h. simp append_assoc h) c.writeln.ensures.bytes)
+    let part2 = appends_word _ _ _ _ (codes " fired ") _ c.in_ok-print_number.ensures.effect c.in_ok-print_number-2.ensures.effect in
+    let part3 = appends_word _ _ _ _ (codes " cancelled ") _ part2 c.in_ok-print_number-3.ensures.effect in
+    rw some (on_ok_weaker c.write_text.result (λ last. appends_join _ _ _ _ _ part3 last) c.write_text.ensures.bytes)

@@ -1,10 +1,15 @@
-use Rattle.std.proofs.Common.{append_assoc}
+use Rattle.std.proofs.Common.{codes, ◌∙◌}
 use Rattle.std.proofs.lemmas.Result.{on_ok_weaker}
 use Rattle.boot_script.specs.Printed.{chain_line}
+use Rattle.boot_script.proofs.LineWords.KnownBytes.{appends_join, appends_word, appends_as}
 use Rattle.boot_script.proofs.printing.print_chain.Goals as goal
 
-pub returns : goal.returns
+pub returns-clause-effect : goal.returns-clause-effect
 unfolding chain_line
-returns g c =
-    let word = c.gate_name-gate.ensures in
-    on_ok_weaker c.writeln.result (λ h. simp append_assoc (simp word at h)) c.writeln.ensures.bytes
+returns-clause-effect g c =
+    let part2 = appends_word _ _ _ _ (codes " put ") _ c.in_ok-print_number.ensures.effect c.in_ok-print_number-2.ensures.effect in
+    let part3 = appends_word _ _ _ _ (codes " taken ") _ part2 c.in_ok-print_number-3.ensures.effect in
+    let part4 = appends_word _ _ _ _ (codes " left ") _ part3 c.in_ok-print_number-4.ensures.effect in
+    let part5 = appends_join _ _ _ _ _ part4 c.in_ok-write_text.ensures.bytes in
+    let part6 = appends_join _ _ _ _ _ part5 (appends_as _ _ _ _ c.in_ok-write_text-2.ensures.bytes (c.as_bytes.ensures.value ∙ c.gate_name-gate.ensures)) in
+    on_ok_weaker c.write_text-3.result (λ last. appends_join _ _ _ _ _ part6 last) c.write_text-3.ensures.bytes

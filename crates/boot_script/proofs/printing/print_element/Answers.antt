@@ -1,15 +1,16 @@
-use Rattle.std.proofs.Common.{append_assoc}
+use Rattle.std.proofs.Common.{codes, ◌∙◌}
+use Rattle.std.proofs.lemmas.Result.{on_ok_weaker}
 use Rattle.boot_script.specs.Printed.{element_words}
-use Rattle.boot_script.proofs.LineWords.KnownBytes.{appends_join, then_appends}
+use Rattle.boot_script.proofs.LineWords.KnownBytes.{appends_join, appends_word, appends_as}
 use Rattle.boot_script.proofs.printing.print_element.Goals as goal
 
-pub returns : goal.returns
+pub returns-clause-effect : goal.returns-clause-effect
 unfolding element_words
-returns g c =
-    let place = appends_join _ _ _ _ _ c.in_ok-write.ensures.bytes c.in_ok-print_place.ensures in
-    let done = appends_join _ _ _ _ _ place c.in_ok-write-2.ensures.bytes in
-    let digits = appends_join _ _ _ _ _ done c.in_ok-write_all.ensures.bytes in
-    let word = c.word_where-stop.ensures in
-    let shown = c.digits_of.ensures in
-    let bytes = c.as_slice.ensures in
-    then_appends c.writeln.result _ _ _ _ _ _ digits c.writeln.ensures.bytes (simp (append_assoc, word, bytes, shown))
+returns-clause-effect g c =
+    let part2 = appends_join _ _ _ _ _ c.in_ok-print_number.ensures.effect c.in_ok-write_text.ensures.bytes in
+    let part3 = appends_join _ _ _ _ _ part2 c.in_ok-print_place.ensures.effect in
+    let part4 = appends_word _ _ _ _ (codes " done ") _ part3 c.in_ok-print_number-2.ensures.effect in
+    let part5 = appends_join _ _ _ _ _ part4 c.in_ok-write_text-2.ensures.bytes in
+    let part6 = appends_join _ _ _ _ _ part5 (appends_as _ _ _ _ c.in_ok-write_text-3.ensures.bytes (c.as_slice.ensures ∙ c.digits_of.ensures)) in
+    let part7 = appends_join _ _ _ _ _ part6 (appends_as _ _ _ _ c.in_ok-write_text-4.ensures.bytes (c.as_bytes.ensures.value ∙ c.word_where-stop.ensures)) in
+    on_ok_weaker c.write_text-5.result (λ last. appends_join _ _ _ _ _ part7 last) c.write_text-5.ensures.bytes

@@ -1,6 +1,6 @@
 use Rattle.std.proofs.Common.{◌≡◌, inr, ◌∙◌, ◌-◌, ◌≤◌, length, length-append, length-take, take, arith}
 use borrow.Rule.Slice.PartMut.{same_len_mid, take_put}
-use Rattle.boot_script.proofs.Input.Calling.{next_call}
+use Rattle.boot_script.proofs.Input.Calling.{more_read, interrupted, called_most}
 use Rattle.boot_script.proofs.Input.Filled.{consumes_join, consumes_nothing, filled_more, events_of_read, plan_of_read}
 use Rattle.boot_script.proofs.reading.read_script.Goals as goal
 use Rattle.boot_script.proofs.reading.read_script.Goals.{in-Ok+else-filled-gt-MOST_BYTES, in-Err+else-ne}
@@ -10,20 +10,19 @@ loop-preserved g c =
     let within : c.loop.filled ≤ length c.loop.buffer = omega (arith, c.loop.invariant.short, c.loop.invariant.sized) in
     let front : length (take c.loop.filled c.loop.buffer) ≡ c.loop.filled = omega (arith, length-take c.loop.filled c.loop.buffer) in
     let room = length c.loop.buffer - c.loop.filled in
-    let called = next_call g.R.Source.answers c.loop.counter _ _ _ c.ask.result c.loop.invariant.called c.ask.ensures.answered in
     elim c.match-ask.branch [
       | in-Ok+else-filled-gt-MOST_BYTES w ↦ record {
         bytes = rw (w.filled-is, filled_more (take c.loop.filled c.loop.buffer) c.ask.new.buf _ c.loop.filled w.in-Ok.n front w.in-Ok.ensures.bound.0)
             (consumes_join _ _ _ _ _ c.loop.invariant.bytes w.in-Ok.ensures.bytes.0);
         short = omega (arith, w.filled-is);
         sized = same_len_mid c.loop.filled room c.loop.buffer c.ask.new.buf c.ask.auto.buf ∙ c.loop.invariant.sized;
-        called = called;
+        called = rw w.filled-is (more_read g.R.Source.answers c.loop.counter c.loop.filled w.in-Ok.n _ _ _ c.loop.invariant.called w.in-Ok.ensures.answered (grind arith));
       }
       | in-Err+else-ne w ↦ record {
         bytes = rw (w.filled-is, take_put c.loop.filled room c.loop.buffer c.ask.new.buf within) (consumes_nothing _ _ _ _ c.loop.invariant.bytes w.in-Err.ensures.bytes);
         short = omega (arith, w.filled-is);
         sized = same_len_mid c.loop.filled room c.loop.buffer c.ask.new.buf c.ask.auto.buf ∙ c.loop.invariant.sized;
-        called = called;
+        called = rw w.filled-is (interrupted g.R.Source.answers c.loop.counter c.loop.filled w.in-Err.error _ _ _ c.loop.invariant.called w.in-Err.ensures.answered (grind arith));
       }
     ]
 
@@ -46,4 +45,4 @@ returns-then-filled-gt-MOST_BYTES-clause-plan g c =
     (λ short. absurd (omega (arith, length-append (take c.loop.filled c.loop.buffer) (take c.in-Ok.n c.ask.new.buf), length-take c.in-Ok.n c.ask.new.buf))))
 
 pub returns-clause-error : goal.returns-clause-error
-returns-clause-error g c = inr (c.loop.counter, omega (arith, c.loop-test.false, c.loop.auto.counter-end), c.loop.invariant.called)
+returns-clause-error g c = called_most g.R.Source.answers c.loop.counter c.loop.filled _ _ c.loop.invariant.called (omega (arith, c.loop-test.false, c.loop.auto.counter-end)) c.loop.invariant.short

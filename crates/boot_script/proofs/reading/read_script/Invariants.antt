@@ -1,6 +1,6 @@
 use Rattle.std.proofs.Common.{◌≡◌, ◌≤◌, length, take}
 use Rattle.std.specs.Io.KnownBytes.{Consumes}
-use Rattle.boot_script.specs.StreamFaults.{Calls}
+use Rattle.boot_script.proofs.Input.Calling.{SoFar}
 use Rattle.boot_script.proofs.reading.read_script.Given as goal
 
 -- The front of the buffer is what was taken from the reader, in so many calls.
@@ -9,5 +9,5 @@ invariant-loop g l = record {
   bytes : Consumes (g.R.Read.remaining l.fn.reader) (g.R.Read.remaining l.reader) (take l.filled l.buffer);
   short : l.filled ≤ 65536;
   sized : length l.buffer ≡ 65537;
-  called : Calls g.R.Source.answers l.counter l.fn.reader l.reader;
+  called : SoFar g.R.Source.answers l.counter l.filled l.fn.reader l.reader;
 }

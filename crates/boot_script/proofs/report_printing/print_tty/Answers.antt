@@ -1,9 +1,14 @@
-use Rattle.std.proofs.Common.{append_assoc}
+use Rattle.std.proofs.Common.{codes}
+use Rattle.std.proofs.lemmas.Result.{on_ok_weaker}
 use Rattle.boot_script.specs.Reports.{tty_line}
-use Rattle.boot_script.proofs.LineWords.KnownBytes.{then_appends}
+use Rattle.boot_script.proofs.LineWords.KnownBytes.{appends_join, appends_word}
 use Rattle.boot_script.proofs.report_printing.print_tty.Goals as goal
 
-pub returns : goal.returns
+pub returns-clause-effect : goal.returns-clause-effect
 unfolding tty_line
-returns g c =
-    then_appends c.writeln.result _ _ _ _ _ _ c.in_ok-print_named.ensures c.writeln.ensures.bytes (simp append_assoc)
+returns-clause-effect g c =
+    let part2 = appends_word _ _ _ _ (codes " typed ") _ c.in_ok-print_named.ensures.effect c.in_ok-print_number.ensures.effect in
+    let part3 = appends_word _ _ _ _ (codes " overrun ") _ part2 c.in_ok-print_number-2.ensures.effect in
+    let part4 = appends_word _ _ _ _ (codes " notes ") _ part3 c.in_ok-print_number-3.ensures.effect in
+    let part5 = appends_word _ _ _ _ (codes " held ") _ part4 c.in_ok-print_number-4.ensures.effect in
+    on_ok_weaker c.write_text.result (λ last. appends_join _ _ _ _ _ part5 last) c.write_text.ensures.bytes

@@ -1,11 +1,13 @@
-use Rattle.std.proofs.Common.{append_assoc}
+use Rattle.std.proofs.Common.{codes}
+use Rattle.std.proofs.lemmas.Result.{on_ok_weaker}
 use Rattle.boot_script.specs.Reports.{heard_line}
-use Rattle.boot_script.proofs.LineWords.KnownBytes.{appends_join, then_appends}
+use Rattle.boot_script.proofs.LineWords.KnownBytes.{appends_join, appends_word}
 use Rattle.boot_script.proofs.report_printing.HeardLineLines.print.Goals as goal
 
-pub returns : goal.returns
+pub returns-clause-effect : goal.returns-clause-effect
 unfolding heard_line
-returns g c =
-    let step = appends_join _ _ _ _ _ c.in_ok-print_hearer.ensures c.in_ok-write.ensures.bytes in
-    let bytes = appends_join _ _ _ _ _ step c.in_ok-print_bytes.ensures in
-    then_appends c.writeln.result _ _ _ _ _ _ bytes c.writeln.ensures.bytes (simp append_assoc)
+returns-clause-effect g c =
+    let part2 = appends_word _ _ _ _ (codes " ") _ c.in_ok-print_hearer.ensures.effect c.in_ok-print_number.ensures.effect in
+    let part3 = appends_join _ _ _ _ _ part2 c.in_ok-write_text.ensures.bytes in
+    let part4 = appends_join _ _ _ _ _ part3 c.in_ok-print_bytes.ensures.effect in
+    on_ok_weaker c.write_text-2.result (λ last. appends_join _ _ _ _ _ part4 last) c.write_text-2.ensures.bytes

@@ -1,10 +1,14 @@
-use Rattle.std.proofs.Common.{append_assoc}
-use Rattle.boot_script.specs.Reports.{mover_line}
-use Rattle.boot_script.proofs.LineWords.KnownBytes.{then_appends}
+use Rattle.std.proofs.Common.{ap, codes}
+use Rattle.std.proofs.lemmas.Result.{on_ok_weaker}
+use Rattle.boot_script.specs.Reports.{named, mover_line}
+use Rattle.boot_script.proofs.LineWords.KnownBytes.{appends_join, appends_word, appends_as}
 use Rattle.boot_script.proofs.report_printing.MoverLineLines.print.Goals as goal
 
-pub returns : goal.returns
+pub returns-clause-effect : goal.returns-clause-effect
 unfolding mover_line
-returns g c =
-    let word = c.word_of_mover.ensures in
-    then_appends c.writeln.result _ _ _ _ _ _ c.in_ok-print_named.ensures c.writeln.ensures.bytes (simp (append_assoc, word))
+returns-clause-effect g c =
+    let part2 = appends_word _ _ _ _ (codes " notes ") _ (appends_as _ _ _ _ c.in_ok-print_named.ensures.effect (ap (λ word. named word c.args.self.now.name) c.word_of_mover.ensures)) c.in_ok-print_number.ensures.effect in
+    let part3 = appends_word _ _ _ _ (codes " taken ") _ part2 c.in_ok-print_number-2.ensures.effect in
+    let part4 = appends_word _ _ _ _ (codes " put ") _ part3 c.in_ok-print_number-3.ensures.effect in
+    let part5 = appends_word _ _ _ _ (codes " held ") _ part4 c.in_ok-print_number-4.ensures.effect in
+    on_ok_weaker c.write_text.result (λ last. appends_join _ _ _ _ _ part5 last) c.write_text.ensures.bytes

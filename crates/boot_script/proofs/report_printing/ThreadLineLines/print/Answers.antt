@@ -1,13 +1,14 @@
-use Rattle.std.proofs.Common.{append_assoc}
+use Rattle.std.proofs.Common.{codes}
+use Rattle.std.proofs.lemmas.Result.{on_ok_weaker}
 use Rattle.boot_script.specs.Reports.{thread_line}
-use Rattle.boot_script.proofs.LineWords.KnownBytes.{appends_join, then_appends}
+use Rattle.boot_script.proofs.LineWords.KnownBytes.{appends_join, appends_word}
 use Rattle.boot_script.proofs.report_printing.ThreadLineLines.print.Goals as goal
 
-pub returns : goal.returns
+pub returns-clause-effect : goal.returns-clause-effect
 unfolding thread_line
-returns g c =
-    let space = appends_join _ _ _ _ _ c.in_ok-print_named.ensures c.in_ok-write.ensures.bytes in
-    let state = appends_join _ _ _ _ _ space c.in_ok-print_state.ensures in
-    let steps = appends_join _ _ _ _ _ state c.in_ok-write-2.ensures.bytes in
-    let signals = appends_join _ _ _ _ _ steps c.in_ok-print_signals.ensures in
-    then_appends c.writeln.result _ _ _ _ _ _ signals c.writeln.ensures.bytes (simp append_assoc)
+returns-clause-effect g c =
+    let part2 = appends_join _ _ _ _ _ c.in_ok-print_named.ensures.effect c.in_ok-write_text.ensures.bytes in
+    let part3 = appends_join _ _ _ _ _ part2 c.in_ok-print_state.ensures.effect in
+    let part4 = appends_word _ _ _ _ (codes " ") _ part3 c.in_ok-print_number.ensures.effect in
+    let part5 = appends_join _ _ _ _ _ part4 c.in_ok-print_signals.ensures.effect in
+    on_ok_weaker c.write_text-2.result (λ last. appends_join _ _ _ _ _ part5 last) c.write_text-2.ensures.bytes

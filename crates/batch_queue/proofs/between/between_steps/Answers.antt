@@ -1,0 +1,5 @@
+use Rattle.batch_queue.proofs.Betweens.{shows_queue}
+use Rattle.batch_queue.proofs.between.between_steps.Goals as goal
+
+pub returns : goal.returns
+returns c = shows_queue

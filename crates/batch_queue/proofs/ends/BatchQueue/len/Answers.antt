@@ -1,0 +1,19 @@
+use Rattle.batch_queue.proofs.Common.{arith, refl, ◌∷◌, [], load, head_word, tail_word}
+use Rattle.table_theory.proofs.Parting.{made_then}
+use Rattle.batch_queue.proofs.Growing.{taken_claimed}
+use Rattle.batch_queue.proofs.Reporting.{head_is}
+use Rattle.batch_queue.proofs.Stepping.{step_real}
+use Rattle.batch_queue.proofs.ends.BatchQueue.len.Goals as goal
+
+pub overflow_sub-result : goal.overflow_sub-result
+overflow_sub-result c = let t = c.load_tail-tail.ensures.tail.0 in let f = c.load_head-head.ensures.found in let e = step_real _ _ _ _ f in let h = head_is _ refl e in let g = f.grows.taken in let b = taken_claimed _ e.lawful in omega arith
+
+pub returns-clause-trace : goal.returns-clause-trace
+returns-clause-trace c = let t = c.load_tail-tail.ensures.found in let f = c.load_head-head.ensures.found in record {
+  tail = c.load_tail-tail.result;
+  at_tail = c.load_tail-tail.new.seat.me.0.seen;
+  head = c.load_head-head.result;
+  at_head = c.load_head-head.new.seat.me.0.seen;
+  is = refl;
+  made = made_then _ _ _ (load tail_word c.load_tail-tail.result c.load_tail-tail.new.seat.me.0.seen ∷ []) (load head_word c.load_head-head.result c.load_head-head.new.seat.me.0.seen ∷ []) _ (λ d. d) t.made f.made;
+}

@@ -1,0 +1,5 @@
+use Rattle.batch_queue.proofs.Looking.{found_tail}
+use Rattle.batch_queue.proofs.take.load_tail.Goals as goal
+
+pub returns-clause-tail : goal.returns-clause-tail
+returns-clause-tail c = found_tail _ _ _ c.load.ensures.found

@@ -1,0 +1,33 @@
+-- What an end of a queue put and took, as lines: a line is one batch that was put, or the batches of one taking.
+use Rattle.std.specs.Prelude.{◌≡◌, ℕ, List, [], ◌∷◌, map}
+pub use Rattle.table_theory.specs.Batches.{line_of}
+use Rattle.table_theory.specs.Filing.{Owned, entry_of, ListedOnce}
+pub use Rattle.table_theory.specs.Lines.{IsCut, IsSettled}
+use Rattle.table_theory.specs.Lines as lines
+use Rattle.batch_queue.specs.Own.{View}
+
+-- the batches that the end put, in the order of its claims
+abbrev pub lines_put : View → List (List ℕ)
+lines_put v = map line_of v.own.runs
+
+-- the lines that the end took, in the order of its takings
+abbrev pub lines_taken : View → List (List ℕ)
+lines_taken v = map line_of v.own.takes
+
+-- nothing was put and nothing taken, and the end has the share that it had
+abbrev pub SameLines : View → View → Type 0
+SameLines v w = lines.SameLines lines_put lines_taken v w
+
+-- one batch more was put, and the end has the share that it had
+abbrev pub PutLine : List ℕ → View → View → Type 0
+PutLine line v w = lines.PutLine lines_put lines_taken line v w
+
+-- one line more was taken, and the end has the share that it had
+abbrev pub TookLine : List ℕ → View → View → Type 0
+TookLine line v w = lines.TookLine lines_put lines_taken line v w
+
+-- these lines, each once, in an order
+pub record AreInOrder (ordered lines : List (List ℕ)) : Type 0 where
+  pub log : List (Owned (List ℕ))
+  pub once : ListedOnce log (lines ∷ [])
+  pub is : map entry_of log ≡ ordered

@@ -1,0 +1,130 @@
+-- A queue by its positions: what keeps it lawful, and its events.
+use Rattle.std.specs.Prelude.{◌≡◌, ◌⊎◌, ℕ, zero, suc, ◌+◌, ◌<◌, ◌≤◌, List, [], ◌∷◌, ◌++◌, length, replicate}
+use Rattle.std.specs.Prelude.{◌-◌, slice_index_or, map, take, drop, true, false}
+use Rattle.std.specs.List.{concat, flat_map}
+use Rattle.batch_queue.specs.declared.rule.BatchState.{BatchState}
+use Rattle.batch_queue.specs.declared.rule.Shape.{Shape}
+
+-- all items that were claimed, in the order of their claims
+abbrev pub items_of : BatchState → List ℕ
+items_of o = concat o.batches
+
+-- the phase of a position: 0 from its claim on, 1 once it is published, 2 once it is taken, 3 once its place is given
+-- back
+abbrev pub phase_at : BatchState → ℕ → ℕ
+phase_at o i = slice_index_or o.phases i 0
+
+-- a batch ends at this position, or it is the first
+pub record IsEdge (batches : List (List ℕ)) (p : ℕ) : Type 0 where
+  pub before : List (List ℕ)
+  pub rest : List (List ℕ)
+  pub all : before ++ rest ≡ batches
+  pub at : length (concat before) ≡ p
+
+-- a batch has the positions from p on and before e
+pub record IsBatch (batches : List (List ℕ)) (p e : ℕ) : Type 0 where
+  pub before : List (List ℕ)
+  pub batch : List ℕ
+  pub rest : List (List ℕ)
+  pub all : before ++ batch ∷ rest ≡ batches
+  pub at : length (concat before) ≡ p
+  pub end : p + length batch ≡ e
+
+-- none of these positions is published, or all are
+abbrev pub AllOrNone : BatchState → ℕ → ℕ → Type 0
+AllOrNone o p e = ((i : ℕ) → p ≤ i → i < e → phase_at o i ≡ 0) ⊎ ((i : ℕ) → p ≤ i → i < e → 1 ≤ phase_at o i)
+
+-- each batch is published whole or not at all
+abbrev pub AreWhole : BatchState → Type 0
+AreWhole o = (p e : ℕ) → IsBatch o.batches p e → AllOrNone o p e
+
+-- each of these batches has an item
+abbrev pub AreSolid : List (List ℕ) → Type 0
+AreSolid batches = (p e : ℕ) → IsBatch batches p e → p < e
+
+-- Each taking is of whole batches: the takings are the first batches in groups, in the order of claims
+pub record AreGroups (batches takings : List (List ℕ)) : Type 0 where
+  pub groups : List (List (List ℕ))
+  pub left : List (List ℕ)
+  pub all : flat_map (λ group. group) groups ++ left ≡ batches
+  pub each : map concat groups ≡ takings
+
+-- The positions that are claimed and not given back are no more than the places. A batch ends at the tail, and a taking
+-- at the beginning of the window
+pub record Lawful (o : BatchState) : Type 0 where
+  pub some_room : 0 < o.room
+  pub long : length o.phases ≡ length (items_of o)
+  pub within : length (items_of o) ≤ o.freed + o.room
+  pub before : (i : ℕ) → i < o.taken → 2 ≤ phase_at o i
+  pub after : (i : ℕ) → o.taken ≤ i → phase_at o i ≤ 1
+  pub behind : (i : ℕ) → i < o.freed → 3 ≤ phase_at o i
+  pub whole : AreWhole o
+  pub edge : IsEdge o.batches o.taken
+  pub solid : AreSolid o.batches
+  pub solid_takings : AreSolid o.takings
+  pub groups : AreGroups o.batches o.takings
+  pub taken_is : length (concat o.takings) ≡ o.taken
+  pub freed_edge : IsEdge o.takings o.freed
+
+-- the entries from a on and before b are y
+abbrev pub set_range : List ℕ → ℕ → ℕ → ℕ → List ℕ
+set_range [] a b y = []
+set_range (x ∷ xs) a zero y = x ∷ xs
+set_range (x ∷ xs) zero (suc b) y = y ∷ set_range xs zero b y
+set_range (x ∷ xs) (suc a) (suc b) y = x ∷ set_range xs a b y
+
+-- one batch more was claimed
+abbrev pub with_batch : BatchState → List ℕ → BatchState
+with_batch o claim = record o {
+  batches = o.batches ++ claim ∷ [];
+  phases = o.phases ++ replicate (length claim) 0;
+}
+
+-- the positions from a on and before b have this phase
+abbrev pub with_phase : BatchState → ℕ → ℕ → ℕ → BatchState
+with_phase o a b y = record o { phases = set_range o.phases a b y }
+
+-- one taking more was made, of the positions before the new one
+abbrev pub with_taken : BatchState → ℕ → BatchState
+with_taken o new = record (with_phase o o.taken new 2) {
+  taken = new;
+  takings = o.takings ++ take (new - o.taken) (drop o.taken (items_of o)) ∷ [];
+}
+
+-- the window moved to this position
+abbrev pub with_freed : BatchState → ℕ → BatchState
+with_freed o new = record o { freed = new }
+
+abbrev pub with_shut : BatchState → BatchState
+with_shut o = record o { shut = true }
+
+-- all these positions have this phase
+abbrev pub AreIn : BatchState → ℕ → ℕ → ℕ → Type 0
+AreIn o phase a b = (i : ℕ) → a ≤ i → i < b → phase_at o i ≡ phase
+
+-- One event makes r of o: a batch was claimed, or published; whole batches were taken; the places of a taking were
+-- given back; the window moved over places that were given back; or the queue was shut
+pub data Becomes (o r : BatchState) : Type 0 where
+  was_claimed : (claim : List ℕ) → 0 < length claim → o.shut ≡ false
+      → length (items_of o) + length claim ≤ o.freed + o.room → r ≡ with_batch o claim → Becomes o r
+  was_published : (a b : ℕ) → a < b → IsBatch o.batches a b → AreIn o 0 a b → r ≡ with_phase o a b 1 → Becomes o r
+  was_taken : (new : ℕ) → o.taken < new → new ≤ length (items_of o) → IsEdge o.batches new → AreIn o 1 o.taken new
+      → r ≡ with_taken o new → Becomes o r
+  was_given : (a b : ℕ) → a < b → IsBatch o.takings a b → AreIn o 2 a b → r ≡ with_phase o a b 3 → Becomes o r
+  was_freed : (new : ℕ) → o.freed < new → IsEdge o.takings new → ((i : ℕ) → o.freed ≤ i → i < new → 3 ≤ phase_at o i)
+      → r ≡ with_freed o new → Becomes o r
+  was_shut : r ≡ with_shut o → Becomes o r
+
+-- r is o, or o some events later
+pub record Grows (o r : BatchState) : Type 0 where
+  pub room : r.room ≡ o.room
+  pub more : (rest : List (List ℕ)) × (o.batches ++ rest ≡ r.batches)
+  pub takings : (rest : List (List ℕ)) × (o.takings ++ rest ≡ r.takings)
+  pub phases : (i : ℕ) → phase_at o i ≤ phase_at r i
+  pub taken : o.taken ≤ r.taken
+  pub freed : o.freed ≤ r.freed
+  pub shut : o.shut ≡ true → r.shut ≡ true
+
+-- a queue in which nothing was claimed
+abbrev pub empty : Shape → BatchState
+empty key = record { room = key.room; batches = []; takings = []; phases = []; taken = 0; freed = 0; shut = false }

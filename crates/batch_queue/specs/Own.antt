@@ -1,0 +1,93 @@
+-- What is an end's own: its runs, what it took, how often it shut the queue, and the slots that it holds.
+use Rattle.std.specs.Prelude.{◌≡◌, ℕ, ◌+◌, ◌<◌, ◌≤◌, List, [], ◌∷◌, ◌++◌, length, slice_set}
+use Rattle.std.specs.Prelude.{slice_index_or, Bool, if◌then◌else◌}
+use mathlib.Core.Option.{some}
+use lib.ListN.{get_elem?}
+use Rattle.table_theory.specs.declared.queues.Batch.{Batch}
+use Rattle.table_theory.specs.declared.queues.QueueView.{QueueView}
+use Rattle.table_theory.specs.declared.views.Ledger.{Ledger}
+pub use Rattle.table_theory.specs.Batches.{run, taking}
+use Rattle.table_theory.specs.Ledgers.{Subject}
+pub use Rattle.table_theory.specs.Ledgers.{Looks}
+use Rattle.table_theory.specs.Positioned.{blank}
+use Rattle.batch_queue.specs.declared.rule.BatchState.{BatchState}
+use Rattle.batch_queue.specs.declared.rule.EndRecord.{EndRecord}
+use Rattle.batch_queue.specs.declared.rule.HeldSlots.{HeldSlots}
+use Rattle.batch_queue.specs.Layout.{ends_word}
+use Rattle.batch_queue.specs.Object.{Lawful, Becomes}
+use Rattle.batch_queue.specs.Placed.{positions_of, raised_run}
+use Rattle.batch_queue.specs.Shown.{WordsShow}
+
+-- what an end of a queue knows
+abbrev pub View : Type 0
+View = Ledger EndRecord BatchState
+
+-- the slots of so many positions from this one on, in this phase
+abbrev pub holding : ℕ → ℕ → ℕ → HeldSlots
+holding phase start count = record { phase = phase; start = start; count = count }
+
+abbrev pub no_slots : HeldSlots
+no_slots = record { phase = 0; start = 0; count = 0 }
+
+-- the slot of this position is held
+abbrev pub Holds : HeldSlots → ℕ → Type 0
+Holds h i = (h.start ≤ i) × (i < h.start + h.count)
+
+-- what an end did that did nothing
+abbrev pub nothing_did : EndRecord
+nothing_did = record { runs = []; takes = []; shuts = 0; held = no_slots }
+
+-- what two ends did that hold no slots
+abbrev pub did_both : EndRecord → EndRecord → EndRecord
+did_both d e = record {
+  runs = d.runs ++ e.runs;
+  takes = d.takes ++ e.takes;
+  shuts = d.shuts + e.shuts;
+  held = no_slots;
+}
+
+-- what the table of a queue says of it
+abbrev pub of_batches : Subject BatchState
+of_batches = record { ends_word = ends_word; Shows = WordsShow; IsLawful = Lawful; Happens = Becomes }
+
+-- the end as the theory of queues has it: its runs and takings, and the queue that it has seen
+abbrev pub part_of : View → QueueView
+part_of v = record { queue = positions_of v.seen.object; runs = v.own.runs; takes = v.own.takes }
+
+-- one run more was claimed, and its slots are held
+abbrev pub with_run : EndRecord → ℕ → List ℕ → EndRecord
+with_run d head items = record d {
+  runs = d.runs ++ run head items ∷ [];
+  held = holding 0 head (length items);
+}
+
+-- one taking more was made, and its slots are held
+abbrev pub with_taking : EndRecord → BatchState → ℕ → EndRecord
+with_taking d o n = record d {
+  takes = d.takes ++ taking (positions_of o) n ∷ [];
+  held = holding 2 o.taken n;
+}
+
+-- the run whose slots an end holds, of which nothing is published
+pub record HasRun (d : EndRecord) : Type 0 where
+  pub number : ℕ
+  pub run : Batch
+  pub here : get_elem? d.runs number ≡ some run
+  pub start : run.start ≡ d.held.start
+  pub long : length run.places ≡ d.held.count
+  pub low : (i : ℕ) → i < length run.places → (slice_index_or run.places i blank).written < 2
+
+-- that run is published, and no slots are held
+abbrev pub with_published : (d : EndRecord) → HasRun d → EndRecord
+with_published d h = record d {
+  runs = slice_set d.runs h.number (raised_run h.run 0 (length h.run.places));
+  held = no_slots;
+}
+
+-- no slots are held
+abbrev pub with_no_slots : EndRecord → EndRecord
+with_no_slots d = record d { held = no_slots }
+
+-- a shut counts where the queue was open
+abbrev pub with_shutting : EndRecord → Bool → EndRecord
+with_shutting d was_open = record d { shuts = d.shuts + (if was_open then 1 else 0) }

@@ -1,0 +1,163 @@
+-- What the puts answer: the entries that they added, all of them, and how their numbers compare.
+use Rattle.std.specs.Prelude.{◌≡◌, ◌⊎◌, ◌+◌, ◌<◌, ◌≤◌, ℕ, Bool, true, false, List, [], ◌∷◌, ◌++◌, length, map, min}
+use Rattle.std.specs.Prelude.{take, Result, Ok, Err}
+use Rattle.std.specs.List.{AllByRecursion}
+use Rattle.atomic_table.specs.Table.{Me}
+use Rattle.table_theory.specs.declared.queues.Cell.{Cell}
+use Rattle.table_theory.specs.declared.views.Moment.{Moment}
+use Rattle.table_theory.specs.Ledgers.{Step, load, change, Made}
+use Rattle.table_theory.specs.Listing.{Distinct}
+use Rattle.batch_queue.specs.declared.layout.TheConstants.{POSITIONS, SHUT}
+use Rattle.batch_queue.specs.declared.refusals.PutRefusal.{PutRefusal}
+use Rattle.batch_queue.specs.declared.refusals.PutRefusal.TheVariants.{NoItems, TooLong, Closed, Spent, Full, Lost}
+use Rattle.batch_queue.specs.declared.rule.BatchState.{BatchState}
+use Rattle.batch_queue.specs.declared.rule.EndRecord.{EndRecord}
+use Rattle.batch_queue.specs.Layout.{head_word, mark_word}
+use Rattle.batch_queue.specs.Object.{with_batch, with_phase}
+use Rattle.batch_queue.specs.Own.{View, Looks, with_run}
+use Rattle.batch_queue.specs.Slots.{slots_of}
+use Rattle.batch_queue.specs.Steps.{HoldsRange, IsClaim}
+use Rattle.batch_queue.specs.Walks.{FreeBy}
+
+-- a number of items that a batch may have
+abbrev pub Fits : ℕ → ℕ → Type 0
+Fits room count = (0 < count) × (count ≤ room)
+
+-- a place that is published
+abbrev pub published : ℕ → Cell
+published item = record { item = item; written = 2 }
+
+-- the end has one run more, all of it published
+abbrev pub with_put : EndRecord → ℕ → List ℕ → EndRecord
+with_put d start items = record d { runs = d.runs ++ record { start = start; places = map published items } ∷ [] }
+
+-- The head was loaded, and then the free position; then the head that was found was exchanged. Of `want` items as many
+-- were claimed as there was room for. Added says where these entries are
+pub record ClaimedBy (Added : List (Step BatchState) → Type 0) (room want start : ℕ) (items : List ℕ) : Type 0 where
+  pub fits : Fits room (length items)
+  pub at_head : Moment BatchState
+  pub bounded : start + want < POSITIONS
+  pub free : ℕ
+  pub moved : Bool
+  pub looks : List (Step BatchState)
+  pub looked : FreeBy room (start + want) free moved looks
+  pub end : start + length items ≡ min (start + want) (free + room)
+  pub at_claim : Moment BatchState
+  pub added : Added (load head_word start at_head
+      ∷ (looks ++ change head_word start at_claim (with_batch at_claim.object items) ∷ []))
+
+-- the items were claimed, and the end holds the slots of their positions
+pub record HasClaimed (room want : ℕ) (v : View) (start : ℕ) (items : List ℕ) (m : Me ℕ View) : Type 0 where
+  pub claim : ClaimedBy (λ entries. Made v entries (with_run v.own start items) m.0) room want start items
+  pub apart : Distinct m.0.own.runs
+  pub range : HoldsRange 0 start (length items) m.0
+  pub is : IsClaim start items m.0
+  pub values : List ℕ
+  pub many : length values ≡ length items
+  pub slots : m.1 ≡ slots_of room start values
+
+-- the items were claimed, and then all of them published by one store, of the mark of the first position
+abbrev pub PutBy : (List (Step BatchState) → Type 0) → ℕ → ℕ → ℕ → List ℕ → Type 0
+PutBy Added room want start items = (mark : ℕ) × (m : Moment BatchState)
+    × ClaimedBy (λ entries. Added (entries ++ change (mark_word room start) mark m
+    (with_phase m.object start (start + length items) 1) ∷ [])) room want start items
+
+-- the items were put as one batch, from this position on
+abbrev pub IsPut : ℕ → View → ℕ → List ℕ → View → Type 0
+IsPut room v start items w =
+    PutBy (λ entries. Made v entries (with_put v.own start items) w) room (length items) start items
+
+-- the first n of the items were put as one batch, from this position on: as many as there was room for
+abbrev pub IsPutSome : ℕ → View → ℕ → ℕ → List ℕ → View → Type 0
+IsPutSome room v start n items w = PutBy (λ entries. Made v entries (with_put v.own start (take n items)) w) room
+    (min (length items) room) start (take n items)
+
+-- the head that was loaded has the shut mark
+pub record FoundShut (Added : List (Step BatchState) → Type 0) : Type 0 where
+  pub head : ℕ
+  pub at_head : Moment BatchState
+  pub marked : SHUT ≤ head
+  pub added : Added (load head_word head at_head ∷ [])
+
+-- so many more would go past the last position
+pub record WasSpent (Added : List (Step BatchState) → Type 0) (want : ℕ) : Type 0 where
+  pub head : ℕ
+  pub at_head : Moment BatchState
+  pub is_open : head < SHUT
+  pub spent : POSITIONS ≤ head + want
+  pub added : Added (load head_word head at_head ∷ [])
+
+-- There was no room for the least that was wanted, by the free position that was found. `moved` says that another end
+-- moved it meanwhile
+pub record LackedRoom (Added : List (Step BatchState) → Type 0) (room want least head free : ℕ) (moved : Bool)
+    : Type 0 where
+  pub at_head : Moment BatchState
+  pub bounded : head + want < POSITIONS
+  pub looks : List (Step BatchState)
+  pub looked : FreeBy room (head + want) free moved looks
+  pub over : free + room < head + least
+  pub added : Added (load head_word head at_head ∷ looks)
+
+-- there was room, but the exchange found another head
+pub record FoundOther (Added : List (Step BatchState) → Type 0) (room want least head now : ℕ) : Type 0 where
+  pub at_head : Moment BatchState
+  pub bounded : head + want < POSITIONS
+  pub free : ℕ
+  pub moved : Bool
+  pub looks : List (Step BatchState)
+  pub looked : FreeBy room (head + want) free moved looks
+  pub there : head + least ≤ free + room
+  pub at_exchange : Moment BatchState
+  pub added : Added (load head_word head at_head ∷ (looks ++ load head_word now at_exchange ∷ []))
+
+-- what a refused claim of up to `want` items, and no fewer than `least`, says of its entries
+abbrev pub RefusedClaimBy : (List (Step BatchState) → Type 0) → ℕ → ℕ → ℕ → PutRefusal → Type 0
+RefusedClaimBy Added room want least Closed =
+    FoundShut Added ⊎ ((head now : ℕ) × (SHUT ≤ now) × FoundOther Added room want least head now)
+RefusedClaimBy Added room want least Spent = WasSpent Added want
+RefusedClaimBy Added room want least (Full head free) = LackedRoom Added room want least head free false
+RefusedClaimBy Added room want least (Lost now) = ((free : ℕ) × LackedRoom Added room want least now free true)
+    ⊎ ((head : ℕ) × (head < now) × (now < SHUT) × FoundOther Added room want least head now)
+RefusedClaimBy Added room want least refusal = ⊥
+
+-- what a refused put says of its entries
+abbrev pub RefusedPutBy : (List (Step BatchState) → Type 0) → ℕ → ℕ → PutRefusal → Type 0
+RefusedPutBy Added room count NoItems = (count ≡ 0) × Added []
+RefusedPutBy Added room count TooLong = (room < count) × Added []
+RefusedPutBy Added room count refusal = Fits room count × RefusedClaimBy Added room count count refusal
+
+-- what a refused put of the longest front says of its entries
+abbrev pub RefusedSomeBy : (List (Step BatchState) → Type 0) → ℕ → ℕ → PutRefusal → Type 0
+RefusedSomeBy Added room count NoItems = (count ≡ 0) × Added []
+RefusedSomeBy Added room count refusal = (0 < count) × RefusedClaimBy Added room (min count room) 1 refusal
+
+-- the put was refused; if no step was made, all is as it was
+abbrev pub RefusedPut : ℕ → View → ℕ → PutRefusal → View → Type 0
+RefusedPut room v count refusal w = RefusedPutBy (λ entries. Looks v entries w) room count refusal
+
+-- the same, of a put of the longest front
+abbrev pub RefusedSome : ℕ → View → ℕ → PutRefusal → View → Type 0
+RefusedSome room v count refusal w = RefusedSomeBy (λ entries. Looks v entries w) room count refusal
+
+abbrev pub is_lost : Result ℕ PutRefusal → Bool
+is_lost (Err (Lost head)) = true
+is_lost _ = false
+
+-- the entries of a try that was lost
+abbrev pub IsLostTry : ℕ → ℕ → List (Step BatchState) → Type 0
+IsLostTry room count entries = (head : ℕ) × RefusedPutBy (λ e. e ≡ entries) room count (Lost head)
+
+-- the entries of tries, in order
+abbrev pub tried : List (List (Step BatchState)) → List (Step BatchState)
+tried [] = []
+tried (entries ∷ tries) = entries ++ tried tries
+
+-- One try was answered, after tries that were lost. Lost is no answer
+abbrev pub PutAnswer : ℕ → View → List ℕ → Result ℕ PutRefusal → View → Type 0
+PutAnswer room v items (Ok start) w = (tries : List (List (Step BatchState)))
+    × AllByRecursion (IsLostTry room (length items)) tries
+    × PutBy (λ entries. Made v (tried tries ++ entries) (with_put v.own start items) w) room (length items) start items
+PutAnswer room v items (Err (Lost head)) w = ⊥
+PutAnswer room v items (Err refusal) w = (tries : List (List (Step BatchState)))
+    × AllByRecursion (IsLostTry room (length items)) tries
+    × RefusedPutBy (λ entries. Looks v (tried tries ++ entries) w) room (length items) refusal

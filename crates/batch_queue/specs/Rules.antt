@@ -1,0 +1,82 @@
+-- The rule: there is a lawful queue that the words, the slots and the views show.
+use Rattle.std.specs.Prelude.{◌≡◌, ◌≢◌, ◌⊎◌, ℕ, ◌+◌, ◌%◌, ◌<◌, ◌≤◌, List, map, length, slice_index_or}
+use Rattle.std.specs.Prelude.{if◌then◌else◌}
+use mathlib.Core.Option.{Option, some}
+use lib.ListN.{get_elem?}
+use Rattle.atomic_table.specs.Table.{State}
+use Rattle.table_theory.specs.declared.queues.Batch.{Batch}
+use Rattle.table_theory.specs.declared.views.Moment.{Moment}
+use Rattle.table_theory.specs.Listing.{ViewsShow}
+use Rattle.table_theory.specs.Ledgers.{Stands, first_of}
+use Rattle.table_theory.specs.Sharing.{total}
+use Rattle.batch_queue.specs.declared.rule.BatchState.{BatchState}
+use Rattle.batch_queue.specs.declared.rule.EndRecord.{EndRecord}
+use Rattle.batch_queue.specs.declared.rule.Shape.{Shape}
+use Rattle.batch_queue.specs.Object.{items_of, phase_at, IsBatch, Grows, empty}
+use Rattle.batch_queue.specs.Own.{View, nothing_did, part_of, of_batches, Holds, HasRun}
+use Rattle.batch_queue.specs.Placed.{positions_of}
+
+-- What the home of a slot has, where p is the position of the window with that place. A position that is published and
+-- not taken has its item there; one that is not claimed, or whose place is given back, has some number
+pub record HomeShows (o : BatchState) (p : ℕ) (home : Option (Option ℕ)) : Type 0 where
+  pub free : length (items_of o) ≤ p → (y : ℕ) × (home ≡ some (some y))
+  pub up : phase_at o p ≡ 1 → home ≡ some (some (slice_index_or (items_of o) p 0))
+  pub back : 3 ≤ phase_at o p → (y : ℕ) × (home ≡ some (some y))
+
+-- What an end lists and holds is so. Each of its runs is a batch, and each of its takings one of the queue's. The slots
+-- that it holds are of claimed positions of one phase: those of a run of which nothing is published, or of a taking
+pub record OwnShows (o : BatchState) (d : EndRecord) : Type 0 where
+  pub runs : (m : ℕ) (e : Batch) → get_elem? d.runs m ≡ some e → IsBatch o.batches e.start (e.start + length e.places)
+  pub takes : (m : ℕ) (e : Batch) → get_elem? d.takes m ≡ some e → IsBatch o.takings e.start (e.start + length e.places)
+  pub kind : d.held.phase ≢ 1
+  pub batch : d.held.phase ≡ 0 → 0 < d.held.count → IsBatch o.batches d.held.start (d.held.start + d.held.count)
+  pub run : d.held.phase ≡ 0 → 0 < d.held.count → HasRun d
+  pub taking : d.held.phase ≡ 2 → 0 < d.held.count → IsBatch o.takings d.held.start (d.held.start + d.held.count)
+  pub holds : (i : ℕ) → Holds d.held i → (phase_at o i ≡ d.held.phase) × (i < length (items_of o))
+
+-- no two ends hold the slot of one position
+abbrev pub Apart : List View → Type 0
+Apart views = (j k : ℕ) (v w : View) → get_elem? views j ≡ some v → get_elem? views k ≡ some w → j ≢ k → (i : ℕ)
+    → Holds v.own.held i → Holds w.own.held i → ⊥
+
+-- an end holds the slot of this position
+pub record IsHeld (views : List View) (i : ℕ) : Type 0 where
+  pub number : ℕ
+  pub view : View
+  pub here : get_elem? views number ≡ some view
+  pub in_held : Holds view.own.held i
+
+abbrev pub shuts_of : View → ℕ
+shuts_of v = v.own.shuts
+
+-- how often the queue was shut: at most once
+abbrev pub times_shut : BatchState → ℕ
+times_shut o = if o.shut then 1 else 0
+
+pub record Rule (key : Shape) (s : State ℕ View) : Type 0 where
+  pub now : Moment BatchState
+  pub room : now.object.room ≡ key.room
+  pub stands : Stands of_batches nothing_did (empty key) now s.words s.views
+  pub listed : ViewsShow (positions_of now.object) (map part_of s.views)
+  pub seen : (j : ℕ) (v : View) → get_elem? s.views j ≡ some v → Grows v.seen.object now.object
+  pub homes : (p : ℕ) → now.object.freed ≤ p → p < now.object.freed + now.object.room
+      → HomeShows now.object p (get_elem? s.homes (p % now.object.room))
+  pub owns : (j : ℕ) (v : View) → get_elem? s.views j ≡ some v → OwnShows now.object v.own
+  pub apart : Apart s.views
+  pub shut_once : total shuts_of s.views ≡ times_shut now.object
+  -- the slot of a position that is claimed and not published, or taken and not given back, is held by an end
+  pub owned : (i : ℕ) → i < length (items_of now.object)
+      → (phase_at now.object i ≡ 0) ⊎ (phase_at now.object i ≡ 2) → IsHeld s.views i
+
+-- what the first end of a queue knows
+abbrev pub newcomer : Shape → View
+newcomer key = first_of nothing_did (empty key)
+
+-- at the end's last step the rule held, of a state in which the end has this view, and the end saw the queue as it was
+pub record IsRuled (v : View) : Type 0 where
+  pub key : Shape
+  pub state : State ℕ View
+  pub rule : Rule key state
+  pub number : ℕ
+  pub here : get_elem? state.views number ≡ some v
+  pub seen : v.seen ≡ rule.now

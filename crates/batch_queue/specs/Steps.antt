@@ -1,0 +1,143 @@
+-- What each step tells its end: its entry, what the end has done then, what it sees, and the slots that it holds. The
+-- calls' answers are made of the entries.
+use Rattle.std.specs.Prelude.{◌≡◌, ◌≢◌, ◌⊎◌, ℕ, suc, ◌+◌, ◌-◌, ◌<◌, ◌≤◌, List, [], ◌∷◌, ◌++◌}
+use Rattle.std.specs.Prelude.{length, take, drop, nat_lt}
+use Rattle.atomic_table.specs.Seated.{TableId}
+use Rattle.atomic_table.specs.Table.{Me, Step}
+use Rattle.atomic_table.specs.declared.shared.Seat.{Seat}
+use Rattle.table_theory.specs.declared.views.Moment.{Moment}
+use Rattle.table_theory.specs.Ledgers.{load, change, Made}
+use Rattle.table_theory.specs.Ledgers as ends
+use Rattle.batch_queue.specs.declared.layout.TheConstants.{MOST_PLACES, POSITIONS, SHUT}
+use Rattle.batch_queue.specs.declared.rule.BatchState.{BatchState}
+use Rattle.batch_queue.specs.declared.rule.EndRecord.{EndRecord}
+use Rattle.batch_queue.specs.Layout.{head_word, tail_word, free_word, ends_word, width, IsPowerOfTwo}
+use Rattle.batch_queue.specs.Object.{items_of, phase_at, IsEdge, with_batch, with_phase, with_taken, with_freed}
+use Rattle.batch_queue.specs.Object.{with_shut, Grows}
+use Rattle.batch_queue.specs.Own.{View, HasRun, with_run, with_taking, with_published, with_no_slots}
+use Rattle.batch_queue.specs.Own.{with_shutting}
+use Rattle.batch_queue.specs.Rules.{IsRuled}
+use Rattle.batch_queue.specs.Slots.{slots_of}
+
+-- it is a live end of this table, which is one of a queue of so many places
+pub record IsSeated (room : ℕ) (table : TableId) (seat : Seat ℕ View) : Type 0 where
+  pub one : seat.table_id ≡ table
+  pub live : 1 ≤ seat.me.0.member.ends
+  pub rooms : seat.me.0.first.room ≡ room
+  pub words : table.words ≡ width room
+  pub slots : table.slots ≡ room
+  pub some_room : 0 < room
+  pub most : room ≤ MOST_PLACES
+  pub power : IsPowerOfTwo room
+
+-- By a step of this entry the end did this. The rule held at it, and the queue was no earlier than the end had seen it
+pub record Stepped (v : View) (e : ends.Step BatchState) (own : EndRecord) (w : View) : Type 0 where
+  pub made : Made v (e ∷ []) own w
+  pub ruled : IsRuled w
+  pub grows : Grows v.seen.object e.then.object
+
+-- what the type of an end asks of its view stays
+abbrev pub Stays : View → View → Type 0
+Stays v w = (w.first ≡ v.first) × (w.member ≡ v.member) × ∥ IsRuled w ∥₁
+
+-- a number was found in a word, and nothing else changed for the end
+abbrev pub Found : View → ℕ → ℕ → View → Type 0
+Found v word found w = Stepped v (load word found w.seen) v.own w
+
+abbrev pub finds : Step ℕ → Me ℕ View → ℕ → Me ℕ View → Type 0
+finds st m r m' = Stays m.0 m'.0 × (m'.1 ≡ m.1) × Found m.0 st.word r m'.0
+
+-- an exchange missed: another number was found
+abbrev pub Missed : Step ℕ → Me ℕ View → ℕ → Me ℕ View → Type 0
+Missed st m r m' = r ≢ st.first → (m'.1 ≡ m.1) × Found m.0 st.word r m'.0
+
+-- The items were claimed, at the head of the queue as it was at that step. The end holds the slots
+pub record Claimed (v : View) (head : ℕ) (items : List ℕ) (m : Me ℕ View) : Type 0 where
+  pub at : Moment BatchState
+  pub head_is : length (items_of at.object) ≡ head
+  pub step : Stepped v (change head_word head at (with_batch at.object items)) (with_run v.own head items) m.0
+  pub values : List ℕ
+  pub many : length values ≡ length items
+  pub slots : m.1 ≡ slots_of v.first.room head values
+
+abbrev pub claims : List ℕ → Step ℕ → Me ℕ View → ℕ → Me ℕ View → Type 0
+claims items st m r m' = Stays m.0 m'.0 × (r ≡ st.first → Claimed m.0 st.first items m') × Missed st m r m'
+
+-- the positions whose slots the end held, in the phase x, are one phase on, and the slots are home
+pub record Released (v : View) (word start end x : ℕ) (m : Me ℕ View) : Type 0 where
+  pub at : Moment BatchState
+  pub found : ℕ
+  pub own : EndRecord
+  pub published : x ≡ 0 → (h : HasRun v.own) × (own ≡ with_published v.own h)
+  pub given : x ≡ 2 → own ≡ with_no_slots v.own
+  pub step : Stepped v (change word found at (with_phase at.object start end (suc x))) own m.0
+  pub bare : m.1 ≡ []
+
+abbrev pub releases : Step ℕ → Me ℕ View → ℕ → Me ℕ View → Type 0
+releases st m r m' = Stays m.0 m'.0 × Released m.0 st.word m.0.own.held.start
+    (m.0.own.held.start + m.0.own.held.count) m.0.own.held.phase m'
+
+-- the end holds the slots of so many positions from this one on, in this phase
+pub record HoldsRange (phase start count : ℕ) (v : View) : Type 0 where
+  pub in_phase : v.own.held.phase ≡ phase
+  pub start_is : v.own.held.start ≡ start
+  pub count_is : v.own.held.count ≡ count
+  pub some_slot : 0 < count
+  pub bounded : start + count < POSITIONS
+
+-- these items are the ones from this position on in the queue that the end has seen
+abbrev pub IsClaim : ℕ → List ℕ → View → Type 0
+IsClaim start items v = (before rest : List ℕ) × (length before ≡ start)
+    × (items_of v.seen.object ≡ before ++ (items ++ rest))
+
+-- from the tail up to there all was found published, and there a batch ends; or the tail was passed meanwhile
+abbrev pub HasFound : View → ℕ → ℕ → Type 0
+HasFound v tail new = (tail < v.seen.object.taken)
+    ⊎ (((i : ℕ) → tail ≤ i → i < new → 1 ≤ phase_at v.seen.object i) × IsEdge v.seen.object.batches new)
+
+-- The positions from the tail to the new one were taken, from the end of a batch to the end of a batch. The end holds
+-- their slots, each with the item that was claimed there
+pub record Took (v : View) (tail new : ℕ) (m : Me ℕ View) : Type 0 where
+  pub at : Moment BatchState
+  pub tail_is : at.object.taken ≡ tail
+  pub edge : IsEdge at.object.batches tail
+  pub new_edge : IsEdge at.object.batches new
+  pub step : Stepped v (change tail_word tail at (with_taken at.object new))
+      (with_taking v.own at.object (new - tail)) m.0
+  pub slots : m.1 ≡ slots_of v.first.room tail (take (new - tail) (drop tail (items_of at.object)))
+
+abbrev pub takes_tail : Step ℕ → Me ℕ View → ℕ → Me ℕ View → Type 0
+takes_tail st m r m' = Stays m.0 m'.0 × (r ≡ st.first → Took m.0 st.first st.second m') × Missed st m r m'
+
+-- from the free position up to there all places were found given back, and there a taking ends; or the free position
+-- was passed meanwhile
+abbrev pub HasBack : View → ℕ → ℕ → Type 0
+HasBack v free new = (free < v.seen.object.freed)
+    ⊎ (((i : ℕ) → free ≤ i → i < new → 3 ≤ phase_at v.seen.object i) × IsEdge v.seen.object.takings new)
+
+-- the window moved from the free position to the new one
+abbrev pub Freed : View → ℕ → ℕ → View → Type 0
+Freed v free new w = (at : Moment BatchState) × Stepped v (change free_word free at (with_freed at.object new)) v.own w
+
+abbrev pub frees : Step ℕ → Me ℕ View → ℕ → Me ℕ View → Type 0
+frees st m r m' = Stays m.0 m'.0 × (r ≡ st.first → (m'.1 ≡ m.1) × Freed m.0 st.first st.second m'.0) × Missed st m r m'
+
+-- the queue is shut, and this head word was found
+abbrev pub Shut : View → ℕ → View → Type 0
+Shut v found w = (at : Moment BatchState)
+    × Stepped v (change head_word found at (with_shut at.object)) (with_shutting v.own (nat_lt found SHUT)) w
+
+abbrev pub shuts : Step ℕ → Me ℕ View → ℕ → Me ℕ View → Type 0
+shuts st m r m' = Stays m.0 m'.0 × (m'.1 ≡ m.1) × Shut m.0 r m'.0
+
+-- what counting one end more tells
+abbrev pub counts_up : Step ℕ → Me ℕ View → ℕ → Me ℕ View → Type 0
+counts_up st m r m' = (m'.1 ≡ m.1) × IsRuled m'.0 × ends.CountedUp ends_word m.0 m'.0
+
+-- what counting one end less tells
+abbrev pub counts_down : Step ℕ → Me ℕ View → ℕ → Me ℕ View → Type 0
+counts_down st m r m' = (m'.1 ≡ m.1) × IsRuled m'.0 × ends.CountedDown ends_word m.0 m'.0
+
+-- what a look at the number of ends tells
+abbrev pub counts : Step ℕ → Me ℕ View → ℕ → Me ℕ View → Type 0
+counts st m r m' = Stays m.0 m'.0 × (m'.1 ≡ m.1) × ends.Tallied ends_word m.0 r m'.0

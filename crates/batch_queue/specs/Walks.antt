@@ -1,0 +1,120 @@
+-- Walks along marks, each of which is loaded at the position to which the one before it leads; and the look at the free
+-- position, which such a walk helps on.
+use Rattle.std.specs.Prelude.{◌≡◌, ℕ, zero, suc, ◌+◌, ◌/◌, ◌%◌, ◌<◌, ◌≤◌, MatchBool, Bool, false, List, [], ◌∷◌, ◌++◌}
+use Rattle.table_theory.specs.declared.views.Moment.{Moment}
+use Rattle.table_theory.specs.Ledgers.{Step, load, change, Made}
+use Rattle.batch_queue.specs.declared.rule.BatchState.{BatchState}
+use Rattle.batch_queue.specs.Layout.{free_word, mark_word}
+use Rattle.batch_queue.specs.Moments.{WasSo, IsGivenBackTo}
+use Rattle.batch_queue.specs.Object.{with_freed, Grows}
+use Rattle.batch_queue.specs.Own.{View}
+use Rattle.batch_queue.specs.Steps.{HasFound, HasBack}
+
+-- The mark at this position leads on to its half, which is a further position: all up to there is published if the mark
+-- is even, and given back if it is odd
+abbrev pub LeadsOn : ℕ → ℕ → ℕ → Type 0
+LeadsOn parity position mark = (mark % 2 ≡ parity) × (position < mark / 2)
+
+-- the marks that were followed, each with its moment
+abbrev pub Walk : Type 0
+Walk = List (ℕ × Moment BatchState)
+
+-- the position to which a walk leads from this one
+abbrev pub end_of : ℕ → Walk → ℕ
+end_of position [] = position
+end_of position (found ∷ walk) = end_of (found.0 / 2) walk
+
+-- its loads
+abbrev pub walked : ℕ → ℕ → Walk → List (Step BatchState)
+walked room position [] = []
+walked room position (found ∷ walk) = load (mark_word room position) found.0 found.1 ∷ walked room (found.0 / 2) walk
+
+-- each of its marks leads on, and none of them further than to `most`
+abbrev pub IsWalk : ℕ → ℕ → ℕ → Walk → Type 0
+IsWalk parity most position [] = Unit {0}
+IsWalk parity most position (found ∷ walk) = LeadsOn parity position found.0 × (found.0 / 2 ≤ most)
+    × IsWalk parity most (found.0 / 2) walk
+
+-- Why a walk went no further than this position: it may go no further, or the mark that was found there does not lead
+-- on, or leads too far. `loads` has the load of that mark
+pub data IsStop (parity most room position : ℕ) (loads : List (Step BatchState)) : Type 0 where
+  at_most : position ≡ most → loads ≡ [] → IsStop parity most room position loads
+  at_mark : (mark : ℕ) (m : Moment BatchState) → (LeadsOn parity position mark → mark / 2 ≤ most → ⊥)
+      → loads ≡ load (mark_word room position) mark m ∷ [] → IsStop parity most room position loads
+
+-- from this position marks were followed as far as they lead, by these loads
+pub record FollowedBy (parity most room from to : ℕ) (loads : List (Step BatchState)) : Type 0 where
+  pub walk : Walk
+  pub leads : IsWalk parity most from walk
+  pub end : to ≡ end_of from walk
+  pub stop : List (Step BatchState)
+  pub stops : IsStop parity most room to stop
+  pub loads_are : loads ≡ walked room from walk ++ stop
+
+-- the same, by the end
+pub record Followed (parity most room from to : ℕ) (v w : View) : Type 0 where
+  pub loads : List (Step BatchState)
+  pub by : FollowedBy parity most room from to loads
+  pub made : Made v loads v.own w
+
+-- where a walk begins, which is no further than the tail, or than the free position
+abbrev pub Starts : ℕ → View → ℕ → Type 0
+Starts zero v base = base ≤ v.seen.object.taken
+Starts (suc parity) v base = base ≤ v.seen.object.freed
+
+-- by what an end has found, all from the first position to the second one is published, or all is given back
+abbrev pub Passed : ℕ → View → ℕ → ℕ → Type 0
+Passed zero v from to = HasFound v from to
+Passed (suc parity) v from to = HasBack v from to
+
+-- The last load of a walk over places that are given back, from `base` to this position: at its moment no place further
+-- on was given back, if `base` was the free position
+abbrev pub StoppedAt : ℕ → ℕ → View → View → Type 0
+StoppedAt base position v w = WasSo v w (λ o. Grows v.seen.object o × Grows o w.seen.object
+    × (o.freed ≤ base → IsGivenBackTo o position))
+
+-- How the help of the free position `first` ended, where the walk led to `to` and the free position `found` was found:
+-- the exchange moved it on; or nothing was given back, and it was loaded again; or another end had moved it
+pub data IsHelp (first to found : ℕ) (last : Step BatchState) : Type 0 where
+  exchanged : first < to → found ≡ first → (m : Moment BatchState)
+      → last ≡ change free_word first m (with_freed m.object to) → IsHelp first to found last
+  still : first ≡ to → found ≡ first → (m : Moment BatchState)
+      → last ≡ load free_word first m → IsHelp first to found last
+  overtaken : first < found → (m : Moment BatchState) → last ≡ load free_word found m → IsHelp first to found last
+
+-- the same, by the end
+pub record Helped (first to found : ℕ) (v w : View) : Type 0 where
+  pub last : Step BatchState
+  pub by : IsHelp first to found last
+  pub made : Made v (last ∷ []) v.own w
+
+-- From the free position `first` marks of places that are given back were followed, and it was moved on. It is `free`
+-- then, at least; `moved` says that another end moved it meanwhile
+pub record HelpBy (room first free : ℕ) (moved : Bool) (entries : List (Step BatchState)) : Type 0 where
+  pub to : ℕ
+  pub found : ℕ
+  pub loads : List (Step BatchState)
+  pub followed : FollowedBy 1 (first + room) room first to loads
+  pub last : Step BatchState
+  pub by : IsHelp first to found last
+  pub is : MatchBool moved ((free ≡ found) × (first < found)) ((free ≡ to) × (found ≡ first))
+  pub entries_are : entries ≡ loads ++ last ∷ []
+
+-- the same, by the end
+pub record HelpedBy (room first free : ℕ) (moved : Bool) (v w : View) : Type 0 where
+  pub entries : List (Step BatchState)
+  pub by : HelpBy room first free moved entries
+  pub made : Made v entries v.own w
+
+-- The free position was looked up for a claim up to `new`, and was `free` at least: at once, or after a help
+pub data FreeBy (room new free : ℕ) (moved : Bool) (entries : List (Step BatchState)) : Type 0 where
+  at_once : new ≤ free + room → moved ≡ false → (m : Moment BatchState)
+      → entries ≡ load free_word free m ∷ [] → FreeBy room new free moved entries
+  by_help : (first : ℕ) (m : Moment BatchState) (help : List (Step BatchState)) → first + room < new
+      → HelpBy room first free moved help → entries ≡ load free_word first m ∷ help → FreeBy room new free moved entries
+
+-- the same, by the end
+pub record LookedFree (room new free : ℕ) (moved : Bool) (v w : View) : Type 0 where
+  pub entries : List (Step BatchState)
+  pub by : FreeBy room new free moved entries
+  pub made : Made v entries v.own w

@@ -1,0 +1,26 @@
+//! What holds between any two steps of any threads.
+
+ghost use Rattle.std.specs.Prelude.{ℕ};
+ghost use Rattle.atomic_table.specs.Table.{State};
+ghost use Rattle.batch_queue.specs.declared.rule.Shape.{Shape};
+ghost use Rattle.batch_queue.specs.Own.{View};
+ghost use Rattle.batch_queue.specs.Between.{ShowsQueue, ShowsEnds};
+
+use crate::rule::{BatchRule, Shape, View};
+use atomic_table::TableRule;
+
+/// Whatever the rule holds of is a lawful queue of the core, shown by the words, the slots and what the ends list. Of
+/// each batch all items are raised or none, and no two batches overlap.
+///
+/// Every atomic step of this crate keeps the rule, so it holds between any two steps, whoever makes them.
+pub fn between_steps()
+    ensures { (key : Shape) (state : State ℕ View)
+        → ⟦<BatchRule as TableRule<u64, View, Shape>>⟧.holds key state → ShowsQueue key state }
+{}
+
+/// The same of its ends: the number of ends is that of the ends that exist, and their steps, all in one order, lead
+/// from the empty queue to the queue that is shown.
+pub fn ends_between_steps()
+    ensures { (key : Shape) (state : State ℕ View)
+        → ⟦<BatchRule as TableRule<u64, View, Shape>>⟧.holds key state → ShowsEnds key state }
+{}

@@ -1,0 +1,61 @@
+//! Shutting and closing.
+ghost use Rattle.std.specs.Prelude.{◌≡◌, true, IfOk, IfErr, MatchResult};
+ghost use Rattle.table_theory.specs.Ledgers.{WereOpen};
+ghost use Rattle.batch_queue.specs.Closings.{ShutNow, ClosedNow};
+ghost use Rattle.batch_queue.specs.Layout.{ends_word};
+ghost use Rattle.batch_queue.specs.Lefts.{items_left};
+ghost use Rattle.batch_queue.specs.Lines.{SameLines};
+
+use crate::counting::{close_by, count};
+use crate::ends::{BatchEnd, BatchQueue};
+use crate::layout::{HEAD, SHUT, TAIL};
+use crate::left::LeftItems;
+use crate::steps::or_head;
+use table_theory::OpenEnds;
+
+/// What a queue had at its end: how many items were put and taken, and those left, in the order of their claims.
+#[derive(Drop)]
+pub struct Closed {
+    pub put: u64,
+    pub taken: u64,
+    pub left: LeftItems,
+}
+
+impl BatchQueue {
+    ghost use Rattle.batch_queue.specs.Handles.{view_of, IsEndOf, IsOnlyEnd, IsSameEnd};
+
+    /// Shuts the queue for claims, for good; what was put can still be taken. Returns true if it was open, to one end
+    /// alone.
+    pub fn shut(&self, end: &mut BatchEnd) -> bool
+        requires { IsEndOf self.now end.old }
+        ensures effect { SameLines (view_of end.old) (view_of end.new) × ((view_of end.new).seen.object.shut ≡ true) }
+        ensures trace { ShutNow (view_of end.old) result (view_of end.new) }
+        ensures handle { IsSameEnd end.old end.new }
+    {
+        or_head(&self.table.shared, &mut end.seat) < SHUT
+    }
+
+    /// Closes the queue if every other end has been joined. Else the queue and the end come back, and the number of the
+    /// others. It takes no memory.
+    pub fn close(self, end: BatchEnd) -> Result<Closed, (BatchQueue, BatchEnd, OpenEnds)>
+        requires { IsEndOf self end }
+        ensures only { IsOnlyEnd end → MatchResult result (λ c. Unit {0}) (λ e. ⊥) }
+        ensures effect { IfOk result (λ c. ClosedNow (view_of end) c.put c.taken (items_left c.left)) }
+        ensures error { IfErr result (λ e. WereOpen ends_word (view_of end) e.2.others (view_of e.1)) }
+        ensures handle { IfErr result (λ e. (e.0 ≡ self) × IsSameEnd end e.1) }
+    {
+        let BatchEnd { seat } = end;
+        let last = match count(&self.table.shared, seat) {
+            Ok(last) => last,
+            Err((seat, ends)) => {
+                return Err((self, BatchEnd { seat }, OpenEnds { others: ends - 1 }));
+            }
+        };
+        let BatchQueue { table, room } = self;
+        let closed = close_by(table, last);
+        let put = closed.word(HEAD) % SHUT;
+        let taken = closed.word(TAIL);
+        let left = LeftItems::new(closed, room, taken, put);
+        Ok(Closed { put, taken, left })
+    }
+}

@@ -1,0 +1,97 @@
+//! The queue and its ends.
+ghost use Rattle.std.specs.Prelude.{◌≡◌, ◌<◌, ◌≤◌, [], ◌++◌, IfOk};
+ghost use Rattle.batch_queue.specs.Layout.{width, IsPowerOfTwo};
+ghost use Rattle.batch_queue.specs.Own.{no_slots};
+ghost use Rattle.batch_queue.specs.Rules.{newcomer, IsRuled};
+ghost use Rattle.batch_queue.specs.Endings.{Divided, IsNewborn, TookIn};
+ghost use Rattle.batch_queue.specs.Lines.{lines_put, lines_taken};
+ghost use Rattle.batch_queue.specs.declared.layout.TheConstants.{MOST_PLACES};
+
+use crate::layout::{ENDS, width};
+use crate::rule::{BatchRule, Shape, View};
+use crate::steps::{count_down, count_up, split_off, take_in};
+use atomic_table::{Seat, Table};
+use event_theory::OutOfMemory;
+use std::alloc::Global;
+use std::marker::Brand;
+
+#[derive(Drop)]
+pub struct BatchQueue {
+    pub(crate) table: Table<u64, View, Shape, BatchRule, Global>,
+    pub(crate) room: usize,
+    ghost sized: { (table.shared.table_id.words ≡ width room) × (table.shared.table_id.slots ≡ room) },
+    ghost shaped: { table.shared.key.room ≡ room },
+    ghost bounded: { (0 < room) × (room ≤ MOST_PLACES) },
+    ghost power: { IsPowerOfTwo room },
+}
+
+/// An end of a queue. It has no bytes.
+///
+/// What it lists is true: each entry of its steps, and of the steps of all ends that it has seen, found the number that
+/// was in its word then, and found the queue as the step before it left it, lawful and shown by the words.
+#[derive(Drop)]
+pub struct BatchEnd {
+    pub(crate) seat: Seat<u64, View>,
+    ghost room: { seat.me.0.first.room ≡ seat.table_id.slots },
+    ghost bare: { seat.me.1 ≡ [] },
+    ghost idle: { seat.me.0.own.held ≡ no_slots },
+    ghost one: { seat.me.0.member.ends ≡ 1 },
+    ghost ruled: { ∥ IsRuled seat.me.0 ∥₁ },
+}
+
+impl BatchQueue {
+    ghost use Rattle.batch_queue.specs.Handles.{view_of, room_of, IsDivisible, IsEndOf, IsSameEnd, AreOfOneQueue};
+
+    /// An empty queue of so many places, and its only end.
+    ///
+    /// Condition: the number of places is a power of two, 2^24 at most.
+    pub fn new(alloc: Global, room: usize) -> Result<(BatchQueue, BatchEnd), OutOfMemory>
+        requires { (0 < room) × (room ≤ MOST_PLACES) × IsPowerOfTwo room }
+        ensures { IfOk result (λ r. IsEndOf r.0 r.1 × (room_of r.0 ≡ room)
+            × (view_of r.1 ≡ newcomer (record { room = room }))) }
+    {
+        let mut words = Vec::from_elem(alloc, 0u64, width(room))?;
+        let row = words.as_mut_slice();
+        row[ENDS] = 1;
+        let slots = Vec::from_elem(alloc, 0u64, room)?;
+        let shape = Shape { room: room as u64 };
+        let Ok((table, seat)) = Table::new(alloc, row, slots, &shape) else {
+            return Err(OutOfMemory);
+        };
+        Ok((BatchQueue { table, room }, BatchEnd { seat }))
+    }
+
+    /// A new end, which has put and taken nothing. Both ends are to be joined again before the queue can be closed; an
+    /// end that is dropped can never be joined. Besides the step that counts it, the first word is loaded once, and
+    /// what is found there is not used.
+    ///
+    /// Condition: the end has two parts or more of its queue's 2^64 - 1. The first end can be split two million
+    /// times without a join, and each of those ends 43 times in a chain.
+    pub fn split(&self, end: &mut BatchEnd) -> BatchEnd
+        requires queue { IsEndOf self.now end.old }
+        requires parts { IsDivisible end.old }
+        ensures effect { (lines_put (view_of end.new) ≡ lines_put (view_of end.old))
+            × (lines_taken (view_of end.new) ≡ lines_taken (view_of end.old)) }
+        ensures result { IsNewborn (view_of end.old) (view_of end.new) (view_of result) }
+        ensures trace { Divided (view_of end.old) (view_of end.new) }
+        ensures handle { IsSameEnd end.old end.new × AreOfOneQueue end.old result }
+    {
+        count_up(&self.table.shared, &mut end.seat);
+        let seat = split_off(&self.table.shared, &mut end.seat);
+        BatchEnd { seat }
+    }
+
+    /// The first end then has all that both had: what they put, what they took, and their parts of the queue. Besides
+    /// the step that counts one end less, the first word is loaded once, and what is found there is not used.
+    pub fn join(&self, end: &mut BatchEnd, other: BatchEnd)
+        requires { IsEndOf self.now end.old × IsEndOf self.now other }
+        ensures effect { (lines_put (view_of end.new) ≡ lines_put (view_of end.old) ++ lines_put (view_of other))
+            × (lines_taken (view_of end.new) ≡ lines_taken (view_of end.old) ++ lines_taken (view_of other)) }
+        ensures trace { TookIn (view_of end.old) (view_of other) (view_of end.new) }
+        ensures handle { IsSameEnd end.old end.new }
+    {
+        let BatchEnd { seat } = other;
+        take_in::<Brand>(&self.table.shared, &mut end.seat, seat);
+        count_down(&self.table.shared, &mut end.seat);
+    }
+}

@@ -1,0 +1,34 @@
+//! How many places a queue has, and a hint of how many items are in it.
+ghost use Rattle.std.specs.Prelude.{◌≡◌};
+ghost use Rattle.batch_queue.specs.Hints.{LookedAround};
+ghost use Rattle.batch_queue.specs.Lines.{SameLines};
+
+use crate::ends::{BatchEnd, BatchQueue};
+use crate::layout::SHUT;
+use crate::put::load_head;
+use crate::take::load_tail;
+
+impl BatchQueue {
+    ghost use Rattle.batch_queue.specs.Handles.{view_of, room_of, IsEndOf, IsSameEnd};
+
+    /// How many places the queue has.
+    pub fn room(&self) -> usize
+        ensures { result ≡ room_of self.now }
+    {
+        self.room
+    }
+
+    /// A hint of how many items are in the queue, published or not: how far the head that is found is past the tail that
+    /// was found before it. Both may have moved on when the call returns.
+    pub fn len(&self, end: &mut BatchEnd) -> u64
+        requires { IsEndOf self.now end.old }
+        ensures effect { SameLines (view_of end.old) (view_of end.new) }
+        ensures trace { LookedAround (view_of end.old) result (view_of end.new) }
+        ensures handle { IsSameEnd end.old end.new }
+    {
+        let words = &self.table.shared;
+        let tail = load_tail(words, &mut end.seat);
+        let head = load_head(words, &mut end.seat);
+        head % SHUT - tail
+    }
+}

@@ -1,0 +1,209 @@
+//! What an end lists is true, and each change is an event of the core: statements over plain data.
+
+ghost use Rattle.std.specs.Prelude.{◌≡◌, ◌≢◌, ◌+◌, ◌*◌, ◌-◌, ◌/◌, ◌%◌, ◌<◌, ◌≤◌, ◌⊎◌, ℕ, true, false, List, [], ◌∷◌};
+ghost use Rattle.std.specs.Prelude.{◌++◌, length, slice_set, Ok};
+ghost use Rattle.std.specs.List.{AllByRecursion};
+ghost use mathlib.Core.Option.{some};
+ghost use lib.ListN.{get_elem?};
+ghost use Rattle.event_theory.specs.Marks.{shut};
+ghost use Rattle.event_theory.specs.Queues.{claim, take_first};
+ghost use Rattle.table_theory.specs.declared.queues.Batch.{Batch};
+ghost use Rattle.table_theory.specs.declared.queues.QueueView.{QueueView};
+ghost use Rattle.table_theory.specs.declared.views.Moment.{Moment};
+ghost use Rattle.table_theory.specs.Ledgers.{Step, load, change, count_down, Adds, IsReal, IsHonest, Reaches, Passes};
+ghost use Rattle.table_theory.specs.Apart.{AreApart};
+ghost use Rattle.table_theory.specs.Listing.{ViewsShow};
+ghost use Rattle.table_theory.specs.Positioned as positions;
+ghost use Rattle.table_theory.specs.QueueOf.{IsEvent, no_event};
+ghost use Rattle.batch_queue.specs.declared.ends.BatchEnd.{BatchEnd};
+ghost use Rattle.batch_queue.specs.declared.ends.BatchQueue.{BatchQueue};
+ghost use Rattle.batch_queue.specs.declared.layout.TheConstants.{MOST_PLACES, POSITIONS, SHUT};
+ghost use Rattle.batch_queue.specs.declared.refusals.PutRefusal.TheVariants as not_put;
+ghost use Rattle.batch_queue.specs.declared.refusals.TakeRefusal.TheVariants as not_taken;
+ghost use Rattle.batch_queue.specs.declared.rule.BatchState.{BatchState};
+ghost use Rattle.batch_queue.specs.Endings.{TookIn};
+ghost use Rattle.batch_queue.specs.Handles.{view_of, room_of, IsEndOf, IsOnlyEnd};
+ghost use Rattle.batch_queue.specs.Layout.{head_word, tail_word, free_word, ends_word, mark_word, width, mark};
+ghost use Rattle.batch_queue.specs.Object.{items_of, phase_at, IsEdge, IsBatch, AreIn, Lawful, Becomes, Grows};
+ghost use Rattle.batch_queue.specs.Object.{with_batch, with_phase, with_taken, with_freed, with_shut};
+ghost use Rattle.batch_queue.specs.Own.{View, of_batches, part_of, run, taking};
+ghost use Rattle.batch_queue.specs.Placed.{positions_of, raised_run};
+ghost use Rattle.batch_queue.specs.Puts.{RefusedPut};
+ghost use Rattle.batch_queue.specs.Raises.{raise_all};
+ghost use Rattle.batch_queue.specs.Takings.{RefusedTake};
+
+/// What an end lists is true: each entry that a call adds is a real step. It found a lawful queue that the words
+/// showed, and the number in its word, and made one event, or none. Real steps lead from what the end had seen to each
+/// of these entries, in their order, and the last of them left what the end sees then.
+pub fn lists_are_true()
+    ensures end { (end : BatchEnd) → ∥ IsHonest of_batches (view_of end) ∥₁ }
+    ensures entries { (old : View) (new : BatchEnd) (entries : List (Step BatchState))
+        → Adds old entries (view_of new) → ∥ AllByRecursion (IsReal of_batches) entries ∥₁ }
+    ensures order { (old new : BatchEnd) (entries : List (Step BatchState))
+        → Adds (view_of old) entries (view_of new)
+        → ∥ Passes of_batches (view_of old).seen entries (view_of new).seen ∥₁ }
+    ensures since { (old new : BatchEnd) (entries : List (Step BatchState))
+        → Adds (view_of old) entries (view_of new) → ∥ Reaches of_batches (view_of old).seen (view_of new).seen ∥₁ }
+    ensures grows { (m n : Moment BatchState) → Reaches of_batches m n → Grows m.object n.object }
+    ensures change { (e : Step BatchState) → IsReal of_batches e
+        → (e.next.object ≡ e.then.object) ⊎ Becomes e.then.object e.next.object }
+    ensures lawful { (e : Step BatchState) → IsReal of_batches e → Lawful e.next.object }
+{}
+
+/// The same of a join: real steps lead from what either end had seen to what the one sees then, and the entry of the
+/// step that counts one end less is real.
+pub fn joins_are_true()
+    ensures since { (old other new : BatchEnd) → TookIn (view_of old) (view_of other) (view_of new)
+        → ∥ Reaches of_batches (view_of old).seen (view_of new).seen ∥₁
+        × ∥ Reaches of_batches (view_of other).seen (view_of new).seen ∥₁ }
+    ensures entry { (old other new : BatchEnd) (t : TookIn (view_of old) (view_of other) (view_of new))
+        → ∥ IsReal of_batches (count_down ends_word t.found) ∥₁ }
+{}
+
+/// What an end has seen: a queue with as many places as its own, which is shut for good, and which the views of all
+/// ends list, this end's among them. An end that has the whole lists it alone.
+pub fn ends_list_queues()
+    ensures room { (queue : BatchQueue) (end : BatchEnd) → IsEndOf queue end
+        → ((view_of end).seen.object.room ≡ room_of queue) × (0 < room_of queue) }
+    ensures shut { (old new : BatchEnd) (entries : List (Step BatchState))
+        → Adds (view_of old) entries (view_of new)
+        → (view_of old).seen.object.shut ≡ true → (view_of new).seen.object.shut ≡ true }
+    ensures tail { (old new : BatchEnd) (entries : List (Step BatchState))
+        → Adds (view_of old) entries (view_of new)
+        → (view_of old).seen.object.taken ≤ (view_of new).seen.object.taken }
+    ensures listed { (end : BatchEnd)
+        → ∥ ((views : List QueueView) × (seat : ℕ) × ViewsShow (positions_of (view_of end).seen.object) views
+        × (get_elem? views seat ≡ some (part_of (view_of end)))) ∥₁ }
+    ensures only { (end : BatchEnd) → IsOnlyEnd end
+        → ∥ ViewsShow (positions_of (view_of end).seen.object) (part_of (view_of end) ∷ []) ∥₁ }
+{}
+
+/// What the number says that a step found: the number of ends, the head and the mark of a shut queue, the tail, the
+/// free position, or the mark of a position of the window. A mark says in both directions what is published and what is
+/// given back.
+pub fn numbers_say()
+    ensures ends { (found : ℕ) (m : Moment BatchState) → IsReal of_batches (load ends_word found m) → found ≡ m.ends }
+    ensures head { (e : Step BatchState) → e.word ≡ head_word → IsReal of_batches e
+        → (e.found ≡ length (items_of e.then.object) + mark e.then.object.shut)
+        × (length (items_of e.then.object) < POSITIONS) }
+    ensures tail { (e : Step BatchState) → e.word ≡ tail_word → IsReal of_batches e → e.found ≡ e.then.object.taken }
+    ensures free { (e : Step BatchState) → e.word ≡ free_word → IsReal of_batches e → e.found ≡ e.then.object.freed }
+    ensures published { (e : Step BatchState) (p : ℕ) → e.word ≡ mark_word e.then.object.room p
+        → IsReal of_batches e → e.then.object.freed ≤ p → p < e.then.object.freed + e.then.object.room
+        → e.found % 2 ≡ 0 → p < e.found / 2
+        → ((i : ℕ) → p ≤ i → i < e.found / 2 → 1 ≤ phase_at e.then.object i)
+        × IsEdge e.then.object.batches (e.found / 2) }
+    ensures not_published { (e : Step BatchState) (p end : ℕ) → e.word ≡ mark_word e.then.object.room p
+        → IsReal of_batches e → IsBatch e.then.object.batches p end → e.then.object.taken ≤ p → e.found ≢ 2 * end
+        → AreIn e.then.object 0 p end }
+    ensures given { (e : Step BatchState) (p : ℕ) → e.word ≡ mark_word e.then.object.room p
+        → IsReal of_batches e → e.then.object.freed ≤ p → p < e.then.object.freed + e.then.object.room
+        → e.found % 2 ≡ 1 → p < e.found / 2
+        → ((i : ℕ) → p ≤ i → i < e.found / 2 → 3 ≤ phase_at e.then.object i)
+        × IsEdge e.then.object.takings (e.found / 2) }
+    ensures not_given { (e : Step BatchState) (p end : ℕ) → e.word ≡ mark_word e.then.object.room p
+        → IsReal of_batches e → IsBatch e.then.object.takings p end → e.then.object.freed ≤ p → e.found ≢ 2 * end + 1
+        → phase_at e.then.object p < 3 }
+{}
+
+/// Each change that an answer lists is the event of the core that its name says, for all views that list the queue as
+/// the step found it, if one of them is that of the end. A publication is a raise of each item of the batch, in their
+/// order, at one step. Giving places back and moving the window are no event.
+pub fn changes_are_events()
+    ensures claimed { (head : ℕ) (items : List ℕ) (m : Moment BatchState) (views : List QueueView) (seat : ℕ)
+        (v w : QueueView) → IsReal of_batches (change head_word head m (with_batch m.object items)) → 0 < length items
+        → ViewsShow (positions_of m.object) views → get_elem? views seat ≡ some v
+        → w.runs ≡ v.runs ++ run head items ∷ [] → w.takes ≡ v.takes
+        → positions.Grows w.queue (positions_of (with_batch m.object items))
+        → (m.object.shut ≡ false) × (head ≡ length (items_of m.object))
+        × IsEvent (positions_of m.object) (positions_of (with_batch m.object items)) seat v w
+        (claim m.object.room seat items) }
+    ensures published { (word found a b : ℕ) (m : Moment BatchState) (views : List QueueView) (seat number : ℕ)
+        (v w : QueueView) (e : Batch) → IsReal of_batches (change word found m (with_phase m.object a b 1))
+        → IsBatch m.object.batches a b → AreIn m.object 0 a b → ViewsShow (positions_of m.object) views
+        → get_elem? views seat ≡ some v → get_elem? v.runs number ≡ some e → e.start ≡ a → a + length e.places ≡ b
+        → w.runs ≡ slice_set v.runs number (raised_run e 0 (length e.places)) → w.takes ≡ v.takes
+        → positions.Grows w.queue (positions_of (with_phase m.object a b 1))
+        → (k : ℕ) × (event : IsEvent (positions_of m.object) (positions_of (with_phase m.object a b 1)) seat v w
+        (raise_all seat k 0 (length e.places)))
+        × (get_elem? event.shown.lists.runs k ≡ some (seat, number, e)) }
+    ensures taken { (tail new : ℕ) (m : Moment BatchState) (views : List QueueView) (seat : ℕ) (v w : QueueView)
+        → IsReal of_batches (change tail_word tail m (with_taken m.object new)) → m.object.taken < new
+        → ViewsShow (positions_of m.object) views → get_elem? views seat ≡ some v
+        → w.takes ≡ v.takes ++ taking (positions_of m.object) (new - m.object.taken) ∷ [] → w.runs ≡ v.runs
+        → positions.Grows w.queue (positions_of (with_taken m.object new))
+        → (tail ≡ m.object.taken) × IsEdge m.object.batches new
+        × IsEvent (positions_of m.object) (positions_of (with_taken m.object new)) seat v w
+        (take_first m.object.room (new - m.object.taken)) }
+    ensures given { (word found a b : ℕ) (m : Moment BatchState) (views : List QueueView) (seat : ℕ) (v w : QueueView)
+        → IsReal of_batches (change word found m (with_phase m.object a b 3)) → AreIn m.object 2 a b → a < b
+        → ViewsShow (positions_of m.object) views → get_elem? views seat ≡ some v → w.runs ≡ v.runs
+        → w.takes ≡ v.takes → positions.Grows w.queue (positions_of (with_phase m.object a b 3))
+        → IsEvent (positions_of m.object) (positions_of (with_phase m.object a b 3)) seat v w no_event }
+    ensures freed { (free new : ℕ) (m : Moment BatchState) (views : List QueueView) (seat : ℕ) (v w : QueueView)
+        → IsReal of_batches (change free_word free m (with_freed m.object new))
+        → ViewsShow (positions_of m.object) views → get_elem? views seat ≡ some v → w.runs ≡ v.runs
+        → w.takes ≡ v.takes → positions.Grows w.queue (positions_of (with_freed m.object new))
+        → (free ≡ m.object.freed)
+        × IsEvent (positions_of m.object) (positions_of (with_freed m.object new)) seat v w no_event }
+    ensures shut { (head : ℕ) (m : Moment BatchState) (views : List QueueView) (seat : ℕ) (v w : QueueView)
+        → IsReal of_batches (change head_word head m (with_shut m.object))
+        → ViewsShow (positions_of m.object) views → get_elem? views seat ≡ some v → w.runs ≡ v.runs
+        → w.takes ≡ v.takes → positions.Grows w.queue (positions_of (with_shut m.object))
+        → IsEvent (positions_of m.object) (positions_of (with_shut m.object)) seat v w (λ c. Ok (shut c)) }
+{}
+
+/// No head, tail or free position that a call has found is below one that the end had seen: a number that an entry
+/// found is no less than what the end had seen before the call, no less than what an earlier entry of the call found in
+/// the same word, and no more than what the end sees then.
+pub fn never_below()
+    ensures head { (old new : BatchEnd) (before after : List (Step BatchState)) (e : Step BatchState)
+        → Adds (view_of old) (before ++ e ∷ after) (view_of new) → e.word ≡ head_word
+        → (length (items_of (view_of old).seen.object) ≤ e.found % SHUT)
+        × (e.found % SHUT ≤ length (items_of (view_of new).seen.object)) }
+    ensures heads { (old new : BatchEnd) (before between after : List (Step BatchState)) (e f : Step BatchState)
+        → Adds (view_of old) (before ++ e ∷ (between ++ f ∷ after)) (view_of new)
+        → e.word ≡ head_word → f.word ≡ head_word → e.found % SHUT ≤ f.found % SHUT }
+    ensures tail { (old new : BatchEnd) (before after : List (Step BatchState)) (e : Step BatchState)
+        → Adds (view_of old) (before ++ e ∷ after) (view_of new) → e.word ≡ tail_word
+        → ((view_of old).seen.object.taken ≤ e.found) × (e.found ≤ (view_of new).seen.object.taken) }
+    ensures tails { (old new : BatchEnd) (before between after : List (Step BatchState)) (e f : Step BatchState)
+        → Adds (view_of old) (before ++ e ∷ (between ++ f ∷ after)) (view_of new)
+        → e.word ≡ tail_word → f.word ≡ tail_word → e.found ≤ f.found }
+    ensures free { (old new : BatchEnd) (before after : List (Step BatchState)) (e : Step BatchState)
+        → Adds (view_of old) (before ++ e ∷ after) (view_of new) → e.word ≡ free_word
+        → ((view_of old).seen.object.freed ≤ e.found) × (e.found ≤ (view_of new).seen.object.freed) }
+    ensures frees { (old new : BatchEnd) (before between after : List (Step BatchState)) (e f : Step BatchState)
+        → Adds (view_of old) (before ++ e ∷ (between ++ f ∷ after)) (view_of new)
+        → e.word ≡ free_word → f.word ≡ free_word → e.found ≤ f.found }
+{}
+
+/// If one end takes in another, nothing was owned by both: no position is in a batch of both, and none in a taking of
+/// both.
+pub fn joins_are_apart()
+    ensures runs { (old other new : BatchEnd) → TookIn (view_of old) (view_of other) (view_of new)
+        → AreApart (view_of old).own.runs (view_of other).own.runs }
+    ensures takes { (old other new : BatchEnd) → TookIn (view_of old) (view_of other) (view_of new)
+        → AreApart (view_of old).own.takes (view_of other).own.takes }
+{}
+
+/// An end that has the whole is never answered Lost: between its steps, no other end makes one.
+pub fn only_ends_are_never_lost()
+    ensures put { (old new : BatchEnd) (room count head : ℕ) → IsOnlyEnd old
+        → RefusedPut room (view_of old) count (not_put.Lost head) (view_of new) → ⊥ }
+    ensures take { (old new : BatchEnd) (room most tail : ℕ) → IsOnlyEnd old
+        → RefusedTake room (view_of old) most (not_taken.Lost tail) (view_of new) → ⊥ }
+{}
+
+/// The numbers of the layout: where the words are, how many words a queue has, how many places it can have, the number
+/// below which its positions are, and the mark of a shut queue.
+///
+/// A cache line has 8 words, and a processor fetches lines in pairs. The head, the tail, the free position and the
+/// first mark are 16 words apart, so they are in pairs of their own. Each of them begins a pair if the table's memory
+/// begins at one.
+pub fn layout_is()
+    ensures words { (head_word ≡ 0) × (ends_word ≡ 1) × (tail_word ≡ 16) × (free_word ≡ 32) }
+    ensures marks { (room position : ℕ) → mark_word room position ≡ position % room + 48 }
+    ensures width { (room : ℕ) → width room ≡ room + 48 }
+    ensures most { (MOST_PLACES ≡ 16777216) × (POSITIONS ≡ 4611686018427387904) × (SHUT ≡ 9223372036854775808) }
+{}

@@ -1,0 +1,46 @@
+//! Why nothing was put, and why nothing was taken. Refusals are checked in the order in which they are listed.
+use thiserror::Error;
+
+/// Why nothing was put.
+#[derive(Clone, Copy, Debug, PartialEq, Eq, Drop, Error)]
+pub enum PutRefusal {
+    /// There is no item. No step was made.
+    #[error("no items")]
+    NoItems,
+    /// There are more items than places. No step was made.
+    #[error("more items than places")]
+    TooLong,
+    /// The queue is shut: the head that was loaded, or the one that the exchange found, has the shut mark.
+    #[error("the queue is shut")]
+    Closed,
+    /// The items would reach the position 2^62, which no claim reaches. At a billion items a second that takes 146
+    /// years.
+    #[error("no positions left")]
+    Spent,
+    /// There was no room for so many: this head and the number of items exceed `free` and the number of places. At one
+    /// moment of the call the places of all positions before `free` were given back, and that of `free` was not.
+    #[error("full at head {head}, free {free}")]
+    Full { head: u64, free: u64 },
+    /// Another end was first. Either it claimed, and `head` is the head that the exchange found, past the one that was
+    /// loaded; or it moved the free position during the call, still not far enough, and `head` is the head that was
+    /// loaded.
+    #[error("lost, head {head}")]
+    Lost { head: u64 },
+}
+
+/// Why nothing was taken.
+#[derive(Clone, Copy, Debug, PartialEq, Eq, Drop, Error)]
+pub enum TakeRefusal {
+    /// Nothing was published at the tail, which is this position, and the queue was open or had something left.
+    #[error("nothing published at {at}")]
+    Empty { at: u64 },
+    /// The batch at the tail, which is this position, has `count` items, more than the buffer.
+    #[error("a batch of {count} at {at}")]
+    ShortBuffer { at: u64, count: u64 },
+    /// Another end took first: this is the tail that was found, past the one that was loaded.
+    #[error("lost, tail {tail}")]
+    Lost { tail: u64 },
+    /// The queue is shut, and all that was put is taken.
+    #[error("the queue is shut and empty")]
+    Closed,
+}

@@ -1,0 +1,54 @@
+//! The rule of the table. Its types are for the proofs alone: no program makes a value of them but the queue itself.
+use atomic_table::TableRule;
+use std::collections::LinkedList;
+use table_theory::queues::Batch;
+use table_theory::views::Ledger;
+
+/// What the rule is told when the table is made.
+#[derive(Drop)]
+pub struct Shape {
+    pub room: u64,
+}
+
+/// The positions whose slots an end holds, and their phase: 0 if it writes them, 2 if it reads them.
+pub struct HeldSlots {
+    pub phase: u64,
+    pub start: u64,
+    pub count: u64,
+}
+
+/// What an end did: its runs, each claimed or published, what it took, how often it shut the queue where it was open,
+/// and which slots it holds. Proofs alone speak of it.
+pub struct EndRecord {
+    pub runs: LinkedList<Batch>,
+    pub takes: LinkedList<Batch>,
+    pub shuts: u64,
+    pub held: HeldSlots,
+}
+
+/// A queue: its batches in the order of their claims, its takings in their order, the phase of each position, the
+/// position of the next item that is taken, the position that the window begins at, and whether it is shut. A
+/// position's phase is 0 from its claim on, 1 once it is published, 2 once it is taken, and 3 once its place is given
+/// back.
+pub struct BatchState {
+    pub room: u64,
+    pub batches: LinkedList<LinkedList<u64>>,
+    pub takings: LinkedList<LinkedList<u64>>,
+    pub phases: LinkedList<u64>,
+    pub taken: u64,
+    pub freed: u64,
+    pub shut: bool,
+}
+
+/// What an end knows: what it did, its steps, and all ends' steps up to its own last one.
+pub type View = Ledger<EndRecord, BatchState>;
+
+pub struct BatchRule;
+
+impl TableRule<u64, View, Shape> for BatchRule {
+    ghost use Rattle.batch_queue.specs.Rules.{Rule, newcomer};
+
+    ghost holds = { Rule };
+
+    ghost first = { newcomer };
+}

@@ -1,0 +1,171 @@
+//! The atomic steps: the loads, the three exchanges, and the store that publishes a run or gives a taking back.
+ghost use Rattle.std.specs.Prelude.{◌≡◌, ◌≢◌, ◌+◌, ◌<◌, ◌≤◌, ℕ, List, [], length};
+ghost use Rattle.table_theory.specs.Ledgers.{CountedUp, CountedDown, rest_of, newborn, both, emptied};
+ghost use Rattle.table_theory.specs.Seating.{IsSame};
+ghost use Rattle.batch_queue.specs.declared.layout.TheConstants.{FIRST_MARK, POSITIONS};
+ghost use Rattle.batch_queue.specs.Layout.{head_word, tail_word, free_word, ends_word, mark_word};
+ghost use Rattle.batch_queue.specs.Own.{nothing_did, did_both};
+ghost use Rattle.batch_queue.specs.Rules.{IsRuled};
+ghost use Rattle.batch_queue.specs.Slots.{slots_of};
+ghost use Rattle.batch_queue.specs.Steps.{IsSeated, Stays, Found, Claimed, Released, HoldsRange, IsClaim};
+ghost use Rattle.batch_queue.specs.Steps.{HasFound, HasBack, Took, Freed, Shut};
+
+use crate::layout::{ENDS, FREE, HEAD, SHUT, TAIL, mark_word};
+use crate::plays::{
+    ClaimItems, Claims, CountsDown, CountsUp, Finds, Frees, Gives, Joins, Releases, Shuts, Spent,
+    Takes,
+};
+use crate::rule::{BatchRule, Shape, View};
+use atomic_table::{Seat, Shared};
+
+pub(crate) type Words = Shared<u64, View, Shape, BatchRule>;
+
+pub(crate) fn load(words: &Words, seat: &mut Seat<u64, View>, word: usize) -> u64
+    requires queue { (seat.old.table_id ≡ words.now.table_id) × (word < words.now.table_id.words) }
+    requires live { 1 ≤ seat.old.me.0.member.ends }
+    ensures queue { IsSame seat.old seat.new × Stays seat.old.me.0 seat.new.me.0 }
+    ensures slots { seat.new.me.1 ≡ seat.old.me.1 }
+    ensures found { Found seat.old.me.0 word result seat.new.me.0 }
+{
+    words.load::<Finds>(seat, word)
+}
+
+/// Claims the positions from the head on for the items, and takes their slots.
+pub(crate) fn exchange_head<J: ClaimItems>(
+    words: &Words,
+    seat: &mut Seat<u64, View>,
+    head: u64,
+    new: u64,
+    items: &[u64],
+) -> u64
+    requires queue { (seat.old.table_id ≡ words.now.table_id) × (FIRST_MARK ≤ words.now.table_id.words) }
+    requires live { 1 ≤ seat.old.me.0.member.ends }
+    requires bare { (seat.old.me.1 ≡ []) × (seat.old.me.0.own.held.count ≡ 0) }
+    requires items { (items.now ≡ J.items) × (0 < length items.now) }
+    requires new { (new ≡ head + length items.now) × (new < POSITIONS) }
+    requires room { new ≤ seat.old.me.0.seen.object.freed + seat.old.me.0.first.room }
+    ensures queue { IsSame seat.old seat.new × Stays seat.old.me.0 seat.new.me.0 }
+    ensures hit { result ≡ head → Claimed seat.old.me.0 head J.items seat.new.me }
+    ensures miss { result ≢ head → (seat.new.me.1 ≡ seat.old.me.1)
+        × Found seat.old.me.0 head_word result seat.new.me.0 }
+{
+    let _ = items;
+    words.compare_exchange::<Claims<J>>(seat, HEAD, head, new)
+}
+
+/// Publishes the items of the end's run, and gives their slots home: by one store.
+pub(crate) fn publish(
+    words: &Words,
+    seat: &mut Seat<u64, View>,
+    room: usize,
+    start: u64,
+    items: &[u64],
+)
+    requires queue { IsSeated room words.now.table_id seat.old }
+    requires mine { HoldsRange 0 start (length items.now) seat.old.me.0 }
+    requires written { seat.old.me.1 ≡ slots_of room start items.now }
+    requires claim { IsClaim start items.now seat.old.me.0 }
+    ensures queue { IsSame seat.old seat.new × Stays seat.old.me.0 seat.new.me.0 }
+    ensures published { Released seat.old.me.0 (mark_word room start) start (start + length items.now) 0 seat.new.me }
+{
+    let end = start + items.len() as u64;
+    words.store::<Releases>(seat, mark_word(room, start), 2 * end);
+}
+
+/// Takes the positions from the tail up to where all was found published, and their slots.
+pub(crate) fn exchange_tail(words: &Words, seat: &mut Seat<u64, View>, tail: u64, new: u64) -> u64
+    requires queue { (seat.old.table_id ≡ words.now.table_id) × (FIRST_MARK ≤ words.now.table_id.words) }
+    requires live { 1 ≤ seat.old.me.0.member.ends }
+    requires bare { (seat.old.me.1 ≡ []) × (seat.old.me.0.own.held.count ≡ 0) }
+    requires up { HasFound seat.old.me.0 tail new × (tail < new) }
+    ensures queue { IsSame seat.old seat.new × Stays seat.old.me.0 seat.new.me.0 }
+    ensures hit { result ≡ tail → Took seat.old.me.0 tail new seat.new.me }
+    ensures miss { result ≢ tail → (seat.new.me.1 ≡ seat.old.me.1)
+        × Found seat.old.me.0 tail_word result seat.new.me.0 }
+{
+    words.compare_exchange::<Takes>(seat, TAIL, tail, new)
+}
+
+/// Gives the places of the end's taking back, with whatever is in their slots: by one store.
+pub(crate) fn give_back(
+    words: &Words,
+    seat: &mut Seat<u64, View>,
+    room: usize,
+    start: u64,
+    count: usize,
+)
+    requires queue { IsSeated room words.now.table_id seat.old }
+    requires mine { HoldsRange 2 start count seat.old.me.0 }
+    requires slots { (values : List ℕ) × (seat.old.me.1 ≡ slots_of room start values) × (length values ≡ count) }
+    ensures queue { IsSame seat.old seat.new × Stays seat.old.me.0 seat.new.me.0 }
+    ensures given { Released seat.old.me.0 (mark_word room start) start (start + count) 2 seat.new.me }
+{
+    let end = start + count as u64;
+    words.store::<Releases>(seat, mark_word(room, start), 2 * end + 1);
+}
+
+/// Moves the window on over places that were found given back.
+pub(crate) fn exchange_free(words: &Words, seat: &mut Seat<u64, View>, free: u64, new: u64) -> u64
+    requires queue { (seat.old.table_id ≡ words.now.table_id) × (FIRST_MARK ≤ words.now.table_id.words) }
+    requires live { 1 ≤ seat.old.me.0.member.ends }
+    requires back { HasBack seat.old.me.0 free new × (free < new) }
+    ensures queue { IsSame seat.old seat.new × Stays seat.old.me.0 seat.new.me.0 }
+    ensures slots { seat.new.me.1 ≡ seat.old.me.1 }
+    ensures hit { result ≡ free → Freed seat.old.me.0 free new seat.new.me.0 }
+    ensures miss { result ≢ free → Found seat.old.me.0 free_word result seat.new.me.0 }
+{
+    words.compare_exchange::<Frees>(seat, FREE, free, new)
+}
+
+pub(crate) fn or_head(words: &Words, seat: &mut Seat<u64, View>) -> u64
+    requires queue { (seat.old.table_id ≡ words.now.table_id) × (FIRST_MARK ≤ words.now.table_id.words) }
+    requires live { 1 ≤ seat.old.me.0.member.ends }
+    ensures queue { IsSame seat.old seat.new × Stays seat.old.me.0 seat.new.me.0 }
+    ensures slots { seat.new.me.1 ≡ seat.old.me.1 }
+    ensures shut { Shut seat.old.me.0 result seat.new.me.0 }
+{
+    words.fetch_or::<Shuts>(seat, HEAD, SHUT)
+}
+
+pub(crate) fn count_up(words: &Words, seat: &mut Seat<u64, View>) -> u64
+    requires queue { (seat.old.table_id ≡ words.now.table_id) × (FIRST_MARK ≤ words.now.table_id.words) }
+    requires parts { seat.old.me.0.member.ends + 1 ≤ seat.old.me.0.member.share }
+    ensures queue { IsSame seat.old seat.new × (seat.new.me.1 ≡ seat.old.me.1) }
+    ensures ruled { IsRuled seat.new.me.0 }
+    ensures counted { CountedUp ends_word seat.old.me.0 seat.new.me.0 }
+{
+    words.fetch_add::<CountsUp>(seat, ENDS, 1)
+}
+
+pub(crate) fn count_down(words: &Words, seat: &mut Seat<u64, View>) -> u64
+    requires queue { (seat.old.table_id ≡ words.now.table_id) × (FIRST_MARK ≤ words.now.table_id.words) }
+    requires live { 2 ≤ seat.old.me.0.member.ends }
+    ensures queue { IsSame seat.old seat.new × (seat.new.me.1 ≡ seat.old.me.1) }
+    ensures ruled { IsRuled seat.new.me.0 }
+    ensures counted { CountedDown ends_word seat.old.me.0 seat.new.me.0 }
+{
+    words.fetch_sub::<CountsDown>(seat, ENDS, 1)
+}
+
+pub(crate) fn split_off(words: &Words, seat: &mut Seat<u64, View>) -> Seat<u64, View>
+    requires queue { (seat.old.table_id ≡ words.now.table_id) × (FIRST_MARK ≤ words.now.table_id.words) }
+    requires live { seat.old.me.0.member.ends ≡ 2 }
+    ensures queue { IsSame seat.old seat.new × (result.table_id ≡ seat.old.table_id) }
+    ensures split { (seat.new.me ≡ (rest_of seat.old.me.0, seat.old.me.1))
+        × (result.me ≡ (newborn nothing_did seat.old.me.0, [])) }
+{
+    words.split_seat::<Gives>(seat)
+}
+
+/// Condition: neither end holds a slot.
+pub(crate) fn take_in<J: Spent>(words: &Words, seat: &mut Seat<u64, View>, other: Seat<u64, View>)
+    requires queue { (seat.old.table_id ≡ words.now.table_id) × (other.table_id ≡ words.now.table_id)
+        × (other.me.1 ≡ []) × (FIRST_MARK ≤ words.now.table_id.words) }
+    requires live { (1 ≤ seat.old.me.0.member.ends) × (1 ≤ other.me.0.member.ends) }
+    requires bare { (seat.old.me.0.own.held.count ≡ 0) × (other.me.0.own.held.count ≡ 0) }
+    requires spent { J.view ≡ emptied nothing_did seat.old.me.0 }
+    ensures queue { IsSame seat.old seat.new }
+    ensures joined { seat.new.me ≡ (both did_both seat.old.me.0 other.me.0, seat.old.me.1) }
+{
+    words.join_seat::<Joins<J>>(seat, other);
+}

@@ -1,0 +1,170 @@
+//! Takings: an end follows the marks of published batches from the tail on, takes all of them by one exchange of the
+//! tail, reads their items, and gives their places back by one store.
+ghost use Rattle.std.specs.Prelude.{◌≡◌, ◌+◌, ◌<◌, ◌≤◌, ℕ, List, [], length, take, MatchResult, IfErr, IfOk};
+ghost use Rattle.table_theory.specs.Seating.{IsSame};
+ghost use Rattle.batch_queue.specs.Answers.{WhyNotTaken};
+ghost use Rattle.batch_queue.specs.declared.layout.TheConstants.{FIRST_MARK, POSITIONS};
+ghost use Rattle.batch_queue.specs.Layout.{tail_word};
+ghost use Rattle.batch_queue.specs.Lines.{SameLines};
+ghost use Rattle.batch_queue.specs.Own.{no_slots};
+ghost use Rattle.batch_queue.specs.Rules.{IsRuled};
+ghost use Rattle.batch_queue.specs.Steps.{IsSeated, Stays, Found};
+ghost use Rattle.batch_queue.specs.Takings.{FilledBuffer, HasTaken, IsNone, IsShort, RefusedTake};
+ghost use Rattle.batch_queue.specs.Takings.{TakeAnswer, TookBatches, must_wait};
+
+use crate::access::read_items;
+use crate::ends::{BatchEnd, BatchQueue};
+use crate::layout::{SHUT, TAIL};
+use crate::put::load_head;
+use crate::refusals::TakeRefusal;
+use crate::rule::View;
+use crate::steps::{Words, exchange_tail, give_back, load};
+use crate::walk::{PUBLISHED, leads_on, load_mark, walk};
+use atomic_table::Seat;
+use crossbeam_utils::Backoff;
+use std::sync::Wait;
+
+pub(crate) fn load_tail(words: &Words, seat: &mut Seat<u64, View>) -> u64
+    requires queue { (seat.old.table_id ≡ words.now.table_id) × (FIRST_MARK ≤ words.now.table_id.words) }
+    requires live { 1 ≤ seat.old.me.0.member.ends }
+    ensures queue { IsSame seat.old seat.new × Stays seat.old.me.0 seat.new.me.0 }
+    ensures slots { seat.new.me.1 ≡ seat.old.me.1 }
+    ensures found { Found seat.old.me.0 tail_word result seat.new.me.0 }
+    ensures tail { (result ≡ seat.new.me.0.seen.object.taken) × (result < POSITIONS) }
+{
+    load(words, seat, TAIL)
+}
+
+// Why nothing is taken at this tail, whose mark said nothing of a batch.
+fn why_none(words: &Words, seat: &mut Seat<u64, View>, tail: u64) -> TakeRefusal
+    requires queue { (seat.old.table_id ≡ words.now.table_id) × (FIRST_MARK ≤ words.now.table_id.words) }
+    requires live { 1 ≤ seat.old.me.0.member.ends }
+    requires bounded { tail < POSITIONS }
+    ensures queue { IsSame seat.old seat.new × Stays seat.old.me.0 seat.new.me.0 }
+    ensures slots { seat.new.me.1 ≡ seat.old.me.1 }
+    ensures why { IsNone tail seat.old.me.0 result seat.new.me.0 }
+{
+    let head = load_head(words, seat);
+    if head == SHUT + tail {
+        return TakeRefusal::Closed;
+    }
+    let now = load_tail(words, seat);
+    if now != tail {
+        return TakeRefusal::Lost { tail: now };
+    }
+    TakeRefusal::Empty { at: tail }
+}
+
+// Why nothing is taken at this tail, whose mark said that a batch of `count` items is there.
+fn why_short(words: &Words, seat: &mut Seat<u64, View>, tail: u64, count: u64) -> TakeRefusal
+    requires queue { (seat.old.table_id ≡ words.now.table_id) × (FIRST_MARK ≤ words.now.table_id.words) }
+    requires live { 1 ≤ seat.old.me.0.member.ends }
+    ensures queue { IsSame seat.old seat.new × Stays seat.old.me.0 seat.new.me.0 }
+    ensures slots { seat.new.me.1 ≡ seat.old.me.1 }
+    ensures why { IsShort tail count seat.old.me.0 result seat.new.me.0 }
+{
+    let now = load_tail(words, seat);
+    if now != tail {
+        return TakeRefusal::Lost { tail: now };
+    }
+    TakeRefusal::ShortBuffer { at: tail, count }
+}
+
+// Takes the batches that are published at the tail, as many as have no more than `most` items, and their slots. Returns
+// the position of the first item, and the number of items.
+fn take_batches(
+    words: &Words,
+    seat: &mut Seat<u64, View>,
+    room: usize,
+    most: usize,
+) -> Result<(u64, usize), TakeRefusal>
+    requires queue { IsSeated room words.now.table_id seat.old }
+    requires bare { (seat.old.me.1 ≡ []) × (seat.old.me.0.own.held ≡ no_slots) }
+    ensures queue { IsSame seat.old seat.new × Stays seat.old.me.0 seat.new.me.0 }
+    ensures taken { MatchResult result (λ r. (items : List ℕ) × (length items ≡ r.1)
+        × HasTaken room most seat.old.me.0 r.0 items seat.new.me) (λ r. seat.new.me.1 ≡ []) }
+    ensures error { IfErr result (λ r. WhyNotTaken seat.old.me.0 most r seat.new.me.0) }
+    ensures refused { IfErr result (λ r. RefusedTake room seat.old.me.0 most r seat.new.me.0) }
+{
+    let tail = load_tail(words, seat);
+    let first = load_mark(words, seat, room, tail);
+    if !leads_on(PUBLISHED, tail, first) {
+        return Err(why_none(words, seat, tail));
+    }
+    let most = most.min(room) as u64;
+    let count = first / 2 - tail;
+    if count > most {
+        return Err(why_short(words, seat, tail, count));
+    }
+    let new = walk(words, seat, room, tail, first / 2, tail + most, PUBLISHED);
+    let found = exchange_tail(words, seat, tail, new);
+    if found != tail {
+        return Err(TakeRefusal::Lost { tail: found });
+    }
+    Ok((tail, (new - tail) as usize))
+}
+
+// A taking that waits tries again after this answer.
+fn must_wait(answer: &Result<usize, TakeRefusal>) -> bool
+    ensures { result ≡ must_wait answer.now }
+{
+    matches!(
+        answer,
+        Err(TakeRefusal::Empty { at: _ } | TakeRefusal::Lost { tail: _ })
+    )
+}
+
+impl BatchQueue {
+    ghost use Rattle.batch_queue.specs.Handles.{view_of, room_of, IsEndOf, IsSameEnd};
+
+    /// One try to take batches: as many whole batches as are published side by side at the tail and fit the buffer.
+    /// Their items are then the first of the buffer, in order. Returns the number of items.
+    pub fn try_take(&self, end: &mut BatchEnd, items: &mut [u64]) -> Result<usize, TakeRefusal>
+        requires { IsEndOf self.now end.old }
+        ensures effect { MatchResult result
+            (λ n. FilledBuffer n items.old items.new (view_of end.old) (view_of end.new))
+            (λ r. SameLines (view_of end.old) (view_of end.new) × (items.new ≡ items.old)) }
+        ensures error { IfErr result (λ r. WhyNotTaken (view_of end.old) (length items.old) r (view_of end.new)) }
+        ensures trace { MatchResult result
+            (λ n. TookBatches (room_of self.now) (view_of end.old) (length items.old) (take n items.new)
+            (view_of end.new))
+            (λ r. RefusedTake (room_of self.now) (view_of end.old) (length items.old) r (view_of end.new)) }
+        ensures handle { IsSameEnd end.old end.new }
+    {
+        let (words, room) = (&self.table.shared, self.room);
+        let (start, count) = take_batches(words, &mut end.seat, room, items.len())?;
+        read_items(words, &mut end.seat, room, start, count, items);
+        give_back(words, &mut end.seat, room, start, count);
+        Ok(count)
+    }
+
+    /// `try_take`, tried again while nothing is published at the tail, and while other ends are first: it waits for a
+    /// batch. It answers Closed once the queue is shut and empty.
+    pub fn take<R: Wait>(
+        &self,
+        rt: &R,
+        end: &mut BatchEnd,
+        items: &mut [u64],
+    ) -> Result<usize, TakeRefusal>
+        requires { IsEndOf self.now end.old }
+        ensures effect { MatchResult result
+            (λ n. FilledBuffer n items.old items.new (view_of end.old) (view_of end.new))
+            (λ r. SameLines (view_of end.old) (view_of end.new) × (items.new ≡ items.old)) }
+        ensures error { IfErr result (λ r. WhyNotTaken (view_of end.old) (length items.old) r (view_of end.new)) }
+        ensures trace { IfOk result (λ n. TakeAnswer (room_of self.now) (view_of end.old) (length items.old)
+            (take n items.new) result (view_of end.new))
+            × IfErr result (λ r. TakeAnswer (room_of self.now) (view_of end.old) (length items.old) [] result
+            (view_of end.new)) }
+        ensures handle { IsSameEnd end.old end.new }
+    {
+        let backoff = Backoff::new();
+        for _ in rt.forever() {
+            let answer = self.try_take(end, items);
+            if !must_wait(&answer) {
+                return answer;
+            }
+            backoff.snooze();
+        }
+        unreachable!()
+    }
+}

@@ -48,7 +48,7 @@ fn assert_boot<R: Threads + Wait + Sync + Abort>(
     let mut output = Vec::new(alloc);
     match boot_on(rt, alloc, &mut reader, &mut output, 1, turns) {
         Ok(booted) => {
-            assert!(rt; booted.ended == wanted.ended);
+            assert!(rt; booted.ended() == wanted.ended);
             assert!(rt; booted.processors() == 1 && booted.turns() == turns);
         }
         Err(_) => panic!(rt; "no boot"),

@@ -13,6 +13,7 @@ use Rattle.boot_threads.specs.declared.work.Work.TheVariants as works
 use Rattle.boot_threads.specs.declared.work.Worked.TheVariants as worked
 use Rattle.boot_threads.specs.Backs.{IsDeviceBack}
 use Rattle.boot_threads.proofs.Typeds.{served_all}
+use Rattle.boot_threads.specs.Works.{RunsOf, RefusalsOf}
 
 -- LISTS
 
@@ -103,14 +104,14 @@ raws_at shared t count device line tty d s = (
   },
 )
 
-pub device_back : {G : Type 0} (T : G → ℕ → Point → G → Type 0) (shared : Shared) (devices : List Device) (posts ws : List (Work G)) (backs : List (Back G)) (inputs : List LineIn)
-    → AreDevicesOf shared.plan shared.queues shared.chains.items devices → AreServing shared.plan.ttys devices posts ws → AllZip (GaveBack (HasWorked T) shared) ws backs
+pub device_back : {G : Type 0} (ran : RunsOf G) (refused : RefusalsOf G) (T : G → ℕ → Point → G → Type 0) (shared : Shared) (devices : List Device) (posts ws : List (Work G)) (backs : List (Back G)) (inputs : List LineIn)
+    → AreDevicesOf shared.plan shared.queues shared.chains.items devices → AreServing shared.plan.ttys devices posts ws → AllZip (GaveBack ran refused (HasWorked T) shared) ws backs
     → AreTyped shared.plan.ttys (drop (length posts) backs) (map input_of devices) inputs
     → (t : ℕ) (p : PlannedTty) (device : Device) (input : LineIn) (back : Worked G) → slice_get shared.plan.ttys t ≡ Some p → slice_get devices t ≡ Some device → slice_get inputs t ≡ Some input
     → slice_get backs (length posts + t) ≡ Some (Ok back) → (line : LineOut) × (tty : RawTty) × (back ≡ worked.Served line tty) × IsDeviceBack shared t p device input line tty
-device_back {G} T shared devices posts ws backs inputs all serving gave typed t p device input back at at' at'' its =
-    let one = served_at (GaveBack (HasWorked T) shared) shared.plan.ttys devices posts ws backs t p device (Ok back) serving gave at at' its in
-    let s = gave_served G T shared device.chain (length p.typed) device.output device.tty back one in
+device_back {G} ran refused T shared devices posts ws backs inputs all serving gave typed t p device input back at at' at'' its =
+    let one = served_at (GaveBack ran refused (HasWorked T) shared) shared.plan.ttys devices posts ws backs t p device (Ok back) serving gave at at' its in
+    let s = gave_served G T shared device.chain (length p.typed) device.output device.tty back one.1 in
     let d : IsDeviceOf shared.plan shared.queues shared.chains.items t device = all.each t device at' in
     let sent : IsTyped {N = NotStarted Shared (Work G)} (Ok back) p device.input input = typed_at shared.plan.ttys (drop (length posts) backs) devices inputs t p back device input typed at (get_dropped backs (length posts) t ∙ its) at' at'' in (
       s.0,

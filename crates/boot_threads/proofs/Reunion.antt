@@ -10,8 +10,9 @@ use Rattle.thread_table.specs.Handles.{view_of}
 use Rattle.thread_table.specs.Rules.{serves, nothing_on}
 use Rattle.thread_table.specs.Steps.{either_on}
 use Rattle.boot_threads.specs.declared.work.Processed.{Processed}
+use Rattle.boot_threads.specs.declared.work.Work.TheVariants as works
 use Rattle.boot_threads.specs.Backs.{back_of, parts_of, all_done, AllTurned, CameTogether}
-use Rattle.boot_threads.specs.Works.{HasRun}
+use Rattle.boot_threads.specs.Works.{HasRun, RunsOf, RefusalsOf}
 
 -- JOINS
 
@@ -43,17 +44,17 @@ parted_more : (old mid born back new rest : Shares) → both_shares mid born ≡
 parted_more old mid born back new rest whole same parted =
     sym whole ∙ ap (both_shares mid) (sym same) ∙ ap (λ z. both_shares z back) parted ∙ shares_add.regroups new rest back ∙ ap (both_shares new) (shares_swap rest back)
 
-module _ (G : Type 0) (T : G → ℕ → Point → G → Type 0) (shared : Shared) (turns : ℕ) where
+module _ (G : Type 0) (ran : RunsOf G) (refused : RefusalsOf G) (T : G → ℕ → Point → G → Type 0) (shared : Shared) (turns : ℕ) where
   -- what came back of the processors from this one on: their turns; that the first station did nothing; the shares that were given to them; and what a station
   -- has to which they are joined, the processors that they serve, with nothing on them
   record Comes (p : ℕ) (gates : List G) (old new : Parts) (came : List (Processed G)) : Type 0 where
-    turned : AllTurned T shared p turns gates came
+    turned : AllTurned ran T shared p turns gates came
     did : account new ≡ account old
     parted : shares old ≡ both_shares (shares new) (total (map parts_of came))
     served : (first last : Parts) (k : ℕ) → AllJoined first (map parts_of came) last → p ≤ k → k < p + length gates → Serves last k
     none : (first last : Parts) → AllJoined first (map parts_of came) last → NoneOn first → NoneOn last
 
-  come : (p : ℕ) (gates : List G) (old new : Parts) (posts : List (Work G)) (came : List (Processed G)) → ArePosted shared p turns gates old new posts → AllZip (GaveBack (HasWorked T) shared) posts (map back_of came) → Comes p gates old new came
+  come : (p : ℕ) (gates : List G) (old new : Parts) (posts : List (Work G)) (came : List (Processed G)) → ArePosted shared p turns gates old new posts → AllZip (GaveBack ran refused (HasWorked T) shared) posts (map back_of came) → Comes p gates old new came
   come p [] old new [] [] a z = record {
     turned = tt;
     did = ap account a;
@@ -67,23 +68,24 @@ module _ (G : Type 0) (T : G → ℕ → Point → G → Type 0) (shared : Share
   come p (g ∷ gates) old new (w ∷ posts) [] a z = absurd z
   come p (g ∷ gates) old new (w ∷ posts) (s ∷ came) a z =
       let post = a.1 in
-      let ran : HasRun T shared p turns g s.gate post.station.parts s.station.parts = subst (λ (x : Work G). GaveBack (HasWorked T) shared x (back_of s)) post.is z.0 in
+      let was : GaveBack ran refused (HasWorked T) shared (works.Process post.station p turns g) (back_of s) = subst (λ (x : Work G). GaveBack ran refused (HasWorked T) shared x (back_of s)) post.is z.0 in
+      let had : HasRun T shared p turns g s.gate post.station.parts s.station.parts = was.1 in
       let rest = come (p + 1) gates a.0 new posts came a.2 z.1 in record {
-        turned = ((post.station.parts, post.manned, post.fresh, ran), rest.turned);
+        turned = ((post.station, post.manned, post.fresh, was.0, had), rest.turned);
         did = rest.did ∙ post.did;
         parted = parted_more (shares old) (shares a.0) (shares post.station.parts) (shares s.station.parts) (shares new) (total (map parts_of came))
-            ((λ i. both_shares (post.kept_are i) (post.given_are i)) ∙ shares_parted (shares old)) ran.0.shares_are rest.parted;
+            ((λ i. both_shares (post.kept_are i) (post.given_are i)) ∙ shares_parted (shares old)) had.0.shares_are rest.parted;
         served = λ first last k j low high. dite (dec_lt p k)
             (λ past. rest.served j.0 last k j.2 (omega arith) (omega arith))
             (λ no. let here : p ≡ k = omega arith in
-            serves_on j.0 (map parts_of came) last k j.2 (j.1.hand.serves k ∙ or_right _ _ (subst (λ (z : ℕ). Serves s.station.parts z) here ran.0.manned.free.0)));
+            serves_on j.0 (map parts_of came) last k j.2 (j.1.hand.serves k ∙ or_right _ _ (subst (λ (z : ℕ). Serves s.station.parts z) here had.0.manned.free.0)));
         none = λ first last j none. rest.none j.0 last j.2
-            (ap (λ (v : View). v.own.on) j.1.hand.acts.has ∙ none_either _ _ none (ran.0.on ∙ ap (λ (v : View). v.own.on) post.split.born_hand.same));
+            (ap (λ (v : View). v.own.on) j.1.hand.acts.has ∙ none_either _ _ none (had.0.on ∙ ap (λ (v : View). v.own.on) post.split.born_hand.same));
       }
 
   pub came_together : (gates : List G) (old new last : Parts) (posts : List (Work G)) (came : List (Processed G))
-      → ArePosted shared 0 turns gates old new posts → AllZip (GaveBack (HasWorked T) shared) posts (map back_of came) → AllJoined new (map parts_of came) last
-      → NoneOn new → ((k : ℕ) → length gates ≤ k → k < 8 → IsFree k (view_of new.hand)) → CameTogether T shared turns gates old last came
+      → ArePosted shared 0 turns gates old new posts → AllZip (GaveBack ran refused (HasWorked T) shared) posts (map back_of came) → AllJoined new (map parts_of came) last
+      → NoneOn new → ((k : ℕ) → length gates ≤ k → k < 8 → IsFree k (view_of new.hand)) → CameTogether ran T shared turns gates old last came
   came_together gates old new last posts came a z j none free =
       let c = come 0 gates old new posts came a z in
       let sum = joined_all new (map parts_of came) last j in

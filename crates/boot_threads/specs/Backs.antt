@@ -10,6 +10,7 @@ use Rattle.boot_objects.specs.DeviceEndings as ended
 use Rattle.boot_objects.specs.DeviceEndings.{DeviceEnded}
 use Rattle.processor.specs.declared.shared.Shared.{Shared}
 use Rattle.processor.specs.declared.station.Parts.{Parts}
+use Rattle.processor.specs.declared.station.Station.{Station}
 use Rattle.processor.specs.Accounts.{Account, nothing, ◌⊕◌, account, unheard, shares}
 use Rattle.processor.specs.Logs.{IsFresh}
 use Rattle.processor.specs.Manning.{IsManned}
@@ -21,9 +22,11 @@ use Rattle.spsc_line.specs.declared.line_out.LineOut.{LineOut}
 use Rattle.spsc_line.specs.Lines.{bytes_sent, bytes_received, bytes_left, IsLine}
 use Rattle.thread_table.specs.Handles as threads
 use Rattle.boot_threads.specs.declared.work.Processed.{Processed}
+use Rattle.boot_threads.specs.declared.work.Work.TheVariants as works
 use Rattle.boot_threads.specs.declared.work.Worked.{Worked}
 use Rattle.boot_threads.specs.declared.work.Worked.TheVariants as worked
-use Rattle.boot_threads.specs.Works.{Back, HasRun, HasServed}
+use Rattle.boot_threads.specs.Crews.{WasRun}
+use Rattle.boot_threads.specs.Works.{Back, HasRun, HasServed, RunsOf}
 
 -- what a device popped, and how many bytes it was refused
 abbrev pub device_of : LineOut → RawTty → ended.Device
@@ -60,22 +63,25 @@ module _ {G : Type 0} where
   abbrev pub gate_of : Processed G → G
   gate_of one = one.gate
 
-  -- each processor, from this one on, had so many turns on a station of these objects that it could use and that had
-  -- done nothing, of which its gate was told; so the gate, and the station, became those that it gave back
-  abbrev pub AllTurned : (G → ℕ → Point → G → Type 0) → Shared → ℕ → ℕ → List G → List (Processed G) → Type 0
-  AllTurned T shared p turns [] [] = Unit {0}
-  AllTurned T shared p turns (gate ∷ gates) (one ∷ came) =
-      ((old : Parts) × IsManned shared p old × IsFresh old
-      × HasRun T shared p turns gate one.gate old one.station.parts)
-      × AllTurned T shared (p + 1) turns gates came
-  AllTurned T shared p turns gates came = ⊥
+  -- Each processor, from this one on, had so many turns on a station of these objects that it could use and that had
+  -- done nothing, of which its gate was told; so the gate, and the station, became those that it gave back. The thread
+  -- of just this work gave them back
+  abbrev pub AllTurned : RunsOf G → (G → ℕ → Point → G → Type 0) → Shared → ℕ → ℕ → List G
+      → List (Processed G) → Type 0
+  AllTurned ran T shared p turns [] [] = Unit {0}
+  AllTurned ran T shared p turns (gate ∷ gates) (one ∷ came) =
+      ((old : Station) × IsManned shared p old.parts × IsFresh old.parts
+      × WasRun ran shared (works.Process old p turns gate) (worked.Processed one)
+      × HasRun T shared p turns gate one.gate old.parts one.station.parts)
+      × AllTurned ran T shared (p + 1) turns gates came
+  AllTurned ran T shared p turns gates came = ⊥
 
   -- Each processor left on its station what its log says. Once all are joined to what the first station had kept, that
   -- has the shares again that it had before it gave parts away, and has done what it had and what they did; it serves
   -- each processor, on which nothing stands
-  pub record CameTogether (T : G → ℕ → Point → G → Type 0) (shared : Shared) (turns : ℕ) (gates : List G)
-      (old last : Parts) (came : List (Processed G)) : Type 0 where
-    pub turned : AllTurned T shared 0 turns gates came
+  pub record CameTogether (ran : RunsOf G) (T : G → ℕ → Point → G → Type 0) (shared : Shared)
+      (turns : ℕ) (gates : List G) (old last : Parts) (came : List (Processed G)) : Type 0 where
+    pub turned : AllTurned ran T shared 0 turns gates came
     pub shares_are : shares last ≡ shares old
     pub did : account last ≡ account old ⊕ all_done (map parts_of came)
     pub free : (p : ℕ) → p < 8 → IsFree p (threads.view_of last.hand)

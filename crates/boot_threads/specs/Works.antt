@@ -20,7 +20,16 @@ use Rattle.boot_threads.specs.declared.work.Work.{Work}
 use Rattle.boot_threads.specs.declared.work.Work.TheVariants as works
 use Rattle.boot_threads.specs.declared.work.Worked.{Worked}
 use Rattle.boot_threads.specs.declared.work.Worked.TheVariants as worked
+use Rattle.boot_threads.specs.Crews.{Runs, Refusals}
 use Rattle.boot_threads.specs.Devices.{Served}
+
+-- that a thread of the kernel was joined and gave this back
+abbrev pub RunsOf : Type 0 → Type 1
+RunsOf G = Runs Shared (Work G) (Worked G)
+
+-- that a thread of the kernel was refused
+abbrev pub RefusalsOf : Type 0 → Type 1
+RefusalsOf G = Refusals Shared (Work G)
 
 -- A processor had so many turns, of which its gate was told and so became the other one; they left on its station what
 -- their log says. It can use the station still

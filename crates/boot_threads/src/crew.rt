@@ -3,10 +3,10 @@ ghost use Rattle.std.specs.Prelude.{◌≡◌, ◌≤◌, [], All, vec_len, vec_
 ghost use Rattle.std.specs.List.{AllZip};
 ghost use Rattle.boot_threads.specs.Crews.{WasTold, WasJoined, GaveBack};
 
-use crate::starting::{Job, NotStarted, Started, start_one};
+use crate::starting::{Job, NotStarted, Started, Witness, start_one};
 use std::sync::Wait;
 use std::thread;
-use std::thread::{Scope, Threads};
+use std::thread::Scope;
 
 /// Starts a thread for each job, in their order, whether or not others can be started. It takes no memory: the list has
 /// room for all handles.
@@ -18,13 +18,13 @@ pub fn start_all<'s, E, R, S, B, J>(
     handles: Vec<Started<S, B, J>>,
 ) -> Vec<Started<S, B, J>>
 where
-    R: Threads + Wait + Sync,
+    R: Witness<S, B, J> + Wait + Sync,
     S: Sync,
     B: Send + Drop + 's,
     J: Job<S, B> + Send + Drop + 's,
     requires handles { (handles.items ≡ []) × (vec_len jobs ≤ vec_capacity handles) }
     requires may { All (J.may_run shared.now) jobs.items }
-    ensures { AllZip (WasTold shared.now) jobs.items result.items }
+    ensures { AllZip (WasTold R.refused shared.now) jobs.items result.items }
 {
     let mut handles = handles;
     for job in jobs {
@@ -34,27 +34,27 @@ where
 }
 
 // What a thread gave back, or what stands for one that was not started.
-fn join_one<R: Threads, S, B: Drop, J: Job<S, B>>(
+fn join_one<R: Witness<S, B, J>, S, B: Drop, J: Job<S, B>>(
     rt: &R,
     handle: Started<S, B, J>,
 ) -> Result<B, NotStarted<S, J>>
-    ensures { WasJoined J.gives handle result }
+    ensures { WasJoined R.ran J.gives handle result }
 {
     match handle {
-        Ok(handle) => Ok(handle.join(rt)),
+        Ok(handle) => Ok(rt.join(handle)),
         Err(lost) => Err(lost),
     }
 }
 
 /// Joins these threads, in their order, and gives what each gave back, or what stands for one that was not started. It
 /// takes no memory: the list has room for all.
-pub fn join_all<R: Threads, S, B: Drop, J: Job<S, B>>(
+pub fn join_all<R: Witness<S, B, J>, S, B: Drop, J: Job<S, B>>(
     rt: &R,
     handles: Vec<Started<S, B, J>>,
     backs: Vec<Result<B, NotStarted<S, J>>>,
 ) -> Vec<Result<B, NotStarted<S, J>>>
     requires { (backs.items ≡ []) × (vec_len handles ≤ vec_capacity backs) }
-    ensures { AllZip (WasJoined J.gives) handles.items result.items }
+    ensures { AllZip (WasJoined R.ran J.gives) handles.items result.items }
 {
     let mut backs = backs;
     for handle in handles {
@@ -73,14 +73,14 @@ pub fn run_all<R, S, B, J>(
     backs: Vec<Result<B, NotStarted<S, J>>>,
 ) -> Vec<Result<B, NotStarted<S, J>>>
 where
-    R: Threads + Wait + Sync,
+    R: Witness<S, B, J> + Wait + Sync,
     S: Sync,
     B: Send + Drop,
     J: Job<S, B> + Send + Drop,
     requires handles { (handles.items ≡ []) × (vec_len jobs ≤ vec_capacity handles) }
     requires backs { (backs.items ≡ []) × (vec_len jobs ≤ vec_capacity backs) }
     requires may { All (J.may_run shared.now) jobs.items }
-    ensures { AllZip (GaveBack J.gives shared.now) jobs.items result.items }
+    ensures { AllZip (GaveBack R.ran R.refused J.gives shared.now) jobs.items result.items }
 {
     let handles = thread::scope(
         thread::scope_env(),
@@ -88,7 +88,7 @@ where
         move |scope| -> Vec<Started<S, B, J>>
             requires { (handles.items ≡ []) × (vec_len jobs ≤ vec_capacity handles)
                 × All (J.may_run shared.now) jobs.items }
-            ensures { AllZip (WasTold shared.entry.now) jobs.items result.items }
+            ensures { AllZip (WasTold R.refused shared.entry.now) jobs.items result.items }
         { start_all(rt, scope, shared, jobs, handles) },
     );
     join_all(rt, handles, backs)

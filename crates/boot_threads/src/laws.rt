@@ -42,6 +42,9 @@ ghost use Rattle.boot_threads.specs.Stationings.{CanSplit, NoneOn, ArePosted};
 ghost use Rattle.boot_threads.specs.Typings.{AreTyped};
 ghost use Rattle.boot_threads.specs.Works.{Back, MayWork, HasWorked};
 
+use crate::starting::Witness;
+use crate::work::{Work, Worked};
+use processor::Shared;
 use turn_io::Gate;
 
 /// The first station of new objects, once it is prepared, is as the report of a boot asks: all free elements were
@@ -98,11 +101,12 @@ pub fn all_is_served()
 /// Where the works of new objects' devices stand behind the others, and the bytes of each tty were typed, the device of
 /// each tty that gave anything back served its tty, and its ends have the shares that they had; and once its line is
 /// finished, all that the plan types was served.
-pub fn devices_come_back<G: Gate>()
+pub fn devices_come_back<R: Witness<Shared, Worked<G>, Work<G>>, G: Gate + Drop>()
     ensures { (shared : Shared) (devices : List Device) (posts works : List (Work G))
         (backs : List (Back G)) (inputs : List LineIn)
         → AreDevicesOf shared.plan shared.queues shared.chains.items devices
-        → AreServing shared.plan.ttys devices posts works → AllZip (GaveBack (HasWorked G.told) shared) works backs
+        → AreServing shared.plan.ttys devices posts works
+        → AllZip (GaveBack R.ran R.refused (HasWorked G.told) shared) works backs
         → AreTyped shared.plan.ttys (drop (length posts) backs) (map input_of devices) inputs
         → (t : ℕ) (p : PlannedTty) (device : Device) (input : LineIn) (back : Worked G)
         → slice_get shared.plan.ttys t ≡ Some p → slice_get devices t ≡ Some device
@@ -114,12 +118,13 @@ pub fn devices_come_back<G: Gate>()
 /// Where each processor gave its station back, each left on it what its log says, and its gate was told of each turn of
 /// the log. Once all stations are joined to what the first had kept, that has the shares again that it had, has done
 /// what it had done and what they did, and serves all processors, on which nothing stands.
-pub fn stations_come_together<G: Gate>()
+pub fn stations_come_together<R: Witness<Shared, Worked<G>, Work<G>>, G: Gate + Drop>()
     ensures { (shared : Shared) (turns : ℕ) (gates : List G) (old new last : Parts) (posts works : List (Work G))
         (devices : List Device) (backs : List (Back G)) (came : List (Processed G))
         → ArePosted shared 0 turns gates old new posts → AreServing shared.plan.ttys devices posts works
-        → AllZip (GaveBack (HasWorked G.told) shared) works backs → take (length posts) backs ≡ map back_of came
+        → AllZip (GaveBack R.ran R.refused (HasWorked G.told) shared) works backs
+        → take (length posts) backs ≡ map back_of came
         → AllJoined new (map parts_of came) last → NoneOn new
         → ((k : ℕ) → length gates ≤ k → k < 8 → IsFree k (view_of new.hand))
-        → CameTogether G.told shared turns gates old last came }
+        → CameTogether R.ran G.told shared turns gates old last came }
 {}

@@ -23,7 +23,7 @@ pub use laws::{
     works_may_run,
 };
 pub use setting_up::{add_devices, prepare_station};
-pub use starting::{Job, JobPromise, NotStarted, Started};
+pub use starting::{Job, JobPromise, NotStarted, Started, Witness};
 pub use stationing::post_all;
 pub use threads::run_kernel;
 pub use typing::{type_all, type_bytes};

@@ -1,10 +1,13 @@
 //! A thread for a job, and what stands for one that can't be started.
 ghost use Rattle.std.specs.Prelude.{◌≡◌};
+ghost use Rattle.boot_objects.specs.declared.closing.all.Unmade.{Unmade};
 ghost use Rattle.boot_threads.specs.Crews.{WasTold};
+ghost use Rattle.boot_threads.specs.declared.starting.JobPromise.{JobPromise};
 
+use boot_objects::Unmade;
 use std::snapshot::Snapshot;
 use std::sync::Wait;
-use std::thread::{Promise, PromisedHandle, Scope, Threads};
+use std::thread::{Promise, PromisedHandle, Scope, SpawnError, Threads};
 
 /// What a thread does with what all threads share, and what it gives back.
 pub trait Job<S, B>: Sized {
@@ -29,7 +32,72 @@ impl<S, B, J: Job<S, B>> Promise<B> for JobPromise<S, J> {
     ghost kept_by = { λ told back. J.gives told.shared.value told.job.value back };
 }
 
-/// Stands for the thread of a job that can't be started, with what that would have been told. Only a try to start it
+/// What joins threads of jobs of one kind, and is told which could not be started. Every handle for threads is one.
+///
+/// `ran`, `refused` and `shown` are for contracts alone. Code that is generic over a witness knows of them only what a
+/// call on it ensured. So a contract that says of a value that a thread gave it back says that this thread was joined.
+pub trait Witness<S, B, J>: Threads {
+    // A thread that had made this promise was joined, and gave this back.
+    ghost ran: { JobPromise S J → B → Type 0 };
+
+    // A thread that was to make this promise could not be started.
+    ghost refused: { JobPromise S J → Type 0 };
+
+    // It was shown what a boot closed.
+    ghost shown: { Unmade → Type 0 };
+
+    /// Joins a thread.
+    fn join(&self, handle: PromisedHandle<B, JobPromise<S, J>>) -> B
+    where
+        J: Job<S, B>,
+        ensures kept { J.gives handle.promise.shared.value handle.promise.job.value result }
+        ensures ran { ran handle.promise result };
+
+    /// Gives up a thread that could not be started. What came back instead is the closure that it was to run.
+    fn give_up<F>(&self, promise: &JobPromise<S, J>, lost: SpawnError<F>)
+    where
+        J: Job<S, B>,
+        F: FnOnce() -> B + Drop,
+        requires { (back : B) → F.post lost.value back → J.gives promise.now.shared.value promise.now.job.value back }
+        ensures { refused promise.now };
+
+    /// Shows it what was closed, and changes nothing.
+    fn show(&self, closed: &Unmade)
+        ensures { shown closed.now };
+}
+
+impl<R: Threads, S, B, J> Witness<S, B, J> for R {
+    ghost ran = { λ promise back. Unit {0} };
+
+    ghost refused = { λ promise. Unit {0} };
+
+    ghost shown = { λ closed. Unit {0} };
+
+    fn join(&self, handle: PromisedHandle<B, JobPromise<S, J>>) -> B
+    where
+        J: Job<S, B>,
+        ensures kept { J.gives handle.promise.shared.value handle.promise.job.value result }
+        ensures ran { Unit {0} }
+    {
+        handle.join(self)
+    }
+
+    fn give_up<F>(&self, promise: &JobPromise<S, J>, lost: SpawnError<F>)
+    where
+        J: Job<S, B>,
+        F: FnOnce() -> B + Drop,
+        requires { (back : B) → F.post lost.value back → J.gives promise.now.shared.value promise.now.job.value back }
+        ensures { Unit {0} }
+    {
+        let _ = (promise, lost);
+    }
+
+    fn show(&self, _closed: &Unmade)
+        ensures { Unit {0} }
+    {}
+}
+
+/// Stands for the thread of a job that can't be started, with what that would have been told. Only `start_one`
 /// makes one, and there is no other of it: so what a thread gave back is never missing.
 #[derive(Drop)]
 pub struct NotStarted<S, J> {
@@ -57,17 +125,20 @@ pub(crate) fn start_one<'s, E, R, S, B, J>(
     job: J,
 ) -> Started<S, B, J>
 where
-    R: Threads + Wait + Sync,
+    R: Witness<S, B, J> + Wait + Sync,
     S: Sync,
     B: Send + Drop + 's,
     J: Job<S, B> + Send + Drop + 's,
     requires { J.may_run shared.now job }
-    ensures { WasTold shared.now job result }
+    ensures { WasTold R.refused shared.now job result }
 {
     let told = promise_of(shared, &job);
     let promise = promise_of(shared, &job);
     match scope.spawn_with(promise, move || job.run(rt, shared)) {
         Ok(handle) => Ok(handle),
-        Err(_) => Err(NotStarted { told }),
+        Err(lost) => {
+            rt.give_up(&told, lost);
+            Err(NotStarted { told })
+        }
     }
 }

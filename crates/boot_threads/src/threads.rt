@@ -6,14 +6,14 @@ ghost use Rattle.boot_threads.specs.Typings.{AreTyped};
 ghost use Rattle.boot_threads.specs.Works.{MayWork, HasWorked};
 
 use crate::crew::{join_all, start_all};
-use crate::starting::Started;
+use crate::starting::{Started, Witness};
 use crate::typing::type_all;
 use crate::work::{Back, Work, Worked};
 use processor::Shared;
 use spsc_line::LineIn;
 use std::sync::Wait;
 use std::thread;
-use std::thread::{Scope, Threads};
+use std::thread::Scope;
 use turn_io::Gate;
 
 type Handles<G> = Vec<Started<Shared, Worked<G>, Work<G>>>;
@@ -30,14 +30,14 @@ fn start_and_type<'s, E, R, G>(
     typed: Vec<LineIn>,
 ) -> (Handles<G>, Vec<LineIn>)
 where
-    R: Threads + Wait + Sync,
+    R: Witness<Shared, Worked<G>, Work<G>> + Wait + Sync,
     G: Gate + Send + Drop + 's,
     requires may { All (MayWork shared.now) works.items }
     requires number { vec_len works ≡ processors + length shared.now.plan.ttys }
     requires lines { vec_len lines ≡ length shared.now.plan.ttys }
     requires handles { (handles.items ≡ []) × (vec_len works ≤ vec_capacity handles) }
     requires room { (typed.items ≡ []) × (vec_len lines ≤ vec_capacity typed) }
-    ensures told { AllZip (WasTold shared.now) works.items result.0.items }
+    ensures told { AllZip (WasTold R.refused shared.now) works.items result.0.items }
     ensures typed { AreTyped shared.now.plan.ttys (drop processors result.0.items) lines.items result.1.items }
 {
     let handles = start_all(rt, scope, shared, works, handles);
@@ -63,7 +63,7 @@ pub fn run_kernel<R, G>(
     typed: Vec<LineIn>,
 ) -> (Vec<Back<G>>, Vec<LineIn>)
 where
-    R: Threads + Wait + Sync,
+    R: Witness<Shared, Worked<G>, Work<G>> + Wait + Sync,
     G: Gate + Send + Drop,
     requires may { All (MayWork shared.now) works.items }
     requires number { vec_len works ≡ processors + length shared.now.plan.ttys }
@@ -71,7 +71,8 @@ where
     requires handles { (handles.items ≡ []) × (vec_len works ≤ vec_capacity handles) }
     requires backs { (backs.items ≡ []) × (vec_len works ≤ vec_capacity backs) }
     requires room { (typed.items ≡ []) × (vec_len lines ≤ vec_capacity typed) }
-    ensures worked { AllZip (GaveBack (HasWorked G.told) shared.now) works.items result.0.items }
+    ensures worked { AllZip (GaveBack R.ran R.refused (HasWorked G.told) shared.now) works.items
+        result.0.items }
     ensures typed { AreTyped shared.now.plan.ttys (drop processors result.0.items) lines.items result.1.items }
 {
     let (handles, typed) = thread::scope(
@@ -83,7 +84,7 @@ where
                 × (vec_len works ≡ processors + length shared.now.plan.ttys)
                 × (vec_len lines ≡ length shared.now.plan.ttys)
                 × (typed.items ≡ []) × (vec_len lines ≤ vec_capacity typed) }
-            ensures { AllZip (WasTold shared.entry.now) works.items result.0.items
+            ensures { AllZip (WasTold R.refused shared.entry.now) works.items result.0.items
                 × AreTyped shared.entry.now.plan.ttys (drop processors result.0.items) lines.items result.1.items }
         { start_and_type(rt, scope, shared, works, processors, handles, lines, typed) },
     );

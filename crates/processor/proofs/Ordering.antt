@@ -1,11 +1,17 @@
 -- What the gate was shown around a try, and turn by turn.
-use Rattle.processor.proofs.Common.{◌≡◌, ℕ, List, [], ◌∷◌, ◌++◌, Option, length, refl, ap, subst, ◌∙◌, QueueEnd, QueueIndex, LogEntry, Parts, Shared, view_of}
+use Rattle.processor.proofs.Common.{◌≡◌, ◌+◌, ℕ, suc, List, [], ◌∷◌, ◌++◌, Option, length, refl, ap, arith, subst, ◌∙◌, QueueEnd, QueueIndex, LogEntry, Parts, Shared, ToldTurns, Turn, view_of}
+use Rattle.std.proofs.Math.Nat.{add-zero}
 use Rattle.std.proofs.lemmas.List.{length-append}
 use Rattle.thread_table.specs.declared.hand.Hand.{Hand}
 use Rattle.thread_table.specs.Answers.{PutsOn}
 use Rattle.thread_table.specs.Handles.{IsSameHand}
-use Rattle.turn_io.specs.Gates.{Sights}
-use Rattle.processor.specs.Orders.{Count, QueueShown, QueueStood, TurnInOrder, TurnsInOrder, behind_ticket, count_of, one_more}
+use Rattle.turn_io.specs.declared.gate.Point.{Point}
+use Rattle.processor.specs.declared.outcome.Outcome.{Outcome}
+use Rattle.processor.specs.declared.outcome.Outcome.TheVariants as outcomes
+use Rattle.processor.specs.Orders.{CameInOrder, Count, QueueShown, QueueStood, TurnInOrder, TurnsInOrder, behind_ticket, count_of, one_more}
+use Rattle.processor.specs.Points.{GateSaw, points_out}
+use Rattle.processor.specs.Sights.{Sights}
+use Rattle.processor.specs.Turns.{CameOf}
 
 -- a try between two looks at its queue, behind the reading of a ticket of the wait queue
 pub tried_between : (S : Sights) (wait wait' : Option ℕ) (queue : QueueIndex) (old hand : Hand) (small small' : List (QueueEnd 64)) (large large' : List (QueueEnd 256)) → wait ≡ wait' → count_of hand ≡ behind_ticket wait (count_of old)
@@ -24,13 +30,40 @@ put_counts call p element old new puts same =
     λ i. record { table = same.0 i; hand = same.1 i; steps = long i }
 
 -- one turn more
-pub turns_more : (S : Sights) (shared : Shared) (p : ℕ) (log : List LogEntry) (entry : LogEntry) (old mid new : Parts) → TurnsInOrder S shared p log old mid → TurnInOrder S shared p entry mid new → TurnsInOrder S shared p (log ++ entry ∷ []) old new
-turns_more S shared p [] entry old mid new t turn = (new, subst (λ z. TurnInOrder S shared p entry z new) t turn, refl)
-turns_more S shared p (first ∷ log) entry old mid new t turn = (t.0, t.1, turns_more S shared p log entry t.0 mid new t.2 turn)
+pub turns_more : {G : Type 0} (S : Sights) (T : G → ℕ → Point → G → Type 0) (shared : Shared) (p number : ℕ) (log : List LogEntry) (entry : LogEntry) (old mid new : Parts) (g h g' : G) → TurnsInOrder S T shared p number log old mid g h
+    → TurnInOrder S shared p entry mid new → GateSaw T p (Turn (number + length log) ∷ points_out entry.outcome) h g' → TurnsInOrder S T shared p number (log ++ entry ∷ []) old new g g'
+turns_more S T shared p number [] entry old mid new g h g' t turn saw = (
+  new,
+  g',
+  subst (λ z. TurnInOrder S shared p entry z new) t.0 turn,
+  subst (λ (n : ℕ). GateSaw T p (Turn n ∷ points_out entry.outcome) g g') (add-zero number) (subst (λ z. GateSaw T p (Turn (number + 0) ∷ points_out entry.outcome) z g') t.1 saw),
+  (refl, refl),
+)
+turns_more S T shared p number (first ∷ log) entry old mid new g h g' t turn saw = (
+  t.0,
+  t.1,
+  t.2,
+  t.3,
+  turns_more S T shared p (suc number) log entry t.0 mid new t.1 h g' t.4 turn
+      (subst (λ (n : ℕ). GateSaw T p (Turn n ∷ points_out entry.outcome) h g') (shift number (length log)) saw),
+)
+  where
+    shift : (a b : ℕ) → a + suc b ≡ suc a + b
+    shift a b = omega arith
+
+-- what came of turns in order came of them
+came_of : (S : Sights) (shared : Shared) (p : ℕ) (outcome : Outcome) (line : List ℕ) (old new : Parts) → CameInOrder S shared p outcome line old new → CameOf shared p outcome line old new
+came_of S shared p (outcomes.Idle idle) line old new c = c
+came_of S shared p (outcomes.Had begun had) line old new c = (c.0, c.1, c.2)
+
+pub told_of : {G : Type 0} (S : Sights) (T : G → ℕ → Point → G → Type 0) (shared : Shared) (p number : ℕ) (log : List LogEntry) (old new : Parts) (g g' : G) → TurnsInOrder S T shared p number log old new g g' → ToldTurns T shared p number log old new g g'
+told_of S T shared p number [] old new g g' t = t
+told_of S T shared p number (entry ∷ log) old new g g' t =
+    (t.0, t.1, (t.2.0, t.2.1, came_of S shared p entry.outcome entry.line t.2.0 t.0 t.2.2), t.3, told_of S T shared p (suc number) log t.0 new t.1 g' t.4)
 
 -- the same, where the lists are the same
-pub stood_as : {S : Sights} {count : Count} {queue : QueueIndex} {a a' b b' : List (QueueEnd 64)} {c c' d d' : List (QueueEnd 256)} → a ≡ a' → b ≡ b' → c ≡ c' → d ≡ d' → QueueStood S count queue a b c d → QueueStood S count queue a' b' c' d'
-stood_as {S = S} {count = count} {queue = queue} {a = a} {a' = a'} {b = b} {b' = b'} {c = c} {c' = c'} {d = d} {d' = d'} x y z w stood =
+pub stood_as : (S : Sights) {count : Count} (queue : QueueIndex) {a a' b b' : List (QueueEnd 64)} {c c' d d' : List (QueueEnd 256)} → a ≡ a' → b ≡ b' → c ≡ c' → d ≡ d' → QueueStood S count queue a b c d → QueueStood S count queue a' b' c' d'
+stood_as S {count = count} queue {a = a} {a' = a'} {b = b} {b' = b'} {c = c} {c' = c'} {d = d} {d' = d'} x y z w stood =
     subst (λ (u : List (QueueEnd 256)). QueueStood S count queue a' b' c' u) w
     (subst (λ (u : List (QueueEnd 256)). QueueStood S count queue a' b' u d) z
     (subst (λ (u : List (QueueEnd 64)). QueueStood S count queue a' u c d) y

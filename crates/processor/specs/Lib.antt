@@ -19,4 +19,5 @@ pub mod Manning
 pub mod Partings
 pub mod Preparing
 pub mod RawEnds
+pub mod Sights
 pub mod Orders

@@ -25,12 +25,12 @@ use crate::lines::LineRoom;
 use crate::shared::Shared;
 use crate::station::Parts;
 use crate::steps::try_step;
+use crate::watch::Watch;
 use boot_data::plan::Step;
 use event_theory::{Element, Processor};
 use std::sync::Wait;
 use thread_table::{Hand, ThreadTable};
 use turn_dispatch::put_on;
-use turn_io::Watch;
 
 // That an element is on its processor, and its step was not tried there.
 #[derive(Drop)]

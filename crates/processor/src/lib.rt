@@ -26,6 +26,7 @@ mod ticket;
 mod tries;
 mod turn;
 mod waking;
+mod watch;
 
 pub use counting::Tried;
 pub use deed::Deed;
@@ -40,3 +41,4 @@ pub use tries::{HearAnswer, SayAnswer, Unheard, Unsaid};
 pub use turn::run;
 pub use turn_io::{Gate, Point};
 pub use waking::Paid;
+pub use watch::Watch;

@@ -8,7 +8,7 @@ ghost use Rattle.turn_dispatch.specs.Tallies.{no_events};
 ghost use Rattle.thread_table.specs.Handles.{view_of, call_of, IsHandOf, IsSameHand};
 ghost use Rattle.processor.specs.Acts.{Acts};
 ghost use Rattle.processor.specs.declared.deed.Deed.TheVariants as deeds;
-ghost use Rattle.processor.specs.Orders.{QueuesInOrder, Stood, count_of};
+ghost use Rattle.processor.specs.Orders.{QueuesInOrder, SmallStood, count_of};
 ghost use Rattle.processor.specs.Points.{GateSaw, points_of};
 ghost use Rattle.processor.specs.Queues.{DidAt, IsThere, said_line};
 ghost use Rattle.processor.specs.Steps.{HandDid, QueuesDid};
@@ -17,17 +17,17 @@ ghost use Rattle.processor.specs.Tries.{said, heard};
 use crate::lines::{LineRoom, write_line};
 use crate::pipes::waits_of;
 use crate::shared::Shared;
-use crate::showing::show_queue;
+use crate::showing::{show_queue, show_small_end};
 use crate::ticket::ticket_for;
 use crate::tries::{HearAnswer, SayAnswer, WasShut, shut_at, try_hear, try_say};
 use crate::waking::{Paid, wake_for};
+use crate::watch::Watch;
 use arrayvec::ArrayVec;
 use boot_data::Text;
 use boot_data::plan::QueueIndex;
 use claim_queue::QueueEnd;
 use std::sync::Wait;
 use thread_table::Hand;
-use turn_io::{Watch, show_end};
 
 // One try to say a text in a queue.
 pub(crate) fn say_step<R: Wait, G: Watch>(
@@ -149,17 +149,17 @@ pub(crate) fn close_step<R: Wait, G: Watch>(
     ensures did { queue_account small.new
         ≡ at_each both_queue (queue_account small.old) (at_one idle_queue queue (shut_if result.was_open)) }
     ensures sound { StaySound small.old small.new }
-    ensures order { Stood G.shown (count_of hand.old) small.old small.new queue }
+    ensures order { SmallStood G.shown (count_of hand.old) small.old small.new queue }
     ensures same { IsSameHand hand.old hand.new × AreSameEnds small.old small.new }
 {
     let (to_hear, to_say) = waits_of(&shared.plan, QueueIndex::Small(queue));
-    show_end(gate, hand, shared.queues.small.as_slice(), small, queue);
+    show_small_end(gate, hand, shared.queues.small.as_slice(), small, queue);
     let WasShut {
         was_open,
         readers,
         writers,
     } = shut_at(&shared.queues, small, queue);
-    show_end(gate, hand, shared.queues.small.as_slice(), small, queue);
+    show_small_end(gate, hand, shared.queues.small.as_slice(), small, queue);
     let readers = wake_for(rt, &shared.threads, hand, to_hear, readers);
     let writers = wake_for(rt, &shared.threads, hand, to_say, writers);
     WasShut {

@@ -22,12 +22,12 @@ use crate::lines::LineRoom;
 use crate::shared::Shared;
 use crate::station::Parts;
 use crate::tries::HearAnswer;
+use crate::watch::Watch;
 use boot_data::HeardLines;
 use boot_data::plan::Step;
 use event_theory::{Element, Processor};
 use std::sync::Wait;
 use turn_dispatch::take_off;
-use turn_io::Watch;
 
 // Tries a step of an element that the hand holds, on a processor that is free.
 pub(crate) fn run_step<R: Wait, G: Watch>(

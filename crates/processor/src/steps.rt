@@ -15,12 +15,14 @@ use crate::deed::Deed;
 use crate::lines::LineRoom;
 use crate::queue_steps::{close_step, hear_step, say_step};
 use crate::shared::Shared;
+use crate::showing::show_chain_end;
 use crate::station::Parts;
 use crate::thread_steps::{signal_step, start_step, stop_step, wake_step};
 use crate::tries::WasShut;
+use crate::watch::Watch;
 use boot_data::plan::Step;
 use std::sync::Wait;
-use turn_io::{Watch, poke, show_chain_end};
+use turn_io::poke;
 
 // Tries a step of a thread once. A line that is heard goes into `room.heard`.
 pub(crate) fn try_step<R: Wait, G: Watch>(
@@ -99,9 +101,9 @@ pub(crate) fn try_step<R: Wait, G: Watch>(
         },
         Step::Tick { gauge, amount } => {
             let number = usize::from(gauge.number());
-            gate.show(&parts.hand, &parts.meters);
+            gate.show_seat(&parts.hand, &parts.meters);
             let before = shared.meters.tick(&mut parts.meters, number, *amount);
-            gate.show(&parts.hand, &parts.meters);
+            gate.show_seat(&parts.hand, &parts.meters);
             Deed::Tick {
                 gauge: *gauge,
                 amount: *amount,

@@ -8,12 +8,12 @@ ghost use Rattle.processor.specs.Accounts.{nothing};
 ghost use Rattle.processor.specs.Doings.{told_shut};
 ghost use Rattle.processor.specs.Entries.{FollowsStep, LogEntry, OutcomeFollows, Tended, beginning, having};
 ghost use Rattle.processor.specs.Entries.{outcome_account, outcome_told_shut, tending, trying};
-ghost use Rattle.processor.specs.Logs.{HasDone, HasTurned, Ran, Went};
+ghost use Rattle.processor.specs.Logs.{HasDone, Ran, Went};
 ghost use Rattle.processor.specs.Manning.{IsManned, StaysManned};
-ghost use Rattle.processor.specs.Orders.{CameInOrder, InOrder, TurnInOrder, TurnsInOrder, count_of, one_more};
+ghost use Rattle.processor.specs.Orders.{CameInOrder, HasTurnedInOrder, InOrder, TurnInOrder, count_of, one_more};
 ghost use Rattle.processor.specs.Points.{GateSaw, points_of, points_out};
 ghost use Rattle.processor.specs.Programs.{program, step_of};
-ghost use Rattle.processor.specs.Turns.{AreAtRest, BegunAt, IdleAt, CameOf, TendedBy, TurnOf, RanStep, is_last};
+ghost use Rattle.processor.specs.Turns.{AreAtRest, BegunAt, IdleAt, TendedBy, RanStep, is_last};
 
 use crate::laws::steps_fit;
 use crate::lines::LineRoom;
@@ -23,12 +23,13 @@ use crate::running::{keep, run_step};
 use crate::sending::{SentOn, send_on};
 use crate::shared::Shared;
 use crate::station::{Parts, Station};
+use crate::watch::Watch;
 use arrayvec::ArrayVec;
 use boot_data::plan::Step;
 use event_theory::{Alarm, Element, Processor};
 use std::sync::Wait;
 use turn_dispatch::{Begun, Idle, begin, retire, tend_alarms};
-use turn_io::{Point, Watch};
+use turn_io::Point;
 
 // Whether a step that was tried is done, and was the last of so many.
 fn is_last(done: bool, number: u64, steps: usize) -> bool
@@ -135,11 +136,10 @@ fn dispatch<R: Wait, G: Watch>(
 ) -> Outcome
     requires manned { IsManned shared.now p parts.old }
     ensures manned { StaysManned shared.now p parts.old parts.new }
-    ensures came { (line : List ℕ) × CameOf shared.now p result line parts.old parts.new
+    ensures came { (line : List ℕ) × CameInOrder G.shown shared.now p result line parts.old parts.new
         × Went (OutcomeFollows shared.now.plan result line) (outcome_account result line) (outcome_told_shut result)
         parts.old parts.new }
     ensures gate { GateSaw G.told p (points_out result) gate.old gate.new }
-    ensures order { (line : List ℕ) × CameInOrder G.shown shared.now p result line parts.old parts.new }
 {
     steps_fit();
     match begin_turn(rt, shared, parts, p) {
@@ -191,10 +191,9 @@ fn turn<R: Wait, G: Watch>(
 )
     requires manned { IsManned shared.now p parts.old }
     ensures manned { StaysManned shared.now p parts.old parts.new }
-    ensures turn { (entry : LogEntry) × TurnOf shared.now p entry parts.old parts.new
+    ensures turn { (entry : LogEntry) × TurnInOrder G.shown shared.now p entry parts.old parts.new
         × Ran shared.now.plan (entry ∷ []) parts.old parts.new
         × GateSaw G.told p (points_out entry.outcome) gate.old gate.new }
-    ensures order { (entry : LogEntry) × TurnInOrder G.shown shared.now p entry parts.old parts.new }
 {
     tend(shared, parts, p, fired);
     let _ = dispatch(rt, shared, parts, p, room, gate);
@@ -216,9 +215,7 @@ pub fn run<R: Wait, G: Watch>(
 ) -> Station
     requires manned { IsManned shared.now p station.parts }
     ensures manned { StaysManned shared.now p station.parts result.parts }
-    ensures turned { HasTurned G.told shared.now p turns gate.old gate.new station.parts result.parts }
-    ensures order { (log : List LogEntry) × (length log ≡ turns)
-        × TurnsInOrder G.shown shared.now p log station.parts result.parts }
+    ensures turned { HasTurnedInOrder G.shown G.told shared.now p turns gate.old gate.new station.parts result.parts }
 {
     let Station { mut parts } = station;
     let mut fired = ArrayVec::new();

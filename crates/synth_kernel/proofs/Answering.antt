@@ -11,14 +11,15 @@ use Rattle.synth_kernel.specs.declared.printing.Booted.{Booted}
 use Rattle.synth_kernel.specs.declared.outcome.Ended.{Ended}
 use Rattle.synth_kernel.specs.declared.outcome.BootFault.{BootFault}
 use Rattle.synth_kernel.specs.Boots.{IsLogOf, AreLogs, HadTurns, WasTold, ToldNothing, CameBackPlain, IsRun, Says, IsBoot, IsBootAnswer}
+use Rattle.boot_threads.specs.Works.{RunsOf}
 
 -- the answer alone
 pub alone : (Did : BootPlan → ClosedTables → List (List LogEntry) → Type 0) (read : Option (List ℕ)) (ended : Ended) (old new : Option (List ℕ)) → IsBoot Did read ended old new → IsBootAnswer Did read ended
 alone Did read ended old new boot = record { plan = boot.plan; says = boot.says; report = boot.run.report; booted = boot.run.booted; ends = boot.run.ends }
 
-module _ {G : Type 0} (T : G → ℕ → Point → G → Type 0) (turns : ℕ) (gates : List G) where
+module _ {G : Type 0} (ran : RunsOf G) (shown : Unmade → Type 0) (T : G → ℕ → Point → G → Type 0) (turns : ℕ) (gates : List G) where
   pub boots : (read : Option (List ℕ)) (answer : Result (Booted G) BootFault) (plan : BootPlan) (old new : Option (List ℕ)) → Says read plan
-      → IfOk answer (λ booted. IsRun (CameBack T turns gates booted.gates.items booted.closed) plan booted.ended old new) → IfOk answer (λ booted. IsBoot (CameBack T turns gates booted.gates.items booted.closed) read booted.ended old new)
+      → IfOk answer (λ booted. IsRun (CameBack ran shown T turns gates booted.gates.items booted.closed) plan booted.ended old new) → IfOk answer (λ booted. IsBoot (CameBack ran shown T turns gates booted.gates.items booted.closed) read booted.ended old new)
   boots read (Ok booted) plan old new says run = record { plan = plan; says = says; run = run }
   boots read (Err fault) plan old new says run = tt
 
@@ -34,16 +35,16 @@ all_tend T shared p number (entry ∷ log) old new gate gate' told =
     (tends p entry.tended old told.2.0 told.2.1, all_tend T shared p (suc number) log told.0 new told.1 gate' told.4)
 
 -- what is left where the gates, and what was closed, are forgotten
-module _ {G : Type 0} (T : G → ℕ → Point → G → Type 0) (turns : ℕ) where
-  had_one : (shared : Shared) (p : ℕ) (gate back : G) (log : List LogEntry) → WasTold T shared p turns gate back log → IsLogOf shared.plan p turns log
+module _ {G : Type 0} (ran : RunsOf G) (shown : Unmade → Type 0) (T : G → ℕ → Point → G → Type 0) (turns : ℕ) where
+  had_one : (shared : Shared) (p : ℕ) (gate back : G) (log : List LogEntry) → WasTold ran T shared p turns gate back log → IsLogOf shared.plan p turns log
   had_one shared p gate back log told = subst (IsLogOf shared.plan p turns) told.log_is (record {
     many = told.turned.many;
-    tends = all_tend T shared p 0 told.turned.log told.old told.new gate back told.turned.told;
-    station = told.new;
+    tends = all_tend T shared p 0 told.turned.log told.old.parts told.new.parts gate back told.turned.told;
+    station = told.new.parts;
     left = told.turned.leaves told.fresh;
   })
 
-  had_each : (shared : Shared) (p : ℕ) (gates back : List G) (logs : List (List LogEntry)) → AllTold T shared p turns gates back logs → (length logs ≡ length gates) × AreLogs shared.plan p turns logs
+  had_each : (shared : Shared) (p : ℕ) (gates back : List G) (logs : List (List LogEntry)) → AllTold ran T shared p turns gates back logs → (length logs ≡ length gates) × AreLogs shared.plan p turns logs
   had_each shared p [] [] [] all = (refl, tt)
   had_each shared p [] [] (log ∷ logs) all = absurd all
   had_each shared p [] (back ∷ backs) logs all = absurd all
@@ -53,15 +54,15 @@ module _ {G : Type 0} (T : G → ℕ → Point → G → Type 0) (turns : ℕ) w
       let rest = had_each shared (p + 1) gates backs logs all.1 in (ap suc rest.0, (had_one shared p gate back log all.0, rest.1))
 
   -- so each processor had its turns
-  pub had : (gates back : List G) (ended : Unmade) (plan : BootPlan) (closed : ClosedTables) (logs : List (List LogEntry)) → CameBack T turns gates back ended plan closed logs → HadTurns (length gates) turns plan closed logs
+  pub had : (gates back : List G) (ended : Unmade) (plan : BootPlan) (closed : ClosedTables) (logs : List (List LogEntry)) → CameBack ran shown T turns gates back ended plan closed logs → HadTurns (length gates) turns plan closed logs
   had gates back ended plan closed logs came =
       let each = had_each came.shared 0 gates back logs came.told in
       record { many = each.0; each = subst (λ (z : BootPlan). AreLogs z 0 turns logs) came.plan_is each.1 }
 
 -- a boot whose gates do nothing
-pub plain : (turns : ℕ) (gates back : List NoGate) (closed : Unmade) (processors : ℕ) (read : Option (List ℕ)) (ended : Ended) (plan : BootPlan) (old new : Option (List ℕ)) → length gates ≡ processors
-    → Says read plan → IsRun (CameBack ToldNothing turns gates back closed) plan ended old new → IsBoot (CameBackPlain processors turns back closed) read ended old new
-plain turns gates back closed processors read ended plan old new many says run = let b = run.booted in record {
+pub plain : (ran : RunsOf NoGate) (shown : Unmade → Type 0) (turns : ℕ) (gates back : List NoGate) (closed : Unmade) (processors : ℕ) (read : Option (List ℕ)) (ended : Ended) (plan : BootPlan) (old new : Option (List ℕ)) → length gates ≡ processors
+    → Says read plan → IsRun (CameBack ran shown ToldNothing turns gates back closed) plan ended old new → IsBoot (CameBackPlain ran shown processors turns back closed) read ended old new
+plain ran shown turns gates back closed processors read ended plan old new many says run = let b = run.booted in record {
   plan = plan;
   says = says;
   run = record {
@@ -72,11 +73,11 @@ plain turns gates back closed processors read ended plan old new many says run =
   };
 }
 
-pub plain_ok : (turns : ℕ) (gates : List NoGate) (processors : ℕ) (read : Option (List ℕ)) (answer : Result (Booted NoGate) BootFault) (plan : BootPlan) (old new : Option (List ℕ)) → length gates ≡ processors → Says read plan
-    → IfOk answer (λ booted. IsRun (CameBack ToldNothing turns gates booted.gates.items booted.closed) plan booted.ended old new) → IfOk answer (λ booted. IsBoot (CameBackPlain processors turns booted.gates.items booted.closed) read booted.ended old new)
-plain_ok turns gates processors read (Ok booted) plan old new many says run = plain turns gates booted.gates.items booted.closed processors read booted.ended plan old new many says run
-plain_ok turns gates processors read (Err fault) plan old new many says run = tt
+pub plain_ok : (ran : RunsOf NoGate) (shown : Unmade → Type 0) (turns : ℕ) (gates : List NoGate) (processors : ℕ) (read : Option (List ℕ)) (answer : Result (Booted NoGate) BootFault) (plan : BootPlan) (old new : Option (List ℕ)) → length gates ≡ processors → Says read plan
+    → IfOk answer (λ booted. IsRun (CameBack ran shown ToldNothing turns gates booted.gates.items booted.closed) plan booted.ended old new) → IfOk answer (λ booted. IsBoot (CameBackPlain ran shown processors turns booted.gates.items booted.closed) read booted.ended old new)
+plain_ok ran shown turns gates processors read (Ok booted) plan old new many says run = plain ran shown turns gates booted.gates.items booted.closed processors read booted.ended plan old new many says run
+plain_ok ran shown turns gates processors read (Err fault) plan old new many says run = tt
 
-pub had_plain : (processors turns : ℕ) (back : List NoGate) (ended : Unmade) (plan : BootPlan) (closed : ClosedTables) (logs : List (List LogEntry)) → CameBackPlain processors turns back ended plan closed logs → HadTurns processors turns plan closed logs
-had_plain processors turns back ended plan closed logs came =
-    subst (λ (z : ℕ). HadTurns z turns plan closed logs) came.many (had ToldNothing turns came.gates back ended plan closed logs came.came)
+pub had_plain : (ran : RunsOf NoGate) (shown : Unmade → Type 0) (processors turns : ℕ) (back : List NoGate) (ended : Unmade) (plan : BootPlan) (closed : ClosedTables) (logs : List (List LogEntry)) → CameBackPlain ran shown processors turns back ended plan closed logs → HadTurns processors turns plan closed logs
+had_plain ran shown processors turns back ended plan closed logs came =
+    subst (λ (z : ℕ). HadTurns z turns plan closed logs) came.many (had ran shown ToldNothing turns came.gates back ended plan closed logs came.came)

@@ -3,6 +3,7 @@ use Rattle.synth_kernel.proofs.Common.{◌≡◌, ◌≤◌, ℕ, zero, suc, ◌
 use Rattle.std.proofs.Common.{take}
 use Rattle.boot_threads.specs.declared.work.Worked.TheVariants as worked
 use Rattle.boot_threads.specs.Readiness.{IsServing}
+use Rattle.boot_threads.specs.Works.{RunsOf, RefusalsOf}
 
 abbrev pub back_served : {G : Type 0} → Served → Back G
 back_served one = Ok (worked.Served one.line one.tty)
@@ -17,12 +18,9 @@ none_of : {A : Type 0} (l : List A) → length l ≡ 0 → l ≡ []
 none_of [] h = refl
 none_of (x ∷ xs) h = absurd (omega arith)
 
-module _ {G : Type 0} (T : G → ℕ → Point → G → Type 0) (shared : Shared) where
-  Gave : Work G → Back G → Type 0
-  Gave = GaveBack (HasWorked T) shared
-
+module _ {G : Type 0} (ran : RunsOf G) (refused : RefusalsOf G) (T : G → ℕ → Point → G → Type 0) (shared : Shared) where
   -- one device's work
-  few_serve : (ttys : List PlannedTty) (devices : List Device) (ws : List (Work G)) (backs : List (Back G)) → AllThree IsServing ttys devices ws → AllZip (GaveBack (HasWorked T) shared) ws backs
+  few_serve : (ttys : List PlannedTty) (devices : List Device) (ws : List (Work G)) (backs : List (Back G)) → AllThree IsServing ttys devices ws → AllZip (GaveBack ran refused (HasWorked T) shared) ws backs
       → (processed_in backs ≡ []) × (length (served_in backs) ≤ length ttys)
   few_serve [] [] [] [] s r = (refl, omega arith)
   few_serve [] [] [] (x ∷ backs) s r = absurd r
@@ -32,11 +30,11 @@ module _ {G : Type 0} (T : G → ℕ → Point → G → Type 0) (shared : Share
   few_serve (t ∷ ttys) (d ∷ devices) [] backs s r = absurd s
   few_serve (t ∷ ttys) (d ∷ devices) (w ∷ ws) [] s r = absurd r
   few_serve (t ∷ ttys) (d ∷ devices) (w ∷ ws) (Err lost ∷ backs) s r = let f = few_serve ttys devices ws backs s.1 r.1 in (f.0, let g = f.1 in omega arith)
-  few_serve (t ∷ ttys) (d ∷ devices) (w ∷ ws) (Ok (worked.Processed b) ∷ backs) s r = absurd (subst (λ (z : Work G). GaveBack (HasWorked T) shared z (Ok (worked.Processed b))) s.0 r.0)
+  few_serve (t ∷ ttys) (d ∷ devices) (w ∷ ws) (Ok (worked.Processed b) ∷ backs) s r = absurd (subst (λ (z : Work G). GaveBack ran refused (HasWorked T) shared z (Ok (worked.Processed b))) s.0 r.0).1
   few_serve (t ∷ ttys) (d ∷ devices) (w ∷ ws) (Ok (worked.Served l y) ∷ backs) s r = let f = few_serve ttys devices ws backs s.1 r.1 in (f.0, let g = f.1 in omega arith)
 
   pub few_back : (p turns : ℕ) (gates : List G) (old new : Parts) (ttys : List PlannedTty) (devices : List Device) (posts ws : List (Work G)) (backs : List (Back G)) → ArePosted shared p turns gates old new posts
-      → AreServing ttys devices posts ws → AllZip (GaveBack (HasWorked T) shared) ws backs → (length (processed_in backs) ≤ length posts) × (length (served_in backs) ≤ length ttys)
+      → AreServing ttys devices posts ws → AllZip (GaveBack ran refused (HasWorked T) shared) ws backs → (length (processed_in backs) ≤ length posts) × (length (served_in backs) ≤ length ttys)
   few_back p turns [] old new ttys devices [] ws backs a s r = let f = few_serve ttys devices ws backs s r in let e = ap length f.0 in (omega arith, f.1)
   few_back p turns [] old new ttys devices (w ∷ posts) ws backs a s r = absurd a
   few_back p turns (g ∷ gates) old new ttys devices [] ws backs a s r = absurd a
@@ -45,9 +43,9 @@ module _ {G : Type 0} (T : G → ℕ → Point → G → Type 0) (shared : Share
   few_back p turns (g ∷ gates) old new ttys devices (w ∷ posts) (w' ∷ ws) (Err lost ∷ backs) a s r = let f = few_back (p + 1) turns gates a.0 new ttys devices posts ws backs a.2 s.1 r.1 in (let e = f.0 in omega arith, f.1)
   few_back p turns (g ∷ gates) old new ttys devices (w ∷ posts) (w' ∷ ws) (Ok (worked.Processed b) ∷ backs) a s r = let f = few_back (p + 1) turns gates a.0 new ttys devices posts ws backs a.2 s.1 r.1 in (let e = f.0 in omega arith, f.1)
   few_back p turns (g ∷ gates) old new ttys devices (w ∷ posts) (w' ∷ ws) (Ok (worked.Served l y) ∷ backs) a s r =
-      absurd (subst (λ (z : Work G). GaveBack (HasWorked T) shared z (Ok (worked.Served l y))) (s.0 ∙ a.1.is) r.0)
+      absurd (subst (λ (z : Work G). GaveBack ran refused (HasWorked T) shared z (Ok (worked.Served l y))) (s.0 ∙ a.1.is) r.0).1
 
-  sort_serve : (ttys : List PlannedTty) (devices : List Device) (ws : List (Work G)) (backs : List (Back G)) → AllThree IsServing ttys devices ws → AllZip (GaveBack (HasWorked T) shared) ws backs
+  sort_serve : (ttys : List PlannedTty) (devices : List Device) (ws : List (Work G)) (backs : List (Back G)) → AllThree IsServing ttys devices ws → AllZip (GaveBack ran refused (HasWorked T) shared) ws backs
       → all_there backs ≡ true → Sorted 0 (length ttys) backs
   sort_serve [] [] [] [] s r all = record { is = refl; posts_are = refl; ttys_are = refl }
   sort_serve [] [] [] (x ∷ backs) s r all = absurd r
@@ -57,7 +55,7 @@ module _ {G : Type 0} (T : G → ℕ → Point → G → Type 0) (shared : Share
   sort_serve (t ∷ ttys) (d ∷ devices) [] backs s r all = absurd s
   sort_serve (t ∷ ttys) (d ∷ devices) (w ∷ ws) [] s r all = absurd r
   sort_serve (t ∷ ttys) (d ∷ devices) (w ∷ ws) (Err lost ∷ backs) s r all = absurd cc
-  sort_serve (t ∷ ttys) (d ∷ devices) (w ∷ ws) (Ok (worked.Processed b) ∷ backs) s r all = absurd (subst (λ (z : Work G). GaveBack (HasWorked T) shared z (Ok (worked.Processed b))) s.0 r.0)
+  sort_serve (t ∷ ttys) (d ∷ devices) (w ∷ ws) (Ok (worked.Processed b) ∷ backs) s r all = absurd (subst (λ (z : Work G). GaveBack ran refused (HasWorked T) shared z (Ok (worked.Processed b))) s.0 r.0).1
   sort_serve (t ∷ ttys) (d ∷ devices) (w ∷ ws) (Ok (worked.Served l y) ∷ backs) s r all = let f = sort_serve ttys devices ws backs s.1 r.1 all in let none = none_of (processed_in backs) f.posts_are in record {
     is = ap (λ z. Ok (worked.Served l y) ∷ z) f.is ∙ (ap (λ z. Ok (worked.Served l y) ∷ (map back_of z ++ map back_served (served_in backs))) none
         ∙ ap (λ z. map back_of z ++ Ok (worked.Served l y) ∷ map back_served (served_in backs)) (sym none));
@@ -66,7 +64,7 @@ module _ {G : Type 0} (T : G → ℕ → Point → G → Type 0) (shared : Share
   }
 
   pub sort_back : (p turns : ℕ) (gates : List G) (old new : Parts) (ttys : List PlannedTty) (devices : List Device) (posts ws : List (Work G)) (backs : List (Back G)) → ArePosted shared p turns gates old new posts
-      → AreServing ttys devices posts ws → AllZip (GaveBack (HasWorked T) shared) ws backs → all_there backs ≡ true → Sorted (length posts) (length ttys) backs
+      → AreServing ttys devices posts ws → AllZip (GaveBack ran refused (HasWorked T) shared) ws backs → all_there backs ≡ true → Sorted (length posts) (length ttys) backs
   sort_back p turns [] old new ttys devices [] ws backs a s r all = sort_serve ttys devices ws backs s r all
   sort_back p turns [] old new ttys devices (w ∷ posts) ws backs a s r all = absurd a
   sort_back p turns (g ∷ gates) old new ttys devices [] ws backs a s r all = absurd a
@@ -79,7 +77,7 @@ module _ {G : Type 0} (T : G → ℕ → Point → G → Type 0) (shared : Share
     ttys_are = f.ttys_are;
   }
   sort_back p turns (g ∷ gates) old new ttys devices (w ∷ posts) (w' ∷ ws) (Ok (worked.Served l y) ∷ backs) a s r all =
-      absurd (subst (λ (z : Work G). GaveBack (HasWorked T) shared z (Ok (worked.Served l y))) (s.0 ∙ a.1.is) r.0)
+      absurd (subst (λ (z : Work G). GaveBack ran refused (HasWorked T) shared z (Ok (worked.Served l y))) (s.0 ∙ a.1.is) r.0).1
 
 take_first : {A : Type 0} (xs ys : List A) → take (length xs) (xs ++ ys) ≡ xs
 take_first [] ys = refl

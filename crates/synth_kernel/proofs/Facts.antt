@@ -17,6 +17,7 @@ use Rattle.boot_threads.specs.Backs.{IsDeviceBack, device_of}
 use Rattle.boot_threads.proofs.Returning.{device_back, short}
 use Rattle.event_theory.proofs.Lists.Placed.{there as some_at, zip_from}
 use Rattle.synth_kernel.proofs.Backs.{Sorted, served_behind}
+use Rattle.boot_threads.specs.Works.{RunsOf, RefusalsOf}
 
 -- LISTS
 
@@ -78,13 +79,13 @@ same_served a b x y e = (cc, cc)
 abbrev pub did_of : Served → closed.Device
 did_of one = device_of one.line one.tty
 
-module _ {G : Type 0} (T : G → ℕ → Point → G → Type 0) (shared : Shared) (devices : List Device) (posts ws : List (Work G)) (backs : List (Back G)) (inputs : List LineIn) (are : AreDevicesOf shared.plan shared.queues shared.chains.items devices)
-    (serving : AreServing shared.plan.ttys devices posts ws) (gave : AllZip (GaveBack (HasWorked T) shared) ws backs) (typed : AreTyped shared.plan.ttys (drop (length posts) backs) (map input_of devices) inputs)
+module _ {G : Type 0} (ran : RunsOf G) (refused : RefusalsOf G) (T : G → ℕ → Point → G → Type 0) (shared : Shared) (devices : List Device) (posts ws : List (Work G)) (backs : List (Back G)) (inputs : List LineIn) (are : AreDevicesOf shared.plan shared.queues shared.chains.items devices)
+    (serving : AreServing shared.plan.ttys devices posts ws) (gave : AllZip (GaveBack ran refused (HasWorked T) shared) ws backs) (typed : AreTyped shared.plan.ttys (drop (length posts) backs) (map input_of devices) inputs)
     (f : Sorted (length posts) (length shared.plan.ttys) backs) where
   device_came : (t : ℕ) (p : PlannedTty) (device : Device) (input : LineIn) (one : Served) → slice_get shared.plan.ttys t ≡ Some p → slice_get devices t ≡ Some device → slice_get inputs t ≡ Some input
       → slice_get (served_in backs) t ≡ Some one → IsDeviceBack shared t p device input one.line one.tty
   device_came t p device input one at at' at'' its =
-      let b = device_back T shared devices posts ws backs inputs are serving gave typed t p device input (worked.Served one.line one.tty) at at' at'' (served_behind (length posts) (length shared.plan.ttys) backs f t one its) in
+      let b = device_back ran refused T shared devices posts ws backs inputs are serving gave typed t p device input (worked.Served one.line one.tty) at at' at'' (served_behind (length posts) (length shared.plan.ttys) backs f t one its) in
       let s = same_served {G = G} one.line b.0 one.tty b.1 b.2 in
       subst (λ (l : LineOut). IsDeviceBack shared t p device input l one.tty) (sym s.0) (subst (λ (y : RawTty). IsDeviceBack shared t p device input b.0 y) (sym s.1) b.3)
 

@@ -4,8 +4,9 @@ use Rattle.boot_data.specs.Hearing.{Line}
 use Rattle.boot_report.specs.Rooms as reporting
 use Rattle.synth_kernel.specs.declared.running.Stopped.{Stopped}
 use Rattle.synth_kernel.proofs.Shut.{raws_came, wholes, few_lines, booted}
+use Rattle.boot_threads.specs.Works.{RunsOf, RefusalsOf}
 
-module _ {G : Type 0} (T : G → ℕ → Point → G → Type 0) (plan : BootPlan) (turns : ℕ) (gates : List G) (ready : Ready G) (r : IsReady plan turns gates ready) (stopped : Stopped G) (s : HasStopped T (length gates) ready stopped) where
+module _ {G : Type 0} (ran : RunsOf G) (refused : RefusalsOf G) (shown : Unmade → Type 0) (T : G → ℕ → Point → G → Type 0) (plan : BootPlan) (turns : ℕ) (gates : List G) (ready : Ready G) (r : IsReady plan turns gates ready) (stopped : Stopped G) (s : HasStopped ran refused T (length gates) ready stopped) where
   -- what is known where these are the objects, and these raw ttys, gates and lines came back
   pub record Knows (shared : Shared) (ttys : List RawTty) (back : List G) (lines : List Line) : Type 0 where
     pub raws : AreRawsOf shared ttys
@@ -13,16 +14,16 @@ module _ {G : Type 0} (T : G → ℕ → Point → G → Type 0) (plan : BootPla
     pub report : reporting.HasAllRoom shared.plan stopped.report
     pub few : (parts : Parts) (ended : Unmade) → TookRaws (length shared.plan.queues) (length shared.plan.movers) ttys stopped.gathered.station.parts parts → AllClosed shared parts ended → length lines ≤ hear_count ended.plan
     pub booted : (parts : Parts) (ended : Unmade) → TookRaws (length shared.plan.queues) (length shared.plan.movers) ttys stopped.gathered.station.parts parts → AllClosed shared parts ended
-        → (report : Report) → IsReported ended lines stopped.gathered.told.items report → IsBootOf (CameBack T turns gates back ended) plan report
+        → shown ended → (report : Report) → IsReported ended lines stopped.gathered.told.items report → IsBootOf (CameBack ran shown T turns gates back ended) plan report
 
   came : Knows ready.shared (map tty_of (served_in s.backs)) (map gate_of (processed_in s.backs)) (flat_map heard_lines (map parts_of (processed_in s.backs)))
   came = record {
-    raws = raws_came T plan turns gates ready r s.backs s.inputs s.worked s.typed s.gathered.all;
-    wholes = wholes T plan turns gates ready r s.backs s.inputs s.worked s.typed s.gathered.all stopped.gathered.station.parts s.gathered.joined;
+    raws = raws_came ran refused shown T plan turns gates ready r s.backs s.inputs s.worked s.typed s.gathered.all;
+    wholes = wholes ran refused shown T plan turns gates ready r s.backs s.inputs s.worked s.typed s.gathered.all stopped.gathered.station.parts s.gathered.joined;
     report = subst (reporting.HasAllRoom ready.shared.plan) (sym s.report_is) r.room.report;
-    few = λ parts ended took closes. few_lines T plan turns gates ready r s.backs s.inputs s.worked s.typed s.gathered.all stopped.gathered.station.parts s.gathered.joined
+    few = λ parts ended took closes. few_lines ran refused shown T plan turns gates ready r s.backs s.inputs s.worked s.typed s.gathered.all stopped.gathered.station.parts s.gathered.joined
         s.gathered.parts stopped.gathered.told.items s.gathered.told parts took ended closes;
-    booted = λ parts ended took closes. booted T plan turns gates ready r s.backs s.inputs s.worked s.typed s.gathered.all stopped.gathered.station.parts s.gathered.joined
+    booted = λ parts ended took closes. booted ran refused shown T plan turns gates ready r s.backs s.inputs s.worked s.typed s.gathered.all stopped.gathered.station.parts s.gathered.joined
         s.gathered.parts stopped.gathered.told.items s.gathered.told parts took ended closes;
   }
 

@@ -18,6 +18,7 @@ use Rattle.turn_io.specs.declared.gate.NoGate.{NoGate}
 use Rattle.turn_io.specs.declared.gate.Point.{Point}
 use Rattle.processor.specs.declared.shared.Shared.{Shared}
 use Rattle.processor.specs.declared.station.Parts.{Parts}
+use Rattle.processor.specs.declared.station.Station.{Station}
 use Rattle.processor.specs.Accounts.{Account, account}
 use Rattle.processor.specs.Entries.{LogEntry}
 use Rattle.processor.specs.Logs.{IsFresh, Leaves, HasTurned}
@@ -25,6 +26,10 @@ use Rattle.processor.specs.Manning.{IsManned, StaysManned}
 use Rattle.processor.specs.Stations.{ArePartsOf}
 use Rattle.quajects.specs.declared.any.AnyQuaject.{AnyQuaject}
 use Rattle.quajects.specs.Homes.{homes_in}
+use Rattle.boot_threads.specs.declared.work.Work.TheVariants as works
+use Rattle.boot_threads.specs.declared.work.Worked.{Worked}
+use Rattle.boot_threads.specs.declared.work.Worked.TheVariants as worked
+use Rattle.boot_threads.specs.Crews.{WasRun}
 use Rattle.boot_report.specs.declared.ttys.Typed.{Typed}
 use Rattle.boot_report.specs.Shown.{Shows}
 use Rattle.boot_laws.specs.Boots.{Boot}
@@ -38,6 +43,7 @@ use Rattle.synth_kernel.specs.declared.outcome.Ended.TheVariants.{AllEnded, Unfi
 use Rattle.synth_kernel.specs.declared.outcome.BootFault.{BootFault}
 use Rattle.synth_kernel.specs.declared.outcome.BootFault.TheVariants.{Script, Memory, Read, Write}
 use Rattle.synth_kernel.specs.declared.printing.Booted.{Booted}
+pub use Rattle.boot_threads.specs.Works.{RunsOf}
 
 -- WHAT ITS PROCESSORS DID
 
@@ -64,24 +70,27 @@ pub record HadTurns (processors turns : ℕ) (plan : BootPlan) (closed : ClosedT
 
 -- The processor p had so many turns on a station of these objects that it could use and that had done nothing, and this
 -- is their log. It can use the station still. The gate was told of the turns, and of nothing else, and so became the
--- other one
-pub record WasTold {G : Type 0} (T : G → ℕ → Point → G → Type 0) (shared : Shared) (p turns : ℕ) (gate gate' : G)
-    (log : List LogEntry) : Type 0 where
-  pub old : Parts
-  pub manned : IsManned shared p old
-  pub fresh : IsFresh old
-  pub new : Parts
-  pub stays : StaysManned shared p old new
-  pub turned : HasTurned T shared p turns gate gate' old new
+-- other one. A thread that was told of just this work, on these objects, was joined, and gave back the station and the
+-- gate: so `ran` says, of which a proof knows only what joining a thread ensured
+pub record WasTold {G : Type 0} (ran : RunsOf G) (T : G → ℕ → Point → G → Type 0)
+    (shared : Shared) (p turns : ℕ) (gate gate' : G) (log : List LogEntry) : Type 0 where
+  pub old : Station
+  pub manned : IsManned shared p old.parts
+  pub fresh : IsFresh old.parts
+  pub new : Station
+  pub joined : WasRun {B = Worked G} ran shared (works.Process old p turns gate)
+      (worked.Processed (record { station = new; gate = gate' }))
+  pub stays : StaysManned shared p old.parts new.parts
+  pub turned : HasTurned T shared p turns gate gate' old.parts new.parts
   pub log_is : turned.log ≡ log
 
 -- so it was with each of these gates, for the processors from this one on, in their order
-abbrev pub AllTold : {G : Type 0} → (G → ℕ → Point → G → Type 0) → Shared → ℕ → ℕ → List G → List G
-    → List (List LogEntry) → Type 0
-AllTold T shared p turns [] [] [] = Unit {0}
-AllTold T shared p turns (gate ∷ gates) (gate' ∷ gates') (log ∷ logs) =
-    WasTold T shared p turns gate gate' log × AllTold T shared (p + 1) turns gates gates' logs
-AllTold T shared p turns gates gates' logs = ⊥
+abbrev pub AllTold : {G : Type 0} → RunsOf G → (G → ℕ → Point → G → Type 0) → Shared → ℕ → ℕ
+    → List G → List G → List (List LogEntry) → Type 0
+AllTold ran T shared p turns [] [] [] = Unit {0}
+AllTold ran T shared p turns (gate ∷ gates) (gate' ∷ gates') (log ∷ logs) =
+    WasTold ran T shared p turns gate gate' log × AllTold ran T shared (p + 1) turns gates gates' logs
+AllTold ran T shared p turns gates gates' logs = ⊥
 
 -- These ends did so at all objects of the plan, but for the raw queue and the chain of each tty: of those its device
 -- had ends too
@@ -93,17 +102,19 @@ pub record DidAll (plan : BootPlan) (did : Account) (parts : Parts) : Type 0 whe
   pub large : (q : ℕ) → (account parts).queues (Large q) ≡ did.queues (Large q)
   pub chains : (k : ℕ) → k < length plan.movers → (account parts).chains k ≡ did.chains k
 
--- Each gate was told of the turns of its processor on the objects of the plan, and came back so at its place; and this
--- came of closing just these: the ends that closed all are theirs, and did what was done before the turns, and then
--- what the logs come to. The closed tables are made of it, with what ends, quajects and devices had, and show its
--- numbers
-pub record CameBack {G : Type 0} (T : G → ℕ → Point → G → Type 0) (turns : ℕ) (gates back : List G) (ended : Unmade)
-    (plan : BootPlan) (closed : ClosedTables) (logs : List (List LogEntry)) : Type 0 where
+-- Each gate was told of the turns of its processor on the objects of the plan, in a thread that was joined, and came
+-- back so at its place; and this came of closing just these, and was shown to the runtime: the ends that closed all are
+-- theirs, and did what was done before the turns, and then what the logs come to. The closed tables are made of it,
+-- with what ends, quajects and devices had, and show its numbers
+pub record CameBack {G : Type 0} (ran : RunsOf G) (shown : Unmade → Type 0)
+    (T : G → ℕ → Point → G → Type 0) (turns : ℕ) (gates back : List G) (ended : Unmade) (plan : BootPlan)
+    (closed : ClosedTables) (logs : List (List LogEntry)) : Type 0 where
   pub shared : Shared
   pub plan_is : shared.plan ≡ plan
-  pub told : AllTold T shared 0 turns gates back logs
+  pub told : AllTold ran T shared 0 turns gates back logs
   pub boot : Boot
   pub worked : WorkedTogether plan logs boot.done
+  pub was_shown : shown ended
   pub ends_are : ArePartsOf shared ended.last.value
   pub ends_did : DidAll plan boot.done.in_all ended.last.value
   pub homes_are : boot.homes ≡ homes_in ended.counts.items
@@ -118,11 +129,12 @@ abbrev pub ToldNothing : NoGate → ℕ → Point → NoGate → Type 0
 ToldNothing old p point new = Unit {0}
 
 -- the same of a boot without gates: so many of those that do nothing came back so
-pub record CameBackPlain (processors turns : ℕ) (back : List NoGate) (ended : Unmade) (plan : BootPlan)
-    (closed : ClosedTables) (logs : List (List LogEntry)) : Type 0 where
+pub record CameBackPlain (ran : RunsOf NoGate) (shown : Unmade → Type 0)
+    (processors turns : ℕ) (back : List NoGate) (ended : Unmade) (plan : BootPlan) (closed : ClosedTables)
+    (logs : List (List LogEntry)) : Type 0 where
   pub gates : List NoGate
   pub many : length gates ≡ processors
-  pub came : CameBack ToldNothing turns gates back ended plan closed logs
+  pub came : CameBack ran shown ToldNothing turns gates back ended plan closed logs
 
 -- the boot was on so many processors, with so many turns on each
 abbrev pub HasNumbers : {G : Type 0} → ℕ → ℕ → Booted G → Type 0

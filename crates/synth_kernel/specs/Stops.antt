@@ -4,19 +4,20 @@ use Rattle.std.specs.List.{AllZip}
 use Rattle.turn_io.specs.declared.gate.Point.{Point}
 use Rattle.boot_threads.specs.Crews.{GaveBack}
 use Rattle.boot_threads.specs.Typings.{AreTyped}
-use Rattle.boot_threads.specs.Works.{Back, HasWorked}
+use Rattle.boot_threads.specs.Works.{Back, HasWorked, RunsOf, RefusalsOf}
 use Rattle.spsc_line.specs.declared.line_in.LineIn.{LineIn}
 use Rattle.synth_kernel.specs.declared.ready.Ready.{Ready}
 use Rattle.synth_kernel.specs.declared.running.Stopped.{Stopped}
 use Rattle.synth_kernel.specs.Gatherings.{IsGathered}
 
--- Each work was done, while the ttys' bytes were typed into the inputs of the devices, which come behind so many
--- processors; and what came back was gathered. All objects are those that were ready, and so is the room
-pub record HasStopped {G : Type 0} (T : G → ℕ → Point → G → Type 0) (processors : ℕ) (ready : Ready G)
-    (stopped : Stopped G) : Type 0 where
+-- Each work was done by a thread that was joined, while the ttys' bytes were typed into the inputs of the devices,
+-- which come behind so many processors; and what came back was gathered. All objects are those that were ready, and so
+-- is the room
+pub record HasStopped {G : Type 0} (ran : RunsOf G) (refused : RefusalsOf G)
+    (T : G → ℕ → Point → G → Type 0) (processors : ℕ) (ready : Ready G) (stopped : Stopped G) : Type 0 where
   pub shared_is : stopped.shared ≡ ready.shared
   pub backs : List (Back G)
-  pub worked : AllZip (GaveBack (HasWorked T) ready.shared) ready.works.items backs
+  pub worked : AllZip (GaveBack ran refused (HasWorked T) ready.shared) ready.works.items backs
   pub inputs : List LineIn
   pub typed : AreTyped ready.shared.plan.ttys (drop processors backs) ready.inputs.items inputs
   pub gathered : IsGathered ready.shared ready.station backs inputs stopped.gathered

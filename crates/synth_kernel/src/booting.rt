@@ -9,10 +9,11 @@ use crate::shutting::shut_down;
 use boot_data::{BootPlan, Report};
 use boot_objects::Unmade;
 use boot_report::report_boot;
+use boot_threads::{Witness, Work, Worked};
 use event_theory::OutOfMemory;
+use processor::Shared;
 use std::alloc::Global;
 use std::sync::Wait;
-use std::thread::Threads;
 use turn_io::Gate;
 
 /// Boots a plan, a processor for each gate, so many turns on each, and reports. The gates come back, each at its place,
@@ -29,10 +30,10 @@ pub(crate) fn boot_plan<R, G>(
     gates: Vec<G>,
 ) -> Result<(Report, Vec<G>, Unmade), OutOfMemory>
 where
-    R: Threads + Wait + Sync,
+    R: Witness<Shared, Worked<G>, Work<G>> + Wait + Sync,
     G: Gate + Send + Drop,
     requires gates { (1 ≤ vec_len gates) × (vec_len gates ≤ 8) }
-    ensures { IfOk result (λ r. IsBootOf (CameBack G.told turns gates.items r.1.items r.2) plan r.0) }
+    ensures { IfOk result (λ r. IsBootOf (CameBack R.ran R.shown G.told turns gates.items r.1.items r.2) plan r.0) }
 {
     let processors = gates.len();
     let ready = get_ready(rt, alloc, plan, turns, gates)?;
@@ -51,6 +52,7 @@ where
         told,
     } = gathered;
     let ended = shut_down(shared, station, ttys, answers);
+    rt.show(&ended);
     let report = report_boot(&ended, heards, told.as_slice(), report);
     Ok((report, gates, ended))
 }

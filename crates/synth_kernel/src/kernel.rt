@@ -11,10 +11,11 @@ use crate::outcome::{BootFault, Ended};
 use crate::printing::{Booted, boot_and_print};
 use boot_data::BootPlan;
 use boot_script::{ScriptRefusal, Sink, Source, parse_boot, read_script};
+use boot_threads::{Witness, Work, Worked};
 use event_theory::OutOfMemory;
+use processor::Shared;
 use std::alloc::Global;
 use std::sync::Wait;
-use std::thread::Threads;
 use turn_io::{Gate, NoGate};
 
 /// How many bytes a script may have, and one more.
@@ -76,13 +77,13 @@ pub fn boot_on<R, I, O>(
     turns: u32,
 ) -> Result<Booted<NoGate>, BootFault>
 where
-    R: Threads + Wait + Sync,
+    R: Witness<Shared, Worked<NoGate>, Work<NoGate>> + Wait + Sync,
     I: Source,
     O: Sink,
     requires { (1 ≤ processors) × (processors ≤ 8) }
     ensures numbers { IfOk result (HasNumbers processors turns) }
-    ensures ok { IfOk result (λ booted. IsBoot (CameBackPlain processors turns booted.gates.items booted.closed)
-        (I.remaining reader.old) booted.ended (O.contents writer.old) (O.contents writer.new)) }
+    ensures ok { IfOk result (λ booted. IsBoot (CameBackPlain R.ran R.shown processors turns booted.gates.items
+        booted.closed) (I.remaining reader.old) booted.ended (O.contents writer.old) (O.contents writer.new)) }
     ensures fault { IfErr result (λ fault. IfSome (I.remaining reader.old) (λ bytes. IsBootFault
         (text_plan bytes) fault)) }
     ensures unwritten { IfErr result (λ fault. fault ≢ BootFault.Write
@@ -110,15 +111,15 @@ pub fn boot_on_with<R, I, O, G>(
     gates: Vec<G>,
 ) -> Result<Booted<G>, BootFault>
 where
-    R: Threads + Wait + Sync,
+    R: Witness<Shared, Worked<G>, Work<G>> + Wait + Sync,
     I: Source,
     O: Sink,
     G: Gate + Send + Drop,
     requires number { (1 ≤ processors) × (processors ≤ 8) }
     requires gates { vec_len gates ≡ processors }
     ensures numbers { IfOk result (HasNumbers processors turns) }
-    ensures ok { IfOk result (λ booted. IsBoot (CameBack G.told turns gates.items booted.gates.items booted.closed)
-        (I.remaining reader.old) booted.ended (O.contents writer.old) (O.contents writer.new)) }
+    ensures ok { IfOk result (λ booted. IsBoot (CameBack R.ran R.shown G.told turns gates.items booted.gates.items
+        booted.closed) (I.remaining reader.old) booted.ended (O.contents writer.old) (O.contents writer.new)) }
     ensures fault { IfErr result (λ fault. IfSome (I.remaining reader.old) (λ bytes. IsBootFault
         (text_plan bytes) fault)) }
     ensures unwritten { IfErr result (λ fault. fault ≢ BootFault.Write
@@ -142,19 +143,19 @@ pub fn boot<R, I, O>(
     turns: u32,
 ) -> Result<Ended, BootFault>
 where
-    R: Threads + Wait + Sync,
+    R: Witness<Shared, Worked<NoGate>, Work<NoGate>> + Wait + Sync,
     I: Source + Drop,
     O: Sink + Drop,
     requires { (1 ≤ processors) × (processors ≤ 8) }
     ensures ok { IfOk result (λ ended. (back : List NoGate) × (closed : Unmade)
-        × IsBootAnswer (CameBackPlain processors turns back closed) (I.remaining reader) ended) }
+        × IsBootAnswer (CameBackPlain R.ran R.shown processors turns back closed) (I.remaining reader) ended) }
     ensures fault { IfErr result (λ fault. IfSome (I.remaining reader) (λ bytes. IsBootFault (text_plan bytes)
         fault)) }
     ensures read { IfErr result (λ fault. fault ≡ BootFault.Read → (last : I) × IsReadFault I.answers reader last) }
     ensures write { IfErr result (λ fault. fault ≡ BootFault.Write → (last : O) × IsWriteFault O.fails last) }
 {
     let booted = boot_on(rt, alloc, &mut reader, &mut writer, processors, turns)?;
-    Ok(booted.ended)
+    Ok(booted.ended())
 }
 
 /// The same as `boot_on_with`, of a reader and a writer that are handed over. The gates don't come back.
@@ -170,14 +171,14 @@ pub fn boot_with<R, I, O, G>(
     gates: Vec<G>,
 ) -> Result<Ended, BootFault>
 where
-    R: Threads + Wait + Sync,
+    R: Witness<Shared, Worked<G>, Work<G>> + Wait + Sync,
     I: Source + Drop,
     O: Sink + Drop,
     G: Gate + Send + Drop,
     requires number { (1 ≤ processors) × (processors ≤ 8) }
     requires gates { vec_len gates ≡ processors }
     ensures ok { IfOk result (λ ended. (back : List G) × (closed : Unmade)
-        × IsBootAnswer (CameBack G.told turns gates.items back closed) (I.remaining reader) ended) }
+        × IsBootAnswer (CameBack R.ran R.shown G.told turns gates.items back closed) (I.remaining reader) ended) }
     ensures fault { IfErr result (λ fault. IfSome (I.remaining reader) (λ bytes. IsBootFault (text_plan bytes)
         fault)) }
     ensures read { IfErr result (λ fault. fault ≡ BootFault.Read → (last : I) × IsReadFault I.answers reader last) }
@@ -192,5 +193,5 @@ where
         turns,
         gates,
     )?;
-    Ok(booted.ended)
+    Ok(booted.ended())
 }

@@ -24,8 +24,10 @@ mod ready;
 mod running;
 mod shutting;
 
+pub use boot_threads::{Witness, Work, Worked};
 pub use kernel::{boot, boot_on, boot_on_with, boot_with};
 pub use laws::turns_were_had;
 pub use outcome::{BootFault, Ended};
 pub use printing::Booted;
+pub use processor::Shared;
 pub use turn_io::{Gate, NoGate, Point};

@@ -11,9 +11,10 @@ use boot_data::{BootPlan, Report};
 use boot_objects::Unmade;
 use boot_report::live_of;
 use boot_script::{Sink, print_report};
+use boot_threads::{Witness, Work, Worked};
+use processor::Shared;
 use std::alloc::Global;
 use std::sync::Wait;
-use std::thread::Threads;
 use turn_io::Gate;
 
 /// How a boot ended whose report was printed, the gates, each at its place, with all that they were told, and what came
@@ -21,14 +22,35 @@ use turn_io::Gate;
 /// the function that boots a plan makes one.
 #[derive(Drop)]
 pub struct Booted<G> {
-    pub ended: Ended,
-    pub gates: Vec<G>,
-    pub closed: Unmade,
+    ended: Ended,
+    gates: Vec<G>,
+    closed: Unmade,
     processors: u8,
     turns: u32,
 }
 
 impl<G> Booted<G> {
+    /// How it ended.
+    pub fn ended(&self) -> Ended
+        ensures { result ≡ self.now.ended }
+    {
+        self.ended
+    }
+
+    /// The gates, each at its place.
+    pub fn gates(&self) -> &[G]
+        ensures { result.now ≡ self.now.gates.items }
+    {
+        self.gates.as_slice()
+    }
+
+    /// What came of closing all.
+    pub fn closed(&self) -> &Unmade
+        ensures { result.now ≡ self.now.closed }
+    {
+        &self.closed
+    }
+
     /// How many processors it had.
     pub fn processors(&self) -> u8
         ensures { result ≡ self.now.processors }
@@ -67,14 +89,14 @@ pub(crate) fn boot_and_print<R, O, G>(
     gates: Vec<G>,
 ) -> Result<Booted<G>, BootFault>
 where
-    R: Threads + Wait + Sync,
+    R: Witness<Shared, Worked<G>, Work<G>> + Wait + Sync,
     O: Sink,
     G: Gate + Send + Drop,
     requires number { (1 ≤ processors) × (processors ≤ 8) }
     requires gates { vec_len gates ≡ processors }
     ensures numbers { IfOk result (HasNumbers processors turns) }
-    ensures ok { IfOk result (λ booted. IsRun (CameBack G.told turns gates.items booted.gates.items booted.closed) plan
-        booted.ended (O.contents writer.old) (O.contents writer.new)) }
+    ensures ok { IfOk result (λ booted. IsRun (CameBack R.ran R.shown G.told turns gates.items booted.gates.items
+        booted.closed) plan booted.ended (O.contents writer.old) (O.contents writer.new)) }
     ensures fault { IfErr result (λ fault. IsLate fault) }
     ensures unwritten { IfErr result (λ fault. fault ≢ BootFault.Write
         → Keeps (O.contents writer.old) (O.contents writer.new)) }

@@ -7,12 +7,11 @@ use crate::gathering::{Gathered, Lists, gather};
 use crate::ready::{Ready, Room};
 use boot_objects::Answers;
 use boot_report::Lines;
-use boot_threads::run_kernel;
+use boot_threads::{Witness, Work, Worked, run_kernel};
 use event_theory::OutOfMemory;
 use processor::Shared;
 use std::alloc::Global;
 use std::sync::Wait;
-use std::thread::Threads;
 use turn_io::Gate;
 
 /// What a boot has when its threads have stopped: all objects, what the threads gave back, and room for what is made of
@@ -37,10 +36,10 @@ pub(crate) fn run_threads<R, G>(
     processors: usize,
 ) -> Result<Stopped<G>, OutOfMemory>
 where
-    R: Threads + Wait + Sync,
+    R: Witness<Shared, Worked<G>, Work<G>> + Wait + Sync,
     G: Gate + Send + Drop,
     requires ready { IsReadyFor processors ready }
-    ensures { IfOk result (HasStopped G.told processors ready) }
+    ensures { IfOk result (HasStopped R.ran R.refused G.told processors ready) }
 {
     let handles = Vec::with_capacity(alloc, ready.works.len())?;
     let Ready {

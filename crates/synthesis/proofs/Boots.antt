@@ -10,21 +10,23 @@ use Rattle.synth_kernel.specs.declared.printing.Booted.{Booted}
 use Rattle.synth_kernel.specs.Boots.{CameBackPlain, HasNumbers, IsBoot, IsBootFault}
 use Rattle.turn_io.specs.declared.gate.NoGate.{NoGate}
 use Rattle.synthesis.specs.Runs.{answer_in, BootAnswers, IsBootedBy, IsBootAnswerOf}
+use Rattle.synth_kernel.specs.Boots.{RunsOf}
+use Rattle.boot_objects.specs.declared.closing.all.Unmade.{Unmade}
 
 -- what a boot answered is in the exit
-pub booted_by : (read : Option (List ℕ)) (processors turns : ℕ) (answer : Result (Booted NoGate) BootFault) (old new : Option (List ℕ))
+pub booted_by : (ran : RunsOf NoGate) (shown : Unmade → Type 0) (read : Option (List ℕ)) (processors turns : ℕ) (answer : Result (Booted NoGate) BootFault) (old new : Option (List ℕ))
     → IfOk answer (HasNumbers processors turns)
-    → IfOk answer (λ booted. IsBoot (CameBackPlain processors turns booted.gates.items booted.closed) read booted.ended old new)
+    → IfOk answer (λ booted. IsBoot (CameBackPlain ran shown processors turns booted.gates.items booted.closed) read booted.ended old new)
     → IfErr answer (λ fault. IfSome read (λ bytes. IsBootFault (text_plan bytes) fault))
     → IfErr answer (λ fault. fault ≢ boot_faults.Write → Keeps old new)
-    → IsBootedBy read processors turns (answer_in answer) (result_ok answer) old new
-booted_by read processors turns (Ok booted) old new numbers boot fault unwritten = ((refl, numbers, boot), tt)
-booted_by read processors turns (Err why) old new numbers boot fault unwritten = (fault, unwritten)
+    → IsBootedBy ran shown read processors turns (answer_in answer) (result_ok answer) old new
+booted_by ran shown read processors turns (Ok booted) old new numbers boot fault unwritten = ((refl, numbers, boot), tt)
+booted_by ran shown read processors turns (Err why) old new numbers boot fault unwritten = (fault, unwritten)
 
 pub answer_alone :
-    (read : Option (List ℕ)) (processors turns : ℕ) (answer : Result endings.Ended BootFault) (booted : Option (Booted NoGate)) (old new : Option (List ℕ))
-    → BootAnswers read processors turns answer booted old new → IsBootAnswerOf read processors turns answer
-answer_alone read processors turns (Ok ended) (Some booted) old new h = (
+    (ran : RunsOf NoGate) (shown : Unmade → Type 0) (read : Option (List ℕ)) (processors turns : ℕ) (answer : Result endings.Ended BootFault) (booted : Option (Booted NoGate)) (old new : Option (List ℕ))
+    → BootAnswers ran shown read processors turns answer booted old new → IsBootAnswerOf ran shown read processors turns answer
+answer_alone ran shown read processors turns (Ok ended) (Some booted) old new h = (
   booted.gates.items,
   booted.closed,
   record {
@@ -35,6 +37,6 @@ answer_alone read processors turns (Ok ended) (Some booted) old new h = (
     ends = h.2.run.ends;
   },
 )
-answer_alone read processors turns (Ok ended) None old new h = absurd h
-answer_alone read processors turns (Err fault) (Some booted) old new h = absurd h
-answer_alone read processors turns (Err fault) None old new h = h
+answer_alone ran shown read processors turns (Ok ended) None old new h = absurd h
+answer_alone ran shown read processors turns (Err fault) (Some booted) old new h = absurd h
+answer_alone ran shown read processors turns (Err fault) None old new h = h

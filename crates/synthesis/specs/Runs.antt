@@ -21,7 +21,7 @@ use Rattle.synth_kernel.specs.declared.outcome.BootFault.{BootFault}
 use Rattle.synth_kernel.specs.declared.outcome.BootFault.TheVariants as boot_faults
 use Rattle.synth_kernel.specs.Faults.{boot_fault_text}
 use Rattle.synth_kernel.specs.declared.printing.Booted.{Booted}
-use Rattle.synth_kernel.specs.Boots.{CameBackPlain, HasNumbers, IsBoot, IsBootAnswer, IsBootFault}
+use Rattle.synth_kernel.specs.Boots.{RunsOf, CameBackPlain, HasNumbers, IsBoot, IsBootAnswer, IsBootFault}
 use Rattle.turn_io.specs.declared.gate.NoGate.{NoGate}
 use Rattle.synthesis.specs.declared.program.Exit.{Exit}
 
@@ -103,13 +103,14 @@ answer_in (Err fault) = Err fault
 
 -- What was read has the answer on so many processors, after so many turns of each, and where that is printed, just the
 -- report is appended. What the boot came to is there, with both numbers
-abbrev pub BootAnswers : Option (List ℕ) → ℕ → ℕ → Result endings.Ended BootFault → Option (Booted NoGate)
-    → Option (List ℕ) → Option (List ℕ) → Type 0
-BootAnswers read processors turns (Ok ended) (Some booted) old new = (booted.ended ≡ ended)
+abbrev pub BootAnswers : RunsOf NoGate → (Unmade → Type 0) → Option (List ℕ) → ℕ → ℕ
+    → Result endings.Ended BootFault → Option (Booted NoGate) → Option (List ℕ) → Option (List ℕ) → Type 0
+BootAnswers ran shown read processors turns (Ok ended) (Some booted) old new = (booted.ended ≡ ended)
     × HasNumbers processors turns booted
-    × IsBoot (CameBackPlain processors turns booted.gates.items booted.closed) read ended old new
-BootAnswers read processors turns (Err fault) None old new = IfSome read (λ bytes. IsBootFault (text_plan bytes) fault)
-BootAnswers read processors turns answer booted old new = ⊥
+    × IsBoot (CameBackPlain ran shown processors turns booted.gates.items booted.closed) read ended old new
+BootAnswers ran shown read processors turns (Err fault) None old new =
+    IfSome read (λ bytes. IsBootFault (text_plan bytes) fault)
+BootAnswers ran shown read processors turns answer booted old new = ⊥
 
 -- nothing was written under another fault of a boot than the writer's
 abbrev pub IsBootUnwritten : Result endings.Ended BootFault → Option (List ℕ) → Option (List ℕ) → Type 0
@@ -118,10 +119,10 @@ IsBootUnwritten (Err fault) old new = fault ≢ boot_faults.Write → Keeps old 
 
 -- a boot of the bytes, where they are known, has this answer and came to this, and turns the bytes of the writer from
 -- old to new
-abbrev pub IsBootedBy : Option (List ℕ) → ℕ → ℕ → Result endings.Ended BootFault → Option (Booted NoGate)
-    → Option (List ℕ) → Option (List ℕ) → Type 0
-IsBootedBy read processors turns answer booted old new =
-    BootAnswers read processors turns answer booted old new × IsBootUnwritten answer old new
+abbrev pub IsBootedBy : RunsOf NoGate → (Unmade → Type 0) → Option (List ℕ) → ℕ → ℕ
+    → Result endings.Ended BootFault → Option (Booted NoGate) → Option (List ℕ) → Option (List ℕ) → Type 0
+IsBootedBy ran shown read processors turns answer booted old new =
+    BootAnswers ran shown read processors turns answer booted old new × IsBootUnwritten answer old new
 
 -- a read or write fault of a boot has its cause in the calls on the streams
 abbrev pub HasBootCause : {R W : Type 0} → (R → Result ℕ Error → R → Type 0) → (W → W → Type 0)
@@ -134,12 +135,14 @@ abbrev pub HasStreamFailed : {R W : Type 0} → (R → Result ℕ Error → R �
 HasStreamFailed answers fails old new written = IsReadFault answers old new ⊎ IsWriteFault fails written
 
 -- such an answer, whatever is printed
-abbrev pub IsBootAnswerOf : Option (List ℕ) → ℕ → ℕ → Result endings.Ended BootFault → Type 0
-IsBootAnswerOf read processors turns (Ok ended) = (back : List NoGate) × (closed : Unmade)
-    × IsBootAnswer (CameBackPlain processors turns back closed) read ended
-IsBootAnswerOf read processors turns (Err fault) = IfSome read (λ bytes. IsBootFault (text_plan bytes) fault)
+abbrev pub IsBootAnswerOf : RunsOf NoGate → (Unmade → Type 0) → Option (List ℕ) → ℕ → ℕ
+    → Result endings.Ended BootFault → Type 0
+IsBootAnswerOf ran shown read processors turns (Ok ended) = (back : List NoGate) × (closed : Unmade)
+    × IsBootAnswer (CameBackPlain ran shown processors turns back closed) read ended
+IsBootAnswerOf ran shown read processors turns (Err fault) = IfSome read (λ bytes. IsBootFault (text_plan bytes) fault)
 
 -- an exit status is that of a boot of what was read, on so many processors, after so many turns of each
-abbrev pub IsBootStatus : Option (List ℕ) → ℕ → ℕ → ℕ → Type 0
-IsBootStatus read processors turns status = (answer : Result endings.Ended BootFault)
-    × IsBootAnswerOf read processors turns answer × (status ≡ boot_exit_code_of answer)
+abbrev pub IsBootStatus : RunsOf NoGate → (Unmade → Type 0) → Option (List ℕ) → ℕ → ℕ → ℕ
+    → Type 0
+IsBootStatus ran shown read processors turns status = (answer : Result endings.Ended BootFault)
+    × IsBootAnswerOf ran shown read processors turns answer × (status ≡ boot_exit_code_of answer)

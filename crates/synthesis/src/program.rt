@@ -19,8 +19,7 @@ use std::alloc::Global;
 use std::io;
 use std::io::Write;
 use std::sync::Wait;
-use std::thread::Threads;
-use synth_kernel::{BootFault, Booted, Ended, NoGate, boot_on};
+use synth_kernel::{BootFault, Booted, Ended, NoGate, Shared, Witness, Work, Worked, boot_on};
 
 /// The status of words that are no command.
 const USAGE_FAULT: u8 = 2;
@@ -43,14 +42,12 @@ pub struct Exit {
 /// command; 3 that memory was wanting; 4 that threads of a boot have not ended; 5 that the reader or the writer failed.
 /// Under 2, 3 and a fault of the script nothing was written. Under 5 the last call on the reader or the writer returned
 /// an error, or there were 131,072 calls of `read`.
-pub fn run_on<RT: Threads + Wait + Sync, R: Source, W: Sink, E: Write>(
-    rt: &RT,
-    alloc: Global,
-    words: &[&str],
-    reader: &mut R,
-    writer: &mut W,
-    errors: &mut E,
-) -> Exit
+pub fn run_on<
+    RT: Witness<Shared, Worked<NoGate>, Work<NoGate>> + Wait + Sync,
+    R: Source,
+    W: Sink,
+    E: Write,
+>(rt: &RT, alloc: Global, words: &[&str], reader: &mut R, writer: &mut W, errors: &mut E) -> Exit
     ensures usage { IsNoCommand (map (λ word. word.now) words.now)
         → IsExit result 2 usage_words (E.contents errors.old) (E.contents errors.new) }
     ensures untouched { IsNoCommand (map (λ word. word.now) words.now) → (reader.new ≡ reader.old)
@@ -61,8 +58,8 @@ pub fn run_on<RT: Threads + Wait + Sync, R: Source, W: Sink, E: Write>(
         × IsExit result (exit_code_of answer) (words_of answer) (E.contents errors.old) (E.contents errors.new) }
     ensures boot { (processors turns : ℕ) → IsBootCommand (map (λ word. word.now) words.now) processors turns
         → (answer : Result endings.Ended BootFault)
-        × IsBootedBy (R.remaining reader.old) processors turns answer result.booted (W.contents writer.old)
-        (W.contents writer.new)
+        × IsBootedBy RT.ran RT.shown (R.remaining reader.old) processors turns answer result.booted
+        (W.contents writer.old) (W.contents writer.new)
         × HasBootCause R.answers W.fails answer reader.old reader.new writer.new
         × IsExit result (boot_exit_code_of answer) (boot_words_of answer) (E.contents errors.old) (E.contents errors.new) }
     ensures error { result.status ≡ 5 → HasStreamFailed R.answers W.fails reader.old reader.new writer.new }
@@ -78,19 +75,17 @@ pub fn run_on<RT: Threads + Wait + Sync, R: Source, W: Sink, E: Write>(
 }
 
 /// The same of streams that are handed over, with the exit status alone. Faults of the error stream are ignored.
-pub fn run_main<RT: Threads + Wait + Sync, R: Source + Drop, W: Sink + Drop, E: Write + Drop>(
-    rt: &RT,
-    alloc: Global,
-    words: &[&str],
-    mut reader: R,
-    mut writer: W,
-    mut errors: E,
-) -> u8
+pub fn run_main<
+    RT: Witness<Shared, Worked<NoGate>, Work<NoGate>> + Wait + Sync,
+    R: Source + Drop,
+    W: Sink + Drop,
+    E: Write + Drop,
+>(rt: &RT, alloc: Global, words: &[&str], mut reader: R, mut writer: W, mut errors: E) -> u8
     ensures usage { IsNoCommand (map (λ word. word.now) words.now) → result ≡ 2 }
     ensures replay { map (λ word. word.now) words.now ≡ replay_command
         → IfSome (R.remaining reader) (λ bytes. IsStatus (text_events bytes) result) }
     ensures boot { (processors turns : ℕ) → IsBootCommand (map (λ word. word.now) words.now) processors turns
-        → IsBootStatus (R.remaining reader) processors turns result }
+        → IsBootStatus RT.ran RT.shown (R.remaining reader) processors turns result }
     ensures error { result ≡ 5 → (last : R) × (written : W) × HasStreamFailed R.answers W.fails reader last written }
 {
     run_on(rt, alloc, words, &mut reader, &mut writer, &mut errors).status
@@ -131,7 +126,7 @@ fn told_of_boot<E: Write>(answer: Result<Booted<NoGate>, BootFault>, errors: &mu
 {
     match answer {
         Ok(booted) => Exit {
-            status: boot_status(Ok(booted.ended)),
+            status: boot_status(Ok(booted.ended())),
             told: Ok(()),
             booted: Some(booted),
         },

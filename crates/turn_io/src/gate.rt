@@ -26,24 +26,6 @@ pub trait Gate {
         ensures { told self.old p point self.new };
 }
 
-/// A gate that is shown things. Every gate is one, and nothing is done there when the code runs: `shown` is for the
-/// proofs alone. Code that is generic over a gate knows of it only what a call of `show` ensured. So a contract that
-/// says of two values that they were shown says that they were there at one moment.
-pub trait Watch: Gate {
-    // The gate was shown these two values, as they were at one moment.
-    ghost shown: { (A B : Type 0) → A → B → Type 0 };
-
-    /// Shows the gate two values at one moment, and changes nothing.
-    fn show<A, B>(&self, one: &A, other: &B)
-        ensures { shown A B one.now other.now };
-}
-
-impl<G: Gate> Watch for G {
-    ghost shown = { λ A B one other. Unit {0} };
-
-    fn show<A, B>(&self, _one: &A, _other: &B) {}
-}
-
 /// The gate that does nothing.
 #[derive(Drop)]
 pub struct NoGate;

@@ -9,15 +9,13 @@ mod items;
 mod laws;
 mod poking;
 mod saying;
-mod showing;
 mod splitting;
 
 pub use chain_splitting::{join_chain_ends, split_chain_ends, split_chain_ends_into};
-pub use gate::{Gate, NoGate, Point, Watch};
+pub use gate::{Gate, NoGate, Point};
 pub use hearing::{hear, shut_queue};
 pub use items::item_at;
 pub use laws::accounts_add;
 pub use poking::{Poked, poke};
 pub use saying::say;
-pub use showing::{show_chain_end, show_end};
 pub use splitting::{join_ends, split_ends, split_ends_into};

@@ -81,9 +81,9 @@ fn boot_held<R: Threads + Wait + Sync + Abort>(
     let mut output = Vec::new(alloc);
     let (input, printed) = (&mut reader, &mut output);
     match boot_on_with(rt, alloc, input, printed, processors, turns, gates) {
-        Ok(Booted { ended, gates, .. }) => {
-            assert!(rt; were_told(gates.as_slice(), processors, turns));
-            (Ok(ended), output)
+        Ok(booted) => {
+            assert!(rt; were_told(booted.gates(), processors, turns));
+            (Ok(booted.ended()), output)
         }
         Err(fault) => (Err(fault), output),
     }

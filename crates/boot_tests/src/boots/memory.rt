@@ -15,7 +15,7 @@ fn boots<R: Threads + Wait + Sync + Abort>(rt: &R, alloc: Global) -> bool {
     let mut output: ArrayVec<u8, 256> = ArrayVec::new();
     match boot_on(rt, alloc, &mut reader, &mut output, 1, 10) {
         Ok(booted) => {
-            assert!(rt; booted.ended == Ended::AllEnded);
+            assert!(rt; booted.ended() == Ended::AllEnded);
             assert!(rt; output.as_slice() == REPORT);
             true
         }

@@ -5,5 +5,5 @@ pub loop-job-preserved : goal.loop-job-preserved
 loop-job-preserved g c = record {
   room = search rules;
   may = λ k d below. let steps = c.in-Some.ensures.steps in let h = c.loop-job.invariant.may (k + 1) d in grind rules;
-  told = zip_more (WasTold c.args.shared.now) _ _ _ _ _ _ refl c.push_reserved.ensures.items c.loop-job.invariant.told c.start_one.ensures;
+  told = zip_more (WasTold g.R.Witness.refused c.args.shared.now) _ _ _ _ _ _ refl c.push_reserved.ensures.items c.loop-job.invariant.told c.start_one.ensures;
 }

@@ -7,5 +7,5 @@ abbrev pub invariant-loop-job : goal.invariant-loop-job
 invariant-loop-job g l = record {
   room : vec_len l.handles + into_iter_len l.job-iterator ≤ vec_capacity l.handles;
   may : All (g.J.Job.may_run l.shared) (into_iter_items l.job-iterator);
-  told : AllZip (WasTold l.shared) l.yielded l.handles.items;
+  told : AllZip (WasTold g.R.Witness.refused l.shared) l.yielded l.handles.items;
 }

@@ -3,9 +3,9 @@ use Rattle.turn_io.specs.Deeds.{HasShut, PokedAt}
 use Rattle.processor.specs.declared.deed.Deed.TheVariants as deeds
 use Rattle.processor.proofs.Placing.{at_queues, at_chains, did_small, of_same}
 use Rattle.processor.proofs.Logging.{sound_still}
-use Rattle.turn_io.specs.Gates.{ShownAt}
 use Rattle.processor.proofs.Ordering.{stood_as}
-use Rattle.processor.specs.Orders.{Stood, count_of}
+use Rattle.processor.specs.Orders.{SmallStood, count_of}
+use Rattle.processor.specs.Sights.{ChainShown}
 use Rattle.processor.proofs.steps.try_step.Goals as goal
 
 pub returns-in-Say-clause-worked : goal.returns-in-Say-clause-worked
@@ -50,7 +50,7 @@ returns-in-Close-clause-worked g c = at_queues (deeds.Close c.in-Close.queue c.c
 
 pub returns-in-Say-clause-order : goal.returns-in-Say-clause-order
 returns-in-Say-clause-order g c = record {
-  queues = stood_as c.as_mut_slice.ensures.value (sym (with_items_is c.args.parts.now.small c.say_step.new.small (search rules)))
+  queues = stood_as g.G.Watch.shown c.in-Say.queue c.as_mut_slice.ensures.value (sym (with_items_is c.args.parts.now.small c.say_step.new.small (search rules)))
       c.as_mut_slice-in-Say.ensures.value (sym (with_items_is c.args.parts.now.large c.say_step.new.large (search rules))) c.say_step.ensures.order;
   chains = tt;
   seat = tt;
@@ -58,7 +58,7 @@ returns-in-Say-clause-order g c = record {
 
 pub returns-in-Hear-clause-order : goal.returns-in-Hear-clause-order
 returns-in-Hear-clause-order g c = record {
-  queues = stood_as c.as_mut_slice-in-Hear.ensures.value (sym (with_items_is c.args.parts.now.small c.hear_step.new.small (search rules)))
+  queues = stood_as g.G.Watch.shown c.in-Hear.queue c.as_mut_slice-in-Hear.ensures.value (sym (with_items_is c.args.parts.now.small c.hear_step.new.small (search rules)))
       c.as_mut_slice-in-Hear-2.ensures.value (sym (with_items_is c.args.parts.now.large c.hear_step.new.large (search rules))) c.hear_step.ensures.order;
   chains = tt;
   seat = tt;
@@ -68,7 +68,7 @@ pub returns-in-Tick-clause-order : goal.returns-in-Tick-clause-order
 returns-in-Tick-clause-order g c = record {
   queues = tt;
   chains = tt;
-  seat = record { hand = c.args.parts.now.hand; counted = refl; before = (c.args.parts.now.meters, refl, c.show.ensures); after = (_, refl, c.show-in-Tick.ensures) };
+  seat = record { hand = c.args.parts.now.hand; counted = refl; before = c.show_seat.ensures; after = c.show_seat-in-Tick.ensures };
 }
 
 pub returns-in-Poke-clause-order : goal.returns-in-Poke-clause-order
@@ -77,15 +77,15 @@ returns-in-Poke-clause-order g c = let hand = c.args.parts.now.hand in record {
   chains = record {
     hand = hand;
     counted = refl;
-    before = subst (λ ends. ShownAt g.G.Watch.shown hand ends c.in-Poke.mover) c.as_slice.ensures.value c.show_chain_end.ensures;
-    after = subst (λ ends. ShownAt g.G.Watch.shown hand ends c.in-Poke.mover) c.as_slice-in-Poke.ensures.value c.show_chain_end-in-Poke.ensures;
+    before = subst (λ ends. ChainShown g.G.Watch.shown hand ends c.in-Poke.mover) c.as_slice.ensures.value c.show_chain_end.ensures;
+    after = subst (λ ends. ChainShown g.G.Watch.shown hand ends c.in-Poke.mover) c.as_slice-in-Poke.ensures.value c.show_chain_end-in-Poke.ensures;
   };
   seat = tt;
 }
 
 pub returns-in-Close-clause-order : goal.returns-in-Close-clause-order
 returns-in-Close-clause-order g c = record {
-  queues = of_same (λ q old new. Stood g.G.Watch.shown (count_of c.args.parts.now.hand) old new q) refl c.as_mut_slice-small.ensures.value
+  queues = of_same (λ q old new. SmallStood g.G.Watch.shown (count_of c.args.parts.now.hand) old new q) refl c.as_mut_slice-small.ensures.value
       (sym (with_items_is c.args.parts.now.small c.close_step-was_open.new.small (search rules))) c.close_step-was_open.ensures.order;
   chains = tt;
   seat = tt;

@@ -18,7 +18,7 @@ returns-then-number-steps-clause-came g c =
     let ended = hads.Ended c.retire_at-moved.result in
     let over = subst (λ (z : List Step). length z ≤ begun.number) c.program_of-steps.ensures c.if-number-steps.true in (
       [],
-      (mid, c.in-Ok.ensures.begun, (over, e.sent, e.rest, e.others.0, e.others.1, refl)),
+      (mid, c.in-Ok.ensures.begun, (over, e.sent, e.rest, e.others.0, e.others.1, refl), tt),
       record {
         planned = (over, refl);
         done = done_on (beginning begun) (having begun.element begun.number ended []) c.args.parts.now mid c.retire_at-moved.new.parts c.in-Ok.ensures.done
@@ -32,7 +32,7 @@ returns-else-number-steps-clause-came g c =
     let ran = c.run_element-sent.ensures.ran in
     let begun = c.in-Ok.begun in (
       ran.0,
-      (c.begin_turn.new.parts, c.in-Ok.ensures.begun, ran.1),
+      (c.begin_turn.new.parts, c.in-Ok.ensures.begun, ran.1, c.run_element-sent.ensures.order),
       record {
         planned = ran.2.planned;
         done = done_on (beginning begun) (having begun.element begun.number (hads.Ran c.run_element-sent.result) ran.0) c.args.parts.now c.begin_turn.new.parts c.run_element-sent.new.parts c.in-Ok.ensures.done ran.2.done;
@@ -42,18 +42,3 @@ returns-else-number-steps-clause-came g c =
 
 pub returns-in-Err-clause-came : goal.returns-in-Err-clause-came
 returns-in-Err-clause-came g c = ([], (c.in-Err.ensures.begun, refl), record { planned = refl; done = c.in-Err.ensures.done; told = λ q h. cc })
-
-pub returns-then-number-steps-clause-order : goal.returns-then-number-steps-clause-order
-returns-then-number-steps-clause-order g c =
-    let e = c.retire_at-moved.ensures in
-    let begun = c.in-Ok.begun in
-    let over = subst (λ (z : List Step). length z ≤ begun.number) c.program_of-steps.ensures c.if-number-steps.true in
-    ([], (c.begin_turn.new.parts, c.in-Ok.ensures.begun, (over, e.sent, e.rest, e.others.0, e.others.1, refl), tt))
-
-pub returns-else-number-steps-clause-order : goal.returns-else-number-steps-clause-order
-returns-else-number-steps-clause-order g c =
-    let ran = c.run_element-sent.ensures.ran in
-    (ran.0, (c.begin_turn.new.parts, c.in-Ok.ensures.begun, ran.1, c.run_element-sent.ensures.order))
-
-pub returns-in-Err-clause-order : goal.returns-in-Err-clause-order
-returns-in-Err-clause-order g c = ([], (c.in-Err.ensures.begun, refl))

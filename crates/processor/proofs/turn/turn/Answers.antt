@@ -12,10 +12,3 @@ returns-clause-turn g c =
       turn_ran c.args.shared.now.plan entry c.args.parts.now c.tend.new.parts c.dispatch.new.parts tended.2 came.2,
       c.dispatch.ensures.gate,
     )
-
-pub returns-clause-order : goal.returns-clause-order
-returns-clause-order g c =
-    let tended = c.tend.ensures.tended in
-    let came = c.dispatch.ensures.order in
-    let entry : LogEntry = record { tended = tended.0; outcome = c.dispatch.result; line = came.0 } in
-    (entry, (c.tend.new.parts, tended.1, came.1))

@@ -11,15 +11,16 @@ run_kernel-backs-requires-clause-lines g c = λ κs within. c.args.ready.inputs.
 pub gather-requires : goal.gather-requires
 gather-requires g c =
     let o = c.args.ready in let r = c.requires.ready.3 in
+    let shown = g.R.Witness.shown in
     let backs = c.run_kernel-backs.result.0.items in
     let inputs = c.run_kernel-backs.result.1.items in
     let worked = c.run_kernel-backs.ensures.worked in
     let typed = subst (λ (z : ℕ). AreTyped o.shared.plan.ttys (drop z backs) o.inputs.items inputs) c.requires.ready.2 c.run_kernel-backs.ensures.typed in
-    let few = few_came g.G.Gate.told o.shared.plan c.requires.ready.0 c.requires.ready.1 o r backs inputs worked typed in
+    let few = few_came g.R.Witness.ran g.R.Witness.refused shown g.G.Gate.told o.shared.plan c.requires.ready.0 c.requires.ready.1 o r backs inputs worked typed in
     record {
       first = r.parts;
-      stations = λ all. parts_came g.G.Gate.told o.shared.plan c.requires.ready.0 c.requires.ready.1 o r backs inputs worked typed all;
-      lines = λ all. lines_came g.G.Gate.told o.shared.plan c.requires.ready.0 c.requires.ready.1 o r backs inputs worked typed all;
+      stations = λ all. parts_came g.R.Witness.ran g.R.Witness.refused shown g.G.Gate.told o.shared.plan c.requires.ready.0 c.requires.ready.1 o r backs inputs worked typed all;
+      lines = λ all. lines_came g.R.Witness.ran g.R.Witness.refused shown g.G.Gate.told o.shared.plan c.requires.ready.0 c.requires.ready.1 o r backs inputs worked typed all;
       room = record {
         processed = (r.room.processed.0, let n = r.room.processed.1 in let f = few.0 in omega arith);
         served = (r.room.served.0, let n = r.room.served.1 in let f = few.1 in omega arith);

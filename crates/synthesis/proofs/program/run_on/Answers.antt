@@ -10,16 +10,18 @@ use Rattle.synthesis.proofs.program.run_on.Goals as goal
 
 pub returns-in-Some-Boot-clause-boot : goal.returns-in-Some-Boot-clause-boot
 returns-in-Some-Boot-clause-boot g c = λ processors turns asked.
+    let ran = g.RT.Witness.ran in
+    let shown = g.RT.Witness.shown in
     let read = g.R.Read.remaining c.args.reader.now in
     let old = g.W.Write.contents c.args.writer.now in
     let new = g.W.Write.contents c.boot_on-answer.new.writer in
     let answer = c.boot_on-answer.result in
     let is = asked_of _ c.in-Some-Boot.field-0 c.in-Some-Boot.processors c.in-Some-Boot.turns c.in-Some-Boot.field-0-is c.in-Some-Boot.ensures.asks in (
       answer_in answer,
-      subst (λ (z : Option (Booted NoGate)). IsBootedBy read processors turns (answer_in answer) z old new) (sym c.told_of_boot.ensures.booted)
-          (subst (λ (z : ℕ). IsBootedBy read processors z (answer_in answer) (result_ok answer) old new) (same_turns _ c.in-Some-Boot.processors c.in-Some-Boot.turns processors turns is asked)
-          (subst (λ (z : ℕ). IsBootedBy read z c.in-Some-Boot.turns (answer_in answer) (result_ok answer) old new) (same_processors _ c.in-Some-Boot.processors c.in-Some-Boot.turns processors turns is asked)
-          (booted_by read c.in-Some-Boot.processors c.in-Some-Boot.turns answer old new c.boot_on-answer.ensures.numbers c.boot_on-answer.ensures.ok c.boot_on-answer.ensures.fault c.boot_on-answer.ensures.unwritten))),
+      subst (λ (z : Option (Booted NoGate)). IsBootedBy ran shown read processors turns (answer_in answer) z old new) (sym c.told_of_boot.ensures.booted)
+          (subst (λ (z : ℕ). IsBootedBy ran shown read processors z (answer_in answer) (result_ok answer) old new) (same_turns _ c.in-Some-Boot.processors c.in-Some-Boot.turns processors turns is asked)
+          (subst (λ (z : ℕ). IsBootedBy ran shown read z c.in-Some-Boot.turns (answer_in answer) (result_ok answer) old new) (same_processors _ c.in-Some-Boot.processors c.in-Some-Boot.turns processors turns is asked)
+          (booted_by ran shown read c.in-Some-Boot.processors c.in-Some-Boot.turns answer old new c.boot_on-answer.ensures.numbers c.boot_on-answer.ensures.ok c.boot_on-answer.ensures.fault c.boot_on-answer.ensures.unwritten))),
       boot_caused g.R.Source.answers g.W.Sink.fails answer c.args.reader.now c.boot_on-answer.new.reader c.boot_on-answer.new.writer c.boot_on-answer.ensures.read c.boot_on-answer.ensures.write,
       c.told_of_boot.ensures.exit,
     )

@@ -18,7 +18,6 @@ use Rattle.table_theory.specs.Unused.{AreZero}
 use Rattle.batch_queue.specs.Between.{RunShows, ShowsQueue, ShowsEnds}
 use Rattle.batch_queue.proofs.Growing.{freed_taken}
 use Rattle.batch_queue.proofs.Grouping.{lines_are}
-use Rattle.batch_queue.proofs.Grouping as grouping
 use Rattle.batch_queue.proofs.Placing.{cell_at, cells_items, cells_length, lawful_positions}
 use Rattle.batch_queue.proofs.Stepping.{St}
 
@@ -87,7 +86,7 @@ module _ (key : Shape) (s : St) (k : Rule key s) (number : ℕ) (run : Owned Bat
         (λ all_up. inl (λ i below. raised_is i below ∙ up_true _ _ (all_up (e.start + i) (omega arith) (omega arith))))
         (k.stands.lawful.whole e.start (e.start + length e.places) batch);
     marked = λ up from. let first = up_is 0 some_item up in let here : e.start + 0 ≡ e.start = omega arith in
-        subst (λ (z : ℕ). get_or s.words (mark_word z e.start) 0 ≡ 2 * (e.start + length e.places)) k.room (k.stands.shows.told e.start (e.start + length e.places) batch (let x = some_item in omega arith) from (subst (λ (z : ℕ). 1 ≤ phase_at o z) here first));
+        subst (λ (z : ℕ). get_or s.words (mark_word z e.start) 0 ≡ 2 * (e.start + length e.places)) k.room (k.stands.shows.batch_mark e.start (e.start + length e.places) batch (let x = some_item in omega arith) from (subst (λ (z : ℕ). 1 ≤ phase_at o z) here first));
     home = λ i below up from. let p : ℕ = e.start + i in let c = cell_is i below in let high = up_is i below up in let low = k.stands.lawful.after p from in let f = freed_taken o k.stands.lawful in let w = k.stands.lawful.within in let near = c.1 in
         let one : phase_at o p ≡ 1 = omega arith in
         subst (λ (z : ℕ). get_elem? s.homes z ≡ some (some (get_or e.places i blank).item)) (room_is p) ((k.homes p (omega arith) (omega arith)).up one ∙ ap (λ (z : ℕ). some (some z)) (sym (ap (λ (z : Cell). z.item) c.0 ∙ item_cell (get_or (items_of o) p 0) (phase_at o p))));
@@ -102,7 +101,7 @@ runs_are key s k = let o : BatchState = k.now.object in let l = k.listed.lists i
 pub takes_are : (key : Shape) (s : St) (k : Rule key s) → map line_of (map entry_of k.listed.lists.takes) ≡ k.now.object.takings
 takes_are key s k = let o : BatchState = k.now.object in let l = k.listed.lists in let lawful = k.stands.lawful in lines_are o.takings l.takes [] o.takings refl l.takes_are.adjacent lawful.solid_takings
     (λ n run at. let u = entry_in o s.views l.takes takes_of l.takes_are.filed n run at in (l.takes_are.solid n run at, (k.owns run.0 u.0 u.1).takes run.1 run.2 u.2))
-    (ap (map item_of) l.takes_are.flat ∙ (sym (take-map item_of o.taken (positions_of o).places) ∙ (ap (take o.taken) (cells_items (items_of o) o.phases lawful.long) ∙ grouping.taken_items o.batches o.takings o.taken lawful.groups lawful.taken_is)))
+    (ap (map item_of) l.takes_are.flat ∙ (sym (take-map item_of o.taken (positions_of o).places) ∙ (ap (take o.taken) (cells_items (items_of o) o.phases lawful.long) ∙ sym lawful.items)))
 
 pub shows_queue : (key : Shape) (s : St) → Rule key s → ShowsQueue key s
 shows_queue key s k = let o : BatchState = k.now.object in let q : Positions = positions_of o in let l = k.listed.lists in let n = long_is q l.runs l.runs_are.flat in let c = cells_length (items_of o) o.phases in let h = k.stands.shows in let room = k.room in let lawful = k.stands.lawful in record {
@@ -116,6 +115,7 @@ shows_queue key s k = let o : BatchState = k.now.object in let q : Positions = p
   words = h;
   seen = k.seen;
   shut_once = k.shut_once;
+  parted_once = k.parted_once;
   number = k.stands.number;
   lawful = is_lawful_queue q l.runs (lawful_positions o lawful) (history_of q (map part_of s.views) k.listed);
   shown = record {

@@ -1,5 +1,5 @@
 -- One exchange of the head claims positions, and takes the slots of all of them.
-use Rattle.batch_queue.proofs.Common.{Allows, Batch, BatchState, EndRecord, Grows, Holds, HomeShows, IsBatch, IsUsed, Lawful, List, MarkTells, Me, Option, OwnShows, POSITIONS, Positions, Rule, Shape, Stepped, View, ViewsShow, WordsShow, [], ap, append-nil, arith, at_last, at_map, at_snoc, by_head, change, claims, concat, dec_le, dec_lt, dite, either, eqb, false, free_word, fresh, get_elem?, get_or, get_or-set_other, get_or-set_same, head_of, head_word, homes_after, inl, inr, items_of, length, length-append, length-map, length-set, listed_claim, map, mark, mark_word, none, part_of, phase_at, positions_of, refl, run, set, slots_of, some, step, subst, suc, sym, tail_word, take_all, unused_kept, was_claimed, with_batch, with_claim, with_run, zero, ℕ, ⊎_elim, ◌%◌, ◌++◌, ◌+◌, ◌<◌, ◌∙◌, ◌∷◌, ◌≡◌, ◌≢◌, ◌≤◌, ◌⊎◌}
+use Rattle.batch_queue.proofs.Common.{Allows, Batch, BatchState, EndRecord, Grows, Holds, HomeShows, IsBatch, IsUsed, Lawful, List, MarkSays, Me, Option, OwnShows, POSITIONS, Positions, Rule, Shape, Stepped, View, ViewsShow, WordsShow, [], ap, append-nil, arith, at_last, at_map, at_snoc, by_head, change, claims, concat, dec_le, dec_lt, dite, either, eqb, false, free_word, fresh, get_elem?, get_or, get_or-set_other, get_or-set_same, head_of, head_word, homes_after, inl, inr, items_of, length, length-append, length-map, length-set, listed_claim, map, mark, mark_word, none, part_of, phase_at, positions_of, refl, run, set, slots_of, some, step, subst, suc, sym, tail_word, take_all, unused_kept, was_claimed, with_batch, with_claim, with_run, zero, ℕ, ⊎_elim, ◌%◌, ◌++◌, ◌+◌, ◌<◌, ◌∙◌, ◌∷◌, ◌≡◌, ◌≢◌, ◌≤◌, ◌⊎◌}
 use Rattle.table_theory.proofs.Tables as tables
 use Rattle.table_theory.proofs.Positioned as positioned
 use Rattle.batch_queue.proofs.Placing as placing
@@ -9,7 +9,8 @@ use Rattle.batch_queue.proofs.Heading.{open_head}
 use Rattle.batch_queue.proofs.Owning.{own_on}
 use Rattle.batch_queue.proofs.Ranges.{get_longer}
 use Rattle.batch_queue.proofs.Stepping.{St, acts, first_room, found, held_by, one_place, table}
-use Rattle.batch_queue.proofs.Whole.{batch_on, edge_on, last_batch, last_or}
+use Rattle.batch_queue.proofs.Stops.{rest_on, stop_claimed}
+use Rattle.batch_queue.proofs.Whole.{batch_on, last_batch, last_or}
 
 get_before : (xs ys : List ℕ) (i : ℕ) → i < length xs → get_or (xs ++ ys) i 0 ≡ get_or xs i 0
 get_before [] ys i h = absurd (omega arith)
@@ -82,17 +83,18 @@ module _ (key : Shape) (n id : ℕ) (v : View) (claim : List ℕ) (old new : ℕ
       head = get_or-set_same s.words head_word new 0 (let w = shows.wide in omega arith) ∙ (let l = long in let m = ap mark is_open.0 in let e : new ≡ length (items_of r) + mark o.shut = omega arith in e);
       tail = same_words tail_word (λ e. omega arith) ∙ shows.tail;
       free = same_words free_word (λ e. omega arith) ∙ shows.free;
-      told = λ p e b l from up. same_words (mark_word o.room p) (λ z. omega arith) ∙ ⊎_elim
-          (λ t. shows.told p e (record { before = b.before; batch = b.batch; rest = t.0; all = t.1; at = b.at; end = b.end }) l from (let q = same_phase p in omega arith))
+      batch_mark = λ p e b l from up. same_words (mark_word o.room p) (λ z. omega arith) ∙ ⊎_elim
+          (λ t. shows.batch_mark p e (record { before = b.before; batch = b.batch; rest = t.0; all = t.1; at = b.at; end = b.end }) l from (let q = same_phase p in omega arith))
           (λ t. absurd (let a = b.at in let s = ap (λ (z : List (List ℕ)). length (concat z)) t.0 in let hd = head_is in let u = unclaimed p (omega arith) in let q = same_phase p in omega arith))
           (last_or o.batches claim b.before b.batch b.rest b.all);
-      told_back = λ p e b l from up. same_words (mark_word o.room p) (λ z. omega arith) ∙ shows.told_back p e b l from (let q = same_phase p in omega arith);
+      rest_mark = λ p is from. let t = shows.rest_mark p is from in (t.0, rest_on o.batches r.batches (claim ∷ []) p t.0 refl t.1, same_words (mark_word o.room p) (λ z. omega arith) ∙ t.2);
+      taking_mark = λ p e b l from up. same_words (mark_word o.room p) (λ z. omega arith) ∙ shows.taking_mark p e b l from (let q = same_phase p in omega arith);
       unused = unused_kept (IsUsed o.room) s.words head_word new (by_head refl) shows.unused;
-      marks = λ p from to. subst (MarkTells r p) (sym (same_words (mark_word o.room p) (λ e. omega arith))) (let m = shows.marks p from to in record {
+      marks = λ p from to. subst (MarkSays r p) (sym (same_words (mark_word o.room p) (λ e. omega arith))) (let m = shows.marks p from to in record {
         up = λ e i a b. let t = m.up e i a b in let q = same_phase i in omega arith;
         back = λ e i a b. let t = m.back e i a b in let q = same_phase i in omega arith;
         bound = m.bound;
-        whole = λ e l. edge_on o.batches (o.batches ++ claim ∷ []) (claim ∷ []) _ refl (m.whole e l);
+        whole = λ e l. let t = m.whole e l in (stop_claimed o claim p t.0, rest_on o.batches r.batches (claim ∷ []) p _ refl t.1);
         whole_back = m.whole_back;
       });
     }
@@ -151,6 +153,7 @@ module _ (key : Shape) (n id : ℕ) (v : View) (claim : List ℕ) (old new : ℕ
         (held_by s.views id x v at (k.owned x (omega arith) (⊎_elim (λ z. inl (sym same ∙ z)) (λ z. inr (sym same ∙ z)) out))))
         (λ no. inl (omega arith, let l = long in omega arith)))
         listed
+        refl
         refl
         (λ w stays step. (
           stays,

@@ -1,5 +1,5 @@
 -- The table as it is made, and the steps that count, make and join ends.
-use Rattle.batch_queue.proofs.Common.{Allows, Apart, Batch, BatchState, Bool, EndRecord, FIRST_MARK, Grows, Holds, IsEdge, IsRuled, IsUsed, Joins, List, Me, OwnShows, Positions, QueueView, Rule, Shape, Splits, View, ViewsShow, [], all_alike, ap, arith, at_below, at_joined, at_last, at_longer, at_map, at_snoc, both, by_ends, counts, counts_down, counts_up, did_both, emptied, empty, ends_word, false, free_word, get_elem?, get_or, get_or-replicate, get_or-set_other, get_or-set_same, head_word, if◌then◌else◌, length, length-replicate, length-set, listed_first, listed_join, listed_look, listed_new, map, map-append, map-set, mark_word, mod-lt, nat_lt, newborn, newcomer, no_slots, none, nothing_did, of_batches, opened, opening, part_of, positions_of, refl, replicate, rest_of, set, set_else, set_here, shuts_of, some, some-injective, some-ne-none, some_there, step, subst, suc, sym, tail_word, total, total_kept, total_push, total_set, true, unused_kept, width, zero, ℕ, ⊎_elim, ◌%◌, ◌++◌, ◌+◌, ◌-◌, ◌<◌, ◌∙◌, ◌∷◌, ◌≡◌, ◌≢◌, ◌≤◌}
+use Rattle.batch_queue.proofs.Common.{parts_of, inl, Allows, Apart, Batch, BatchState, Bool, EndRecord, FIRST_MARK, Grows, Holds, IsEdge, IsRuled, IsUsed, Joins, List, Me, OwnShows, Positions, QueueView, Rule, Shape, Splits, View, ViewsShow, [], all_alike, ap, arith, at_below, at_joined, at_last, at_longer, at_map, at_snoc, both, by_ends, counts, counts_down, counts_up, did_both, emptied, empty, ends_word, false, free_word, get_elem?, get_or, get_or-replicate, get_or-set_other, get_or-set_same, head_word, if◌then◌else◌, length, length-replicate, length-set, listed_first, listed_join, listed_look, listed_new, map, map-append, map-set, mark_word, mod-lt, nat_lt, newborn, newcomer, no_slots, none, nothing_did, of_batches, opened, opening, part_of, positions_of, refl, replicate, rest_of, set, set_else, set_here, shuts_of, some, some-injective, some-ne-none, some_there, step, subst, suc, sym, tail_word, total, total_kept, total_push, total_set, true, unused_kept, width, zero, ℕ, ⊎_elim, ◌%◌, ◌++◌, ◌+◌, ◌-◌, ◌<◌, ◌∙◌, ◌∷◌, ◌≡◌, ◌≢◌, ◌≤◌}
 use Rattle.table_theory.specs.Positioned as pos
 use Rattle.table_theory.proofs.Positioned as positioned
 use Rattle.table_theory.proofs.Stepping as ends
@@ -34,12 +34,13 @@ opens room zs slots is many some_room = let key : Shape = record { room = room }
       now = opened o;
       room = refl;
       stands = ends.stands_first of_batches nothing_did o (set zs ends_word 1)
-          record { some_room = some_room; long = refl; within = omega arith; before = λ i h. absurd (omega arith); after = λ i h. omega arith; behind = λ i h. absurd (omega arith); whole = λ p e b. absurd (no_batch b.before b.batch b.rest b.all); edge = first_edge; solid = λ p e b. absurd (no_batch b.before b.batch b.rest b.all); solid_takings = λ p e b. absurd (no_batch b.before b.batch b.rest b.all); groups = record { groups = []; left = []; all = refl; each = refl }; taken_is = refl; freed_edge = first_edge }
+          record { some_room = some_room; long = refl; within = omega arith; before = λ i h. absurd (omega arith); after = λ i h. omega arith; behind = λ i h. absurd (omega arith); whole = λ p e b. absurd (no_batch b.before b.batch b.rest b.all); stop = inl first_edge; solid = λ p e b. absurd (no_batch b.before b.batch b.rest b.all); solid_takings = λ p e b. absurd (no_batch b.before b.batch b.rest b.all); stops = λ p e b. absurd (no_batch b.before b.batch b.rest b.all); groups = λ none. record { groups = []; left = []; all = refl; each = refl }; parts = λ p h. absurd (some-ne-none p (sym h.1)); taken_is = refl; items = refl; freed_edge = first_edge }
           record {
             wide = omega arith;
             bounded = omega arith;
-            told = λ p e b l from up. absurd (no_batch b.before b.batch b.rest b.all);
-            told_back = λ p e b l from up. absurd (no_batch b.before b.batch b.rest b.all);
+            batch_mark = λ p e b l from up. absurd (no_batch b.before b.batch b.rest b.all);
+            rest_mark = λ p h from. absurd (some-ne-none p (sym h.1));
+            taking_mark = λ p e b l from up. absurd (no_batch b.before b.batch b.rest b.all);
             unused = unused_kept (IsUsed room) zs ends_word 1 (by_ends refl) (λ j _. ap (λ (z : List ℕ). get_or z j 0) is ∙ all_alike (width room) 0 j);
             head = word head_word (λ e. omega arith) (omega arith);
             tail = word tail_word (λ e. omega arith) (omega arith);
@@ -52,6 +53,7 @@ opens room zs slots is many some_room = let key : Shape = record { room = room }
       homes = λ p from to. let near : p % room < room = mod-lt p some_room in let home = some_there slots (p % room) (omega arith) in record { free = λ h. home; up = λ h. absurd (omega arith); back = λ h. absurd (omega arith) };
       owns = λ j v e. subst (λ (z : View). OwnShows o z.own) (only _ v j e).1 (own_nothing o);
       shut_once = omega arith;
+      parted_once = omega arith;
       apart = λ j k v w ej ek ne i a b. ne ((only _ v j ej).0 ∙ sym (only _ w k ek).0);
       owned = λ i below out. absurd (omega arith);
     }
@@ -87,6 +89,7 @@ splits key id v two s k at = let o : BatchState = k.now.object in let q : Positi
   homes = k.homes;
   owns = owns_in o (set s.views id left) (views_set (λ (z : View). OwnShows o z.own) s.views id left (k.owns id v at) (λ i z h ne. k.owns i z h)) right (own_nothing o);
   shut_once = (let t = total_kept shuts_of s.views id v left at refl in let p = total_push shuts_of (set s.views id left) right in let e : total shuts_of (set s.views id left ++ right ∷ []) ≡ total shuts_of s.views = omega arith in e) ∙ k.shut_once;
+  parted_once = (let t = total_kept parts_of s.views id v left at refl in let p = total_push parts_of (set s.views id left) right in let e : total parts_of (set s.views id left ++ right ∷ []) ≡ total parts_of s.views = omega arith in e) ∙ k.parted_once;
   apart = apart_more (set s.views id left) right refl (apart_set s.views id left k.apart (λ j u e ne i a b. k.apart j id u v e at ne i a b));
   owned = λ i below out. let h = held_now s.views id i v left at (held_by s.views id i v at (k.owned i below out)) in record { number = h.number; view = h.view; here = at_longer (set s.views id left) (right ∷ []) h.number h.view h.here; in_held = h.in_held };
 }
@@ -112,6 +115,7 @@ joins key id other v w live bare bare' s k at ne has = let one : View = both did
       homes = k.homes;
       owns = views_set (λ (z : View). OwnShows o z.own) (set s.views id one) other spent (own_nothing o) (λ j u e nj. views_set (λ (z : View). OwnShows o z.own) s.views id one (own_both o v.own w.own (k.owns id v at) (k.owns other w at')) (λ i z h ni. k.owns i z h) j u e);
       shut_once = (let t = total_set shuts_of s.views id v one at in let t' = total_set shuts_of (set s.views id one) other w spent has in let e : total shuts_of (set (set s.views id one) other spent) ≡ total shuts_of s.views = omega arith in e) ∙ k.shut_once;
+      parted_once = (let t = total_set parts_of s.views id v one at in let t' = total_set parts_of (set s.views id one) other w spent has in let e : total parts_of (set (set s.views id one) other spent) ≡ total parts_of s.views = omega arith in e) ∙ k.parted_once;
       apart = apart_set (set s.views id one) other spent (apart_set s.views id one k.apart (λ j u e nj i a b. one_empty i b)) (λ j u e nj i a b. let l = b.0 in let r = b.1 in omega arith);
       owned = λ i below out. let h = k.owned i below out in
           let not_id : h.number ≢ id = λ e. let same = some-injective h.view v (sym h.here ∙ (ap (get_elem? s.views) e ∙ at)) in let m = subst (λ (z : View). Holds z.own.held i) same h.in_held in let l = m.0 in let r = m.1 in omega arith in

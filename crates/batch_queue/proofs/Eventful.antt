@@ -1,5 +1,5 @@
 -- Which event of the core the change of a real step is.
-use Rattle.batch_queue.proofs.Common.{AreIn, Batch, BatchState, Becomes, Cell, IsBatch, IsEdge, IsReal, Lawful, List, Moment, Owned, Positions, QueueView, Step, ViewsShow, [], ap, arith, at_below, at_map, at_set, blank, cell_of, change, dec_lt, dite, false, free_word, get_elem?, get_or, head_of, head_word, history_of, inl, inr, is_lawful_queue, items_of, length, length-append, map, map-set, mark, of_batches, phase_at, positions_of, raised_run, refl, run, set, set-set, set_again, set_here, some, subst, sym, tail_word, take, taking, was_claimed, was_freed, was_given, was_published, was_shut, was_taken, with_batch, with_freed, with_phase, with_raises, with_shut, with_take, with_taken, ℕ, ⊎_elim, ◌++◌, ◌+◌, ◌-◌, ◌<◌, ◌∙◌, ◌∷◌, ◌≡◌, ◌≤◌, ◌⊎◌}
+use Rattle.batch_queue.proofs.Common.{with_part, AreIn, Batch, BatchState, Becomes, Cell, IsBatch, IsReal, IsStop, Lawful, List, Moment, Owned, Positions, QueueView, Step, ViewsShow, [], ap, arith, at_below, at_map, at_set, blank, cell_of, change, dec_lt, dite, false, free_word, get_elem?, get_or, head_of, head_word, history_of, inl, inr, is_lawful_queue, items_of, length, length-append, map, map-set, mark, of_batches, phase_at, positions_of, raised_run, refl, run, set, set-set, set_again, set_here, some, subst, sym, tail_word, take, taking, was_claimed, was_freed, was_given, was_parted, was_published, was_shut, was_taken, with_batch, with_freed, with_phase, with_raises, with_shut, with_take, with_taken, ℕ, ⊎_elim, ◌++◌, ◌+◌, ◌-◌, ◌<◌, ◌∙◌, ◌∷◌, ◌≡◌, ◌≤◌, ◌⊎◌}
 use Rattle.std.specs.Prelude.{Ok}
 use Rattle.event_theory.specs.Marks.{shut}
 use Rattle.event_theory.specs.Queues.{claim, take_first}
@@ -30,20 +30,22 @@ claim_open o r items is (inr (was_taken new less le edge was e)) = absurd (one_m
 claim_open o r items is (inr (was_given a b less taking was e)) = absurd (one_more o.batches items (ap (λ (z : BatchState). z.batches) (sym is ∙ e)))
 claim_open o r items is (inr (was_freed new less edge was e)) = absurd (one_more o.batches items (ap (λ (z : BatchState). z.batches) (sym is ∙ e)))
 claim_open o r items is (inr (was_shut e)) = absurd (one_more o.batches items (ap (λ (z : BatchState). z.batches) (sym is ∙ e)))
+claim_open o r items is (inr (was_parted p end within e)) = absurd (one_more o.batches items (ap (λ (z : BatchState). z.batches) (sym is ∙ e)))
 
--- what was taken was published, and up to the end of a batch
+-- what was taken was published, and up to where a batch ends or was parted
 Taken : BatchState → ℕ → Type 0
-Taken o new = (new ≤ length (items_of o)) × IsEdge o.batches new × AreIn o 1 o.taken new
+Taken o new = (new ≤ length (items_of o)) × IsStop o new × AreIn o 1 o.taken new
 
 take_whole : (o r : BatchState) (new : ℕ) → o.taken < new → r ≡ with_taken o new → Change o r → Taken o new
 unfolding Taken
 take_whole o r new less is (inl same) = absurd (let e = ap (λ (z : BatchState). z.taken) (sym is ∙ same) in omega arith)
 take_whole o r new less is (inr (was_claimed claim some_item is_open fits e)) = absurd (let t = ap (λ (z : BatchState). z.taken) (sym is ∙ e) in omega arith)
 take_whole o r new less is (inr (was_published a b less' batch was e)) = absurd (let t = ap (λ (z : BatchState). z.taken) (sym is ∙ e) in omega arith)
-take_whole o r new less is (inr (was_taken to less' le edge was e)) = let same : to ≡ new = ap (λ (z : BatchState). z.taken) (sym e ∙ is) in subst (λ (z : ℕ). (z ≤ length (items_of o)) × IsEdge o.batches z × AreIn o 1 o.taken z) same (le, edge, was)
+take_whole o r new less is (inr (was_taken to less' le stop was e)) = let same : to ≡ new = ap (λ (z : BatchState). z.taken) (sym e ∙ is) in subst (λ (z : ℕ). (z ≤ length (items_of o)) × IsStop o z × AreIn o 1 o.taken z) same (le, stop, was)
 take_whole o r new less is (inr (was_given a b less' taking was e)) = absurd (let t = ap (λ (z : BatchState). z.taken) (sym is ∙ e) in omega arith)
 take_whole o r new less is (inr (was_freed to less' edge was e)) = absurd (let t = ap (λ (z : BatchState). z.taken) (sym is ∙ e) in omega arith)
 take_whole o r new less is (inr (was_shut e)) = absurd (let t = ap (λ (z : BatchState). z.taken) (sym is ∙ e) in omega arith)
+take_whole o r new less is (inr (was_parted p end within e)) = absurd (let t = ap (λ (z : BatchState). z.taken) (sym is ∙ e) in omega arith)
 
 -- the same views with another of one end, which has the same lists
 record Again (q : Positions) (views : List QueueView) (seat : ℕ) (w : QueueView) (log : List (Owned Batch)) : Type 0 where
@@ -97,7 +99,7 @@ module _ (m : Moment BatchState) (views : List QueueView) (seat : ℕ) (v w : Qu
       )
 
   pub take_is : (tail new : ℕ) → IsReal of_batches (change tail_word tail m (with_taken o new)) → o.taken < new → w.takes ≡ v.takes ++ taking q (new - o.taken) ∷ [] → w.runs ≡ v.runs → positions.Grows w.queue (positions_of (with_taken o new))
-      → (tail ≡ o.taken) × IsEdge o.batches new × IsEvent q (positions_of (with_taken o new)) seat v w (take_first o.room (new - o.taken))
+      → (tail ≡ o.taken) × IsStop o new × IsEvent q (positions_of (with_taken o new)) seat v w (take_first o.room (new - o.taken))
   unfolding Taken
   take_is tail new r less takes runs later = let e : Step BatchState = change tail_word tail m (with_taken o new) in let t = take_whole o (with_taken o new) new less refl (real_change of_batches e r) in let le = t.0 in let n : ℕ = new - o.taken in let c = placing.cells_length (items_of o) o.phases in
       let same : positions_of (with_taken o new) ≡ with_take q n = placing.taken o new r.lawful (omega arith) le t.2 ∙ (let z : new ≡ o.taken + n = omega arith in λ i. record q { taken = z i }) in (
@@ -116,6 +118,9 @@ module _ (m : Moment BatchState) (views : List QueueView) (seat : ℕ) (v w : Qu
 
   pub free_is : (free new : ℕ) → IsReal of_batches (change free_word free m (with_freed o new)) → w.runs ≡ v.runs → w.takes ≡ v.takes → positions.Grows w.queue (positions_of (with_freed o new)) → (free ≡ o.freed) × IsEvent q (positions_of (with_freed o new)) seat v w no_event
   free_is free new r runs takes later = (free_says (change free_word free m (with_freed o new)) refl r, nothing_event q views seat v w l (placing.lawful_positions o r.lawful) at runs takes later)
+
+  pub part_is : (word found p : ℕ) → IsReal of_batches (change word found m (with_part o p)) → w.runs ≡ v.runs → w.takes ≡ v.takes → positions.Grows w.queue (positions_of (with_part o p)) → IsEvent q (positions_of (with_part o p)) seat v w no_event
+  part_is word found p r runs takes later = nothing_event q views seat v w l (placing.lawful_positions o r.lawful) at runs takes later
 
   -- nothing of such a run is raised
   low_is : (number : ℕ) (e : Batch) (a : ℕ) {b : ℕ} → get_elem? v.runs number ≡ some e → e.start ≡ a → Lawful o → AreIn o 0 a b → a + length e.places ≤ b → (i : ℕ) → i < length e.places → (get_or e.places i blank).written < 2

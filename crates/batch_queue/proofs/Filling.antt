@@ -1,6 +1,6 @@
 -- A taking: what was taken is in the buffer, and its places are given back.
-use Rattle.batch_queue.proofs.Common.{BatchState, Cell, EndRecord, List, Made, Me, Released, Step, View, [], ap, arith, cells, change, concat, concat-append, drop, items_of, length, map, map-append, mark_word, no_slots, positions_of, refl, subst, suc, sym, take, taking, with_no_slots, with_phase, with_taking, zero, ℕ, ◌++◌, ◌+◌, ◌∙◌, ◌∷◌, ◌≡◌}
-use Rattle.std.proofs.Math.Seq.{drop-append_seam, take-append_seam}
+use Rattle.batch_queue.proofs.Common.{BatchState, Cell, EndRecord, List, Made, Me, Released, Step, View, [], ap, arith, cells, change, drop, items_of, length, map, map-append, mark_word, no_slots, positions_of, refl, subst, suc, sym, take, taking, with_no_slots, with_phase, with_taking, zero, ℕ, ◌++◌, ◌+◌, ◌∙◌, ◌∷◌, ◌≡◌}
+use Rattle.std.proofs.Math.Seq.{take-append_seam}
 use Rattle.table_theory.proofs.Parting.{made_on}
 use Rattle.table_theory.specs.Positioned.{item_of}
 use Rattle.table_theory.specs.declared.views.Part.{Part}
@@ -12,7 +12,7 @@ use Rattle.batch_queue.proofs.Turning.{slots_values}
 
 -- the slots are given back, and the end has one line more
 line_own : (d c : EndRecord) (o : BatchState) (n : ℕ) → c ≡ with_taking d o n → d.held ≡ no_slots → with_no_slots c ≡ with_line d o n
-line_own d c o n is bare = λ i. record { runs = (is i).runs; takes = (is i).takes; shuts = (is i).shuts; held = sym bare i }
+line_own d c o n is bare = λ i. record { runs = (is i).runs; takes = (is i).takes; shuts = (is i).shuts; parts = (is i).parts; held = sym bare i }
 
 pub took_of : (room most tail count : ℕ) (items : List ℕ) (v w : View) (m m' : Me ℕ View) → v.own.held ≡ no_slots → HasTaken room most v tail items m → w ≡ m.0 → count ≡ length items → Released w (mark_word room tail) tail (tail + count) 2 m' → TookBatches room v most items m'.0
 took_of room most tail count items v w m m' bare h same many p = let t = h.taken in let o : BatchState = t.at_taking.object in let end : ℕ → Step BatchState = (λ z. change (mark_word room tail) p.found p.at (with_phase p.at.object tail (tail + z) 3)) in (
@@ -38,7 +38,7 @@ took_of room most tail count items v w m m' bare h same many p = let t = h.taken
 
 -- THE LINE
 
-items_of_cells : (xs ps : List ℕ) → map item_of (cells xs ps) ≡ xs
+pub items_of_cells : (xs ps : List ℕ) → map item_of (cells xs ps) ≡ xs
 items_of_cells [] ps = refl
 items_of_cells (x ∷ xs) [] = ap (λ (z : List ℕ). x ∷ z) (items_of_cells xs [])
 items_of_cells (x ∷ xs) (zero ∷ ps) = ap (λ (z : List ℕ). x ∷ z) (items_of_cells xs ps)
@@ -50,7 +50,7 @@ front_items [] (suc n) = refl
 front_items (c ∷ cs) zero = refl
 front_items (c ∷ cs) (suc n) = ap (λ (z : List ℕ). c.item ∷ z) (front_items cs n)
 
-part_items : (cs : List Cell) (a n : ℕ) → map item_of (take n (drop a cs)) ≡ take n (drop a (map item_of cs))
+pub part_items : (cs : List Cell) (a n : ℕ) → map item_of (take n (drop a cs)) ≡ take n (drop a (map item_of cs))
 part_items [] zero zero = refl
 part_items [] zero (suc n) = refl
 part_items [] (suc a) zero = refl
@@ -60,18 +60,19 @@ part_items (c ∷ cs) zero (suc n) = ap (λ (z : List ℕ). c.item ∷ z) (front
 part_items (c ∷ cs) (suc a) n = part_items cs a n
 
 line_is : (o : BatchState) (items : List ℕ) → AreFirst o items → line_of (taking (positions_of o) (length items)) ≡ items
-line_is o items f = let all : items_of o ≡ concat f.before ++ (concat f.batches ++ concat f.after) = ap concat (sym f.all) ∙ (concat-append f.before (f.batches ++ f.after) ∙ ap (λ (z : List ℕ). concat f.before ++ z) (concat-append f.batches f.after)) in
-    let left : drop o.taken (items_of o) ≡ concat f.batches ++ concat f.after = (λ i. drop (sym f.from i) (all i)) ∙ drop-append_seam (concat f.before) (concat f.batches ++ concat f.after) in
+line_is o items f =
     part_items (cells (items_of o) o.phases) o.taken (length items)
-    ∙ (ap (λ (z : List ℕ). take (length items) (drop o.taken z)) (items_of_cells (items_of o) o.phases)
-    ∙ ((λ i. take (length (sym f.items_are i)) (left i)) ∙ (take-append_seam (concat f.batches) (concat f.after) ∙ f.items_are)))
+    ∙ (ap (λ (z : List ℕ). take (length items) (drop o.taken z)) (items_of_cells (items_of o) o.phases) ∙ f.items_are)
 
 pub took_line : (room most : ℕ) (items : List ℕ) (v w : View) → TookBatches room v most items w → TookLine items v w
-took_line room most items v w (tail, mark, m, t) = let made = t.added in let o : BatchState = t.at_taking.object in record {
-  puts = (λ k. map line_of (made.did k).runs);
-  takes = (λ k. map line_of (made.did k).takes) ∙ (map-append line_of v.own.takes (taking (positions_of o) (length items) ∷ []) ∙ (λ k. map line_of v.own.takes ++ line_is o items t.first k ∷ []));
-  share = ap (λ (z : Part). z.share) made.member;
-}
+took_line room most items v w (tail, mark, m, t) = let made = t.added in let o : BatchState = t.at_taking.object in (
+  record {
+    puts = (λ k. map line_of (made.did k).runs);
+    takes = (λ k. map line_of (made.did k).takes) ∙ (map-append line_of v.own.takes (taking (positions_of o) (length items) ∷ []) ∙ (λ k. map line_of v.own.takes ++ line_is o items t.first k ∷ []));
+    share = ap (λ (z : Part). z.share) made.member;
+  },
+  λ k. (made.did k).parts,
+)
 
 -- THE BUFFER
 

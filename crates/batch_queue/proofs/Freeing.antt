@@ -1,5 +1,5 @@
 -- One exchange moves the window on, over places that were found given back.
-use Rattle.batch_queue.proofs.Common.{Allows, BatchState, FIRST_MARK, Grows, HasBack, HomeShows, IsEdge, IsUsed, Lawful, MarkTells, Me, Rule, Shape, Stepped, View, WordsShow, add-mod_right, ap, arith, at_map, by_free, change, dec_lt, dite, either, eqb, free_word, frees, get_elem?, get_or, get_or-set_other, get_or-set_same, head_word, keeps, length-set, listed_look, map, mark_word, none, part_of, phase_at, positions_of, refl, set, some, step, subst, sym, tail_word, unused_kept, was_freed, with_freed, ℕ, ⊎_elim, ◌%◌, ◌+◌, ◌-◌, ◌<◌, ◌∙◌, ◌≡◌, ◌≢◌, ◌≤◌}
+use Rattle.batch_queue.proofs.Common.{Allows, BatchState, FIRST_MARK, Grows, HasBack, HomeShows, IsEdge, IsUsed, Lawful, MarkSays, Me, Rule, Shape, Stepped, View, WordsShow, add-mod_right, ap, arith, at_map, by_free, change, dec_lt, dite, either, eqb, free_word, frees, get_elem?, get_or, get_or-set_other, get_or-set_same, head_word, keeps, length-set, listed_look, map, mark_word, none, part_of, phase_at, positions_of, refl, set, some, step, subst, sym, tail_word, unused_kept, was_freed, with_freed, ℕ, ⊎_elim, ◌%◌, ◌+◌, ◌-◌, ◌<◌, ◌∙◌, ◌≡◌, ◌≢◌, ◌≤◌}
 use Rattle.table_theory.proofs.Tables as tables
 use Rattle.table_theory.proofs.Positioned as positioned
 use Rattle.batch_queue.proofs.Growing.{becomes_grows, claimed_at, freed_taken, taken_claimed}
@@ -48,15 +48,15 @@ module _ (key : Shape) (n id : ℕ) (me : Me ℕ View) (old new : ℕ) (more : o
     came : (p : ℕ) → o.freed + o.room ≤ p → (p - o.room + o.room ≡ p) × ((p - o.room) % o.room ≡ p % o.room)
     came p h = let e : p - o.room + o.room ≡ p = omega arith in (e, sym (add-mod_right (p - o.room) o.room) ∙ ap (λ (z : ℕ). z % o.room) e)
 
-    tells : (p m : ℕ) → MarkTells o p m → MarkTells r p m
+    tells : (p m : ℕ) → MarkSays o p m → MarkSays r p m
     tells p m t = record { up = t.up; back = t.back; bound = t.bound; whole = t.whole; whole_back = t.whole_back }
 
-    marks : (p : ℕ) → new ≤ p → p < new + o.room → MarkTells r p (get_or (set s.words free_word new) (mark_word o.room p) 0)
-    marks p from to = subst (MarkTells r p) (sym (same_words (mark_word o.room p) (λ e. omega arith))) (let e = free_is in
+    marks : (p : ℕ) → new ≤ p → p < new + o.room → MarkSays r p (get_or (set s.words free_word new) (mark_word o.room p) 0)
+    marks p from to = subst (MarkSays r p) (sym (same_words (mark_word o.room p) (λ e. omega arith))) (let e = free_is in
         dite (dec_lt p (o.freed + o.room))
         (λ y. tells p _ (shows.marks p (omega arith) y))
         (λ no. let c = came p (omega arith) in let q : ℕ = p - o.room in let i = inside in let t = shows.marks q (omega arith) (omega arith) in
-        subst (λ (z : ℕ). MarkTells r p (get_or s.words (z + FIRST_MARK) 0)) c.1
+        subst (λ (z : ℕ). MarkSays r p (get_or s.words (z + FIRST_MARK) 0)) c.1
         (let b = t.bound in record { up = λ z i f g. absurd (omega arith); back = λ z i f g. absurd (omega arith); bound = omega arith; whole = λ z l. absurd (omega arith); whole_back = λ z l. absurd (omega arith) })))
 
     homes : (p : ℕ) → new ≤ p → p < new + o.room → HomeShows r p (get_elem? s.homes (p % o.room))
@@ -77,8 +77,9 @@ module _ (key : Shape) (n id : ℕ) (me : Me ℕ View) (old new : ℕ) (more : o
       head = same_words head_word (λ e. omega arith) ∙ shows.head;
       tail = same_words tail_word (λ e. omega arith) ∙ shows.tail;
       free = get_or-set_same s.words free_word new 0 (let w = shows.wide in omega arith);
-      told = λ p e b l from phase. same_words (mark_word o.room p) (λ z. omega arith) ∙ shows.told p e b l from phase;
-      told_back = λ p e b l from phase. same_words (mark_word o.room p) (λ z. omega arith) ∙ shows.told_back p e b l (let f = free_is in omega arith) phase;
+      batch_mark = λ p e b l from phase. same_words (mark_word o.room p) (λ z. omega arith) ∙ shows.batch_mark p e b l from phase;
+      rest_mark = λ p is from. let t = shows.rest_mark p is from in (t.0, t.1, same_words (mark_word o.room p) (λ z. omega arith) ∙ t.2);
+      taking_mark = λ p e b l from phase. same_words (mark_word o.room p) (λ z. omega arith) ∙ shows.taking_mark p e b l (let f = free_is in omega arith) phase;
       unused = unused_kept (IsUsed o.room) s.words free_word new (by_free refl) shows.unused;
       marks = marks;
     }
@@ -96,6 +97,7 @@ module _ (key : Shape) (n id : ℕ) (me : Me ℕ View) (old new : ℕ) (more : o
         (λ j u e ne. (own_on o r u.own grows (λ i x. refl) (k.owns j u e), λ i c d. k.apart j id u v e at ne i c d))
         (λ x below' out. held_by s.views id x v at (k.owned x below' out))
         (listed_look (positions_of o) (map part_of s.views) id (part_of v) (record { queue = positions_of r; runs = v.own.runs; takes = v.own.takes }) k.listed (at_map part_of s.views id v at) refl refl (positioned.grows_refl (positions_of o)))
+        refl
         refl
         (λ w stays step. (stays, (λ e. (refl, (k.now, subst (λ (z : ℕ). Stepped v (change free_word z k.now r) v.own w) hit step))), λ miss. absurd (miss hit)))
 

@@ -1,26 +1,28 @@
 -- What the steps of a taking say together.
-use Rattle.batch_queue.proofs.Common.{BatchState, EndRecord, Found, Grows, IsEdge, List, Made, Me, Step, Took, View, [], ap, append_assoc, arith, change, concat, concat-append, drop, inr, items_of, length, length-append, load, mark_word, refl, slots_of, subst, sym, tail_word, take, with_taken, with_taking, ℕ, ◌++◌, ◌+◌, ◌-◌, ◌/◌, ◌<◌, ◌∙◌, ◌∷◌, ◌≡◌, ◌≢◌, ◌≤◌}
+use Rattle.batch_queue.proofs.Common.{HasFound, IsStop, IsRest, inl, ⊎_elim, phase_at, ◌⊎◌, BatchState, EndRecord, Found, Grows, IsEdge, List, Made, Me, Step, Took, View, [], ap, append_assoc, arith, change, concat, concat-append, drop, inr, items_of, length, length-append, load, mark_word, refl, slots_of, subst, sym, tail_word, take, with_taken, with_taking, ℕ, ◌++◌, ◌+◌, ◌-◌, ◌/◌, ◌<◌, ◌∙◌, ◌∷◌, ◌≡◌, ◌≢◌, ◌≤◌}
 use Rattle.std.proofs.Math.Seq.{drop-append_seam, take-append_seam}
 use Rattle.std.specs.Prelude.{min}
 use Rattle.std.proofs.lemmas.List.{length-drop, length-take-le}
 use Rattle.table_theory.proofs.Parting.{made_then}
 use Rattle.batch_queue.specs.Answers.{WhyNotTaken}
-use Rattle.batch_queue.specs.Takings.{AreFirst, HasTaken, RefusedTake}
+use Rattle.batch_queue.specs.Takings.{AreBatches, AreFirst, HasTaken, RefusedTake}
 use Rattle.batch_queue.specs.Walks.{Followed, FollowedBy, LeadsOn, Passed}
 use Rattle.batch_queue.specs.declared.refusals.TakeRefusal.TheVariants.{Lost}
-use Rattle.batch_queue.proofs.Looking.{found_tail, seen_lawful}
+use Rattle.batch_queue.proofs.Looking.{found_tail}
 use Rattle.batch_queue.proofs.Stepping.{step_real}
-use Rattle.batch_queue.proofs.Walking.{edge_within, passed_more}
+use Rattle.batch_queue.proofs.Walking.{edge_within, up_more}
+use Rattle.batch_queue.proofs.Whole.{batch_end, edge_on}
 
 -- THE WALK FROM THE TAIL
 
--- the tail is the end of a batch, and up to there nothing was passed
-pub none_passed : (v u : View) (tail : ℕ) → Found v tail_word tail u → Passed 0 u tail tail
-none_passed v u tail x = inr ((λ i a b. absurd (omega arith)), subst (IsEdge u.seen.object.batches) (sym (found_tail v u tail x).0) (seen_lawful u x.ruled).edge)
+-- what the mark of the tail says
+pub first_up : (room : ℕ) (v u b : View) (tail mark : ℕ) → v.first.room ≡ room → Found v tail_word tail u → Found u (mark_word room tail) mark b → LeadsOn 0 tail mark
+    → (tail < b.seen.object.taken) ⊎ (((i : ℕ) → tail ≤ i → i < mark / 2 → 1 ≤ phase_at b.seen.object i) × IsStop b.seen.object tail × IsRest b.seen.object.batches tail (mark / 2))
+first_up room v u b tail mark rooms x y on = up_more room u b tail tail mark (omega arith) (let is = (found_tail v u tail x).0 in omega arith) (inr (λ i a c. absurd (omega arith))) y (ap (λ (z : BatchState). z.room) y.made.adds.first ∙ (ap (λ (z : BatchState). z.room) x.made.adds.first ∙ rooms)) on
 
 -- the first mark was passed
 pub first_passed : (room : ℕ) (v u b : View) (tail mark : ℕ) → v.first.room ≡ room → Found v tail_word tail u → Found u (mark_word room tail) mark b → LeadsOn 0 tail mark → Passed 0 b tail (mark / 2)
-first_passed room v u b tail mark rooms x y on = passed_more 0 room u b tail tail mark (omega arith) (omega arith) (let is = (found_tail v u tail x).0 in omega arith) (none_passed v u tail x) y (ap (λ (z : BatchState). z.room) y.made.adds.first ∙ (ap (λ (z : BatchState). z.room) x.made.adds.first ∙ rooms)) on
+first_passed room v u b tail mark rooms x y on = ⊎_elim (λ past. inl past) (λ t. inr (t.0, batch_end b.seen.object.batches _ _ t.2.batch)) (first_up room v u b tail mark rooms x y on)
 
 pub followed_first : (least most room tail mark new : ℕ) (u b c : View) → least ≡ most → Found u (mark_word room tail) mark b → LeadsOn 0 tail mark → mark / 2 ≤ tail + least → Followed 0 (tail + least) room (mark / 2) new b c → Followed 0 (tail + most) room tail new u c
 followed_first least most room tail mark new u b c is y on far f = let first : Step BatchState = load (mark_word room tail) mark b.seen in let w = f.by in
@@ -51,8 +53,8 @@ between (x ∷ xs) rest (y ∷ ys) more e less = let first : x ≡ y = ap (λ (l
     let n = length-append x (concat xs) in let m = length-append y (concat ys) in let k = ap length first in let t = between xs rest ys more others (omega arith) in (t.0, λ i. sym first i ∷ t.1 i)
 
 -- the batches between two edges, and their items
-pub are_first : (o : BatchState) (tail new : ℕ) → o.taken ≡ tail → tail < new → IsEdge o.batches tail → IsEdge o.batches new → AreFirst o (take (new - tail) (drop tail (items_of o)))
-are_first o tail new at less e f = let e0 = e.at in let f0 = f.at in let t = between e.before e.rest f.before f.rest (e.all ∙ sym f.all) (omega arith) in let mid = t.0 in
+are_batches : (o : BatchState) (tail new : ℕ) → o.taken ≡ tail → tail < new → IsEdge o.batches tail → IsEdge o.batches new → AreBatches o (take (new - tail) (drop tail (items_of o)))
+are_batches o tail new at less e f = let e0 = e.at in let f0 = f.at in let t = between e.before e.rest f.before f.rest (e.all ∙ sym f.all) (omega arith) in let mid = t.0 in
     let all : e.before ++ (mid ++ f.rest) ≡ o.batches = sym (append_assoc e.before mid f.rest) ∙ (ap (λ (z : Lists). z ++ f.rest) (sym t.1) ∙ f.all) in
     let items : items_of o ≡ concat e.before ++ (concat mid ++ concat f.rest) = ap concat (sym all) ∙ (concat-append e.before (mid ++ f.rest) ∙ ap (λ (z : List ℕ). concat e.before ++ z) (concat-append mid f.rest)) in
     let long : length (concat mid) ≡ new - tail = (let n = ap length (ap concat t.1 ∙ concat-append e.before mid) in let m = length-append (concat e.before) (concat mid) in omega arith) in
@@ -65,7 +67,15 @@ are_first o tail new at less e f = let e0 = e.at in let f0 = f.at in let t = bet
       items_are = sym ((λ i. take (sym long i) (left i)) ∙ take-append_seam (concat mid) (concat f.rest));
     }
 
-module _ (room most : ℕ) (v u c : View) (tail new : ℕ) (rooms : v.first.room ≡ room) (x : Found v tail_word tail u) (f : Followed 0 (tail + min most room) room tail new u c) (g : Grows u.seen.object c.seen.object) (less : tail < new) (far : new ≤ tail + min most room) where
+-- the items from the tail to the new one, where a batch ends
+pub are_first : (o : BatchState) (tail new : ℕ) (items : List ℕ) → o.taken ≡ tail → tail < new → items ≡ take (new - tail) (drop tail (items_of o)) → tail + length items ≡ new → IsEdge o.batches new → AreFirst o items
+are_first o tail new items at less is end f = record {
+  items_are = (λ i. take ((let n : length items ≡ new - tail = omega arith in n) i) (drop (at i) (items_of o))) ∙ sym is;
+  end = subst (IsEdge o.batches) (let n : new ≡ o.taken + length items = omega arith in n) f;
+  whole = λ e. subst (AreBatches o) (sym is) (are_batches o tail new at less (subst (IsEdge o.batches) at e) f);
+}
+
+module _ (room most : ℕ) (v u c : View) (tail new : ℕ) (rooms : v.first.room ≡ room) (x : Found v tail_word tail u) (f : Followed 0 (tail + min most room) room tail new u c) (g : Grows u.seen.object c.seen.object) (less : tail < new) (far : new ≤ tail + min most room) (found : HasFound c tail new) where
   abbrev first : Step BatchState
   first = load tail_word tail u.seen
 
@@ -85,8 +95,12 @@ module _ (room most : ℕ) (v u c : View) (tail new : ℕ) (rooms : v.first.room
   pub lost_refused : (now : ℕ) (w : View) → now ≢ tail → Found c tail_word now w → RefusedTake room v most (Lost now) w
   lost_refused now w ne t = inr (inr record { tail = tail; new = new; some_item = less; at_tail = u.seen; loads = f.loads; followed = f.by; past = past now w ne t; at_exchange = w.seen; added = lost now w t })
 
+  -- a batch ends where the taking ends
+  new_edge : (m : Me ℕ View) (t : Took c tail new m) → IsEdge t.at.object.batches new
+  new_edge m t = let g' = t.step.grows in let taken = g'.taken in let is = t.tail_is in ⊎_elim (λ past. absurd (let l : tail < c.seen.object.taken = past in omega arith)) (λ all. edge_on c.seen.object.batches t.at.object.batches g'.more.0 new g'.more.1 all.1) found
+
   pub has_taken : (m : Me ℕ View) → Took c tail new m → (items : List ℕ) × (length items ≡ new - tail) × HasTaken room most v tail items m
-  has_taken m t = let o : BatchState = t.at.object in let items : List ℕ = take (new - tail) (drop tail (items_of o)) in let within = edge_within o.batches new t.new_edge in
+  has_taken m t = let o : BatchState = t.at.object in let items : List ℕ = take (new - tail) (drop tail (items_of o)) in let edge = new_edge m t in let within = edge_within o.batches new edge in
       let long : length items ≡ new - tail = (let d = length-drop tail (items_of o) in length-take-le (new - tail) (drop tail (items_of o)) (omega arith)) in let end : new ≡ tail + length items = omega arith in
       let e : Step BatchState = change tail_word tail t.at (with_taken o new) in let bounded = (step_real c m.0 e (with_taking c.own o (new - tail)) t.step).shows.bounded in let own = t.step.made.did in
       let all : Made v (first ∷ (f.loads ++ e ∷ [])) (with_taking v.own o (new - tail)) m.0 = made_then v c m.0 (first ∷ f.loads) (e ∷ []) v.own (λ d. with_taking d o (new - tail)) made t.step.made in (
@@ -100,7 +114,7 @@ module _ (room most : ℕ) (v u c : View) (tail new : ℕ) (rooms : v.first.room
             loads = f.loads;
             followed = subst (λ (z : ℕ). FollowedBy 0 (tail + min most room) room tail z f.loads) end f.by;
             at_taking = t.at;
-            first = are_first o tail new t.tail_is less t.edge t.new_edge;
+            first = are_first o tail new items t.tail_is less refl (sym end) edge;
             added = subst (λ (z : ℕ). Made v (first ∷ (f.loads ++ change tail_word tail t.at (with_taken o z) ∷ [])) (with_taking v.own o (length items)) m.0) end
                 (subst (λ (z : ℕ). Made v (first ∷ (f.loads ++ e ∷ [])) (with_taking v.own o z) m.0) (sym long) all);
           };

@@ -1,34 +1,36 @@
 -- Why nothing is taken, by the tail and its mark.
-use Rattle.batch_queue.proofs.Common.{BatchState, Found, IsBatch, Lawful, List, Made, SHUT, Step, View, WordsShow, [], ap, arith, dec_lt, dite, get_or, head_word, inl, inr, load, mark_word, phase_at, refl, subst, sym, tail_word, ℕ, ◌+◌, ◌/◌, ◌<◌, ◌∙◌, ◌∷◌, ◌≡◌, ◌≢◌, ◌≤◌}
+use Rattle.batch_queue.proofs.Common.{IsStop, IsRest, ⊎_elim, BatchState, Found, Lawful, List, Made, SHUT, Step, View, WordsShow, [], ap, arith, dec_lt, dite, get_or, head_word, inl, inr, load, mark_word, phase_at, refl, subst, sym, tail_word, ℕ, ◌+◌, ◌/◌, ◌<◌, ◌∙◌, ◌∷◌, ◌≡◌, ◌≢◌, ◌≤◌}
 use Rattle.std.proofs.Common.{◌*◌}
 use Rattle.std.specs.Prelude.{min}
 use Rattle.batch_queue.specs.Layout as layout
-use Rattle.batch_queue.specs.Object.{IsEdge}
 use Rattle.table_theory.proofs.Parting.{made_then}
 use Rattle.batch_queue.specs.Answers.{WhyNotTaken}
 use Rattle.batch_queue.specs.Moments.{WasSo, claimed}
-use Rattle.batch_queue.specs.Takings.{Glance, RefusedTake, LookedTwice, IsNone, IsShort}
+use Rattle.batch_queue.specs.Takings.{Glance, NoneBy, RefusedTake, LookedTwice, IsNone, IsShort}
 use Rattle.batch_queue.specs.Walks.{LeadsOn}
 use Rattle.batch_queue.specs.declared.refusals.TakeRefusal.{TakeRefusal}
 use Rattle.batch_queue.specs.declared.refusals.TakeRefusal.TheVariants.{Empty, ShortBuffer, Lost, Closed}
 use Rattle.batch_queue.proofs.Claims.{head_is, head_shut}
 use Rattle.batch_queue.proofs.Growing.{claimed_at, freed_taken, taken_claimed}
 use Rattle.batch_queue.proofs.Looking.{found_tail, seen_lawful}
-use Rattle.batch_queue.proofs.Walking.{edge_within, found_real, seen_room, told}
+use Rattle.batch_queue.proofs.Walking.{edge_within, found_real, mark_at, seen_room}
 use Rattle.batch_queue.proofs.Whole.{batch_end, edge_batch}
 
 -- what is published at the tail has its mark
-marked : (o : BatchState) (words : List ℕ) (p mark : ℕ) → Lawful o → WordsShow o words → o.taken ≡ p → get_or words (mark_word o.room p) 0 ≡ mark → 1 ≤ phase_at o p → (e : ℕ) × IsBatch o.batches p e × (p < e) × (mark ≡ 2 * e)
-marked o words p mark l h at is up = let t = edge_batch o.batches p (subst (IsEdge o.batches) at l.edge) (claimed_at o l p up) in (t.0, t.1, t.2, sym is ∙ h.told p t.0 t.1 t.2 (omega arith) up)
+marked : (o : BatchState) (words : List ℕ) (p mark : ℕ) → Lawful o → WordsShow o words → o.taken ≡ p → get_or words (mark_word o.room p) 0 ≡ mark → 1 ≤ phase_at o p → (e : ℕ) × IsStop o p × IsRest o.batches p e × (mark ≡ 2 * e)
+marked o words p mark l h at is up = let stop : IsStop o p = subst (IsStop o) at l.stop in ⊎_elim
+    (λ edge. (let t = edge_batch o.batches p edge (claimed_at o l p up) in (t.0, stop, record { start = p; batch = t.1; from = omega arith; some_item = t.2 }, sym is ∙ h.batch_mark p t.0 t.1 t.2 (omega arith) up)))
+    (λ parted. (let t = h.rest_mark p parted (omega arith) in (t.0, stop, t.1, sym is ∙ t.2)))
+    stop
 
 -- nothing is published at a tail whose mark leads nowhere
 mark_none : (o : BatchState) (words : List ℕ) (p mark : ℕ) → Lawful o → WordsShow o words → o.taken ≡ p → get_or words (mark_word o.room p) 0 ≡ mark → (LeadsOn 0 p mark → ⊥) → phase_at o p ≡ 0
-mark_none o words p mark l h at is none = dite (dec_lt 0 (phase_at o p)) (λ up. (let m = marked o words p mark l h at is (omega arith) in let e = m.3 in let less = m.2 in absurd (none (omega arith, omega arith)))) (λ low. omega arith)
+mark_none o words p mark l h at is none = dite (dec_lt 0 (phase_at o p)) (λ up. (let m = marked o words p mark l h at is (omega arith) in let e = m.3 in let less = m.2.some_item in absurd (none (omega arith, omega arith)))) (λ low. omega arith)
 
 -- a batch is published at a tail whose mark leads on, up to there
-mark_batch : (o : BatchState) (words : List ℕ) (p mark : ℕ) → Lawful o → WordsShow o words → o.taken ≡ p → get_or words (mark_word o.room p) 0 ≡ mark → LeadsOn 0 p mark → IsBatch o.batches p (mark / 2) × (phase_at o p ≡ 1)
-mark_batch o words p mark l h at is on = let a = freed_taken o l in let b = taken_claimed o l in let t = told o words p mark l h (omega arith) (omega arith) is on.1 in let up = t.up on.0 p (omega arith) on.1 in let most = l.after p (omega arith) in
-    let m = marked o words p mark l h at is up in let e = m.3 in let half : m.0 ≡ mark / 2 = omega arith in (subst (IsBatch o.batches p) half m.1, omega arith)
+mark_batch : (o : BatchState) (words : List ℕ) (p mark : ℕ) → Lawful o → WordsShow o words → o.taken ≡ p → get_or words (mark_word o.room p) 0 ≡ mark → LeadsOn 0 p mark → IsStop o p × IsRest o.batches p (mark / 2) × (phase_at o p ≡ 1)
+mark_batch o words p mark l h at is on = let a = freed_taken o l in let b = taken_claimed o l in let t = mark_at o words p mark l h (omega arith) (omega arith) is on.1 in let up = t.up on.0 p (omega arith) on.1 in let most = l.after p (omega arith) in
+    let m = marked o words p mark l h at is up in let e = m.3 in let half : m.0 ≡ mark / 2 = omega arith in (m.1, subst (IsRest o.batches p) half m.2, omega arith)
 
 module _ (room most : ℕ) (v u b : View) (tail mark : ℕ) (x : Found v tail_word tail u) (y : Found u (mark_word room tail) mark b) (rooms : v.first.room ≡ room) where
   abbrev one : Step BatchState
@@ -52,7 +54,7 @@ module _ (room most : ℕ) (v u b : View) (tail mark : ℕ) (x : Found v tail_wo
   pub none_at : b.seen.object.taken ≡ tail → (LeadsOn 0 tail mark → ⊥) → phase_at b.seen.object tail ≡ 0
   none_at at none = let r = found_real u b (mark_word room tail) mark y in mark_none b.seen.object r.words tail mark r.lawful r.shows at word_is none
 
-  pub batch_at : b.seen.object.taken ≡ tail → LeadsOn 0 tail mark → IsBatch b.seen.object.batches tail (mark / 2) × (phase_at b.seen.object tail ≡ 1)
+  pub batch_at : b.seen.object.taken ≡ tail → LeadsOn 0 tail mark → IsStop b.seen.object tail × IsRest b.seen.object.batches tail (mark / 2) × (phase_at b.seen.object tail ≡ 1)
   batch_at at on = let r = found_real u b (mark_word room tail) mark y in mark_batch b.seen.object r.words tail mark r.lawful r.shows at word_is on
 
   module _ (none : LeadsOn 0 tail mark → ⊥) where
@@ -92,6 +94,13 @@ module _ (room most : ℕ) (v u b : View) (tail mark : ℕ) (x : Found v tail_wo
     none_error (Lost now) z (ne, head, going, t) = (none_lost z head now ne t).1
     none_error Closed z f = none_closed z f
 
+    pub none_by : (Added : List (Step BatchState) → Type 0) (r : TakeRefusal) (z : View) → ((entries : List (Step BatchState)) → Made v entries v.own z → Added entries) → IsNone tail b r z → NoneBy Added room r
+    none_by Added (Empty at) z f (is, head, going, t) = subst (λ (k : ℕ). NoneBy Added room (Empty k)) (sym is)
+        record { glance = glance; none = none; is = refl; head = head; at_head = t.between.seen; going = going; again = z.seen; added = f _ (looked head tail z t) }
+    none_by Added (ShortBuffer at count) z f h = absurd h
+    none_by Added (Lost now) z f (ne, head, going, t) = record { glance = glance; none = none; head = head; at_head = t.between.seen; going = going; past = (none_lost z head now ne t).0; again = z.seen; added = f _ (looked head now z t) }
+    none_by Added Closed z f h = record { glance = glance; none = none; at_head = z.seen; added = f _ (done z h) }
+
     pub none_refused : (r : TakeRefusal) (z : View) → IsNone tail b r z → RefusedTake room v most r z
     none_refused (Empty at) z (is, head, going, t) = subst (λ (k : ℕ). RefusedTake room v most (Empty k) z) (sym is)
         record { glance = glance; none = none; is = refl; head = head; at_head = t.between.seen; going = going; again = z.seen; added = looked head tail z t }
@@ -104,12 +113,12 @@ module _ (room most : ℕ) (v u b : View) (tail mark : ℕ) (x : Found v tail_wo
     again now z t = made_then v b z (one ∷ two ∷ []) (load tail_word now z.seen ∷ []) v.own (λ d. d) made t.made
 
     -- the batch fits the queue, so it does not fit the buffer
-    short_at : (z : View) → Found b tail_word tail z → (most < count) × WasSo v z (λ o. (o.taken ≡ tail) × IsBatch o.batches tail (tail + count) × (phase_at o tail ≡ 1))
+    short_at : (z : View) → Found b tail_word tail z → (most < count) × WasSo v z (λ o. (o.taken ≡ tail) × IsStop o tail × IsRest o.batches tail (tail + count) × (phase_at o tail ≡ 1))
     short_at z t = let now = (found_tail b z tail t).0 in let g = y.grows.taken in let g1 = t.grows.taken in let was = tail_is in let at : b.seen.object.taken ≡ tail = omega arith in
-        let h = batch_at at on in let is : IsBatch b.seen.object.batches tail (tail + count) = subst (IsBatch b.seen.object.batches tail) (sym up) h.0 in
-        let l = seen_lawful b y.ruled in let within = edge_within b.seen.object.batches (tail + count) (batch_end b.seen.object.batches tail (tail + count) is) in let w = l.within in let a = freed_taken b.seen.object l in
+        let h = batch_at at on in let is : IsRest b.seen.object.batches tail (tail + count) = subst (IsRest b.seen.object.batches tail) (sym up) h.1 in
+        let l = seen_lawful b y.ruled in let within = edge_within b.seen.object.batches (tail + count) (batch_end b.seen.object.batches _ _ is.batch) in let w = l.within in let a = freed_taken b.seen.object l in
         let same : b.seen.object.room ≡ room = seen_room b y.ruled ∙ (ap (λ (z : BatchState). z.room) made.adds.first ∙ rooms) in
-        (omega arith, record { before = one ∷ []; step = two; after = load tail_word tail z.seen ∷ []; adds = (again tail z t).adds; holds = (at, is, h.1) })
+        (omega arith, record { before = one ∷ []; step = two; after = load tail_word tail z.seen ∷ []; adds = (again tail z t).adds; holds = (at, h.0, is, h.2) })
 
     short_lost : (now : ℕ) (z : View) → now ≢ tail → Found b tail_word now z → (tail < now) × WhyNotTaken v most (Lost now) z
     short_lost now z ne t = let is = (found_tail b z now t).0 in let g = y.grows.taken in let g1 = t.grows.taken in let was = tail_is in

@@ -1,13 +1,16 @@
 -- A queue grows by each event, and stays lawful.
-use Rattle.batch_queue.proofs.Common.{AreIn, BatchState, Becomes, Grows, IsBatch, IsReal, Lawful, List, Moment, Step, [], ap, append-nil, append_assoc, arith, concat, concat-append, dec_lt, dite, drop, inl, inr, items_of, length, length-append, length-drop, length-take-le, of_batches, phase_at, refl, replicate, subst, suc, sym, take, taking, was_claimed, was_freed, was_given, was_published, was_shut, was_taken, with_batch, with_phase, ℕ, ⊎_elim, ◌++◌, ◌-◌, ◌<◌, ◌∙◌, ◌∷◌, ◌≡◌, ◌≤◌, ◌⊎◌}
+use Rattle.batch_queue.proofs.Common.{at_snoc, AreIn, BatchState, Becomes, Grows, IsBatch, IsReal, Lawful, List, Moment, Step, [], ap, append-nil, append_assoc, arith, concat, concat-append, dec_lt, dite, drop, inl, inr, items_of, length, length-append, length-drop, length-take-le, of_batches, phase_at, refl, replicate, subst, suc, sym, take, taking, was_claimed, was_freed, was_given, was_parted, was_published, was_shut, was_taken, with_batch, with_phase, with_taken, ℕ, ⊎_elim, ◌++◌, ◌-◌, ◌<◌, ◌∙◌, ◌∷◌, ◌≡◌, ◌≤◌, ◌⊎◌}
 use Rattle.batch_queue.proofs.Ranges.{get_behind, get_longer, is_in, range_at, range_in, range_length, range_out, replicated}
 use Rattle.table_theory.specs.Ledgers.{Reaches, Passes}
 use Rattle.table_theory.proofs.Saying as steps
 use Rattle.batch_queue.proofs.Grouping.{groups_claimed, groups_taken, solid_more}
-use Rattle.batch_queue.proofs.Whole.{batch_end, concat_grows, edge_on, whole_claimed, whole_raised}
+use Rattle.batch_queue.proofs.Stops.{edge_if, items_taken, parts_on, stop_claimed, stop_parted}
+use Rattle.batch_queue.proofs.Whole.{batch_end, concat_grows, edge_on, last_or, whole_claimed, whole_raised}
+use Rattle.batch_queue.specs.Object.{IsStop, IsWithin}
+use Rattle.std.proofs.lemmas.List.{take-append-le}
 
 pub grows_refl : (o : BatchState) → Grows o o
-grows_refl o = record { room = refl; more = ([], append-nil o.batches); takings = ([], append-nil o.takings); phases = λ i. omega arith; taken = omega arith; freed = omega arith; shut = λ e. e }
+grows_refl o = record { room = refl; more = ([], append-nil o.batches); takings = ([], append-nil o.takings); phases = λ i. omega arith; taken = omega arith; freed = omega arith; shut = λ e. e; parted = ([], append-nil o.parted) }
 
 pub grows_trans : (o r t : BatchState) → Grows o r → Grows r t → Grows o t
 grows_trans o r t f g = record {
@@ -18,6 +21,7 @@ grows_trans o r t f g = record {
   taken = let a = f.taken in let b = g.taken in omega arith;
   freed = let a = f.freed in let b = g.freed in omega arith;
   shut = λ e. g.shut (f.shut e);
+  parted = (f.parted.0 ++ g.parted.0, sym (append_assoc o.parted f.parted.0 g.parted.0) ∙ (ap (λ (z : List ℕ). z ++ g.parted.0) f.parted.1 ∙ g.parted.1));
 }
 
 pub items_grow : (o r : BatchState) → Grows o r → length (items_of o) ≤ length (items_of r)
@@ -56,15 +60,16 @@ phase_grows o a b x was i = ⊎_elim
     (is_in a b i)
 
 released_grows : (o : BatchState) (a b x : ℕ) → AreIn o x a b → Grows o (with_phase o a b (suc x))
-released_grows o a b x was = record { room = refl; more = ([], append-nil o.batches); takings = ([], append-nil o.takings); phases = phase_grows o a b x was; taken = omega arith; freed = omega arith; shut = λ e. e }
+released_grows o a b x was = record { room = refl; more = ([], append-nil o.batches); takings = ([], append-nil o.takings); phases = phase_grows o a b x was; taken = omega arith; freed = omega arith; shut = λ e. e; parted = ([], append-nil o.parted) }
 
 pub becomes_grows : (o r : BatchState) → Becomes o r → Grows o r
-becomes_grows o r (was_claimed claim some_item is_open fits e) = subst (Grows o) (sym e) record { room = refl; more = (claim ∷ [], refl); takings = ([], append-nil o.takings); phases = λ i. let e = get_longer o.phases (length claim) i in omega arith; taken = omega arith; freed = omega arith; shut = λ e. e }
+becomes_grows o r (was_claimed claim some_item is_open fits e) = subst (Grows o) (sym e) record { room = refl; more = (claim ∷ [], refl); takings = ([], append-nil o.takings); phases = λ i. let e = get_longer o.phases (length claim) i in omega arith; taken = omega arith; freed = omega arith; shut = λ e. e; parted = ([], append-nil o.parted) }
 becomes_grows o r (was_published a b less batch was e) = subst (Grows o) (sym e) (released_grows o a b 0 was)
-becomes_grows o r (was_taken new less le edge was e) = subst (Grows o) (sym e) record { room = refl; more = ([], append-nil o.batches); takings = (take (new - o.taken) (drop o.taken (items_of o)) ∷ [], refl); phases = phase_grows o o.taken new 1 was; taken = omega arith; freed = omega arith; shut = λ e. e }
+becomes_grows o r (was_taken new less le stop was e) = subst (Grows o) (sym e) record { room = refl; more = ([], append-nil o.batches); takings = (take (new - o.taken) (drop o.taken (items_of o)) ∷ [], refl); phases = phase_grows o o.taken new 1 was; taken = omega arith; freed = omega arith; shut = λ e. e; parted = ([], append-nil o.parted) }
 becomes_grows o r (was_given a b less taking was e) = subst (Grows o) (sym e) (released_grows o a b 2 was)
-becomes_grows o r (was_freed new less edge was e) = subst (Grows o) (sym e) record { room = refl; more = ([], append-nil o.batches); takings = ([], append-nil o.takings); phases = λ i. omega arith; taken = omega arith; freed = omega arith; shut = λ e. e }
-becomes_grows o r (was_shut e) = subst (Grows o) (sym e) record { room = refl; more = ([], append-nil o.batches); takings = ([], append-nil o.takings); phases = λ i. omega arith; taken = omega arith; freed = omega arith; shut = λ e. refl }
+becomes_grows o r (was_freed new less edge was e) = subst (Grows o) (sym e) record { room = refl; more = ([], append-nil o.batches); takings = ([], append-nil o.takings); phases = λ i. omega arith; taken = omega arith; freed = omega arith; shut = λ e. e; parted = ([], append-nil o.parted) }
+becomes_grows o r (was_shut e) = subst (Grows o) (sym e) record { room = refl; more = ([], append-nil o.batches); takings = ([], append-nil o.takings); phases = λ i. omega arith; taken = omega arith; freed = omega arith; shut = λ e. refl; parted = ([], append-nil o.parted) }
+becomes_grows o r (was_parted p end within e) = subst (Grows o) (sym e) record { room = refl; more = ([], append-nil o.batches); takings = ([], append-nil o.takings); phases = λ i. omega arith; taken = omega arith; freed = omega arith; shut = λ e. e; parted = (p ∷ [], refl) }
 
 released_lawful : (o : BatchState) (a b x : ℕ) → Lawful o → b ≤ length (items_of o) → AreIn o x a b → (x ≡ 0) ⊎ (x ≡ 2) → (x ≡ 0 → IsBatch o.batches a b) → Lawful (with_phase o a b (suc x))
 released_lawful o a b x l le was kind batch = let g = phase_grows o a b x was in let long = l.long in record {
@@ -78,11 +83,14 @@ released_lawful o a b x l le was kind batch = let g = phase_grows o a b x was in
       (is_in a b i);
   behind = λ i h. let n = g i in let y = l.behind i h in omega arith;
   whole = whole_raised o a b x l.long le was batch l.whole;
-  edge = l.edge;
+  stop = l.stop;
   solid = l.solid;
   solid_takings = l.solid_takings;
+  stops = l.stops;
   groups = l.groups;
+  parts = parts_on o (with_phase o a b (suc x)) (released_grows o a b x was) refl l.parts;
   taken_is = l.taken_is;
+  items = l.items;
   freed_edge = l.freed_edge;
 }
 
@@ -95,16 +103,19 @@ becomes_lawful o r l (was_claimed claim some_item is_open fits e) = subst Lawful
   after = λ i h. let p = get_longer o.phases (length claim) i in let b = l.after i h in omega arith;
   behind = λ i h. let p = get_longer o.phases (length claim) i in let b = l.behind i h in omega arith;
   whole = whole_claimed o claim (unclaimed_at o l) l.whole;
-  edge = edge_on o.batches (o.batches ++ claim ∷ []) (claim ∷ []) o.taken refl l.edge;
+  stop = stop_claimed o claim o.taken l.stop;
   solid = solid_more o.batches claim some_item l.solid;
   solid_takings = l.solid_takings;
-  groups = groups_claimed o.batches o.takings claim l.groups;
+  stops = λ p end b. stop_claimed o claim end (l.stops p end b);
+  groups = λ none. groups_claimed o.batches o.takings claim (l.groups none);
+  parts = parts_on o (with_batch o claim) (becomes_grows o (with_batch o claim) (was_claimed claim some_item is_open fits refl)) refl l.parts;
   taken_is = l.taken_is;
+  items = l.items ∙ sym (ap (take o.taken) (batch_items o claim) ∙ take-append-le o.taken (items_of o) claim (taken_claimed o l));
   freed_edge = l.freed_edge;
 })
 becomes_lawful o r l (was_published a b less batch was e) = subst Lawful (sym e) (released_lawful o a b 0 l (batch_below o a b batch) was (inl refl) (λ z. batch))
 becomes_lawful o r l (was_given a b less taking was e) = subst Lawful (sym e) (released_lawful o a b 2 l (below_head o 2 a b l (omega arith) was less) was (inr refl) (λ z. absurd (omega arith)))
-becomes_lawful o r l (was_taken new less le edge was e) = subst Lawful (sym e) (let g = phase_grows o o.taken new 1 was in let long = l.long in let part : List ℕ = take (new - o.taken) (drop o.taken (items_of o)) in record {
+becomes_lawful o r l (was_taken new less le stop was e) = subst Lawful (sym e) (let g = phase_grows o o.taken new 1 was in let long = l.long in let part : List ℕ = take (new - o.taken) (drop o.taken (items_of o)) in record {
   some_room = l.some_room;
   long = range_length o.phases o.taken new 2 ∙ l.long;
   within = l.within;
@@ -112,10 +123,16 @@ becomes_lawful o r l (was_taken new less le edge was e) = subst Lawful (sym e) (
   after = λ i h. let n = range_out o.phases o.taken new 2 i (λ t. let t1 = t.1 in omega arith) in let y = l.after i (omega arith) in omega arith;
   behind = λ i h. let n = g i in let y = l.behind i h in omega arith;
   whole = whole_raised o o.taken new 1 l.long le was (λ z. absurd (omega arith)) l.whole;
-  edge = edge;
+  stop = stop;
   solid = l.solid;
   solid_takings = solid_more o.takings part (let d = length-drop o.taken (items_of o) in let m = length-take-le (new - o.taken) (drop o.taken (items_of o)) (omega arith) in omega arith) l.solid_takings;
-  groups = groups_taken o.batches o.takings o.taken new l.groups l.taken_is less edge;
+  stops = λ p end b. ⊎_elim
+      (λ t. l.stops p end (record { before = b.before; batch = b.batch; rest = t.0; all = t.1; at = b.at; end = b.end }))
+      (λ t. subst (IsStop o) (let s = ap (λ (z : List (List ℕ)). length (concat z)) t.0 in let long' = ap length t.1 in let d = length-drop o.taken (items_of o) in let m = length-take-le (new - o.taken) (drop o.taken (items_of o)) (omega arith) in let t = l.taken_is in let a = b.at in let b' = b.end in omega arith) stop)
+      (last_or o.takings part b.before b.batch b.rest b.all);
+  groups = λ none. groups_taken o.batches o.takings o.taken new (l.groups none) l.taken_is less (edge_if o new none stop);
+  parts = parts_on o (with_taken o new) (becomes_grows o (with_taken o new) (was_taken new less le stop was refl)) refl l.parts;
+  items = items_taken o.takings (items_of o) o.taken new l.taken_is l.items (omega arith);
   taken_is = ap length (concat-append o.takings (part ∷ [])) ∙ (length-append (concat o.takings) (part ++ []) ∙ (let n = length-append part [] in let d = length-drop o.taken (items_of o) in let m = length-take-le (new - o.taken) (drop o.taken (items_of o)) (omega arith) in let t = l.taken_is in omega arith));
   freed_edge = edge_on o.takings (o.takings ++ part ∷ []) (part ∷ []) o.freed refl l.freed_edge;
 })
@@ -127,14 +144,35 @@ becomes_lawful o r l (was_freed new less edge was e) = subst Lawful (sym e) reco
   after = l.after;
   behind = λ i h. dite (dec_lt i o.freed) (λ y. l.behind i y) (λ no. was i (omega arith) h);
   whole = l.whole;
-  edge = l.edge;
+  stop = l.stop;
   solid = l.solid;
   solid_takings = l.solid_takings;
+  stops = l.stops;
   groups = l.groups;
+  parts = l.parts;
   taken_is = l.taken_is;
+  items = l.items;
   freed_edge = edge;
 }
-becomes_lawful o r l (was_shut e) = subst Lawful (sym e) record { some_room = l.some_room; long = l.long; within = l.within; before = l.before; after = l.after; behind = l.behind; whole = l.whole; edge = l.edge; solid = l.solid; solid_takings = l.solid_takings; groups = l.groups; taken_is = l.taken_is; freed_edge = l.freed_edge }
+becomes_lawful o r l (was_shut e) = subst Lawful (sym e) record { some_room = l.some_room; long = l.long; within = l.within; before = l.before; after = l.after; behind = l.behind; whole = l.whole; stop = l.stop; solid = l.solid; solid_takings = l.solid_takings; stops = l.stops; groups = l.groups; parts = l.parts; taken_is = l.taken_is; items = l.items; freed_edge = l.freed_edge }
+becomes_lawful o r l (was_parted p end within e) = subst Lawful (sym e) record {
+  some_room = l.some_room;
+  long = l.long;
+  within = l.within;
+  before = l.before;
+  after = l.after;
+  behind = l.behind;
+  whole = l.whole;
+  stop = stop_parted o p o.taken l.stop;
+  solid = l.solid;
+  solid_takings = l.solid_takings;
+  stops = λ a b t. stop_parted o p b (l.stops a b t);
+  groups = λ none. absurd (let n = ap length none in let m = length-append o.parted (p ∷ []) in omega arith);
+  parts = λ q h. ⊎_elim (λ old. l.parts q (h.0, old)) (λ is. (end, subst (λ (z : ℕ). IsWithin o z end) is within)) (at_snoc o.parted p q h.0 h.1);
+  taken_is = l.taken_is;
+  items = l.items;
+  freed_edge = l.freed_edge;
+}
 
 pub real_lawful : (e : Step BatchState) → IsReal of_batches e → Lawful e.next.object
 real_lawful = steps.real_lawful of_batches (λ o r words shows l b. becomes_lawful o r l b)

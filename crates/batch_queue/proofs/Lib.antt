@@ -7,7 +7,9 @@ mod Growing
 mod Owning
 mod Heading
 mod Stepping
+mod Stops
 mod Freeing
+mod Parting
 mod Placing
 mod Raising
 mod Claiming
@@ -20,6 +22,8 @@ mod Betweens
 mod Walking
 mod Turning
 mod Looking
+mod Dividing
+mod Stopping
 mod Timing
 mod Claims
 mod Putting
@@ -30,5 +34,6 @@ mod Reporting
 mod Eventful
 mod Rising
 mod Filling
+mod Portions
 mod Trying
 mod Unrivalled

@@ -55,7 +55,7 @@ put_own d c start items is bare apart h =
     let whole : raised_run h.run 0 (length h.run.places) ≡ batch start (map published items) = ap (λ (z : Batch). raised_run z 0 (length z.places)) same ∙ raised_all start items in
     let changed : set c.runs h.number (raised_run h.run 0 (length h.run.places)) ≡ d.runs ++ batch start (map published items) ∷ [] =
     (λ i. set (runs i) (number i) (whole i)) ∙ last d.runs (run start items) (batch start (map published items)) in
-    λ i. record { runs = changed i; takes = (is i).takes; shuts = (is i).shuts; held = sym bare i }
+    λ i. record { runs = changed i; takes = (is i).takes; shuts = (is i).shuts; parts = (is i).parts; held = sym bare i }
 
 pub put_of : (room want start : ℕ) (items : List ℕ) (v w : View) (m m' : Me ℕ View) → v.own.held ≡ no_slots → HasClaimed room want v start items m → w ≡ m.0 → Released w (mark_word room start) start (start + length items) 0 m' → PutBy (λ entries. Made v entries (with_put v.own start items) m'.0) room want start items
 put_of room want start items v w m m' bare h same p = let c = h.claim in let e : Step BatchState = change (mark_word room start) p.found p.at (with_phase p.at.object start (start + length items) 1) in let own = p.published refl in (
@@ -86,11 +86,14 @@ published_items [] = refl
 published_items (x ∷ xs) = ap (λ (z : List ℕ). x ∷ z) (published_items xs)
 
 pub put_line : (room want start : ℕ) (items : List ℕ) (v w : View) → PutBy (λ entries. Made v entries (with_put v.own start items) w) room want start items → PutLine items v w
-put_line room want start items v w (mark, m, c) = let made = c.added in record {
-  puts = (λ k. map line_of (made.did k).runs) ∙ (map-append line_of v.own.runs (batch start (map published items) ∷ []) ∙ (λ k. map line_of v.own.runs ++ published_items items k ∷ []));
-  takes = (λ k. map line_of (made.did k).takes);
-  share = ap (λ (z : Part). z.share) made.member;
-}
+put_line room want start items v w (mark, m, c) = let made = c.added in (
+  record {
+    puts = (λ k. map line_of (made.did k).runs) ∙ (map-append line_of v.own.runs (batch start (map published items) ∷ []) ∙ (λ k. map line_of v.own.runs ++ published_items items k ∷ []));
+    takes = (λ k. map line_of (made.did k).takes);
+    share = ap (λ (z : Part). z.share) made.member;
+  },
+  λ k. (made.did k).parts,
+)
 
 -- THE WHOLE OF THE ITEMS
 

@@ -1,5 +1,5 @@
 -- A store of a mark gives home all slots that the end holds: where it publishes them, and where it gives them back.
-use Rattle.batch_queue.proofs.Common.{Allows, Batch, BatchState, Becomes, EndRecord, FIRST_MARK, Grows, HasRun, HeldSlots, Holds, HomeShows, IsBatch, IsEdge, IsUsed, Lawful, List, MarkTells, Option, OwnShows, Positions, Rule, Shape, Stepped, View, ViewsShow, WordsShow, [], ap, append_assoc, arith, at_map, at_set, blank, by_mark, change, concat, concat-append, dec_lt, dite, free_word, get_elem?, get_or, get_or-set_other, get_or-set_same, give_all, head_word, homes_after, inl, inr, items_of, length, length-set, listed_look, map, mark_word, mod-lt, no_slots, none, part_of, phase_at, positions_of, raised_run, refl, releases, set, slots_of, some, step, subst, suc, sym, tail_word, times_shut, unused_kept, was_given, was_published, with_phase, with_published, written_to, zero, ℕ, ℕ_discrete, ⊎_elim, ◌%◌, ◌*◌, ◌++◌, ◌+◌, ◌-◌, ◌/◌, ◌<◌, ◌∙◌, ◌∷◌, ◌≡◌, ◌≤◌, ◌⊎◌}
+use Rattle.batch_queue.proofs.Common.{Allows, Batch, BatchState, Becomes, EndRecord, FIRST_MARK, Grows, HasRun, HeldSlots, Holds, HomeShows, IsBatch, IsEdge, IsParted, IsRest, IsUsed, Lawful, List, MarkSays, Option, OwnShows, Positions, Rule, Shape, Stepped, View, ViewsShow, WordsShow, [], ap, append_assoc, arith, at_map, at_set, blank, by_mark, change, concat, concat-append, dec_lt, dite, free_word, get_elem?, get_or, get_or-set_other, get_or-set_same, give_all, head_word, homes_after, inl, inr, items_of, length, length-set, listed_look, map, mark_word, mod-lt, no_slots, none, part_of, phase_at, positions_of, raised_run, refl, releases, set, slots_of, some, step, subst, suc, sym, tail_word, times_shut, unused_kept, was_given, was_published, with_phase, with_published, written_to, zero, ℕ, ℕ_discrete, ⊎_elim, ◌%◌, ◌*◌, ◌++◌, ◌+◌, ◌-◌, ◌/◌, ◌<◌, ◌∙◌, ◌∷◌, ◌≡◌, ◌≤◌, ◌⊎◌}
 use Rattle.table_theory.proofs.Tables as tables
 use Rattle.table_theory.proofs.Positioned as positioned
 use Rattle.batch_queue.proofs.Placing as placing
@@ -9,6 +9,7 @@ use Rattle.batch_queue.proofs.Owning.{own_bare, own_on}
 use Rattle.batch_queue.proofs.Ranges.{is_in, range_in, range_out}
 use Rattle.batch_queue.proofs.Raising.{listed_published}
 use Rattle.batch_queue.proofs.Stepping.{St, acts, first_room, held_by, one_place, table}
+use Rattle.batch_queue.proofs.Stops.{batch_start}
 use Rattle.batch_queue.proofs.Whole.{batch_end, one_batch}
 
 at_get : (l : List ℕ) (i : ℕ) → i < length l → get_elem? l i ≡ some (get_or l i 0)
@@ -88,19 +89,19 @@ module _ (key : Shape) (n id : ℕ) (v : View) (x b : ℕ) (ys : List ℕ) (m : 
     wide : a % o.room < o.room
     wide = mod-lt a lawful.some_room
 
-    my_mark : MarkTells r a m
+    my_mark : MarkSays r a m
     my_mark = record {
       up = λ e i from to. let y = in_range i from (omega arith) in omega arith;
       back = λ e i from to. let y = in_range i from (omega arith) in let o' = odd in ⊎_elim (λ z. let z' : x ≡ 0 = z in let zero' = o'.0 z' in absurd (omega arith)) (λ z. let z' : x ≡ 2 = z in omega arith) x_is;
       bound = let h = to_head in let w = lawful.within in let f = from_freed in omega arith;
-      whole = λ e l. ⊎_elim (λ z. let z' : x ≡ 0 = z in subst (IsEdge o.batches) (sym end ∙ sym half) (batch_end o.batches _ _ (mine.batch (kind ∙ z') some_item))) (λ z. let z' : x ≡ 2 = z in let o' = odd.1 z' in absurd (omega arith)) x_is;
+      whole = λ e l. ⊎_elim (λ z. let b' = mine.batch (kind ∙ z) some_item in (inl (batch_start o.batches _ _ b'), record { start = a; batch = subst (IsBatch o.batches a) (sym end ∙ sym half) b'; from = omega arith; some_item = l })) (λ z. let z' : x ≡ 2 = z in let o' = odd.1 z' in absurd (omega arith)) x_is;
       whole_back = λ e l. ⊎_elim (λ z. let z' : x ≡ 0 = z in let o' = odd.0 z' in absurd (omega arith)) (λ z. let z' : x ≡ 2 = z in subst (IsEdge o.takings) (sym end ∙ sym half) (batch_end o.takings _ _ (mine.taking (kind ∙ z') some_item))) x_is;
     }
 
-    marks : (p : ℕ) → o.freed ≤ p → p < o.freed + o.room → MarkTells r p (get_or (set s.words word m) (mark_word o.room p) 0)
+    marks : (p : ℕ) → o.freed ≤ p → p < o.freed + o.room → MarkSays r p (get_or (set s.words word m) (mark_word o.room p) 0)
     marks p from to = dite (ℕ_discrete p a)
-        (λ e. subst (MarkTells r p) (sym (ap (λ (z : ℕ). get_or (set s.words word m) z 0) (ap (mark_word o.room) e ∙ sym word_at) ∙ get_or-set_same s.words word m 0 (let l = shows.wide in let i = word_at in let n = wide in omega arith))) (subst (λ (z : ℕ). MarkTells r z m) (sym e) my_mark))
-        (λ ne. subst (MarkTells r p) (sym (get_or-set_other s.words word (mark_word o.room p) m 0 (λ e. let i = word_at in let h = to_head in let w = lawful.within in let f = from_freed in
+        (λ e. subst (MarkSays r p) (sym (ap (λ (z : ℕ). get_or (set s.words word m) z 0) (ap (mark_word o.room) e ∙ sym word_at) ∙ get_or-set_same s.words word m 0 (let l = shows.wide in let i = word_at in let n = wide in omega arith))) (subst (λ (z : ℕ). MarkSays r z m) (sym e) my_mark))
+        (λ ne. subst (MarkSays r p) (sym (get_or-set_other s.words word (mark_word o.room p) m 0 (λ e. let i = word_at in let h = to_head in let w = lawful.within in let f = from_freed in
         ne (one_place o.room o.freed p a from to f (omega arith) (let same : p % o.room ≡ a % o.room = omega arith in same))))) (let t = shows.marks p from to in record {
           up = λ e i c d. let q = t.up e i c d in let g = grow i in omega arith;
           back = λ e i c d. let q = t.back e i c d in let g = grow i in omega arith;
@@ -144,23 +145,33 @@ module _ (key : Shape) (n id : ℕ) (v : View) (x b : ℕ) (ys : List ℕ) (m : 
         (λ z. absurd (let z' : x ≡ 2 = z in let one = was p f t in let low = lawful.after p from in omega arith))
         x_is
 
-    told : (p e : ℕ) → IsBatch o.batches p e → p < e → o.taken ≤ p → 1 ≤ phase_at r p → get_or (set s.words word m) (mark_word o.room p) 0 ≡ 2 * e
-    told p e batch l from up = ⊎_elim
+    batch_mark : (p e : ℕ) → IsBatch o.batches p e → p < e → o.taken ≤ p → 1 ≤ phase_at r p → get_or (set s.words word m) (mark_word o.room p) 0 ≡ 2 * e
+    batch_mark p e batch l from up = ⊎_elim
         (λ y. let same = begins p e batch l from y.0 y.1 in let even = odd.0 same.0 in ap (λ (z : ℕ). get_or (set s.words word m) z 0) (ap (mark_word o.room) same.1 ∙ sym word_at) ∙ (get_or-set_same s.words word m 0 (let w = shows.wide in let i = word_at in let n' = wide in omega arith) ∙ (let is = same.2 in omega arith)))
         (λ out. let old = out_of p out in let c = claimed_at o lawful p (omega arith) in let f = freed_taken o lawful in let w = lawful.within in let h = to_head in let ff = from_freed in
         get_or-set_other s.words word (mark_word o.room p) m 0 (λ z. let i = word_at in out (let one : p ≡ a = one_place o.room o.freed p a (omega arith) (omega arith) ff (omega arith) (let same : p % o.room ≡ a % o.room = omega arith in same) in (omega arith, omega arith)))
-        ∙ shows.told p e batch l from (omega arith))
+        ∙ shows.batch_mark p e batch l from (omega arith))
         (is_in a b p)
 
-    told_back : (p e : ℕ) → IsBatch o.takings p e → p < e → o.freed ≤ p → 3 ≤ phase_at r p → get_or (set s.words word m) (mark_word o.room p) 0 ≡ 2 * e + 1
-    told_back p e batch l from up = ⊎_elim
+    -- where a batch was parted no run begins, and no taking that is not yet made
+    rest_mark : (p : ℕ) → IsParted o p → o.taken ≤ p → (e : ℕ) × IsRest o.batches p e × (get_or (set s.words word m) (mark_word o.room p) 0 ≡ 2 * e)
+    rest_mark p is from = let t = shows.rest_mark p is from in let w = lawful.parts p is in let up = w.1.2 in let c = claimed_at o lawful p up in let f = freed_taken o lawful in let i = lawful.within in let h = to_head in let ff = from_freed in (
+      t.0,
+      t.1,
+      get_or-set_other s.words word (mark_word o.room p) m 0 (λ z. let i' = word_at in let one : p ≡ a = one_place o.room o.freed p a (omega arith) (omega arith) ff (omega arith) (let same : p % o.room ≡ a % o.room = omega arith in same) in
+          let there = was a (omega arith) (omega arith) in let low = lawful.after p from in let same = ap (phase_at o) one in ⊎_elim (λ e. let e' : x ≡ 0 = e in omega arith) (λ e. let e' : x ≡ 2 = e in omega arith) x_is)
+          ∙ t.2,
+    )
+
+    taking_mark : (p e : ℕ) → IsBatch o.takings p e → p < e → o.freed ≤ p → 3 ≤ phase_at r p → get_or (set s.words word m) (mark_word o.room p) 0 ≡ 2 * e + 1
+    taking_mark p e batch l from up = ⊎_elim
         (λ y. ⊎_elim
         (λ z. absurd (let z' : x ≡ 0 = z in let one = in_range p y.0 y.1 in omega arith))
         (λ z. let same = one_batch o.takings p e a b batch (own_taking z) l y.0 y.1 in let is_odd = odd.1 z in ap (λ (z : ℕ). get_or (set s.words word m) z 0) (ap (mark_word o.room) same.0 ∙ sym word_at) ∙ (get_or-set_same s.words word m 0 (let w = shows.wide in let i = word_at in let n' = wide in omega arith) ∙ (let is = same.1 in omega arith)))
         x_is)
         (λ out. let old = out_of p out in let c = claimed_at o lawful p (omega arith) in let w = lawful.within in let h = to_head in let ff = from_freed in
         get_or-set_other s.words word (mark_word o.room p) m 0 (λ z. let i = word_at in out (let one : p ≡ a = one_place o.room o.freed p a (omega arith) (omega arith) ff (omega arith) (let same : p % o.room ≡ a % o.room = omega arith in same) in (omega arith, omega arith)))
-        ∙ shows.told_back p e batch l from (omega arith))
+        ∙ shows.taking_mark p e batch l from (omega arith))
         (is_in a b p)
 
     shows' : WordsShow r (set s.words word m)
@@ -170,8 +181,9 @@ module _ (key : Shape) (n id : ℕ) (v : View) (x b : ℕ) (ys : List ℕ) (m : 
       head = same_words head_word (omega arith) ∙ shows.head;
       tail = same_words tail_word (omega arith) ∙ shows.tail;
       free = same_words free_word (omega arith) ∙ shows.free;
-      told = told;
-      told_back = told_back;
+      batch_mark = batch_mark;
+      rest_mark = rest_mark;
+      taking_mark = taking_mark;
       unused = unused_kept (IsUsed o.room) s.words word m (by_mark a word_at) shows.unused;
       marks = marks;
     }
@@ -244,6 +256,11 @@ module _ (key : Shape) (n id : ℕ) (v : View) (x b : ℕ) (ys : List ℕ) (m : 
     shuts_of_own (inl z) = refl
     shuts_of_own (inr z) = refl
 
+    parts_of_own : (d : (x ≡ 0) ⊎ (x ≡ 2)) → length o.parted + (own_of d).parts ≡ length o.parted + v.own.parts
+    unfolding own_of
+    parts_of_own (inl z) = refl
+    parts_of_own (inr z) = refl
+
     own_now : OwnShows r own
     own_now = own_bare r own (runs_of x_is) (takes_of x_is) (held_of x_is)
 
@@ -265,6 +282,7 @@ module _ (key : Shape) (n id : ℕ) (v : View) (x b : ℕ) (ys : List ℕ) (m : 
         (is_in a b y))
         (listed_of x_is)
         (shuts_of_own x_is)
+        (parts_of_own x_is)
         (λ w stays step. (
           stays,
           record {

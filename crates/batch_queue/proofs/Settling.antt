@@ -1,5 +1,5 @@
 -- What is read of a closed table.
-use Rattle.batch_queue.proofs.Common.{AreInOrder, AreSolid, Batch, BatchState, Bool, Cell, ClosedNow, EndRecord, HeldSlots, Holds, IsBatch, IsRuled, IsSettled, IsWhole, List, Moment, OwnShows, Owned, POSITIONS, PartsShow, QueueView, Rule, SHUT, Shape, View, ViewsShow, WordsShow, [], ap, arith, at_map, concat, dec_lt, dite, drop, ends_word, entry_of, false, get_elem?, get_or, head_word, inl, item_of, items_of, left_from, left_is, length, line_of, map, mark, no_slots, nothing_did, part_of, phase_at, positions_of, refl, shuts_of, some, some-injective, some-ne-none, subst, suc, sym, tail_word, take, true, zero, ℕ, ℕ_discrete, ◌%◌, ◌+◌, ◌-◌, ◌<◌, ◌∙◌, ◌∷◌, ◌≡◌, ◌≢◌, ◌≤◌}
+use Rattle.batch_queue.proofs.Common.{parts_of, AreInOrder, AreSolid, Batch, BatchState, Bool, Cell, ClosedNow, EndRecord, HeldSlots, Holds, IsBatch, IsRuled, IsSettled, IsWhole, List, Moment, OwnShows, Owned, POSITIONS, PartsShow, QueueView, Rule, SHUT, Shape, View, ViewsShow, WordsShow, [], ap, arith, at_map, concat, dec_lt, dite, drop, ends_word, entry_of, false, get_elem?, get_or, head_word, inl, item_of, items_of, left_from, left_is, length, line_of, map, mark, no_slots, nothing_did, part_of, phase_at, positions_of, refl, shuts_of, some, some-injective, some-ne-none, subst, suc, sym, tail_word, take, true, zero, ℕ, ℕ_discrete, ◌%◌, ◌+◌, ◌-◌, ◌<◌, ◌∙◌, ◌∷◌, ◌≡◌, ◌≢◌, ◌≤◌}
 use Rattle.std.specs.Prelude.{Some, None}
 use Rattle.std.specs.List.{slice_get}
 use Rattle.std.proofs.lemmas.List.{drop_more, drop_all, take-map}
@@ -16,7 +16,7 @@ use Rattle.table_theory.proofs.Reading.{read_word}
 use Rattle.table_theory.proofs.Stepping.{closes as closed, rest_idle}
 use Rattle.table_theory.proofs.Totals.{sole_total}
 use Rattle.batch_queue.proofs.Growing.{freed_taken, taken_claimed}
-use Rattle.batch_queue.proofs.Grouping.{lines_are, taken_items}
+use Rattle.batch_queue.proofs.Grouping.{lines_are}
 use Rattle.batch_queue.proofs.Placing.{cells_items, cells_length}
 use Rattle.batch_queue.proofs.Stepping.{St}
 use Rattle.batch_queue.proofs.Whole.{Lists}
@@ -28,6 +28,10 @@ low_of n h false bounded is = omega arith
 told_entries : (log : List (Owned Batch)) → map entry_of (map (told line_of) log) ≡ map line_of (map entry_of log)
 told_entries [] = refl
 told_entries (o ∷ os) = ap (λ (z : Lists). line_of o.2 ∷ z) (told_entries os)
+
+no_part : (xs : List ℕ) → length xs ≡ 0 → xs ≡ []
+no_part [] e = refl
+no_part (x ∷ xs) e = absurd (omega arith)
 
 one_list : (l m : List Batch) (c : ℕ) → get_elem? (l ∷ []) c ≡ some m → m ≡ l
 one_list l m zero e = sym (some-injective l m e)
@@ -86,6 +90,7 @@ closes key v w id h t put ws slots left one_end bare tallied fin at_h at_t put_i
     let claimed = taken_claimed o lawful in let within = lawful.within in let behind = freed_taken o lawful in let bare_w : w.own.held ≡ no_slots = ap (λ (z : EndRecord). z.held) tallied.made.did ∙ bare in
     let listed = sole key s k id w here (ap (λ (z : Part). z.share) tallied.made.member ∙ c.whole) in let n = cells_length (items_of o) o.phases in let m = cells_items (items_of o) o.phases lawful.long in let own : OwnShows o w.own = k.owns id w here in
     let home : (p : ℕ) → o.taken ≤ p → p < length (items_of o) → get_or slots (p % o.room) 0 ≡ get_or (items_of o) p 0 = (λ p from below. read_word slots (p % o.room) _ (fin.4 (p % o.room) _ (left_home key s k id w here bare_w (λ i u at ne. (c.idle i u at ne).own) p from below))) in
+    let parted : w.own.parts ≡ length o.parted = sym (sole_total parts_of s.views id w here (λ i u has ne. (λ j. ((c.idle i u has ne).own j).parts))) ∙ k.parted_once in
     let is : left ≡ drop t (items_of o) = left_is ∙ ((λ i. left_from (sym k.room i) slots t (put - t)) ∙ (let x = put_is in left_all o.room (items_of o) slots (put - t) t (omega arith) (λ p from below. home p (omega arith) below))) in
     transport (λ i. ClosedNow (record v { own = tallied.made.did i; seen = c.now_is i }) put t left) record {
       whole = c.whole;
@@ -97,8 +102,9 @@ closes key v w id h t put ws slots left one_end bare tallied fin at_h at_t put_i
       left_is = is;
       settled = subst (λ (z : List ℕ). IsSettled z t (map line_of w.own.runs) (map line_of w.own.takes)) m (settled (part_of w) (positions_of o) t listed (omega arith) tl);
       batches = in_order o.batches (positions_of o).places listed.runs w.own.runs listed.runs_are lawful.solid own.runs m;
-      takings = in_order o.takings (take o.taken (positions_of o).places) listed.takes w.own.takes listed.takes_are lawful.solid_takings own.takes (sym (take-map item_of o.taken (positions_of o).places) ∙ (ap (take o.taken) m ∙ taken_items o.batches o.takings o.taken lawful.groups lawful.taken_is));
-      groups = lawful.groups;
+      takings = in_order o.takings (take o.taken (positions_of o).places) listed.takes w.own.takes listed.takes_are lawful.solid_takings own.takes (sym (take-map item_of o.taken (positions_of o).places) ∙ (ap (take o.taken) m ∙ sym lawful.items));
+      parts = parted;
+      groups = λ none. lawful.groups (no_part o.parted (sym parted ∙ none));
       shut_once = sym (sole_total shuts_of s.views id w here (λ i u has ne. (λ j. ((c.idle i u has ne).own j).shuts))) ∙ k.shut_once;
       listed = record { runs = listed.runs; takes = listed.takes; runs_are = listed.runs_are; takes_are = listed.takes_are };
     }

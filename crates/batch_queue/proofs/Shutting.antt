@@ -1,5 +1,5 @@
 -- The step that shuts the queue keeps the rule.
-use Rattle.batch_queue.proofs.Common.{Allows, BatchState, EndRecord, Grows, IsUsed, MarkTells, Me, OwnShows, Rule, SHUT, Shape, View, ap, arith, at_map, by_head, free_word, get_or, get_or-set_other, get_or-set_same, head_word, items_of, keeps, length, length-set, map, mark_word, nat_lt, none, part_of, positions_of, refl, shuts, step, subst, sym, tail_word, times_shut, unused_kept, was_shut, with_shut, with_shutting, ℕ, ◌+◌, ◌∙◌, ◌≡◌, ◌≤◌}
+use Rattle.batch_queue.proofs.Common.{Allows, BatchState, EndRecord, Grows, IsUsed, MarkSays, Me, OwnShows, Rule, SHUT, Shape, View, ap, arith, at_map, by_head, free_word, get_or, get_or-set_other, get_or-set_same, head_word, items_of, keeps, length, length-set, map, mark_word, nat_lt, none, part_of, positions_of, refl, shuts, step, subst, sym, tail_word, times_shut, unused_kept, was_shut, with_shut, with_shutting, ℕ, ◌+◌, ◌∙◌, ◌≡◌, ◌≤◌}
 use Rattle.table_theory.proofs.Positioned as positioned
 use Rattle.std.specs.Int.Bits.{bit_or}
 use Rattle.table_theory.proofs.Listing.{listed_shut}
@@ -19,9 +19,10 @@ shuts_head key n id me live s k _ at _ = let v : View = me.0 in let o : BatchSta
       head = get_or-set_same s.words head_word new 0 (omega arith) ∙ is;
       tail = get_or-set_other s.words head_word tail_word new 0 (λ e. omega arith) ∙ h.tail;
       free = get_or-set_other s.words head_word free_word new 0 (λ e. omega arith) ∙ h.free;
-      marks = λ p from to. subst (MarkTells r p) (sym (get_or-set_other s.words head_word (mark_word o.room p) new 0 (λ e. omega arith))) (let t = h.marks p from to in record { up = t.up; back = t.back; bound = t.bound; whole = t.whole; whole_back = t.whole_back });
-      told = λ p e b l from up. get_or-set_other s.words head_word (mark_word o.room p) new 0 (λ z. omega arith) ∙ h.told p e b l from up;
-      told_back = λ p e b l from up. get_or-set_other s.words head_word (mark_word o.room p) new 0 (λ z. omega arith) ∙ h.told_back p e b l from up;
+      marks = λ p from to. subst (MarkSays r p) (sym (get_or-set_other s.words head_word (mark_word o.room p) new 0 (λ e. omega arith))) (let t = h.marks p from to in record { up = t.up; back = t.back; bound = t.bound; whole = t.whole; whole_back = t.whole_back });
+      batch_mark = λ p e b l from up. get_or-set_other s.words head_word (mark_word o.room p) new 0 (λ z. omega arith) ∙ h.batch_mark p e b l from up;
+      rest_mark = λ p is from. let t = h.rest_mark p is from in (t.0, t.1, get_or-set_other s.words head_word (mark_word o.room p) new 0 (λ z. omega arith) ∙ t.2);
+      taking_mark = λ p e b l from up. get_or-set_other s.words head_word (mark_word o.room p) new 0 (λ z. omega arith) ∙ h.taking_mark p e b l from up;
       unused = unused_kept (IsUsed o.room) s.words head_word new (by_head refl) h.unused;
     }
     tt
@@ -31,4 +32,5 @@ shuts_head key n id me live s k _ at _ = let v : View = me.0 in let o : BatchSta
     (λ x below out. held_by s.views id x v at (k.owned x below out))
     (listed_shut (positions_of o) (map part_of s.views) id (part_of v) (record { queue = positions_of r; runs = v.own.runs; takes = v.own.takes }) k.listed (at_map part_of s.views id v at) refl refl (positioned.grows_refl (positions_of r)))
     (let m = shut_more o.shut (length (items_of o)) y h.head (omega arith) in let e : times_shut o + own.shuts ≡ 1 + v.own.shuts = omega arith in e)
+    refl
     (λ w stays step. (stays, refl, (k.now, step)))

@@ -1,5 +1,5 @@
 -- What every step keeps and tells, by the theory of tables.
-use Rattle.batch_queue.proofs.Common.{Act, Allows, Apart, BatchState, Becomes, EndRecord, Grows, Holds, HomeShows, IsHeld, IsHonest, IsReal, IsRuled, IsTable, IsUsed, List, MarkTells, Me, Moment, Option, OwnShows, Rule, Shape, Stands, State, Stays, Step, Stepped, Valid, View, ViewsShow, WordsShow, [], ap, arith, at_below, at_map, at_set, by_ends, carried_after, change, dec_le, dite, empty, ends_word, entries_real, finds, free_word, get_elem?, get_or, get_or-set_other, head_word, homes_after, inl, inr, items_of, length, length-set, listed_look, map, map-set, mark_word, none, nothing_did, of_batches, one_turn, part_of, phase_at, positions_of, refl, set, set_else, set_here, shuts, shuts_of, some, some-injective, step, subst, sym, tail_word, times_shut, total_kept, total_set, unused_kept, ℕ, ℕ_discrete, ⊎_elim, ◌%◌, ◌+◌, ◌<◌, ◌∙◌, ◌∷◌, ◌≡◌, ◌≢◌, ◌≤◌, ◌⊎◌}
+use Rattle.batch_queue.proofs.Common.{parts_of, Act, Allows, Apart, BatchState, Becomes, EndRecord, Grows, Holds, HomeShows, IsHeld, IsHonest, IsReal, IsRuled, IsTable, IsUsed, List, MarkSays, Me, Moment, Option, OwnShows, Rule, Shape, Stands, State, Stays, Step, Stepped, Valid, View, ViewsShow, WordsShow, [], ap, arith, at_below, at_map, at_set, by_ends, carried_after, change, dec_le, dite, empty, ends_word, entries_real, finds, free_word, get_elem?, get_or, get_or-set_other, head_word, homes_after, inl, inr, items_of, length, length-set, listed_look, map, map-set, mark_word, none, nothing_did, of_batches, one_turn, part_of, phase_at, positions_of, refl, set, set_else, set_here, shuts, shuts_of, some, some-injective, step, subst, sym, tail_word, times_shut, total_kept, total_set, unused_kept, ℕ, ℕ_discrete, ⊎_elim, ◌%◌, ◌+◌, ◌<◌, ◌∙◌, ◌∷◌, ◌≡◌, ◌≢◌, ◌≤◌, ◌⊎◌}
 use Rattle.table_theory.proofs.Stepping as ends
 use Rattle.table_theory.proofs.Tables as tables
 use Rattle.table_theory.specs.Positioned as pos
@@ -46,10 +46,11 @@ shows_count o words y h = record {
   head = get_or-set_other words ends_word head_word y 0 (λ e. omega arith) ∙ h.head;
   tail = get_or-set_other words ends_word tail_word y 0 (λ e. omega arith) ∙ h.tail;
   free = get_or-set_other words ends_word free_word y 0 (λ e. omega arith) ∙ h.free;
-  told = λ p e b l from up. get_or-set_other words ends_word (mark_word o.room p) y 0 (λ z. omega arith) ∙ h.told p e b l from up;
-  told_back = λ p e b l from up. get_or-set_other words ends_word (mark_word o.room p) y 0 (λ z. omega arith) ∙ h.told_back p e b l from up;
+  batch_mark = λ p e b l from up. get_or-set_other words ends_word (mark_word o.room p) y 0 (λ z. omega arith) ∙ h.batch_mark p e b l from up;
+  rest_mark = λ p is from. let t = h.rest_mark p is from in (t.0, t.1, get_or-set_other words ends_word (mark_word o.room p) y 0 (λ z. omega arith) ∙ t.2);
+  taking_mark = λ p e b l from up. get_or-set_other words ends_word (mark_word o.room p) y 0 (λ z. omega arith) ∙ h.taking_mark p e b l from up;
   unused = unused_kept (IsUsed o.room) words ends_word y (by_ends refl) h.unused;
-  marks = λ p from to. subst (MarkTells o p) (sym (get_or-set_other words ends_word (mark_word o.room p) y 0 (λ e. omega arith))) (h.marks p from to);
+  marks = λ p from to. subst (MarkSays o p) (sym (get_or-set_other words ends_word (mark_word o.room p) y 0 (λ e. omega arith))) (h.marks p from to);
 }
 
 -- the rule after a step that is no event
@@ -66,6 +67,7 @@ kept key s k words id number v w at own seen stands = (
     homes = k.homes;
     owns = views_set (λ u. OwnShows k.now.object u.own) s.views id w (subst (λ (z : EndRecord). OwnShows k.now.object z) (sym own) (k.owns id v at)) (λ j u e ne. k.owns j u e);
     shut_once = total_kept shuts_of s.views id v w at (λ i. (own i).shuts) ∙ k.shut_once;
+    parted_once = total_kept parts_of s.views id v w at (λ i. (own i).parts) ∙ k.parted_once;
     apart = apart_set s.views id w k.apart (λ j u e ne i a b. k.apart j id u v e at ne i a (subst (λ (z : EndRecord). Holds z.held i) own b));
     owned = λ i below out. held_now s.views id i v w at (⊎_elim (λ mine. inl (subst (λ (z : EndRecord). Holds z.held i) (sym own) mine)) (λ e. inr e) (held_by s.views id i v at (k.owned i below out)));
   },
@@ -109,9 +111,10 @@ module _ (key : Shape) (n id : ℕ) (me : Me ℕ View) (s : St) (k : Rule key s)
       → ((x : ℕ) → x < length (items_of o) → (phase_at o x ≡ 0) ⊎ (phase_at o x ≡ 2) → Holds own.held x ⊎ HeldElse s.views id x)
       → ViewsShow (positions_of o) (set (map part_of s.views) id (record { queue = positions_of o; runs = own.runs; takes = own.takes }))
       → times_shut k.now.object + own.shuts ≡ times_shut o + me.0.own.shuts
+      → length k.now.object.parted + own.parts ≡ length o.parted + me.0.own.parts
       → ((w : View) → Stays me.0 w → Stepped me.0 (change i (get_or s.words i 0) k.now o) own w → P (w, carried_after me.1 a)) → tables.Goes (table key) n id me s i y P
-  acts i y own o a P live beside b shows valid homes mine others owned listed shuts tells =
-      let w : View = ends.acted k.stands id me.0 at own i (get_or s.words i 0) o in let g = becomes_grows k.now.object o b in let t = total_set shuts_of s.views id me.0 w at in let once = k.shut_once in
+  acts i y own o a P live beside b shows valid homes mine others owned listed shuts parts tells =
+      let w : View = ends.acted k.stands id me.0 at own i (get_or s.words i 0) o in let g = becomes_grows k.now.object o b in let t = total_set shuts_of s.views id me.0 w at in let once = k.shut_once in let u = total_set parts_of s.views id me.0 w at in let parted = k.parted_once in
       let r : Rule key record { words = set s.words i y; homes = homes_after s.homes me.1 a; views = set s.views id w } = record {
         now = record k.now { object = o };
         room = g.room ∙ k.room;
@@ -121,6 +124,7 @@ module _ (key : Shape) (n id : ℕ) (me : Me ℕ View) (s : St) (k : Rule key s)
         homes = homes;
         owns = views_set (λ u. OwnShows o u.own) s.views id w mine (λ j u e ne. (others j u e ne).0);
         shut_once = omega arith;
+        parted_once = omega arith;
         apart = apart_set s.views id w k.apart (λ j u e ne. (others j u e ne).1);
         owned = λ x below out. held_now s.views id x me.0 w at (owned x below out);
       } in let ruled = ruled_now key (set s.words i y) (homes_after s.homes me.1 a) s id me.0 w at (r, refl) in (

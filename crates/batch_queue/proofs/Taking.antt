@@ -1,5 +1,5 @@
 -- One exchange of the tail takes all positions that were found published, and their slots with the items.
-use Rattle.batch_queue.proofs.Common.{Allows, Batch, BatchState, EndRecord, Grows, HasFound, HomeShows, IsBatch, IsEdge, IsUsed, Lawful, List, MarkTells, Me, Option, OwnShows, Positions, Rule, Shape, Stepped, View, ViewsShow, WordsShow, [], ap, append-nil, arith, at_map, at_snoc, by_tail, change, concat, drop, either, eqb, free_word, get_elem?, get_or, get_or-set_other, get_or-set_same, head_word, homes_after, inl, inr, items_of, length, length-drop, length-set, length-take-le, listed_take, map, mark_word, none, part_of, phase_at, positions_of, refl, set, slots_of, some, some-injective, some-ne-none, step, subst, suc, sym, tail_of, tail_word, take, take_all, takes_tail, taking, unused_kept, was_taken, with_take, with_taken, with_taking, zero, ℕ, ⊎_elim, ◌%◌, ◌+◌, ◌-◌, ◌<◌, ◌∙◌, ◌∷◌, ◌≡◌, ◌≢◌, ◌≤◌}
+use Rattle.batch_queue.proofs.Common.{Allows, Batch, BatchState, EndRecord, Grows, HasStop, HomeShows, IsBatch, IsStop, IsUsed, Lawful, List, MarkSays, Me, Option, OwnShows, Positions, Rule, Shape, Stepped, View, ViewsShow, WordsShow, [], ap, append-nil, arith, at_map, at_snoc, by_tail, change, concat, drop, either, eqb, free_word, get_elem?, get_or, get_or-set_other, get_or-set_same, head_word, homes_after, inl, inr, items_of, length, length-drop, length-set, length-take-le, listed_take, map, mark_word, none, part_of, phase_at, positions_of, refl, set, slots_of, some, some-injective, some-ne-none, step, subst, suc, sym, tail_of, tail_word, take, take_all, takes_tail, taking, unused_kept, was_taken, with_take, with_taken, with_taking, zero, ℕ, ⊎_elim, ◌%◌, ◌+◌, ◌-◌, ◌<◌, ◌∙◌, ◌∷◌, ◌≡◌, ◌≢◌, ◌≤◌}
 use Rattle.table_theory.proofs.Tables as tables
 use Rattle.table_theory.proofs.Positioned as positioned
 use Rattle.batch_queue.proofs.Placing as placing
@@ -8,6 +8,7 @@ use Rattle.batch_queue.proofs.Growing.{becomes_grows, claimed_at, freed_taken, p
 use Rattle.batch_queue.proofs.Owning.{own_on}
 use Rattle.batch_queue.proofs.Ranges.{is_in, range_in, range_out}
 use Rattle.batch_queue.proofs.Stepping.{St, acts, first_room, found, held_by, one_place, table}
+use Rattle.batch_queue.proofs.Stops.{stop_on}
 use Rattle.batch_queue.proofs.Whole.{batch_end, batch_on, concat_grows, edge_on, last_batch, last_or}
 
 part_at : (items : List ℕ) (from n i y : ℕ) → get_elem? (take n (drop from items)) i ≡ some y → y ≡ get_or items (from + i) 0
@@ -24,7 +25,7 @@ at_within [] i y e = absurd (some-ne-none y (sym e))
 at_within (x ∷ xs) zero y e = omega arith
 at_within (x ∷ xs) (suc i) y e = let h = at_within xs i y e in omega arith
 
-module _ (key : Shape) (n id : ℕ) (v : View) (tail new : ℕ) (some_item : tail < new) (up : HasFound v tail new) (live : 1 ≤ v.member.ends) (empty_held : v.own.held.count ≡ 0) where
+module _ (key : Shape) (n id : ℕ) (v : View) (tail new : ℕ) (some_item : tail < new) (up : HasStop v tail new) (live : 1 ≤ v.member.ends) (empty_held : v.own.held.count ≡ 0) where
   module _ (s : St) (k : Rule key s) (at : get_elem? s.views id ≡ some v) (hit : get_or s.words tail_word 0 ≡ tail) where
     abbrev o : BatchState
     o = k.now.object
@@ -47,8 +48,8 @@ module _ (key : Shape) (n id : ℕ) (v : View) (tail new : ℕ) (some_item : tai
     was : (i : ℕ) → o.taken ≤ i → i < new → phase_at o i ≡ 1
     was i from to = let e = tail_is in let a = lawful.after i from in let g = later.taken in ⊎_elim (λ l. absurd (let l' : tail < v.seen.object.taken = l in omega arith)) (λ f. let u = f.0 i (omega arith) to in let p = later.phases i in omega arith) up
 
-    edge : IsEdge o.batches new
-    edge = let e = tail_is in let g = later.taken in ⊎_elim (λ l. absurd (let l' : tail < v.seen.object.taken = l in omega arith)) (λ f. edge_on v.seen.object.batches o.batches later.more.0 new later.more.1 f.1) up
+    stop : IsStop o new
+    stop = let e = tail_is in let g = later.taken in ⊎_elim (λ l. absurd (let l' : tail < v.seen.object.taken = l in omega arith)) (λ f. stop_on v.seen.object o later new f.1) up
 
     below : new ≤ length (items_of o)
     below = let e = tail_is in let u = was (new - 1) (omega arith) (omega arith) in let c = claimed_at o lawful (new - 1) (omega arith) in omega arith
@@ -106,17 +107,18 @@ module _ (key : Shape) (n id : ℕ) (v : View) (tail new : ℕ) (some_item : tai
       head = same_words head_word (λ e. omega arith) ∙ shows.head;
       tail = get_or-set_same s.words tail_word new 0 (let w = shows.wide in omega arith);
       free = same_words free_word (λ e. omega arith) ∙ shows.free;
-      told = λ p e b l from phase. same_words (mark_word o.room p) (λ z. omega arith) ∙ shows.told p e b l (let t = tail_is in omega arith) (let q = out_of p (λ y. let y1 = y.1 in omega arith) in omega arith);
-      marks = λ p from to. subst (MarkTells r p) (sym (same_words (mark_word o.room p) (λ e. omega arith))) (let t = shows.marks p from to in record {
+      batch_mark = λ p e b l from phase. same_words (mark_word o.room p) (λ z. omega arith) ∙ shows.batch_mark p e b l (let t = tail_is in omega arith) (let q = out_of p (λ y. let y1 = y.1 in omega arith) in omega arith);
+      marks = λ p from to. subst (MarkSays r p) (sym (same_words (mark_word o.room p) (λ e. omega arith))) (let t = shows.marks p from to in record {
         up = λ e i c d. let q = t.up e i c d in let g = grow i in omega arith;
         back = λ e i c d. let q = t.back e i c d in let g = grow i in omega arith;
         bound = t.bound;
         whole = t.whole;
         whole_back = λ e l. edge_on o.takings r.takings (r_part ∷ []) _ refl (t.whole_back e l);
       });
-      told_back = λ p e b l from phase. same_words (mark_word o.room p) (λ z. omega arith) ∙ ⊎_elim
+      rest_mark = λ p is from. let t = shows.rest_mark p is (let t = tail_is in omega arith) in (t.0, t.1, same_words (mark_word o.room p) (λ z. omega arith) ∙ t.2);
+      taking_mark = λ p e b l from phase. same_words (mark_word o.room p) (λ z. omega arith) ∙ ⊎_elim
           (λ t. let inside = batch_end o.takings p e (record { before = b.before; batch = b.batch; rest = t.0; all = t.1; at = b.at; end = b.end }) in let below_taken = concat_grows inside.before o.takings inside.rest inside.all in let at = inside.at in let ti = lawful.taken_is in
-          shows.told_back p e (record { before = b.before; batch = b.batch; rest = t.0; all = t.1; at = b.at; end = b.end }) l from (let q = out_of p (λ y. let y0 = y.0 in omega arith) in omega arith))
+          shows.taking_mark p e (record { before = b.before; batch = b.batch; rest = t.0; all = t.1; at = b.at; end = b.end }) l from (let q = out_of p (λ y. let y0 = y.0 in omega arith) in omega arith))
           (λ t. absurd (let a = b.at in let s = ap (λ (z : List (List ℕ)). length (concat z)) t.0 in let ti = lawful.taken_is in let tl = tail_is in let q = in_range p (omega arith) (let long = ap length t.1 in let m = many_part in let e' = b.end in omega arith) in omega arith))
           (last_or o.takings r_part b.before b.batch b.rest b.all);
       unused = unused_kept (IsUsed o.room) s.words tail_word new (by_tail refl) shows.unused;
@@ -132,7 +134,7 @@ module _ (key : Shape) (n id : ℕ) (v : View) (tail new : ℕ) (some_item : tai
         (listed_take q (map part_of s.views) id (new - tail) (part_of v) (record { queue = with_take q (new - tail); runs = own.runs; takes = own.takes }) k.listed (at_map part_of s.views id v at) (omega arith) (omega arith) refl refl (positioned.grows_refl (with_take q (new - tail))))
 
     grows : Grows o r
-    grows = becomes_grows o r (was_taken new (let e = tail_is in omega arith) below edge was refl)
+    grows = becomes_grows o r (was_taken new (let e = tail_is in omega arith) below stop was refl)
 
     my_taking : (n : ℕ) → n ≡ new - o.taken → IsBatch r.takings o.taken (o.taken + n)
     my_taking n is = last_batch o.takings r_part o.taken n lawful.taken_is (many_part ∙ sym is)
@@ -159,7 +161,7 @@ module _ (key : Shape) (n id : ℕ) (v : View) (tail new : ℕ) (some_item : tai
 
     goes : tables.Goes (table key) n id (v, []) s tail_word new (takes_tail (step n tail_word tail new none) (v, []) (get_or s.words tail_word 0))
     goes = acts key n id (v, []) s k at tail_word new own r (take_all (slots_of o.room tail ys)) (takes_tail (step n tail_word tail new none) (v, []) (get_or s.words tail_word 0)) live (λ e. omega arith)
-        (was_taken new (let e = tail_is in omega arith) below edge was refl)
+        (was_taken new (let e = tail_is in omega arith) below stop was refl)
         shows'
         (can_take o.room tail ys s.homes [] fits at_home)
         homes
@@ -175,13 +177,13 @@ module _ (key : Shape) (n id : ℕ) (v : View) (tail new : ℕ) (some_item : tai
         (is_in o.taken new x))
         listed
         refl
+        refl
         (λ w stays step. (
           stays,
           (λ e. record {
             at = k.now;
             tail_is = tail_is;
-            edge = subst (IsEdge o.batches) tail_is lawful.edge;
-            new_edge = edge;
+            stop = stop;
             step = subst (λ (z : ℕ). Stepped v (change tail_word z k.now r) own w) hit step;
             slots = take_carries o.room tail ys [] ∙ (append-nil (slots_of o.room tail ys) ∙ ap (λ (z : ℕ). slots_of z tail ys) (sym (first_room key s k id v at)));
           }),
@@ -193,7 +195,7 @@ module _ (key : Shape) (n id : ℕ) (v : View) (tail new : ℕ) (some_item : tai
       (λ s k at hit. goes s k at hit)
       (λ s k at miss r. let f = found key n id (v, []) s k at tail_word r in (f.0, (λ hit. absurd (miss hit)), λ _. (f.1, f.2)))
 
-pub takes : (key : Shape) (n id : ℕ) (me : Me ℕ View) (tail new : ℕ) → tail < new → HasFound me.0 tail new → 1 ≤ me.0.member.ends → me.0.own.held.count ≡ 0 → me.1 ≡ []
+pub takes : (key : Shape) (n id : ℕ) (me : Me ℕ View) (tail new : ℕ) → tail < new → HasStop me.0 tail new → 1 ≤ me.0.member.ends → me.0.own.held.count ≡ 0 → me.1 ≡ []
     → Allows (Rule key) n id me tail_word (λ x. either (eqb x tail) new x) (takes_tail (step n tail_word tail new none) me)
 takes key n id me tail new some_item up live held_is bare =
     subst (λ (c : List (ℕ × ℕ)). Allows (Rule key) n id (me.0, c) tail_word (λ x. either (eqb x tail) new x) (takes_tail (step n tail_word tail new none) (me.0, c))) (sym bare) (takes_bare key n id me.0 tail new some_item up live held_is)

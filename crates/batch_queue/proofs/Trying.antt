@@ -111,16 +111,16 @@ put_error room count v u w (Err e) t h = why_put room count v u w e t h
 
 -- what was put, and that nothing else was, of the whole call
 looks_lines : (v u : View) (xs : List (Step BatchState)) → Looks v xs u → SameLines v u
-looks_lines v u xs h = let own = looks_own v u xs h in record { puts = (λ k. map line_of (own k).runs); takes = (λ k. map line_of (own k).takes); share = ap (λ (z : Part). z.share) (looks_adds v u xs h).1 }
+looks_lines v u xs h = let own = looks_own v u xs h in (record { puts = (λ k. map line_of (own k).runs); takes = (λ k. map line_of (own k).takes); share = ap (λ (z : Part). z.share) (looks_adds v u xs h).1 }, λ k. (own k).parts)
 
 same_then : (v u w : View) → SameLines v u → SameLines u w → SameLines v w
-same_then v u w a b = record { puts = b.puts ∙ a.puts; takes = b.takes ∙ a.takes; share = b.share ∙ a.share }
+same_then v u w a b = (record { puts = b.0.puts ∙ a.0.puts; takes = b.0.takes ∙ a.0.takes; share = b.0.share ∙ a.0.share }, b.1 ∙ a.1)
 
 put_then : (line : List ℕ) (v u w : View) → SameLines v u → PutLine line u w → PutLine line v w
-put_then line v u w a b = record { puts = b.puts ∙ (λ k. a.puts k ++ line ∷ []); takes = b.takes ∙ a.takes; share = b.share ∙ a.share }
+put_then line v u w a b = (record { puts = b.0.puts ∙ (λ k. a.0.puts k ++ line ∷ []); takes = b.0.takes ∙ a.0.takes; share = b.0.share ∙ a.0.share }, b.1 ∙ a.1)
 
 pub took_then : (line : List ℕ) (v u w : View) → SameLines v u → TookLine line u w → TookLine line v w
-took_then line v u w a b = record { puts = b.puts ∙ a.puts; takes = b.takes ∙ (λ k. a.takes k ++ line ∷ []); share = b.share ∙ a.share }
+took_then line v u w a b = (record { puts = b.0.puts ∙ a.0.puts; takes = b.0.takes ∙ (λ k. a.0.takes k ++ line ∷ []); share = b.0.share ∙ a.0.share }, b.1 ∙ a.1)
 
 pub put_effect : (room : ℕ) (items : List ℕ) (v u w : View) (r : Result ℕ PutRefusal) → Tried room (length items) v u → MatchResult r (λ start. PutLine items u w) (λ e. SameLines u w) → MatchResult r (λ start. PutLine items v w) (λ e. SameLines v w)
 put_effect room items v u w (Ok start) (tries, all, a) h = put_then items v u w (looks_lines v u (tried tries) a) h
@@ -192,7 +192,7 @@ take_error room most v u w (Ok n) t h = h
 take_error room most v u w (Err e) t h = why_taken room most v u w e t h
 
 waited_lines : (room most : ℕ) (v u : View) → Waited room most v u → SameLines v u
-waited_lines room most v u (tries, all, a) = record { puts = (λ k. map line_of (a.did k).runs); takes = (λ k. map line_of (a.did k).takes); share = ap (λ (z : Part). z.share) a.member }
+waited_lines room most v u (tries, all, a) = (record { puts = (λ k. map line_of (a.did k).runs); takes = (λ k. map line_of (a.did k).takes); share = ap (λ (z : Part). z.share) a.member }, λ k. (a.did k).parts)
 
 pub take_effect : (room most : ℕ) (old now new : List ℕ) (v u w : View) (r : Result ℕ TakeRefusal) → now ≡ old → Waited room most v u → MatchResult r (λ n. FilledBuffer n now new u w) (λ e. SameLines u w × (new ≡ now)) → MatchResult r (λ n. FilledBuffer n old new v w) (λ e. SameLines v w × (new ≡ old))
 take_effect room most old now new v u w (Ok n) same t h = record { line = h.line; some_item = h.some_item; long = h.long; buffer = h.buffer ∙ ap (λ (z : List ℕ). h.line ++ drop n z) same; took = took_then h.line v u w (waited_lines room most v u t) h.took }

@@ -1,5 +1,5 @@
 -- What a walk along the marks finds.
-use Rattle.batch_queue.proofs.Common.{BatchState, Found, Grows, IsEdge, IsReal, IsRuled, IsSame, IsSeated, Lawful, List, Made, MarkTells, Moment, Stays, Step, View, WordsShow, [], add-mod_right, ap, append-nil, arith, concat, dec_le, dec_lt, dite, get_or, inl, inr, items_of, length, load, mark_word, of_batches, phase_at, refl, subst, suc, sym, zero, ℕ, ⊎_elim, ◌%◌, ◌++◌, ◌+◌, ◌/◌, ◌<◌, ◌∙◌, ◌∷◌, ◌≡◌, ◌≤◌}
+use Rattle.batch_queue.proofs.Common.{IsStop, IsRest, ◌⊎◌, BatchState, Found, Grows, IsEdge, IsReal, IsRuled, IsSame, IsSeated, Lawful, List, Made, MarkSays, Moment, Stays, Step, View, WordsShow, [], add-mod_right, ap, append-nil, arith, concat, dec_le, dec_lt, dite, get_or, inl, inr, items_of, length, load, mark_word, of_batches, phase_at, refl, subst, suc, sym, zero, ℕ, ⊎_elim, ◌%◌, ◌++◌, ◌+◌, ◌/◌, ◌<◌, ◌∙◌, ◌∷◌, ◌≡◌, ◌≤◌}
 use Rattle.atomic_table.specs.Seated.{TableId}
 use Rattle.atomic_table.specs.declared.shared.Seat.{Seat}
 use Rattle.table_theory.proofs.Parting.{made_none, made_then}
@@ -36,9 +36,9 @@ found_real v w word r f = step_real v w (load word r w.seen) v.own f
 -- THE MARKS
 
 -- a mark of a position of the window, or of the position behind it, that leads on says what it says
-pub told : (o : BatchState) (words : List ℕ) (p m : ℕ) → Lawful o → WordsShow o words → o.freed ≤ p → p ≤ length (items_of o) → get_or words (mark_word o.room p) 0 ≡ m → p < m / 2 → MarkTells o p m
-told o words p m l h from to is on = dite (dec_lt p (o.freed + o.room))
-    (λ y. subst (MarkTells o p) is (h.marks p from y))
+pub mark_at : (o : BatchState) (words : List ℕ) (p m : ℕ) → Lawful o → WordsShow o words → o.freed ≤ p → p ≤ length (items_of o) → get_or words (mark_word o.room p) 0 ≡ m → p < m / 2 → MarkSays o p m
+mark_at o words p m l h from to is on = dite (dec_lt p (o.freed + o.room))
+    (λ y. subst (MarkSays o p) is (h.marks p from y))
     (λ far. (let w = l.within in let room = l.some_room in let e : p ≡ o.freed + o.room = omega arith in
     let same : mark_word o.room o.freed ≡ mark_word o.room p = ap (λ (z : ℕ). z + 48) (sym (add-mod_right o.freed o.room) ∙ ap (λ (z : ℕ). z % o.room) (sym e)) in
     let old = (h.marks o.freed (omega arith) (omega arith)).bound in let is' : get_or words (mark_word o.room o.freed) 0 ≡ m = ap (λ (z : ℕ). get_or words z 0) same ∙ is in
@@ -64,20 +64,26 @@ passed_grows (suc parity) v w from to g h = ⊎_elim
     (λ f. inr ((λ i a b. let x = f.0 i a b in let p = g.phases i in omega arith), edge_on v.seen.object.takings w.seen.object.takings g.takings.0 to g.takings.1 f.1))
     h
 
+-- from here to there all was found published, or the tail has passed
+pub up_more : (room : ℕ) (v w : View) (base p mark : ℕ) → base ≤ p → base ≤ v.seen.object.taken → (base < v.seen.object.taken) ⊎ ((i : ℕ) → base ≤ i → i < p → 1 ≤ phase_at v.seen.object i) → Found v (mark_word room p) mark w → w.first.room ≡ room → LeadsOn 0 p mark
+    → (base < w.seen.object.taken) ⊎ (((i : ℕ) → base ≤ i → i < mark / 2 → 1 ≤ phase_at w.seen.object i) × IsStop w.seen.object p × IsRest w.seen.object.batches p (mark / 2))
+up_more room v w base p mark on started h f rooms leads = let o : BatchState = w.seen.object in let r = found_real v w (mark_word room p) mark f in let g = f.grows in let l = r.lawful in let same : o.room ≡ room = seen_room w f.ruled ∙ rooms in let t = g.taken in
+    dite (dec_lt base o.taken) (λ past. inl past) (λ here. ⊎_elim
+    (λ past. absurd (let l' : base < v.seen.object.taken = past in omega arith))
+    (λ was. (let all : (i : ℕ) → base ≤ i → i < p → 1 ≤ phase_at o i = (λ i a b. let x = was i a b in let q = g.phases i in omega arith) in let a = freed_taken o l in let b = taken_claimed o l in
+    let m = mark_at o r.words p mark l r.shows (omega arith) (up_claimed o l base p (omega arith) all) (ap (λ (z : ℕ). get_or r.words (mark_word z p) 0) same ∙ sym r.is) leads.1 in let whole = m.whole leads.0 leads.1 in
+    inr ((λ i c d. dite (dec_lt i p) (λ low. all i c low) (λ high. m.up leads.0 i (omega arith) d)), whole.0, whole.1)))
+    h)
+
 -- one mark more was passed
 pub passed_more : (parity room : ℕ) (v w : View) (base p mark : ℕ) → parity ≤ 1 → base ≤ p → Starts parity v base → Passed parity v base p → Found v (mark_word room p) mark w → w.first.room ≡ room → LeadsOn parity p mark → Passed parity w base (mark / 2)
-passed_more zero room v w base p mark low on started h f rooms leads = let o : BatchState = w.seen.object in let r = found_real v w (mark_word room p) mark f in let g = f.grows in let l = r.lawful in let same : o.room ≡ room = seen_room w f.ruled ∙ rooms in
-    ⊎_elim
-    (λ past. inl past)
-    (λ all. dite (dec_lt base o.taken) (λ past. inl past) (λ here. (let t = g.taken in let a = freed_taken o l in let b = taken_claimed o l in
-    let m = told o r.words p mark l r.shows (omega arith) (up_claimed o l base p (omega arith) all.0) (ap (λ (z : ℕ). get_or r.words (mark_word z p) 0) same ∙ sym r.is) leads.1 in
-    inr ((λ i c d. dite (dec_lt i p) (λ low. all.0 i c low) (λ high. m.up leads.0 i (omega arith) d)), m.whole leads.0 leads.1))))
-    (passed_grows zero v w base p g h)
+passed_more zero room v w base p mark low on started h f rooms leads = ⊎_elim (λ past. inl past) (λ u. inr (u.0, batch_end w.seen.object.batches _ _ u.2.batch))
+    (up_more room v w base p mark on started (⊎_elim (λ past. inl past) (λ all. inr all.0) h) f rooms leads)
 passed_more (suc zero) room v w base p mark low on started h f rooms leads = let o : BatchState = w.seen.object in let r = found_real v w (mark_word room p) mark f in let g = f.grows in let l = r.lawful in let same : o.room ≡ room = seen_room w f.ruled ∙ rooms in
     ⊎_elim
     (λ past. inl past)
     (λ all. dite (dec_lt base o.freed) (λ past. inl past) (λ here. (let t = g.freed in let a = freed_taken o l in let b = taken_claimed o l in
-    let m = told o r.words p mark l r.shows (omega arith) (up_claimed o l base p (omega arith) (λ i c d. let x = all.0 i c d in omega arith)) (ap (λ (z : ℕ). get_or r.words (mark_word z p) 0) same ∙ sym r.is) leads.1 in
+    let m = mark_at o r.words p mark l r.shows (omega arith) (up_claimed o l base p (omega arith) (λ i c d. let x = all.0 i c d in omega arith)) (ap (λ (z : ℕ). get_or r.words (mark_word z p) 0) same ∙ sym r.is) leads.1 in
     inr ((λ i c d. dite (dec_lt i p) (λ low. all.0 i c low) (λ high. m.back leads.0 i (omega arith) d)), m.whole_back leads.0 leads.1))))
     (passed_grows (suc zero) v w base p g h)
 passed_more (suc (suc n)) room v w base p mark low on started h f rooms leads = absurd (omega arith)
@@ -94,7 +100,7 @@ pub not_given : (o : BatchState) (words : List ℕ) (base p mark : ℕ) → Lawf
 not_given o words base p mark l h free on all edge is short = (
   (λ i below. dite (dec_lt i base) (λ low. l.behind i (omega arith)) (λ high. all i (omega arith) below)),
   dite (dec_lt (phase_at o p) 3) (λ low. low) (λ up. (let within = dite (dec_lt p o.taken) (λ y. y) (λ far. (let a = l.after p (omega arith) in absurd (omega arith))) in let total = l.taken_is in
-      let t = edge_batch o.takings p edge (omega arith) in let word = h.told_back p t.0 t.1 t.2 (omega arith) (omega arith) in let less = t.2 in
+      let t = edge_batch o.takings p edge (omega arith) in let word = h.taking_mark p t.0 t.1 t.2 (omega arith) (omega arith) in let less = t.2 in
       let end : t.0 ≤ o.taken = (let b = edge_within o.takings t.0 (batch_end o.takings p t.0 t.1) in omega arith) in let c = taken_claimed o l in let w = l.within in let e = sym is ∙ word in
       absurd (short (omega arith, omega arith) (omega arith)))),
 )

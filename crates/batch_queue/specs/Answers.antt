@@ -6,7 +6,7 @@ use Rattle.batch_queue.specs.declared.refusals.PutRefusal.TheVariants as not_put
 use Rattle.batch_queue.specs.declared.refusals.TakeRefusal.{TakeRefusal}
 use Rattle.batch_queue.specs.declared.refusals.TakeRefusal.TheVariants as not_taken
 use Rattle.batch_queue.specs.Moments.{WasSo, Changed, claimed, IsGivenBackTo}
-use Rattle.batch_queue.specs.Object.{phase_at, IsBatch}
+use Rattle.batch_queue.specs.Object.{phase_at, IsRest, IsStop}
 use Rattle.batch_queue.specs.Own.{View}
 
 -- why none of up to `want` items were claimed, and no fewer than `least`
@@ -35,6 +35,6 @@ abbrev pub WhyNotTaken : View → ℕ → TakeRefusal → View → Type 0
 WhyNotTaken v most (not_taken.Empty at) w = WasSo v w (λ o. (o.taken ≡ at) × (phase_at o at ≡ 0))
     × WasSo v w (λ o. o.shut ≡ true → o.taken < claimed o)
 WhyNotTaken v most (not_taken.ShortBuffer at count) w = (most < count)
-    × WasSo v w (λ o. (o.taken ≡ at) × IsBatch o.batches at (at + count) × (phase_at o at ≡ 1))
+    × WasSo v w (λ o. (o.taken ≡ at) × IsStop o at × IsRest o.batches at (at + count) × (phase_at o at ≡ 1))
 WhyNotTaken v most (not_taken.Lost tail) w = Changed v w (λ o later. (o.taken < later.taken) × (later.taken ≡ tail))
 WhyNotTaken v most not_taken.Closed w = WasSo v w (λ o. (o.shut ≡ true) × (o.taken ≡ claimed o))

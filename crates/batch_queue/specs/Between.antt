@@ -25,7 +25,7 @@ use Rattle.batch_queue.specs.Layout.{head_word, tail_word, free_word, ends_word,
 use Rattle.batch_queue.specs.Object.{Lawful, Grows, empty}
 use Rattle.batch_queue.specs.Own.{View, nothing_did, of_batches}
 use Rattle.batch_queue.specs.Placed.{positions_of}
-use Rattle.batch_queue.specs.Rules.{shuts_of}
+use Rattle.batch_queue.specs.Rules.{shuts_of, parts_of}
 use Rattle.batch_queue.specs.Shown.{WordsShow}
 
 -- How the run with the number k is shown, which is e. All its items are raised, or none. If they are, and not taken,
@@ -58,14 +58,14 @@ pub record IsShown (key : Shape) (s : State ℕ View) (c : Queue) : Type 0 where
   pub bounded : length (flat c.history) < POSITIONS
   pub head : slice_index_or s.words head_word 0 ≡ length (flat c.history) + mark c.shut
   pub tail : slice_index_or s.words tail_word 0 ≡ c.taken
-  -- the window begins no later than the tail, and has all that is claimed behind it
+  -- the window begins no later than the tail, and has all that is claimed from there on
   pub free : slice_index_or s.words free_word 0 ≤ c.taken
   pub within : length (flat c.history) ≤ slice_index_or s.words free_word 0 + key.room
   -- a word that is neither the head's, the tail's, the free position's, that of the ends nor a mark is 0
   pub unused : AreZero (IsUsed key.room) s.words
 
--- There is a lawful queue that is shown. Its runs are the batches, and its takings are batches in groups, each in the
--- order of claims
+-- There is a lawful queue that is shown. Its runs are the batches, and its takings are the first items, each in the
+-- order of claims. If no end parted a batch, the takings are batches in groups
 pub record ShowsQueue (key : Shape) (s : State ℕ View) : Type 0 where
   pub now : Moment BatchState
   pub state_lawful : Lawful now.object
@@ -81,6 +81,7 @@ pub record ShowsQueue (key : Shape) (s : State ℕ View) : Type 0 where
   pub seen : (j : ℕ) (v : View) → get_elem? s.views j ≡ some v → Grows v.seen.object now.object
   -- one end has shut the queue if it is shut, and none if it is open
   pub shut_once : total shuts_of s.views ≡ (if queue.shut then 1 else 0)
+  pub parted_once : total parts_of s.views ≡ length now.object.parted
   -- the word has the number of the ends that exist
   pub number : slice_index_or s.words ends_word 0 ≡ now.ends
 

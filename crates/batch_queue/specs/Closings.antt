@@ -7,7 +7,7 @@ use Rattle.table_theory.specs.Sharing.{IsWhole}
 use Rattle.batch_queue.specs.declared.layout.TheConstants.{SHUT}
 use Rattle.batch_queue.specs.declared.rule.BatchState.{BatchState}
 use Rattle.batch_queue.specs.Layout.{head_word}
-use Rattle.batch_queue.specs.Lines.{lines_put, lines_taken, AreInOrder, IsSettled}
+use Rattle.batch_queue.specs.Lines.{lines_put, lines_taken, times_parted, AreInOrder, IsSettled}
 use Rattle.batch_queue.specs.Object.{items_of, with_shut, AreGroups}
 use Rattle.batch_queue.specs.Own.{View, part_of, with_shutting}
 use Rattle.batch_queue.specs.Placed.{positions_of}
@@ -20,7 +20,8 @@ ShutNow v was_open w = (head : ℕ) × (m : Moment BatchState) × (was_open ≡ 
 
 -- The queue is closed, by an end that has the whole and so has seen all of it, and each split was joined. The items put
 -- are those taken and then those left, no more than the queue has places. The batches put are the queue's, each once,
--- and the lines taken are its first batches in groups, each once: so each batch was taken whole, or is left whole
+-- and the lines taken are its first items in order, each once. If no end parted a batch, they are the first batches in
+-- groups: so each batch was taken whole, or is left whole
 pub record ClosedNow (v : View) (put taken : ℕ) (left : List ℕ) : Type 0 where
   pub whole : IsWhole v.member.share
   pub sole : v.seen.ends ≡ 1
@@ -32,6 +33,7 @@ pub record ClosedNow (v : View) (put taken : ℕ) (left : List ℕ) : Type 0 whe
   pub settled : IsSettled (items_of v.seen.object) taken (lines_put v) (lines_taken v)
   pub batches : AreInOrder v.seen.object.batches (lines_put v)
   pub takings : AreInOrder v.seen.object.takings (lines_taken v)
-  pub groups : AreGroups v.seen.object.batches v.seen.object.takings
+  pub parts : times_parted v ≡ length v.seen.object.parted
+  pub groups : times_parted v ≡ 0 → AreGroups v.seen.object.batches v.seen.object.takings
   pub shut_once : v.own.shuts ≡ times_shut v.seen.object
   pub listed : PartsShow (positions_of v.seen.object) (part_of v ∷ [])

@@ -19,3 +19,4 @@ pub mod Puts
 pub mod Takings
 pub mod Raises
 pub mod Hints
+pub mod Parts

@@ -14,17 +14,21 @@ lines_put v = map line_of v.own.runs
 abbrev pub lines_taken : View → List (List ℕ)
 lines_taken v = map line_of v.own.takes
 
--- nothing was put and nothing taken, and the end has the share that it had
+-- how often the end parted a batch, so that a taking could end within it
+abbrev pub times_parted : View → ℕ
+times_parted v = v.own.parts
+
+-- nothing was put and nothing taken, no batch was parted, and the end has the share that it had
 abbrev pub SameLines : View → View → Type 0
-SameLines v w = lines.SameLines lines_put lines_taken v w
+SameLines v w = lines.SameLines lines_put lines_taken v w × (times_parted w ≡ times_parted v)
 
--- one batch more was put, and the end has the share that it had
+-- one batch more was put, none was parted, and the end has the share that it had
 abbrev pub PutLine : List ℕ → View → View → Type 0
-PutLine line v w = lines.PutLine lines_put lines_taken line v w
+PutLine line v w = lines.PutLine lines_put lines_taken line v w × (times_parted w ≡ times_parted v)
 
--- one line more was taken, and the end has the share that it had
+-- one line more was taken, no batch was parted, and the end has the share that it had
 abbrev pub TookLine : List ℕ → View → View → Type 0
-TookLine line v w = lines.TookLine lines_put lines_taken line v w
+TookLine line v w = lines.TookLine lines_put lines_taken line v w × (times_parted w ≡ times_parted v)
 
 -- these lines, each once, in an order
 pub record AreInOrder (ordered lines : List (List ℕ)) : Type 0 where

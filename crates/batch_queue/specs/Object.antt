@@ -2,6 +2,8 @@
 use Rattle.std.specs.Prelude.{◌≡◌, ◌⊎◌, ℕ, zero, suc, ◌+◌, ◌<◌, ◌≤◌, List, [], ◌∷◌, ◌++◌, length, replicate}
 use Rattle.std.specs.Prelude.{◌-◌, slice_index_or, map, take, drop, true, false}
 use Rattle.std.specs.List.{concat, flat_map}
+use mathlib.Core.Option.{some}
+use lib.ListN.{get_elem?}
 use Rattle.batch_queue.specs.declared.rule.BatchState.{BatchState}
 use Rattle.batch_queue.specs.declared.rule.Shape.{Shape}
 
@@ -30,6 +32,25 @@ pub record IsBatch (batches : List (List ℕ)) (p e : ℕ) : Type 0 where
   pub at : length (concat before) ≡ p
   pub end : p + length batch ≡ e
 
+-- an end parted a batch at this position
+abbrev pub IsParted : BatchState → ℕ → Type 0
+IsParted o p = (k : ℕ) × (get_elem? o.parted k ≡ some p)
+
+-- a taking may end at this position: a batch ends there, or an end parted one there
+abbrev pub IsStop : BatchState → ℕ → Type 0
+IsStop o p = IsEdge o.batches p ⊎ IsParted o p
+
+-- the positions from p on and before e are a batch, or the rest of one
+pub record IsRest (batches : List (List ℕ)) (p e : ℕ) : Type 0 where
+  pub start : ℕ
+  pub batch : IsBatch batches start e
+  pub from : start ≤ p
+  pub some_item : p < e
+
+-- the position is published, and lies within a batch that ends at e, after its first position
+abbrev pub IsWithin : BatchState → ℕ → ℕ → Type 0
+IsWithin o p e = (rest : IsRest o.batches p e) × (rest.start < p) × (1 ≤ phase_at o p)
+
 -- none of these positions is published, or all are
 abbrev pub AllOrNone : BatchState → ℕ → ℕ → Type 0
 AllOrNone o p e = ((i : ℕ) → p ≤ i → i < e → phase_at o i ≡ 0) ⊎ ((i : ℕ) → p ≤ i → i < e → 1 ≤ phase_at o i)
@@ -49,8 +70,9 @@ pub record AreGroups (batches takings : List (List ℕ)) : Type 0 where
   pub all : flat_map (λ group. group) groups ++ left ≡ batches
   pub each : map concat groups ≡ takings
 
--- The positions that are claimed and not given back are no more than the places. A batch ends at the tail, and a taking
--- at the beginning of the window
+-- The positions that are claimed and not given back are no more than the places. At the tail a batch ends or was
+-- parted, and so at the end of each taking; if none was parted, each taking is of whole batches. The takings are the
+-- first items. At the beginning of the window a taking ends
 pub record Lawful (o : BatchState) : Type 0 where
   pub some_room : 0 < o.room
   pub long : length o.phases ≡ length (items_of o)
@@ -59,11 +81,14 @@ pub record Lawful (o : BatchState) : Type 0 where
   pub after : (i : ℕ) → o.taken ≤ i → phase_at o i ≤ 1
   pub behind : (i : ℕ) → i < o.freed → 3 ≤ phase_at o i
   pub whole : AreWhole o
-  pub edge : IsEdge o.batches o.taken
+  pub stop : IsStop o o.taken
   pub solid : AreSolid o.batches
   pub solid_takings : AreSolid o.takings
-  pub groups : AreGroups o.batches o.takings
+  pub stops : (p e : ℕ) → IsBatch o.takings p e → IsStop o e
+  pub groups : o.parted ≡ [] → AreGroups o.batches o.takings
+  pub parts : (p : ℕ) → IsParted o p → (e : ℕ) × IsWithin o p e
   pub taken_is : length (concat o.takings) ≡ o.taken
+  pub items : concat o.takings ≡ take o.taken (items_of o)
   pub freed_edge : IsEdge o.takings o.freed
 
 -- the entries from a on and before b are y
@@ -98,22 +123,28 @@ with_freed o new = record o { freed = new }
 abbrev pub with_shut : BatchState → BatchState
 with_shut o = record o { shut = true }
 
+-- a batch was parted at this position
+abbrev pub with_part : BatchState → ℕ → BatchState
+with_part o p = record o { parted = o.parted ++ p ∷ [] }
+
 -- all these positions have this phase
 abbrev pub AreIn : BatchState → ℕ → ℕ → ℕ → Type 0
 AreIn o phase a b = (i : ℕ) → a ≤ i → i < b → phase_at o i ≡ phase
 
--- One event makes r of o: a batch was claimed, or published; whole batches were taken; the places of a taking were
--- given back; the window moved over places that were given back; or the queue was shut
+-- One event makes r of o: a batch was claimed, or published; what is published was taken, up to where a batch ends or
+-- was parted; the places of a taking were given back; the window moved over places that were given back; the queue was
+-- shut; or a batch was parted
 pub data Becomes (o r : BatchState) : Type 0 where
   was_claimed : (claim : List ℕ) → 0 < length claim → o.shut ≡ false
       → length (items_of o) + length claim ≤ o.freed + o.room → r ≡ with_batch o claim → Becomes o r
   was_published : (a b : ℕ) → a < b → IsBatch o.batches a b → AreIn o 0 a b → r ≡ with_phase o a b 1 → Becomes o r
-  was_taken : (new : ℕ) → o.taken < new → new ≤ length (items_of o) → IsEdge o.batches new → AreIn o 1 o.taken new
+  was_taken : (new : ℕ) → o.taken < new → new ≤ length (items_of o) → IsStop o new → AreIn o 1 o.taken new
       → r ≡ with_taken o new → Becomes o r
   was_given : (a b : ℕ) → a < b → IsBatch o.takings a b → AreIn o 2 a b → r ≡ with_phase o a b 3 → Becomes o r
   was_freed : (new : ℕ) → o.freed < new → IsEdge o.takings new → ((i : ℕ) → o.freed ≤ i → i < new → 3 ≤ phase_at o i)
       → r ≡ with_freed o new → Becomes o r
   was_shut : r ≡ with_shut o → Becomes o r
+  was_parted : (p e : ℕ) → IsWithin o p e → r ≡ with_part o p → Becomes o r
 
 -- r is o, or o some events later
 pub record Grows (o r : BatchState) : Type 0 where
@@ -124,7 +155,17 @@ pub record Grows (o r : BatchState) : Type 0 where
   pub taken : o.taken ≤ r.taken
   pub freed : o.freed ≤ r.freed
   pub shut : o.shut ≡ true → r.shut ≡ true
+  pub parted : (rest : List ℕ) × (o.parted ++ rest ≡ r.parted)
 
 -- a queue in which nothing was claimed
 abbrev pub empty : Shape → BatchState
-empty key = record { room = key.room; batches = []; takings = []; phases = []; taken = 0; freed = 0; shut = false }
+empty key = record {
+  room = key.room;
+  batches = [];
+  takings = [];
+  phases = [];
+  taken = 0;
+  freed = 0;
+  shut = false;
+  parted = [];
+}

@@ -1,4 +1,5 @@
--- What is an end's own: its runs, what it took, how often it shut the queue, and the slots that it holds.
+-- What is an end's own: its runs, what it took, how often it shut the queue and parted a batch, and the slots that it
+-- holds.
 use Rattle.std.specs.Prelude.{◌≡◌, ℕ, ◌+◌, ◌<◌, ◌≤◌, List, [], ◌∷◌, ◌++◌, length, slice_set}
 use Rattle.std.specs.Prelude.{slice_index_or, Bool, if◌then◌else◌}
 use mathlib.Core.Option.{some}
@@ -35,7 +36,7 @@ Holds h i = (h.start ≤ i) × (i < h.start + h.count)
 
 -- what an end did that did nothing
 abbrev pub nothing_did : EndRecord
-nothing_did = record { runs = []; takes = []; shuts = 0; held = no_slots }
+nothing_did = record { runs = []; takes = []; shuts = 0; parts = 0; held = no_slots }
 
 -- what two ends did that hold no slots
 abbrev pub did_both : EndRecord → EndRecord → EndRecord
@@ -43,6 +44,7 @@ did_both d e = record {
   runs = d.runs ++ e.runs;
   takes = d.takes ++ e.takes;
   shuts = d.shuts + e.shuts;
+  parts = d.parts + e.parts;
   held = no_slots;
 }
 
@@ -87,6 +89,10 @@ with_published d h = record d {
 -- no slots are held
 abbrev pub with_no_slots : EndRecord → EndRecord
 with_no_slots d = record d { held = no_slots }
+
+-- a batch was parted once more
+abbrev pub with_parting : EndRecord → EndRecord
+with_parting d = record d { parts = d.parts + 1 }
 
 -- a shut counts where the queue was open
 abbrev pub with_shutting : EndRecord → Bool → EndRecord

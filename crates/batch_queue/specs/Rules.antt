@@ -53,6 +53,9 @@ shuts_of v = v.own.shuts
 abbrev pub times_shut : BatchState → ℕ
 times_shut o = if o.shut then 1 else 0
 
+abbrev pub parts_of : View → ℕ
+parts_of v = v.own.parts
+
 pub record Rule (key : Shape) (s : State ℕ View) : Type 0 where
   pub now : Moment BatchState
   pub room : now.object.room ≡ key.room
@@ -64,6 +67,7 @@ pub record Rule (key : Shape) (s : State ℕ View) : Type 0 where
   pub owns : (j : ℕ) (v : View) → get_elem? s.views j ≡ some v → OwnShows now.object v.own
   pub apart : Apart s.views
   pub shut_once : total shuts_of s.views ≡ times_shut now.object
+  pub parted_once : total parts_of s.views ≡ length now.object.parted
   -- the slot of a position that is claimed and not published, or taken and not given back, is held by an end
   pub owned : (i : ℕ) → i < length (items_of now.object)
       → (phase_at now.object i ≡ 0) ⊎ (phase_at now.object i ≡ 2) → IsHeld s.views i

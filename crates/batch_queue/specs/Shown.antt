@@ -4,15 +4,16 @@ use Rattle.batch_queue.specs.declared.layout.TheConstants.{POSITIONS}
 use Rattle.batch_queue.specs.declared.rule.BatchState.{BatchState}
 use Rattle.batch_queue.specs.Layout.{head_word, tail_word, free_word, mark_word, width, IsUsed, mark}
 use Rattle.table_theory.specs.Unused.{AreZero}
-use Rattle.batch_queue.specs.Object.{items_of, phase_at, IsEdge, IsBatch}
+use Rattle.batch_queue.specs.Object.{items_of, phase_at, IsEdge, IsBatch, IsParted, IsRest, IsStop}
 
--- What the mark of a position p of the window says. An even mark past p: the positions up to its half are published. An
--- odd one: the places up to its half are given back. A mark that is not past p says nothing of p
-pub record MarkTells (o : BatchState) (p m : ℕ) : Type 0 where
+-- What the mark of a position p of the window says. An even mark past p: a batch begins at p or was parted there, and
+-- its positions from p on, up to the half of the mark, are published. An odd one: the places up to its half are given
+-- back. A mark that is not past p says nothing of p
+pub record MarkSays (o : BatchState) (p m : ℕ) : Type 0 where
   pub up : m % 2 ≡ 0 → (i : ℕ) → p ≤ i → i < m / 2 → 1 ≤ phase_at o i
   pub back : m % 2 ≡ 1 → (i : ℕ) → p ≤ i → i < m / 2 → 3 ≤ phase_at o i
   pub bound : m / 2 ≤ p + o.room
-  pub whole : m % 2 ≡ 0 → p < m / 2 → IsEdge o.batches (m / 2)
+  pub whole : m % 2 ≡ 0 → p < m / 2 → IsStop o p × IsRest o.batches p (m / 2)
   pub whole_back : m % 2 ≡ 1 → p < m / 2 → IsEdge o.takings (m / 2)
 
 -- The words show the head, whether the queue is shut, the tail, the free position, and the marks of the places. A word
@@ -24,11 +25,14 @@ pub record WordsShow (o : BatchState) (words : List ℕ) : Type 0 where
   pub tail : slice_index_or words tail_word 0 ≡ o.taken
   pub free : slice_index_or words free_word 0 ≡ o.freed
   pub marks : (p : ℕ) → o.freed ≤ p → p < o.freed + o.room
-      → MarkTells o p (slice_index_or words (mark_word o.room p) 0)
+      → MarkSays o p (slice_index_or words (mark_word o.room p) 0)
   -- each batch that is published and not taken has its mark
-  pub told : (p e : ℕ) → IsBatch o.batches p e → p < e → o.taken ≤ p → 1 ≤ phase_at o p
+  pub batch_mark : (p e : ℕ) → IsBatch o.batches p e → p < e → o.taken ≤ p → 1 ≤ phase_at o p
       → slice_index_or words (mark_word o.room p) 0 ≡ 2 * e
+  -- and so has the rest of each batch that was parted, and is not taken
+  pub rest_mark : (p : ℕ) → IsParted o p → o.taken ≤ p
+      → (e : ℕ) × IsRest o.batches p e × (slice_index_or words (mark_word o.room p) 0 ≡ 2 * e)
   -- each taking of the window that is given back has its mark
-  pub told_back : (p e : ℕ) → IsBatch o.takings p e → p < e → o.freed ≤ p → 3 ≤ phase_at o p
+  pub taking_mark : (p e : ℕ) → IsBatch o.takings p e → p < e → o.freed ≤ p → 3 ≤ phase_at o p
       → slice_index_or words (mark_word o.room p) 0 ≡ 2 * e + 1
   pub unused : AreZero (IsUsed o.room) words

@@ -1,4 +1,4 @@
--- What each step tells its end: its entry, what the end has done then, what it sees, and the slots that it holds. The
+-- What each step says to its end: its entry, what the end has done then, what it sees, and the slots that it holds. The
 -- calls' answers are made of the entries.
 use Rattle.std.specs.Prelude.{◌≡◌, ◌≢◌, ◌⊎◌, ℕ, suc, ◌+◌, ◌-◌, ◌<◌, ◌≤◌, List, [], ◌∷◌, ◌++◌}
 use Rattle.std.specs.Prelude.{length, take, drop, nat_lt}
@@ -12,10 +12,10 @@ use Rattle.batch_queue.specs.declared.layout.TheConstants.{MOST_PLACES, POSITION
 use Rattle.batch_queue.specs.declared.rule.BatchState.{BatchState}
 use Rattle.batch_queue.specs.declared.rule.EndRecord.{EndRecord}
 use Rattle.batch_queue.specs.Layout.{head_word, tail_word, free_word, ends_word, width, IsPowerOfTwo}
-use Rattle.batch_queue.specs.Object.{items_of, phase_at, IsEdge, with_batch, with_phase, with_taken, with_freed}
-use Rattle.batch_queue.specs.Object.{with_shut, Grows}
+use Rattle.batch_queue.specs.Object.{items_of, phase_at, IsEdge, IsStop, with_batch, with_phase, with_taken}
+use Rattle.batch_queue.specs.Object.{with_freed, with_shut, with_part, Grows}
 use Rattle.batch_queue.specs.Own.{View, HasRun, with_run, with_taking, with_published, with_no_slots}
-use Rattle.batch_queue.specs.Own.{with_shutting}
+use Rattle.batch_queue.specs.Own.{with_shutting, with_parting}
 use Rattle.batch_queue.specs.Rules.{IsRuled}
 use Rattle.batch_queue.specs.Slots.{slots_of}
 
@@ -95,13 +95,17 @@ abbrev pub HasFound : View → ℕ → ℕ → Type 0
 HasFound v tail new = (tail < v.seen.object.taken)
     ⊎ (((i : ℕ) → tail ≤ i → i < new → 1 ≤ phase_at v.seen.object i) × IsEdge v.seen.object.batches new)
 
--- The positions from the tail to the new one were taken, from the end of a batch to the end of a batch. The end holds
--- their slots, each with the item that was claimed there
+-- the same, up to where a batch ends or was parted
+abbrev pub HasStop : View → ℕ → ℕ → Type 0
+HasStop v tail new = (tail < v.seen.object.taken)
+    ⊎ (((i : ℕ) → tail ≤ i → i < new → 1 ≤ phase_at v.seen.object i) × IsStop v.seen.object new)
+
+-- The positions from the tail to the new one were taken, up to where a batch ends or was parted. The end holds their
+-- slots, each with the item that was claimed there
 pub record Took (v : View) (tail new : ℕ) (m : Me ℕ View) : Type 0 where
   pub at : Moment BatchState
   pub tail_is : at.object.taken ≡ tail
-  pub edge : IsEdge at.object.batches tail
-  pub new_edge : IsEdge at.object.batches new
+  pub stop : IsStop at.object new
   pub step : Stepped v (change tail_word tail at (with_taken at.object new))
       (with_taking v.own at.object (new - tail)) m.0
   pub slots : m.1 ≡ slots_of v.first.room tail (take (new - tail) (drop tail (items_of at.object)))
@@ -122,6 +126,15 @@ Freed v free new w = (at : Moment BatchState) × Stepped v (change free_word fre
 abbrev pub frees : Step ℕ → Me ℕ View → ℕ → Me ℕ View → Type 0
 frees st m r m' = Stays m.0 m'.0 × (r ≡ st.first → (m'.1 ≡ m.1) × Freed m.0 st.first st.second m'.0) × Missed st m r m'
 
+-- a batch was parted at this position, by the exchange of its mark
+abbrev pub Parted : View → ℕ → ℕ → ℕ → View → Type 0
+Parted v word found position w = (at : Moment BatchState)
+    × Stepped v (change word found at (with_part at.object position)) (with_parting v.own) w
+
+abbrev pub parts : ℕ → Step ℕ → Me ℕ View → ℕ → Me ℕ View → Type 0
+parts position st m r m' = Stays m.0 m'.0
+    × (r ≡ st.first → (m'.1 ≡ m.1) × Parted m.0 st.word st.first position m'.0) × Missed st m r m'
+
 -- the queue is shut, and this head word was found
 abbrev pub Shut : View → ℕ → View → Type 0
 Shut v found w = (at : Moment BatchState)
@@ -130,14 +143,14 @@ Shut v found w = (at : Moment BatchState)
 abbrev pub shuts : Step ℕ → Me ℕ View → ℕ → Me ℕ View → Type 0
 shuts st m r m' = Stays m.0 m'.0 × (m'.1 ≡ m.1) × Shut m.0 r m'.0
 
--- what counting one end more tells
+-- what counting one end more says
 abbrev pub counts_up : Step ℕ → Me ℕ View → ℕ → Me ℕ View → Type 0
 counts_up st m r m' = (m'.1 ≡ m.1) × IsRuled m'.0 × ends.CountedUp ends_word m.0 m'.0
 
--- what counting one end less tells
+-- what counting one end less says
 abbrev pub counts_down : Step ℕ → Me ℕ View → ℕ → Me ℕ View → Type 0
 counts_down st m r m' = (m'.1 ≡ m.1) × IsRuled m'.0 × ends.CountedDown ends_word m.0 m'.0
 
--- what a look at the number of ends tells
+-- what a look at the number of ends says
 abbrev pub counts : Step ℕ → Me ℕ View → ℕ → Me ℕ View → Type 0
 counts st m r m' = Stays m.0 m'.0 × (m'.1 ≡ m.1) × ends.Tallied ends_word m.0 r m'.0

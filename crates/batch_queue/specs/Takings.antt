@@ -1,5 +1,5 @@
 -- What the takings answer: the entries that they added, all of them, and how their numbers compare.
-use Rattle.std.specs.Prelude.{◌≡◌, ◌≢◌, ◌⊎◌, ◌+◌, ◌/◌, ◌<◌, ◌≤◌, ℕ, min, List, [], ◌∷◌, ◌++◌, length, drop}
+use Rattle.std.specs.Prelude.{◌≡◌, ◌≢◌, ◌⊎◌, ◌+◌, ◌/◌, ◌<◌, ◌≤◌, ℕ, min, List, [], ◌∷◌, ◌++◌, length, drop, take}
 use Rattle.std.specs.Prelude.{Bool, true, false, IsTrue, IsFalse}
 use Rattle.std.specs.Prelude.{Result, Ok, Err}
 use Rattle.std.specs.List.{AllByRecursion, concat}
@@ -13,7 +13,7 @@ use Rattle.batch_queue.specs.declared.rule.BatchState.{BatchState}
 use Rattle.batch_queue.specs.declared.rule.EndRecord.{EndRecord}
 use Rattle.batch_queue.specs.Layout.{head_word, tail_word, mark_word}
 use Rattle.batch_queue.specs.Lines.{TookLine}
-use Rattle.batch_queue.specs.Object.{with_phase, with_taken}
+use Rattle.batch_queue.specs.Object.{items_of, IsEdge, with_phase, with_taken}
 use Rattle.batch_queue.specs.Own.{View, taking, with_taking}
 use Rattle.batch_queue.specs.Placed.{positions_of}
 use Rattle.batch_queue.specs.Puts.{tried}
@@ -30,7 +30,7 @@ pub record FilledBuffer (n : ℕ) (old new : List ℕ) (v w : View) : Type 0 whe
   pub took : TookLine line v w
 
 -- the first batches left are these, and these are their items
-pub record AreFirst (o : BatchState) (items : List ℕ) : Type 0 where
+pub record AreBatches (o : BatchState) (items : List ℕ) : Type 0 where
   pub before : List (List ℕ)
   pub batches : List (List ℕ)
   pub after : List (List ℕ)
@@ -38,12 +38,19 @@ pub record AreFirst (o : BatchState) (items : List ℕ) : Type 0 where
   pub from : length (concat before) ≡ o.taken
   pub items_are : concat batches ≡ items
 
+-- The first items left are these, and a batch ends after them. They are whole batches if at the tail a batch ends,
+-- which is so unless one was parted there
+pub record AreFirst (o : BatchState) (items : List ℕ) : Type 0 where
+  pub items_are : take (length items) (drop o.taken (items_of o)) ≡ items
+  pub end : IsEdge o.batches (o.taken + length items)
+  pub whole : IsEdge o.batches o.taken → AreBatches o items
+
 -- n items from the tail on were taken
 abbrev pub with_line : EndRecord → BatchState → ℕ → EndRecord
 with_line d o n = record d { takes = d.takes ++ taking (positions_of o) n ∷ [] }
 
 -- The tail was loaded, and then marks of published batches were followed from it, as far as they lead within the buffer
--- and the places; then the tail that was found was exchanged: the items up to there were the first batches left. Added
+-- and the places; then the tail that was found was exchanged: the items up to there were the first ones left. Added
 -- says where these entries are, of the moment of the exchange
 pub record TakenBy (Added : Moment BatchState → List (Step BatchState) → Type 0) (room most tail : ℕ) (items : List ℕ)
     : Type 0 where
@@ -152,6 +159,13 @@ pub record WasDone (Added : List (Step BatchState) → Type 0) (room : ℕ) : Ty
   pub none : FoundNone glance
   pub at_head : Moment BatchState
   pub added : Added (glanced room glance ++ load head_word (SHUT + glance.tail) at_head ∷ [])
+
+-- what a taking that found nothing published at the tail says of its entries
+abbrev pub NoneBy : (List (Step BatchState) → Type 0) → ℕ → TakeRefusal → Type 0
+NoneBy Added room (Empty at) = WasEmpty Added room at
+NoneBy Added room (Lost now) = PassedEmpty Added room now
+NoneBy Added room Closed = WasDone Added room
+NoneBy Added room refusal = ⊥
 
 -- what a refused taking says of its entries
 abbrev pub RefusedTakeBy : (List (Step BatchState) → Type 0) → ℕ → ℕ → TakeRefusal → Type 0

@@ -1,10 +1,10 @@
 //! The queue and its ends.
-ghost use Rattle.std.specs.Prelude.{◌≡◌, ◌<◌, ◌≤◌, [], ◌++◌, IfOk};
+ghost use Rattle.std.specs.Prelude.{◌≡◌, ◌+◌, ◌<◌, ◌≤◌, [], ◌++◌, IfOk};
 ghost use Rattle.batch_queue.specs.Layout.{width, IsPowerOfTwo};
 ghost use Rattle.batch_queue.specs.Own.{no_slots};
 ghost use Rattle.batch_queue.specs.Rules.{newcomer, IsRuled};
 ghost use Rattle.batch_queue.specs.Endings.{Divided, IsNewborn, TookIn};
-ghost use Rattle.batch_queue.specs.Lines.{lines_put, lines_taken};
+ghost use Rattle.batch_queue.specs.Lines.{lines_put, lines_taken, times_parted};
 ghost use Rattle.batch_queue.specs.declared.layout.TheConstants.{MOST_PLACES};
 
 use crate::layout::{ENDS, width};
@@ -71,7 +71,8 @@ impl BatchQueue {
         requires queue { IsEndOf self.now end.old }
         requires parts { IsDivisible end.old }
         ensures effect { (lines_put (view_of end.new) ≡ lines_put (view_of end.old))
-            × (lines_taken (view_of end.new) ≡ lines_taken (view_of end.old)) }
+            × (lines_taken (view_of end.new) ≡ lines_taken (view_of end.old))
+            × (times_parted (view_of end.new) ≡ times_parted (view_of end.old)) }
         ensures result { IsNewborn (view_of end.old) (view_of end.new) (view_of result) }
         ensures trace { Divided (view_of end.old) (view_of end.new) }
         ensures handle { IsSameEnd end.old end.new × AreOfOneQueue end.old result }
@@ -86,7 +87,8 @@ impl BatchQueue {
     pub fn join(&self, end: &mut BatchEnd, other: BatchEnd)
         requires { IsEndOf self.now end.old × IsEndOf self.now other }
         ensures effect { (lines_put (view_of end.new) ≡ lines_put (view_of end.old) ++ lines_put (view_of other))
-            × (lines_taken (view_of end.new) ≡ lines_taken (view_of end.old) ++ lines_taken (view_of other)) }
+            × (lines_taken (view_of end.new) ≡ lines_taken (view_of end.old) ++ lines_taken (view_of other))
+            × (times_parted (view_of end.new) ≡ times_parted (view_of end.old) + times_parted (view_of other)) }
         ensures trace { TookIn (view_of end.old) (view_of other) (view_of end.new) }
         ensures handle { IsSameEnd end.old end.new }
     {

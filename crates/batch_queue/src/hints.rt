@@ -18,8 +18,8 @@ impl BatchQueue {
         self.room
     }
 
-    /// A hint of how many items are in the queue, published or not: how far the head that is found is past the tail that
-    /// was found before it. Both may have moved on when the call returns.
+    /// A hint of how many items are in the queue, published or not: how far the head that is found is past the tail
+    /// that was found before it. Both may have moved on when the call returns.
     pub fn len(&self, end: &mut BatchEnd) -> u64
         requires { IsEndOf self.now end.old }
         ensures effect { SameLines (view_of end.old) (view_of end.new) }

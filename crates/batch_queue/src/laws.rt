@@ -24,8 +24,9 @@ ghost use Rattle.batch_queue.specs.declared.rule.BatchState.{BatchState};
 ghost use Rattle.batch_queue.specs.Endings.{TookIn};
 ghost use Rattle.batch_queue.specs.Handles.{view_of, room_of, IsEndOf, IsOnlyEnd};
 ghost use Rattle.batch_queue.specs.Layout.{head_word, tail_word, free_word, ends_word, mark_word, width, mark};
-ghost use Rattle.batch_queue.specs.Object.{items_of, phase_at, IsEdge, IsBatch, AreIn, Lawful, Becomes, Grows};
-ghost use Rattle.batch_queue.specs.Object.{with_batch, with_phase, with_taken, with_freed, with_shut};
+ghost use Rattle.batch_queue.specs.Object.{items_of, phase_at, IsEdge, IsBatch, IsParted, IsRest, IsStop, AreIn};
+ghost use Rattle.batch_queue.specs.Object.{Becomes, Grows, with_batch, with_phase, with_taken, with_freed, with_shut};
+ghost use Rattle.batch_queue.specs.Object.{Lawful, with_part};
 ghost use Rattle.batch_queue.specs.Own.{View, of_batches, part_of, run, taking};
 ghost use Rattle.batch_queue.specs.Placed.{positions_of, raised_run};
 ghost use Rattle.batch_queue.specs.Puts.{RefusedPut};
@@ -92,10 +93,13 @@ pub fn numbers_say()
         → IsReal of_batches e → e.then.object.freed ≤ p → p < e.then.object.freed + e.then.object.room
         → e.found % 2 ≡ 0 → p < e.found / 2
         → ((i : ℕ) → p ≤ i → i < e.found / 2 → 1 ≤ phase_at e.then.object i)
-        × IsEdge e.then.object.batches (e.found / 2) }
+        × IsStop e.then.object p × IsRest e.then.object.batches p (e.found / 2) }
     ensures not_published { (e : Step BatchState) (p end : ℕ) → e.word ≡ mark_word e.then.object.room p
         → IsReal of_batches e → IsBatch e.then.object.batches p end → e.then.object.taken ≤ p → e.found ≢ 2 * end
         → AreIn e.then.object 0 p end }
+    ensures parted { (e : Step BatchState) (p : ℕ) → e.word ≡ mark_word e.then.object.room p
+        → IsReal of_batches e → IsParted e.then.object p → e.then.object.taken ≤ p
+        → (end : ℕ) × IsRest e.then.object.batches p end × (e.found ≡ 2 * end) }
     ensures given { (e : Step BatchState) (p : ℕ) → e.word ≡ mark_word e.then.object.room p
         → IsReal of_batches e → e.then.object.freed ≤ p → p < e.then.object.freed + e.then.object.room
         → e.found % 2 ≡ 1 → p < e.found / 2
@@ -108,7 +112,7 @@ pub fn numbers_say()
 
 /// Each change that an answer lists is the event of the core that its name says, for all views that list the queue as
 /// the step found it, if one of them is that of the end. A publication is a raise of each item of the batch, in their
-/// order, at one step. Giving places back and moving the window are no event.
+/// order, at one step. Giving places back, moving the window and parting a batch are no event.
 pub fn changes_are_events()
     ensures claimed { (head : ℕ) (items : List ℕ) (m : Moment BatchState) (views : List QueueView) (seat : ℕ)
         (v w : QueueView) → IsReal of_batches (change head_word head m (with_batch m.object items)) → 0 < length items
@@ -132,7 +136,7 @@ pub fn changes_are_events()
         → ViewsShow (positions_of m.object) views → get_elem? views seat ≡ some v
         → w.takes ≡ v.takes ++ taking (positions_of m.object) (new - m.object.taken) ∷ [] → w.runs ≡ v.runs
         → positions.Grows w.queue (positions_of (with_taken m.object new))
-        → (tail ≡ m.object.taken) × IsEdge m.object.batches new
+        → (tail ≡ m.object.taken) × IsStop m.object new
         × IsEvent (positions_of m.object) (positions_of (with_taken m.object new)) seat v w
         (take_first m.object.room (new - m.object.taken)) }
     ensures given { (word found a b : ℕ) (m : Moment BatchState) (views : List QueueView) (seat : ℕ) (v w : QueueView)
@@ -146,6 +150,11 @@ pub fn changes_are_events()
         → w.takes ≡ v.takes → positions.Grows w.queue (positions_of (with_freed m.object new))
         → (free ≡ m.object.freed)
         × IsEvent (positions_of m.object) (positions_of (with_freed m.object new)) seat v w no_event }
+    ensures parted { (word found p : ℕ) (m : Moment BatchState) (views : List QueueView) (seat : ℕ) (v w : QueueView)
+        → IsReal of_batches (change word found m (with_part m.object p))
+        → ViewsShow (positions_of m.object) views → get_elem? views seat ≡ some v → w.runs ≡ v.runs
+        → w.takes ≡ v.takes → positions.Grows w.queue (positions_of (with_part m.object p))
+        → IsEvent (positions_of m.object) (positions_of (with_part m.object p)) seat v w no_event }
     ensures shut { (head : ℕ) (m : Moment BatchState) (views : List QueueView) (seat : ℕ) (v w : QueueView)
         → IsReal of_batches (change head_word head m (with_shut m.object))
         → ViewsShow (positions_of m.object) views → get_elem? views seat ≡ some v → w.runs ≡ v.runs

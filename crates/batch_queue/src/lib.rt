@@ -5,10 +5,11 @@
 //! The number of places is chosen at run time, a power of two up to 2^24. An item is a `u64`. A position is a place of
 //! the queue from its beginning on, and is used once: no claim reaches 2^62. The numbers in an answer are positions.
 //!
-//! A batch is taken whole, as it was put. Between any two steps all of its items are published or none. An end that
-//! stalls between its claim and its publication keeps all takers from what is claimed after it; one that stalls between
-//! its taking and its giving back keeps putters from these places, once the others are used up. An end that is dropped
-//! is never joined, so the queue can't be closed any more; all else goes on.
+//! A batch is taken whole, as it was put, unless an end takes by `try_take_some`, which may part a batch: it is then
+//! taken in pieces, side by side. Between any two steps all of its items are published or none. An end that stalls
+//! between its claim and its publication keeps all takers from what is claimed after it; one that stalls between its
+//! taking and its giving back keeps putters from these places, once the others are used up. An end that is dropped is
+//! never joined, so the queue can't be closed any more; all else goes on.
 //!
 //! `BatchRule`, `BatchState`, `EndRecord`, `HeldSlots`, `Shape` and `View` are for the proofs alone: they are in the
 //! contracts of what the ends list.
@@ -27,6 +28,7 @@ mod plays;
 mod put;
 mod refusals;
 mod rule;
+mod some;
 mod steps;
 mod take;
 mod walk;

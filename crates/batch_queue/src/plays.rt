@@ -1,10 +1,10 @@
-//! What each step tells. These types are for the proofs alone.
+//! What each step says to its end. These types are for the proofs alone.
 ghost use Rattle.std.specs.Prelude.{ℕ, List, []};
 ghost use Rattle.table_theory.specs.Ledgers.{rest_of, newborn, both};
 ghost use Rattle.batch_queue.specs.Own.{View, nothing_did, did_both};
 ghost use Rattle.batch_queue.specs.Rules.{newcomer};
 ghost use Rattle.batch_queue.specs.Steps.{finds, claims, releases, takes_tail, frees, shuts, counts_up, counts_down};
-ghost use Rattle.batch_queue.specs.Steps.{counts};
+ghost use Rattle.batch_queue.specs.Steps.{parts, counts};
 
 use crate::rule::View;
 use atomic_table::{Join, Play, Split};
@@ -49,6 +49,23 @@ pub struct Frees;
 
 impl Play<u64, View> for Frees {
     ghost then = { frees };
+}
+
+/// The position at which a batch is parted.
+pub trait PartPosition {
+    ghost position: { ℕ };
+}
+
+impl PartPosition for Brand {
+    ghost position = { 0 };
+}
+
+pub struct Parts<J> {
+    marker: PhantomData<J>,
+}
+
+impl<J: PartPosition> Play<u64, View> for Parts<J> {
+    ghost then = { parts J.position };
 }
 
 pub struct Shuts;

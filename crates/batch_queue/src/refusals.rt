@@ -34,10 +34,11 @@ pub enum TakeRefusal {
     /// Nothing was published at the tail, which is this position, and the queue was open or had something left.
     #[error("nothing published at {at}")]
     Empty { at: u64 },
-    /// The batch at the tail, which is this position, has `count` items, more than the buffer.
+    /// The batch at the tail, which is this position, or what is left of it, has `count` items, more than the buffer.
     #[error("a batch of {count} at {at}")]
     ShortBuffer { at: u64, count: u64 },
-    /// Another end took first: this is the tail that was found, past the one that was loaded.
+    /// Another end took first: this is the tail that was found, past the one that was loaded. A taking of some items is
+    /// lost too if the mark at which it parts a batch was changed meanwhile; this is then the tail that was found last.
     #[error("lost, tail {tail}")]
     Lost { tail: u64 },
     /// The queue is shut, and all that was put is taken.

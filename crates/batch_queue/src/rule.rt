@@ -4,7 +4,7 @@ use std::collections::LinkedList;
 use table_theory::queues::Batch;
 use table_theory::views::Ledger;
 
-/// What the rule is told when the table is made.
+/// What the rule is given when the table is made.
 #[derive(Drop)]
 pub struct Shape {
     pub room: u64,
@@ -18,16 +18,18 @@ pub struct HeldSlots {
 }
 
 /// What an end did: its runs, each claimed or published, what it took, how often it shut the queue where it was open,
-/// and which slots it holds. Proofs alone speak of it.
+/// how often it parted a batch, and which slots it holds. Proofs alone speak of it.
 pub struct EndRecord {
     pub runs: LinkedList<Batch>,
     pub takes: LinkedList<Batch>,
     pub shuts: u64,
+    pub parts: u64,
     pub held: HeldSlots,
 }
 
 /// A queue: its batches in the order of their claims, its takings in their order, the phase of each position, the
-/// position of the next item that is taken, the position that the window begins at, and whether it is shut. A
+/// position of the next item that is taken, the position that the window begins at, whether it is shut, and the
+/// positions at which batches were parted, so that a taking may end there. A
 /// position's phase is 0 from its claim on, 1 once it is published, 2 once it is taken, and 3 once its place is given
 /// back.
 pub struct BatchState {
@@ -38,6 +40,7 @@ pub struct BatchState {
     pub taken: u64,
     pub freed: u64,
     pub shut: bool,
+    pub parted: LinkedList<u64>,
 }
 
 /// What an end knows: what it did, its steps, and all ends' steps up to its own last one.

@@ -1,5 +1,5 @@
 //! The atomic steps: the loads, the three exchanges, and the store that publishes a run or gives a taking back.
-ghost use Rattle.std.specs.Prelude.{◌≡◌, ◌≢◌, ◌+◌, ◌<◌, ◌≤◌, ℕ, List, [], length};
+ghost use Rattle.std.specs.Prelude.{◌≡◌, ◌≢◌, ◌+◌, ◌/◌, ◌<◌, ◌≤◌, ℕ, List, [], length};
 ghost use Rattle.table_theory.specs.Ledgers.{CountedUp, CountedDown, rest_of, newborn, both, emptied};
 ghost use Rattle.table_theory.specs.Seating.{IsSame};
 ghost use Rattle.batch_queue.specs.declared.layout.TheConstants.{FIRST_MARK, POSITIONS};
@@ -8,12 +8,13 @@ ghost use Rattle.batch_queue.specs.Own.{nothing_did, did_both};
 ghost use Rattle.batch_queue.specs.Rules.{IsRuled};
 ghost use Rattle.batch_queue.specs.Slots.{slots_of};
 ghost use Rattle.batch_queue.specs.Steps.{IsSeated, Stays, Found, Claimed, Released, HoldsRange, IsClaim};
-ghost use Rattle.batch_queue.specs.Steps.{HasFound, HasBack, Took, Freed, Shut};
+ghost use Rattle.batch_queue.specs.Steps.{HasStop, HasBack, Took, Freed, Parted, Shut};
+ghost use Rattle.batch_queue.specs.Object.{IsWithin};
 
 use crate::layout::{ENDS, FREE, HEAD, SHUT, TAIL, mark_word};
 use crate::plays::{
-    ClaimItems, Claims, CountsDown, CountsUp, Finds, Frees, Gives, Joins, Releases, Shuts, Spent,
-    Takes,
+    ClaimItems, Claims, CountsDown, CountsUp, Finds, Frees, Gives, Joins, PartPosition, Parts,
+    Releases, Shuts, Spent, Takes,
 };
 use crate::rule::{BatchRule, Shape, View};
 use atomic_table::{Seat, Shared};
@@ -72,18 +73,43 @@ pub(crate) fn publish(
     words.store::<Releases>(seat, mark_word(room, start), 2 * end);
 }
 
-/// Takes the positions from the tail up to where all was found published, and their slots.
+/// Takes the positions from the tail up to where all was found published, and a batch ends or was parted, and their
+/// slots.
 pub(crate) fn exchange_tail(words: &Words, seat: &mut Seat<u64, View>, tail: u64, new: u64) -> u64
     requires queue { (seat.old.table_id ≡ words.now.table_id) × (FIRST_MARK ≤ words.now.table_id.words) }
     requires live { 1 ≤ seat.old.me.0.member.ends }
     requires bare { (seat.old.me.1 ≡ []) × (seat.old.me.0.own.held.count ≡ 0) }
-    requires up { HasFound seat.old.me.0 tail new × (tail < new) }
+    requires up { HasStop seat.old.me.0 tail new × (tail < new) }
     ensures queue { IsSame seat.old seat.new × Stays seat.old.me.0 seat.new.me.0 }
     ensures hit { result ≡ tail → Took seat.old.me.0 tail new seat.new.me }
     ensures miss { result ≢ tail → (seat.new.me.1 ≡ seat.old.me.1)
         × Found seat.old.me.0 tail_word result seat.new.me.0 }
 {
     words.compare_exchange::<Takes>(seat, TAIL, tail, new)
+}
+
+/// Parts the batch that ends at `end`, at this position, if its mark is still the one that was found, which says
+/// nothing of the position. A taking may end there then, and another begin.
+pub(crate) fn exchange_mark<J: PartPosition>(
+    words: &Words,
+    seat: &mut Seat<u64, View>,
+    room: usize,
+    position: u64,
+    mark: u64,
+    end: u64,
+) -> u64
+    requires queue { IsSeated room words.now.table_id seat.old }
+    requires position { J.position ≡ position }
+    requires within { IsWithin seat.old.me.0.seen.object position end }
+    requires idle { mark / 2 ≤ position }
+    requires near { (end ≤ position + room) × (end < POSITIONS) }
+    ensures queue { IsSame seat.old seat.new × Stays seat.old.me.0 seat.new.me.0 }
+    ensures slots { seat.new.me.1 ≡ seat.old.me.1 }
+    ensures hit { result ≡ mark → Parted seat.old.me.0 (mark_word room position) mark position seat.new.me.0 }
+    ensures miss { result ≢ mark → Found seat.old.me.0 (mark_word room position) result seat.new.me.0 }
+{
+    let word = mark_word(room, position);
+    words.compare_exchange::<Parts<J>>(seat, word, mark, 2 * end)
 }
 
 /// Gives the places of the end's taking back, with whatever is in their slots: by one store.

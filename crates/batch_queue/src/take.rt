@@ -36,7 +36,7 @@ pub(crate) fn load_tail(words: &Words, seat: &mut Seat<u64, View>) -> u64
 }
 
 // Why nothing is taken at this tail, whose mark said nothing of a batch.
-fn why_none(words: &Words, seat: &mut Seat<u64, View>, tail: u64) -> TakeRefusal
+pub(crate) fn why_none(words: &Words, seat: &mut Seat<u64, View>, tail: u64) -> TakeRefusal
     requires queue { (seat.old.table_id ≡ words.now.table_id) × (FIRST_MARK ≤ words.now.table_id.words) }
     requires live { 1 ≤ seat.old.me.0.member.ends }
     requires bounded { tail < POSITIONS }
@@ -117,8 +117,9 @@ fn must_wait(answer: &Result<usize, TakeRefusal>) -> bool
 impl BatchQueue {
     ghost use Rattle.batch_queue.specs.Handles.{view_of, room_of, IsEndOf, IsSameEnd};
 
-    /// One try to take batches: as many whole batches as are published side by side at the tail and fit the buffer.
-    /// Their items are then the first of the buffer, in order. Returns the number of items.
+    /// One try to take batches: as many whole batches as are published side by side at the tail and fit the buffer. If
+    /// the batch at the tail was parted by `try_take_some`, the first of them is what is left of it. Their items are then
+    /// the first of the buffer, in order. Returns the number of items.
     pub fn try_take(&self, end: &mut BatchEnd, items: &mut [u64]) -> Result<usize, TakeRefusal>
         requires { IsEndOf self.now end.old }
         ensures effect { MatchResult result

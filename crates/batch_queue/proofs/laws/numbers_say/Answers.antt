@@ -1,6 +1,6 @@
 use Rattle.batch_queue.proofs.Common.{of_batches}
 use Rattle.table_theory.proofs.Saying.{ends_say}
-use Rattle.batch_queue.proofs.Reporting.{free_says, given_says, head_says, not_given_says, not_published_says, published_says, tail_says}
+use Rattle.batch_queue.proofs.Reporting.{free_says, given_says, head_says, not_given_says, not_published_says, parted_says, published_says, tail_says}
 use Rattle.batch_queue.proofs.laws.numbers_say.Goals as goal
 
 pub returns : goal.returns
@@ -11,6 +11,7 @@ returns c = record {
   free = free_says;
   published = published_says;
   not_published = not_published_says;
+  parted = parted_says;
   given = given_says;
   not_given = not_given_says;
 }

@@ -25,12 +25,12 @@ walk-new-requires-clause-passed c = let on : LeadsOn 0 c.load_tail-tail.result c
 
 pub returns-then-found-tail-clause-error : goal.returns-then-found-tail-clause-error
 returns-then-found-tail-clause-error c = let on : LeadsOn 0 c.load_tail-tail.result c.load_mark-first.result = search rules in let past = on.1 in let fits = c.if-count-most.false in let w = c.walk-new.ensures in let is : c.min-most.result ≡ min c.args.most c.args.room = search rules in let f = followed_first _ _ _ _ _ _ _ _ _ is c.load_mark-first.ensures.found on (omega arith) w.trace in let g = grows_trans _ _ _ c.load_mark-first.ensures.found.grows w.grows in let low = w.on.0 in
-    lost_error c.args.room _ _ _ _ _ _ c.requires.queue.rooms c.load_tail-tail.ensures.found f g (omega arith) (let far = w.on.1 in omega arith) _ _ c.if-found-tail.true (c.exchange_tail-found.ensures.miss c.if-found-tail.true).1
+    lost_error c.args.room _ _ _ _ _ _ c.requires.queue.rooms c.load_tail-tail.ensures.found f g (omega arith) (let far = w.on.1 in omega arith) w.passed _ _ c.if-found-tail.true (c.exchange_tail-found.ensures.miss c.if-found-tail.true).1
 
 pub returns-then-found-tail-clause-refused : goal.returns-then-found-tail-clause-refused
 returns-then-found-tail-clause-refused c = let on : LeadsOn 0 c.load_tail-tail.result c.load_mark-first.result = search rules in let past = on.1 in let fits = c.if-count-most.false in let w = c.walk-new.ensures in let is : c.min-most.result ≡ min c.args.most c.args.room = search rules in let f = followed_first _ _ _ _ _ _ _ _ _ is c.load_mark-first.ensures.found on (omega arith) w.trace in let g = grows_trans _ _ _ c.load_mark-first.ensures.found.grows w.grows in let low = w.on.0 in
-    lost_refused c.args.room _ _ _ _ _ _ c.requires.queue.rooms c.load_tail-tail.ensures.found f g (omega arith) (let far = w.on.1 in omega arith) _ _ c.if-found-tail.true (c.exchange_tail-found.ensures.miss c.if-found-tail.true).1
+    lost_refused c.args.room _ _ _ _ _ _ c.requires.queue.rooms c.load_tail-tail.ensures.found f g (omega arith) (let far = w.on.1 in omega arith) w.passed _ _ c.if-found-tail.true (c.exchange_tail-found.ensures.miss c.if-found-tail.true).1
 
 pub returns-clause-taken : goal.returns-clause-taken
 returns-clause-taken c = let on : LeadsOn 0 c.load_tail-tail.result c.load_mark-first.result = search rules in let past = on.1 in let fits = c.if-count-most.false in let w = c.walk-new.ensures in let is : c.min-most.result ≡ min c.args.most c.args.room = search rules in let f = followed_first _ _ _ _ _ _ _ _ _ is c.load_mark-first.ensures.found on (omega arith) w.trace in let g = grows_trans _ _ _ c.load_mark-first.ensures.found.grows w.grows in let low = w.on.0 in
-    has_taken c.args.room _ _ _ _ _ _ c.requires.queue.rooms c.load_tail-tail.ensures.found f g (omega arith) (let far = w.on.1 in omega arith) _ (c.exchange_tail-found.ensures.hit c.if-found-tail.false)
+    has_taken c.args.room _ _ _ _ _ _ c.requires.queue.rooms c.load_tail-tail.ensures.found f g (omega arith) (let far = w.on.1 in omega arith) w.passed _ (c.exchange_tail-found.ensures.hit c.if-found-tail.false)

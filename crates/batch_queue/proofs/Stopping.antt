@@ -1,0 +1,123 @@
+-- Where a taking of so many items ends, by all loads and the parting that led there.
+use Rattle.batch_queue.proofs.Common.{BatchState, EndRecord, Found, HasStop, List, Made, Moment, Step, View, [], ap, arith, inl, inr, load, mark_word, append_assoc, refl, subst, sym, tail_word, ℕ, ⊎_elim, ◌++◌, ◌+◌, ◌/◌, ◌<◌, ◌∙◌, ◌∷◌, ◌≡◌, ◌≤◌}
+use Rattle.table_theory.proofs.Parting.{made_on}
+use Rattle.batch_queue.specs.Parts.{FoundRest, FoundStop, LostStop, LostWithin, Reached, StoppedWithin, WhyNoStop, after_walk, all, at_tail, no_more, not_parted, one_more, passed, within, with_parts}
+use Rattle.std.specs.Prelude.{Result, Ok, Err, MatchResult}
+use Rattle.table_theory.proofs.Reaching.{adds_behind}
+use Rattle.table_theory.specs.Ledgers.{Adds}
+use Rattle.table_theory.specs.declared.views.Part.{Part}
+use Rattle.batch_queue.specs.Moments.{MarkChanged}
+use Rattle.batch_queue.specs.declared.refusals.TakeRefusal.{TakeRefusal}
+use Rattle.batch_queue.specs.declared.refusals.TakeRefusal.TheVariants.{Lost}
+use Rattle.batch_queue.proofs.Timing.{was_so_after}
+use Rattle.batch_queue.specs.Walks.{Followed, FollowedBy, LeadsOn, Passed}
+use Rattle.batch_queue.proofs.Dividing.{made_none_parted}
+use Rattle.batch_queue.proofs.Walking.{up_more}
+use Rattle.batch_queue.proofs.Whole.{batch_end}
+
+-- what was passed up to the first mark
+pub first_rest : (v : View) (tail e : ℕ) → FoundRest v tail tail e → Passed 0 v tail e
+first_rest v tail e h = ⊎_elim (λ past. inl past) (λ u. inr (u.0, batch_end v.seen.object.batches _ _ u.1.batch)) h
+
+pub passed_stop : (v : View) (tail new : ℕ) → Passed 0 v tail new → HasStop v tail new
+passed_stop v tail new h = ⊎_elim (λ past. inl past) (λ all. inr (all.0, inl all.1)) h
+
+pub rest_stop : (v : View) (tail p e : ℕ) → FoundRest v tail p e → HasStop v tail e
+rest_stop v tail p e h = ⊎_elim (λ past. inl past) (λ all. inr (all.0, inl (batch_end v.seen.object.batches _ _ all.1.batch))) h
+
+-- a walk from the first mark on is one from the tail on
+followed_front : (most room tail first at : ℕ) (loads : List (Step BatchState)) (m : Moment BatchState) → LeadsOn 0 tail first → first / 2 ≤ tail + most → FollowedBy 0 (tail + most) room (first / 2) at loads → FollowedBy 0 (tail + most) room tail at (load (mark_word room tail) first m ∷ loads)
+followed_front most room tail first at loads m on far w = record { walk = (first, m) ∷ w.walk; leads = (on, far, w.leads); end = w.end; stop = w.stop; stops = w.stops; loads_are = ap (λ (z : List (Step BatchState)). load (mark_word room tail) first m ∷ z) w.loads_are }
+
+module _ (room tail most first : ℕ) (on : LeadsOn 0 tail first) where
+  module _ (far : first / 2 ≤ tail + most) (v u : View) (at : ℕ) (f : Followed 0 (tail + most) room (first / 2) at v u) where
+    front : (m : Moment BatchState) → FollowedBy 0 (tail + most) room tail at (load (mark_word room tail) first m ∷ f.loads)
+    front m = followed_front most room tail first at f.loads m on far f.by
+
+    pub stop_all : at ≡ tail + most → FoundStop room tail most first at v u
+    stop_all is = record { loads = f.loads; parts = 0; by = λ m. all (front m) is refl; made = made_none_parted v u f.loads f.made }
+
+    module _ (mark : ℕ) (w : View) (t : Found u (mark_word room at) mark w) (less : at < tail + most) where
+      abbrev next : List (Step BatchState)
+      next = load (mark_word room at) mark w.seen ∷ []
+
+      pub reached : (m : Moment BatchState) → Reached room tail most at mark (load (mark_word room tail) first m ∷ (f.loads ++ next))
+      reached m = after_walk (load (mark_word room tail) first m ∷ f.loads) (front m) less w.seen refl
+
+      pub both_made : Made v (f.loads ++ next) v.own w
+      both_made = made_on v u w f.loads next v.own v.own f.made (subst (λ (z : EndRecord). Made u next z w) f.made.did t.made)
+
+      pub stop_none : (LeadsOn 0 at mark → ⊥) → FoundStop room tail most first at v w
+      stop_none none = record { loads = f.loads ++ next; parts = 0; by = λ m. no_more mark (reached m) none refl; made = made_none_parted v w (f.loads ++ next) both_made }
+
+      pub stop_more : LeadsOn 0 at mark → mark / 2 ≤ tail + most → FoundStop room tail most first (mark / 2) v w
+      stop_more leads fits = record { loads = f.loads ++ next; parts = 0; by = λ m. one_more at mark (reached m) leads refl fits refl; made = made_none_parted v w (f.loads ++ next) both_made }
+
+  pub reached_first : (m : Moment BatchState) → Reached room tail most tail first (load (mark_word room tail) first m ∷ [])
+  reached_first m = at_tail refl m refl
+
+  module _ (at mark : ℕ) (v u w : View) (pre : List (Step BatchState)) (reach : (m : Moment BatchState) → Reached room tail most at mark (load (mark_word room tail) first m ∷ pre)) (leads : LeadsOn 0 at mark) (far : tail + most < mark / 2) (made : Made v pre v.own u) where
+    pub stop_within_batch : StoppedWithin room tail (tail + most) u w → FoundStop room tail most first (tail + most) v w
+    stop_within_batch s = let rest : List (Step BatchState) = load tail_word tail s.again ∷ s.after in record {
+      loads = pre ++ rest;
+      parts = s.parts;
+      by = λ m. within at mark (load (mark_word room tail) first m ∷ pre) s.after s.again (reach m) leads far refl s.by refl;
+      made = made_on v u w pre rest v.own (with_parts v.own s.parts) made (subst (λ (z : EndRecord). Made u rest (with_parts z s.parts) w) made.did s.made);
+    }
+
+    pub lost_stop : (now : ℕ) → LostWithin room tail (tail + most) now u w → LostStop room tail most first now v w
+    lost_stop now (passed past again m) = let rest : List (Step BatchState) = load tail_word now again ∷ [] in record {
+      loads = pre ++ rest;
+      by = λ n. passed at mark (load (mark_word room tail) first n ∷ pre) again (reach n) leads far past refl;
+      made = made_on v u w pre rest v.own v.own made (subst (λ (z : EndRecord). Made u rest z w) made.did m);
+    }
+    lost_stop now (not_parted again end after none m) = let rest : List (Step BatchState) = load tail_word tail again ∷ (after ++ load tail_word now end ∷ []) in record {
+      loads = pre ++ rest;
+      by = λ n. not_parted at mark (load (mark_word room tail) first n ∷ pre) after again end (reach n) leads far none refl;
+      made = made_on v u w pre rest v.own v.own made (subst (λ (z : EndRecord). Made u rest z w) made.did m);
+    }
+
+-- WHAT CAME OF IT, AFTER OTHER STEPS
+
+pub changed_after : (room : ℕ) (v u w : View) (xs : List (Step BatchState)) {a : EndRecord} → Made v xs a u → MarkChanged room u w → MarkChanged room v w
+changed_after room v u w xs m h = record {
+  before = xs ++ h.before;
+  first = h.first;
+  between = h.between;
+  second = h.second;
+  after = h.after;
+  adds = subst (λ (z : List (Step BatchState)). Adds v z w) (sym (append_assoc xs h.before (h.first ∷ (h.between ++ h.second ∷ h.after)))) (adds_behind v u w xs (h.before ++ h.first ∷ (h.between ++ h.second ∷ h.after)) (ap (λ (z : Part). z.share) m.member) m.adds h.adds);
+  position = h.position;
+  is_mark = h.is_mark;
+  same = h.same;
+  other = h.other;
+}
+
+pub why_after : (room tail now : ℕ) (v u w : View) (xs : List (Step BatchState)) {a : EndRecord} → Made v xs a u → WhyNoStop room tail now u w → WhyNoStop room tail now v w
+why_after room tail now v u w xs m h = let share = ap (λ (z : Part). z.share) m.member in ⊎_elim
+    (λ s. inl (was_so_after v u w xs _ share m.adds s))
+    (λ t. inr (was_so_after v u w xs _ share m.adds t.0, changed_after room v u w xs m t.1))
+    h
+
+abbrev Stops : ℕ → ℕ → ℕ → Result ℕ TakeRefusal → View → View → Type 0
+Stops room tail last r u w = MatchResult r (λ to. (to ≡ last) × HasStop w tail last) (λ e. (now : ℕ) × (e ≡ Lost now) × WhyNoStop room tail now u w)
+
+abbrev Traces : ℕ → ℕ → ℕ → Result ℕ TakeRefusal → View → View → Type 0
+Traces room tail last r u w = MatchResult r (λ to. StoppedWithin room tail last u w) (λ e. (now : ℕ) × (e ≡ Lost now) × LostWithin room tail last now u w)
+
+pub stops_after : (room tail most : ℕ) (r : Result ℕ TakeRefusal) (v u w : View) (xs : List (Step BatchState)) {a : EndRecord} → 0 < most → Made v xs a u → Stops room tail (tail + most) r u w
+    → MatchResult r (λ to. HasStop w tail to × (tail < to) × (to ≤ tail + most)) (λ e. (now : ℕ) × (e ≡ Lost now) × WhyNoStop room tail now v w)
+stops_after room tail most (Ok to) v u w xs some_item m (is, h) = (subst (HasStop w tail) (sym is) h, omega arith, omega arith)
+stops_after room tail most (Err e) v u w xs some_item m (now, is, h) = (now, is, why_after room tail now v u w xs m h)
+
+pub traces_after : (room tail most first at mark : ℕ) (r : Result ℕ TakeRefusal) (v u w : View) (pre : List (Step BatchState)) → LeadsOn 0 tail first → ((m : Moment BatchState) → Reached room tail most at mark (load (mark_word room tail) first m ∷ pre)) → LeadsOn 0 at mark → tail + most < mark / 2 → Made v pre v.own u → Stops room tail (tail + most) r u w → Traces room tail (tail + most) r u w
+    → MatchResult r (λ to. FoundStop room tail most first to v w) (λ e. (now : ℕ) × (e ≡ Lost now) × LostStop room tail most first now v w)
+traces_after room tail most first at mark (Ok to) v u w pre on reach leads far made (is, h) t = subst (λ (z : ℕ). FoundStop room tail most first z v w) (sym is) (stop_within_batch room tail most first on at mark v u w pre reach leads far made t)
+traces_after room tail most first at mark (Err e) v u w pre on reach leads far made s (now, is, t) = (now, is, lost_stop room tail most first on at mark v u w pre reach leads far made now t)
+
+-- what the mark says to which a walk led
+pub rest_more : (room most tail from at mark : ℕ) (v u w : View) → v.first.room ≡ room → tail ≤ at → tail ≤ u.seen.object.taken → Passed 0 u tail at → Followed 0 most room from at v u → Found u (mark_word room at) mark w → LeadsOn 0 at mark → FoundRest w tail at (mark / 2)
+rest_more room most tail from at mark v u w rooms low started up f t on = ⊎_elim
+    (λ past. inl past)
+    (λ a. inr (a.0, a.2))
+    (up_more room u w tail at mark low started (⊎_elim (λ past. inl past) (λ a. inr a.0) up) t (ap (λ (z : BatchState). z.room) t.made.adds.first ∙ (ap (λ (z : BatchState). z.room) f.made.adds.first ∙ rooms)) on)

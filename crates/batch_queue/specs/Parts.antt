@@ -1,0 +1,219 @@
+-- What a taking of so many items answers, which may part the last batch.
+use Rattle.std.specs.Prelude.{◌≡◌, ◌≢◌, ◌⊎◌, ◌+◌, ◌/◌, ◌<◌, ◌≤◌, ℕ, min, List, [], ◌∷◌, ◌++◌, length, take, drop}
+use Rattle.std.specs.Prelude.{Bool, MatchBool}
+use Rattle.atomic_table.specs.Table.{Me}
+use Rattle.table_theory.specs.declared.views.Moment.{Moment}
+use Rattle.table_theory.specs.Ledgers.{Step, load, change, Made}
+use Rattle.table_theory.specs.Lines as lines
+use Rattle.batch_queue.specs.declared.refusals.TakeRefusal.{TakeRefusal}
+use Rattle.batch_queue.specs.declared.refusals.TakeRefusal.TheVariants.{ShortBuffer, Lost}
+use Rattle.batch_queue.specs.declared.rule.BatchState.{BatchState}
+use Rattle.batch_queue.specs.declared.rule.EndRecord.{EndRecord}
+use Rattle.batch_queue.specs.Answers.{WhyNotTaken}
+use Rattle.batch_queue.specs.Layout.{tail_word, mark_word}
+use Rattle.batch_queue.specs.Lines.{lines_put, lines_taken, times_parted}
+use Rattle.batch_queue.specs.Moments.{WasSo, MarkChanged}
+use Rattle.batch_queue.specs.Object.{items_of, phase_at, IsRest, IsStop, with_part, with_phase, with_taken}
+use Rattle.batch_queue.specs.Own.{View, with_taking}
+use Rattle.batch_queue.specs.Slots.{slots_of}
+use Rattle.batch_queue.specs.Steps.{HoldsRange}
+use Rattle.batch_queue.specs.Takings.{NoneBy, PassedEmpty, RefusedTake, with_line}
+use Rattle.batch_queue.specs.Walks.{LeadsOn, FollowedBy}
+
+-- a batch was parted so often more
+abbrev pub with_parts : EndRecord → ℕ → EndRecord
+with_parts d n = record d { parts = d.parts + n }
+
+-- A taking can end at this position, by what was found: its mark led on already, was exchanged now, or led on when it
+-- was found again. `parts` counts the exchange
+pub data PartedBy (room position parts : ℕ) (entries : List (Step BatchState)) : Type 0 where
+  already : (mark : ℕ) (m : Moment BatchState) → LeadsOn 0 position mark → parts ≡ 0
+      → entries ≡ load (mark_word room position) mark m ∷ [] → PartedBy room position parts entries
+  parted : (mark : ℕ) (m n : Moment BatchState) → mark / 2 ≤ position → parts ≡ 1
+      → entries ≡ load (mark_word room position) mark m
+      ∷ change (mark_word room position) mark n (with_part n.object position) ∷ []
+      → PartedBy room position parts entries
+  meanwhile : (mark found : ℕ) (m n : Moment BatchState) → mark / 2 ≤ position → found ≢ mark
+      → LeadsOn 0 position found → parts ≡ 0
+      → entries ≡ load (mark_word room position) mark m ∷ load (mark_word room position) found n ∷ []
+      → PartedBy room position parts entries
+
+-- nothing is known of a stop at this position: its place was given back, or its mark was changed to another number
+pub data NotPartedBy (room position : ℕ) (entries : List (Step BatchState)) : Type 0 where
+  given : (mark : ℕ) (m : Moment BatchState) → LeadsOn 1 position mark
+      → entries ≡ load (mark_word room position) mark m ∷ [] → NotPartedBy room position entries
+  changed : (mark found : ℕ) (m n : Moment BatchState) → mark / 2 ≤ position → found ≢ mark
+      → (LeadsOn 0 position found → ⊥)
+      → entries ≡ load (mark_word room position) mark m ∷ load (mark_word room position) found n ∷ []
+      → NotPartedBy room position entries
+
+-- the same, by the end
+pub record PartedLook (room position : ℕ) (stop : Bool) (v w : View) : Type 0 where
+  pub entries : List (Step BatchState)
+  pub parts : ℕ
+  pub by : MatchBool stop (PartedBy room position parts entries) ((parts ≡ 0) × NotPartedBy room position entries)
+  pub made : Made v entries (with_parts v.own parts) w
+
+-- the mark of this position was found to be this one: it is the tail, or marks of published batches were followed there
+pub data Reached (room tail most at mark : ℕ) (loads : List (Step BatchState)) : Type 0 where
+  at_tail : at ≡ tail → (m : Moment BatchState) → loads ≡ load (mark_word room tail) mark m ∷ []
+      → Reached room tail most at mark loads
+  after_walk : (walk : List (Step BatchState)) → FollowedBy 0 (tail + most) room tail at walk → at < tail + most
+      → (m : Moment BatchState) → loads ≡ walk ++ load (mark_word room at) mark m ∷ []
+      → Reached room tail most at mark loads
+
+-- Where a taking of so many items ends: as far as it may; or where nothing more is published; or where the batch ends
+-- that was published meanwhile; or within a batch, after the tail was found again
+pub data StopBy (room tail most to parts : ℕ) (loads : List (Step BatchState)) : Type 0 where
+  all : FollowedBy 0 (tail + most) room tail to loads → to ≡ tail + most → parts ≡ 0
+      → StopBy room tail most to parts loads
+  no_more : (mark : ℕ) → Reached room tail most to mark loads → (LeadsOn 0 to mark → ⊥) → parts ≡ 0
+      → StopBy room tail most to parts loads
+  one_more : (at mark : ℕ) → Reached room tail most at mark loads → LeadsOn 0 at mark → to ≡ mark / 2
+      → to ≤ tail + most → parts ≡ 0 → StopBy room tail most to parts loads
+  within : (at mark : ℕ) (before after : List (Step BatchState)) (again : Moment BatchState)
+      → Reached room tail most at mark before → LeadsOn 0 at mark → tail + most < mark / 2 → to ≡ tail + most
+      → PartedBy room to parts after → loads ≡ before ++ load tail_word tail again ∷ after
+      → StopBy room tail most to parts loads
+
+-- Why no taking ends within the batch that is too long: the tail had passed when it was found again, or nothing was
+-- known of a stop there, and the tail was found once more
+pub data LostBy (room tail most now : ℕ) (loads : List (Step BatchState)) : Type 0 where
+  passed : (at mark : ℕ) (before : List (Step BatchState)) (again : Moment BatchState)
+      → Reached room tail most at mark before → LeadsOn 0 at mark → tail + most < mark / 2 → tail < now
+      → loads ≡ before ++ load tail_word now again ∷ [] → LostBy room tail most now loads
+  not_parted : (at mark : ℕ) (before after : List (Step BatchState)) (again last : Moment BatchState)
+      → Reached room tail most at mark before → LeadsOn 0 at mark → tail + most < mark / 2
+      → NotPartedBy room (tail + most) after
+      → loads ≡ before ++ load tail_word tail again ∷ (after ++ load tail_word now last ∷ [])
+      → LostBy room tail most now loads
+
+-- by what an end has found, the positions from the tail to e are published, and those from p on are the rest of a
+-- batch; or the tail has passed
+abbrev pub FoundRest : View → ℕ → ℕ → ℕ → Type 0
+FoundRest v tail p e = (tail < v.seen.object.taken)
+    ⊎ (((i : ℕ) → tail ≤ i → i < e → 1 ≤ phase_at v.seen.object i) × IsRest v.seen.object.batches p e)
+
+-- the same, by the end, after the tail's mark was found to be `first`
+pub record FoundStop (room tail most first to : ℕ) (v w : View) : Type 0 where
+  pub loads : List (Step BatchState)
+  pub parts : ℕ
+  pub by : (m : Moment BatchState) → StopBy room tail most to parts (load (mark_word room tail) first m ∷ loads)
+  pub made : Made v loads (with_parts v.own parts) w
+
+pub record LostStop (room tail most first now : ℕ) (v w : View) : Type 0 where
+  pub loads : List (Step BatchState)
+  pub by : (m : Moment BatchState) → LostBy room tail most now (load (mark_word room tail) first m ∷ loads)
+  pub made : Made v loads v.own w
+
+-- the tail was found again, and the batch was parted
+pub record StoppedWithin (room tail last : ℕ) (v w : View) : Type 0 where
+  pub again : Moment BatchState
+  pub after : List (Step BatchState)
+  pub parts : ℕ
+  pub by : PartedBy room last parts after
+  pub made : Made v (load tail_word tail again ∷ after) (with_parts v.own parts) w
+
+-- the tail had passed, or was found again, and nothing was known of a stop, and then it was found once more
+pub data LostWithin (room tail last now : ℕ) (v w : View) : Type 0 where
+  passed : tail < now → (again : Moment BatchState) → Made v (load tail_word now again ∷ []) v.own w
+      → LostWithin room tail last now v w
+  not_parted : (again end : Moment BatchState) (after : List (Step BatchState)) → NotPartedBy room last after
+      → Made v (load tail_word tail again ∷ (after ++ load tail_word now end ∷ [])) v.own w
+      → LostWithin room tail last now v w
+
+-- the tail was found to be this one at a moment of the call: past the one before, or a mark was changed meanwhile
+abbrev pub WhyNoStop : ℕ → ℕ → ℕ → View → View → Type 0
+WhyNoStop room tail now v w = WasSo v w (λ o. (tail < o.taken) × (o.taken ≡ now))
+    ⊎ (WasSo v w (λ o. o.taken ≡ now) × MarkChanged room v w)
+
+-- The items taken are the first ones left, and after them a batch ends or was parted
+pub record AreSome (o : BatchState) (items : List ℕ) : Type 0 where
+  pub items_are : take (length items) (drop o.taken (items_of o)) ≡ items
+  pub stop : IsStop o (o.taken + length items)
+
+-- The tail was loaded, and it was found where a taking of up to `most` items ends; then the tail that was found was
+-- exchanged. Added says where these entries are, of the moment of the exchange and of how often a batch was parted
+pub record SomeBy (Added : Moment BatchState → ℕ → List (Step BatchState) → Type 0) (room most tail : ℕ)
+    (items : List ℕ) : Type 0 where
+  pub some_item : 0 < length items
+  pub within : length items ≤ min most room
+  pub at_tail : Moment BatchState
+  pub parts : ℕ
+  pub looks : List (Step BatchState)
+  pub stops : StopBy room tail (min most room) (tail + length items) parts looks
+  pub at_taking : Moment BatchState
+  pub first : AreSome at_taking.object items
+  pub added : Added at_taking parts (load tail_word tail at_tail
+      ∷ (looks ++ change tail_word tail at_taking (with_taken at_taking.object (tail + length items)) ∷ []))
+
+-- the items were taken, and the end holds their slots
+pub record HasTakenSome (room most : ℕ) (v : View) (tail : ℕ) (items : List ℕ) (m : Me ℕ View) : Type 0 where
+  pub taken : SomeBy (λ at parts entries. Made v entries
+      (with_taking (with_parts v.own parts) at.object (length items)) m.0) room most tail items
+  pub start : taken.at_taking.object.taken ≡ tail
+  pub range : HoldsRange 2 tail (length items) m.0
+  pub slots : m.1 ≡ slots_of room tail items
+
+-- up to so many items were taken, and after they were read, their places were given back by one store, of the mark of
+-- the first
+abbrev pub TookSome : ℕ → View → ℕ → List ℕ → View → Type 0
+TookSome room v most items w = (tail mark : ℕ) × (m : Moment BatchState) × SomeBy (λ at parts entries. Made v
+    (entries ++ change (mark_word room tail) mark m (with_phase m.object tail (tail + length items) 3) ∷ [])
+    (with_line (with_parts v.own parts) at.object (length items)) w) room most tail items
+
+-- it was found where the taking ends, but the exchange found another tail, past the one loaded
+pub record PassedStop (Added : ℕ → List (Step BatchState) → Type 0) (room most now : ℕ) : Type 0 where
+  pub tail : ℕ
+  pub to : ℕ
+  pub at_tail : Moment BatchState
+  pub parts : ℕ
+  pub looks : List (Step BatchState)
+  pub stops : StopBy room tail (min most room) to parts looks
+  pub past : tail < now
+  pub at_exchange : Moment BatchState
+  pub added : Added parts (load tail_word tail at_tail ∷ (looks ++ load tail_word now at_exchange ∷ []))
+
+-- it was not found where the taking ends
+pub record NoStop (Added : ℕ → List (Step BatchState) → Type 0) (room most now : ℕ) : Type 0 where
+  pub tail : ℕ
+  pub at_tail : Moment BatchState
+  pub looks : List (Step BatchState)
+  pub lost : LostBy room tail (min most room) now looks
+  pub added : Added 0 (load tail_word tail at_tail ∷ looks)
+
+-- what a refused taking of some items says of its entries, and of how often a batch was parted
+abbrev pub RefusedSomeBy : (ℕ → List (Step BatchState) → Type 0) → ℕ → ℕ → TakeRefusal → Type 0
+RefusedSomeBy Added room most (Lost now) =
+    PassedEmpty (Added 0) room now ⊎ (PassedStop Added room most now ⊎ NoStop Added room most now)
+RefusedSomeBy Added room most refusal = NoneBy (Added 0) room refusal
+
+-- the taking of some items was refused; into a buffer without room it is as a taking of whole batches
+abbrev pub RefusedTakeSome : ℕ → View → ℕ → TakeRefusal → View → Type 0
+RefusedTakeSome room v most refusal w = ((most ≡ 0) × RefusedTake room v most refusal w)
+    ⊎ RefusedSomeBy (λ parts entries. Made v entries (with_parts v.own parts) w) room most refusal
+
+-- Why nothing was taken. It is ShortBuffer only if the buffer has no room. It is Lost too if a mark was changed during
+-- the call
+abbrev pub WhyNotTakenSome : View → ℕ → ℕ → TakeRefusal → View → Type 0
+WhyNotTakenSome v room most (ShortBuffer at count) w = (most ≡ 0) × WhyNotTaken v most (ShortBuffer at count) w
+WhyNotTakenSome v room most (Lost now) w = WhyNotTaken v most (Lost now) w
+    ⊎ (WasSo v w (λ o. o.taken ≡ now) × MarkChanged room v w)
+WhyNotTakenSome v room most refusal w = WhyNotTaken v most refusal w
+
+-- the end parted a batch once, or none
+abbrev pub MayPart : View → View → Type 0
+MayPart v w = (times_parted v ≤ times_parted w) × (times_parted w ≤ times_parted v + 1)
+
+-- the first n of the buffer are the items that were taken, as one line; the others stay
+pub record FilledSome (n : ℕ) (old new : List ℕ) (v w : View) : Type 0 where
+  pub line : List ℕ
+  pub some_item : 0 < n
+  pub long : length line ≡ n
+  pub buffer : new ≡ line ++ drop n old
+  pub took : lines.TookLine lines_put lines_taken line v w
+  pub parts : MayPart v w
+
+-- nothing was put and nothing taken
+abbrev pub SameSome : View → View → Type 0
+SameSome v w = lines.SameLines lines_put lines_taken v w × MayPart v w

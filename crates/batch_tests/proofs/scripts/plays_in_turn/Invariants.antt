@@ -1,0 +1,5 @@
+use Rattle.batch_queue.specs.Handles.{IsEndOf}
+use Rattle.batch_tests.proofs.scripts.plays_in_turn.Given as goal
+
+abbrev pub invariant-loop-at : goal.invariant-loop-at
+invariant-loop-at g l = IsEndOf l.queue l.one × IsEndOf l.queue l.other

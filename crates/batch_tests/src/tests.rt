@@ -1,0 +1,175 @@
+ghost use Rattle.std.specs.Prelude.{◌≡◌};
+ghost use Rattle.batch_queue.specs.Handles.{IsEndOf};
+
+use crate::fixtures::{Room, close_queue, is_printed, new_queue};
+use crate::rows::{ROWS_OF_1, ROWS_OF_2, ROWS_OF_4, ROWS_OF_8};
+use crate::scripts::{Act, Script, does, plays, plays_in_turn};
+use batch_queue::*;
+use event_theory::OutOfMemory;
+use std::alloc::Global;
+use std::process::Abort;
+use std::sync::Wait;
+use std::test::*;
+
+fn plays_all<R: Abort + Wait>(rt: &R, alloc: Global, scripts: &[Script]) {
+    for script in scripts {
+        plays(rt, alloc, script);
+        plays_in_turn(rt, alloc, script);
+    }
+}
+
+#[test]
+fn rows_of_one_place(rt: HostRuntime) {
+    plays_all(&rt, rt.alloc(), ROWS_OF_1);
+}
+
+#[test]
+fn rows_of_two_places(rt: HostRuntime) {
+    plays_all(&rt, rt.alloc(), ROWS_OF_2);
+}
+
+#[test]
+fn rows_of_four_places(rt: HostRuntime) {
+    plays_all(&rt, rt.alloc(), ROWS_OF_4);
+}
+
+#[test]
+fn rows_of_eight_places(rt: HostRuntime) {
+    plays_all(&rt, rt.alloc(), ROWS_OF_8);
+}
+
+/// What an end does before it is dropped.
+const PUT_AND_TAKEN: [Act; 2] = [Act::PutSome(&[7, 8], Ok((0, 2))), Act::Take(2, Ok(&[7, 8]))];
+
+/// What another end does then.
+const PUT_AND_TAKEN_AGAIN: [Act; 4] = [
+    Act::Len(0),
+    Act::PutSome(&[1, 2, 3, 4, 5], Ok((2, 4))),
+    Act::Put(&[6], Err(PutRefusal::Full { head: 6, free: 2 })),
+    Act::Take(4, Ok(&[1, 2, 3, 4])),
+];
+
+/// The close is refused: the queue and the end come back, with the number of the other ends.
+fn must_be_open<R: Abort>(rt: &R, queue: BatchQueue, end: BatchEnd) -> (BatchQueue, BatchEnd, u64)
+    requires { IsEndOf queue end }
+    ensures { (result.0 ≡ queue) × IsEndOf result.0 result.1 }
+{
+    match queue.close(end) {
+        Ok(_closed) => panic!(rt; "open"),
+        Err((queue, end, open)) => (queue, end, open.others),
+    }
+}
+
+#[test]
+fn open_ends(rt: HostRuntime) {
+    let (queue, mut a) = new_queue(&rt, rt.alloc(), Room::Of4);
+    let b = queue.split(&mut a);
+    let c = queue.split(&mut a);
+    let (queue, mut a, two) = must_be_open(&rt, queue, a);
+    queue.join(&mut a, b);
+    let (queue, mut a, one) = must_be_open(&rt, queue, a);
+    assert!(rt; (two, one) == (2, 1));
+    queue.join(&mut a, c);
+    let closed = close_queue(&rt, queue, a);
+    assert!(rt; (closed.put, closed.taken, closed.left.len()) == (0, 0, 0));
+}
+
+/// If an end is dropped, the others go on with the queue, and it can't be closed any more.
+#[test]
+fn dropped_end(rt: HostRuntime) {
+    let (queue, mut a) = new_queue(&rt, rt.alloc(), Room::Of4);
+    let mut b = queue.split(&mut a);
+    let mut dropped = queue.split(&mut a);
+    does(&rt, &queue, &mut dropped, &PUT_AND_TAKEN);
+    drop(dropped);
+    does(&rt, &queue, &mut b, &PUT_AND_TAKEN_AGAIN);
+    let (queue, mut a, two) = must_be_open(&rt, queue, a);
+    queue.join(&mut a, b);
+    let (queue, mut a, one) = must_be_open(&rt, queue, a);
+    assert!(rt; (two, one) == (2, 1));
+    does(
+        &rt,
+        &queue,
+        &mut a,
+        &[
+            Act::Put(&[9], Ok(6)),
+            Act::Take(1, Ok(&[9])),
+            Act::Shut(true),
+            Act::Take(1, Err(TakeRefusal::Closed)),
+        ],
+    );
+    let (_queue, _end, one) = must_be_open(&rt, queue, a);
+    assert!(rt; one == 1);
+}
+
+/// If all ends are joined, the close succeeds: it is proved that no other answer comes, and not tried.
+fn split_and_joined(alloc: Global) -> Result<Closed, OutOfMemory> {
+    let (queue, mut a) = BatchQueue::new(alloc, Room::Of4.places())?;
+    let b = queue.split(&mut a);
+    let c = queue.split(&mut a);
+    queue.join(&mut a, b);
+    queue.join(&mut a, c);
+    match queue.close(a) {
+        Ok(closed) => Ok(closed),
+        Err(_) => unreachable!(),
+    }
+}
+
+#[test]
+fn joined_ends_close(rt: HostRuntime) {
+    let Ok(closed) = split_and_joined(rt.alloc()) else {
+        panic!(rt; "no memory")
+    };
+    assert!(rt; (closed.put, closed.taken, closed.left.len()) == (0, 0, 0));
+}
+
+/// If an allocation is refused, there is no queue, and a later try makes one.
+#[test]
+fn memory_may_be_wanting(rt: HostRuntime) {
+    let mut made = false;
+    for _ in 0..3 {
+        match BatchQueue::new(rt.alloc(), Room::Of4.places()) {
+            Ok((queue, mut end)) => {
+                does(&rt, &queue, &mut end, &PUT_AND_TAKEN);
+                made = true;
+            }
+            Err(error) => assert!(rt; error == OutOfMemory),
+        }
+    }
+    assert!(rt; made);
+}
+
+const PUT_WORDS: &[(PutRefusal, &str)] = &[
+    (PutRefusal::NoItems, "no items"),
+    (PutRefusal::TooLong, "more items than places"),
+    (PutRefusal::Closed, "the queue is shut"),
+    (PutRefusal::Spent, "no positions left"),
+    (
+        PutRefusal::Full { head: 9, free: 5 },
+        "full at head 9, free 5",
+    ),
+    (PutRefusal::Lost { head: 8 }, "lost, head 8"),
+];
+
+const TAKE_WORDS: &[(TakeRefusal, &str)] = &[
+    (TakeRefusal::Empty { at: 6 }, "nothing published at 6"),
+    (
+        TakeRefusal::ShortBuffer { at: 3, count: 4 },
+        "a batch of 4 at 3",
+    ),
+    (TakeRefusal::Lost { tail: 7 }, "lost, tail 7"),
+    (TakeRefusal::Closed, "the queue is shut and empty"),
+];
+
+/// Each refusal is printed in its words, with its numbers.
+#[test]
+fn refusals_are_printed(rt: HostRuntime) {
+    for (refusal, words) in PUT_WORDS {
+        assert!(rt; is_printed(rt.alloc(), *refusal, words));
+    }
+    for (refusal, words) in TAKE_WORDS {
+        assert!(rt; is_printed(rt.alloc(), *refusal, words));
+    }
+    let open = OpenEnds { others: 3 };
+    assert!(rt; is_printed(rt.alloc(), open, "3 other ends are not joined"));
+}

@@ -17,6 +17,8 @@ pub(crate) enum Act {
     PutAgain(&'static [u64], Result<u64, PutRefusal>),
     PutSome(&'static [u64], Result<(u64, usize), PutRefusal>),
     Take(usize, Result<&'static [u64], TakeRefusal>),
+    /// The taking of so many items, which may part a batch.
+    TakeSome(usize, Result<&'static [u64], TakeRefusal>),
     /// The taking that waits.
     TakeAgain(usize, Result<&'static [u64], TakeRefusal>),
     /// Shuts the queue, which was open or not.
@@ -64,6 +66,21 @@ fn takes(
     has_taken(buffer, answer, wanted)
 }
 
+fn takes_some(
+    queue: &BatchQueue,
+    end: &mut BatchEnd,
+    most: usize,
+    wanted: &Result<&'static [u64], TakeRefusal>,
+) -> bool
+    requires { IsEndOf queue.now end.old }
+    ensures { IsEndOf queue.now end.new }
+{
+    let mut places = [NOTHING; 16];
+    let (buffer, _) = places.as_mut_slice().split_at_mut(most.min(16));
+    let answer = queue.try_take_some(end, buffer);
+    has_taken(buffer, answer, wanted)
+}
+
 fn takes_again<R: Wait>(
     rt: &R,
     queue: &BatchQueue,
@@ -90,6 +107,7 @@ fn is_answered<R: Wait>(rt: &R, queue: &BatchQueue, end: &mut BatchEnd, act: &Ac
         Act::PutAgain(items, answer) => queue.put(rt, end, items) == *answer,
         Act::PutSome(items, answer) => queue.try_put_some(end, items) == *answer,
         Act::Take(most, wanted) => takes(queue, end, *most, wanted),
+        Act::TakeSome(most, wanted) => takes_some(queue, end, *most, wanted),
         Act::TakeAgain(most, wanted) => takes_again(rt, queue, end, *most, wanted),
         Act::Shut(was_open) => queue.shut(end) == *was_open,
         Act::Len(count) => queue.len(end) == *count,

@@ -86,11 +86,12 @@ struct Put {
     is_right: bool,
 }
 
-/// What a taker got: how often each item came, their sum, and whether each came in the order of its producer with its
-/// whole batch.
+/// What a taker got: how often each item came, their sum, and whether each came in the order of its producer, and, if
+/// no batch is parted, with its whole batch.
 #[derive(Drop)]
 struct Had {
     times: Vec<u8>,
+    is_whole: bool,
     sum: u64,
     is_right: bool,
 }
@@ -209,7 +210,7 @@ impl Had {
             let mark = Mark::of(*item);
             let follows = match last {
                 Some(before) if before.after > 0 => before.leads_to(&mark),
-                _ => mark.before == 0,
+                _ => !self.is_whole || mark.before == 0,
             };
             let at = mark.producer.min(1) as usize;
             self.is_right = self.is_right && follows && mark.number >= next[at];
@@ -218,7 +219,8 @@ impl Had {
             self.count(&mark);
             last = Some(mark);
         }
-        self.is_right = self.is_right && last.is_some_and(|mark| mark.after == 0);
+        let is_whole = self.is_whole;
+        self.is_right = self.is_right && last.is_some_and(|mark| !is_whole || mark.after == 0);
     }
 
     fn count(&mut self, mark: &Mark) {
@@ -259,7 +261,25 @@ fn drain_waiting<R: Wait>(
     unreachable!()
 }
 
-/// Takes until the queue is shut and empty, by the call that doesn't wait.
+/// The most items of a taking that may part a batch.
+const SOME: usize = 5;
+
+fn take_whole_or_some(
+    queue: &BatchQueue,
+    end: &mut BatchEnd,
+    items: &mut [u64],
+    is_whole: bool,
+) -> Result<usize, TakeRefusal>
+    requires { IsEndOf queue.now end.old }
+    ensures { IsEndOf queue.now end.new }
+{
+    if is_whole {
+        return queue.try_take(end, items);
+    }
+    queue.try_take_some(end, items)
+}
+
+/// Takes until the queue is shut and empty, by the calls that don't wait.
 fn drain<R: Wait>(
     rt: &R,
     queue: &BatchQueue,
@@ -274,10 +294,12 @@ fn drain<R: Wait>(
     let mut had = had;
     let mut next = [0u64; 2];
     let mut places = [0u64; MOST];
-    let (buffer, _) = places.as_mut_slice().split_at_mut(most.min(MOST));
+    let is_whole = had.is_whole;
+    let length = if is_whole { most.min(MOST) } else { SOME };
+    let (buffer, _) = places.as_mut_slice().split_at_mut(length);
     let mut backoff = Backoff::new();
     for _ in rt.forever() {
-        match queue.try_take(&mut end, buffer) {
+        match take_whole_or_some(queue, &mut end, buffer, is_whole) {
             Ok(count) => {
                 had.note(buffer.get(..count).unwrap_or(&[]), &mut next);
                 backoff = Backoff::new();
@@ -425,12 +447,13 @@ fn feed_and_drain_two<R: Threads + Wait + Sync>(
 }
 
 /// A taker that got nothing yet, with a count for each of so many items of either producer.
-fn nothing_had<R: Abort>(rt: &R, alloc: Global, items: u64) -> Had {
+fn nothing_had<R: Abort>(rt: &R, alloc: Global, items: u64, is_whole: bool) -> Had {
     let Ok(times) = Vec::from_elem(alloc, 0u8, items.wrapping_mul(2) as usize) else {
         panic!(rt; "no memory")
     };
     Had {
         times,
+        is_whole,
         sum: 0,
         is_right: true,
     }
@@ -459,8 +482,8 @@ fn closes<R: Abort>(rt: &R, queue: BatchQueue, end: BatchEnd, items: u64)
 fn one_to_one<R: Threads + Wait + Abort + Sync>(rt: &R, alloc: Global, room: Room, work: Work) {
     let (queue, mut last) = new_queue(rt, alloc, room);
     let taker = queue.split(&mut last);
-    let none = nothing_had(rt, alloc, work.items);
-    let had = nothing_had(rt, alloc, work.items);
+    let none = nothing_had(rt, alloc, work.items, true);
+    let had = nothing_had(rt, alloc, work.items, true);
     let most = room.places();
     let ((mut last, put), (taker, had)) = feed_and_drain(
         rt,
@@ -476,12 +499,20 @@ fn one_to_one<R: Threads + Wait + Abort + Sync>(rt: &R, alloc: Global, room: Roo
     assert!(rt; came_once(&had, &none) == work.items);
 }
 
-/// Two threads put, each as much, and two take.
-fn two_to_two<R: Threads + Wait + Abort + Sync>(rt: &R, alloc: Global, room: Room, work: Work) {
+/// Two threads put, each as much, and two take: one of them parts batches, or none does.
+fn two_to_two<R: Threads + Wait + Abort + Sync>(
+    rt: &R,
+    alloc: Global,
+    room: Room,
+    work: Work,
+    is_whole: bool,
+) {
     let (queue, mut last) = new_queue(rt, alloc, room);
     let second = queue.split(&mut last);
-    let one = (queue.split(&mut last), nothing_had(rt, alloc, work.items));
-    let other = (queue.split(&mut last), nothing_had(rt, alloc, work.items));
+    let had = nothing_had(rt, alloc, work.items, is_whole);
+    let one = (queue.split(&mut last), had);
+    let had = nothing_had(rt, alloc, work.items, is_whole);
+    let other = (queue.split(&mut last), had);
     let feeders = (
         (last, work),
         (
@@ -534,15 +565,25 @@ fn one_to_one_by_many_places(rt: HostRuntime) {
 
 #[test]
 fn two_to_two_by_two_places(rt: HostRuntime) {
-    two_to_two(&rt, rt.alloc(), Room::Of2, work_of(100_000, 2));
+    two_to_two(&rt, rt.alloc(), Room::Of2, work_of(100_000, 2), true);
 }
 
 #[test]
 fn two_to_two_by_sixteen_places(rt: HostRuntime) {
-    two_to_two(&rt, rt.alloc(), Room::Of16, work_of(250_000, 16));
+    two_to_two(&rt, rt.alloc(), Room::Of16, work_of(250_000, 16), true);
 }
 
 #[test]
 fn two_to_two_by_many_places(rt: HostRuntime) {
-    two_to_two(&rt, rt.alloc(), Room::Of1024, work_of(500_000, 100));
+    two_to_two(&rt, rt.alloc(), Room::Of1024, work_of(500_000, 100), true);
+}
+
+#[test]
+fn batches_are_parted_in_sixteen_places(rt: HostRuntime) {
+    two_to_two(&rt, rt.alloc(), Room::Of16, work_of(250_000, 16), false);
+}
+
+#[test]
+fn batches_are_parted_in_many_places(rt: HostRuntime) {
+    two_to_two(&rt, rt.alloc(), Room::Of1024, work_of(500_000, 100), false);
 }

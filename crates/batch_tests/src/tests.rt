@@ -2,7 +2,9 @@ ghost use Rattle.std.specs.Prelude.{◌≡◌};
 ghost use Rattle.batch_queue.specs.Handles.{IsEndOf};
 
 use crate::fixtures::{Room, close_queue, is_printed, new_queue};
-use crate::rows::{ROWS_OF_1, ROWS_OF_2, ROWS_OF_4, ROWS_OF_8};
+use crate::rows::{
+    PARTS_OF_1, PARTS_OF_2, PARTS_OF_4, PARTS_OF_8, ROWS_OF_1, ROWS_OF_2, ROWS_OF_4, ROWS_OF_8,
+};
 use crate::scripts::{Act, Script, does, plays, plays_in_turn};
 use batch_queue::*;
 use event_theory::OutOfMemory;
@@ -36,6 +38,22 @@ fn rows_of_four_places(rt: HostRuntime) {
 #[test]
 fn rows_of_eight_places(rt: HostRuntime) {
     plays_all(&rt, rt.alloc(), ROWS_OF_8);
+}
+
+#[test]
+fn parts_in_one_and_two_places(rt: HostRuntime) {
+    plays_all(&rt, rt.alloc(), PARTS_OF_1);
+    plays_all(&rt, rt.alloc(), PARTS_OF_2);
+}
+
+#[test]
+fn parts_in_four_places(rt: HostRuntime) {
+    plays_all(&rt, rt.alloc(), PARTS_OF_4);
+}
+
+#[test]
+fn parts_in_eight_places(rt: HostRuntime) {
+    plays_all(&rt, rt.alloc(), PARTS_OF_8);
 }
 
 /// What an end does before it is dropped.

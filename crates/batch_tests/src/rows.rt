@@ -4,7 +4,7 @@ use crate::fixtures::Room;
 use crate::scripts::{Act, Script};
 use batch_queue::{PutRefusal, TakeRefusal};
 
-pub(crate) const ROWS_OF_1: &[Script] = &[
+pub(crate) const EDGES_OF_1: &[Script] = &[
     // What is refused at a queue that nothing was put into.
     Script {
         room: Room::Of1,
@@ -66,6 +66,9 @@ pub(crate) const ROWS_OF_1: &[Script] = &[
         taken: 2,
         left: &[],
     },
+];
+
+pub(crate) const ROWS_OF_1: &[Script] = &[
     // Buffers of each length, at batches of several lengths: whole batches are taken, as many as fit.
     Script {
         room: Room::Of1,
@@ -225,7 +228,7 @@ pub(crate) const PARTS_OF_1: &[Script] = &[
     },
 ];
 
-pub(crate) const ROWS_OF_2: &[Script] = &[
+pub(crate) const EDGES_OF_2: &[Script] = &[
     // What is refused at a queue that nothing was put into.
     Script {
         room: Room::Of2,
@@ -302,6 +305,9 @@ pub(crate) const ROWS_OF_2: &[Script] = &[
         taken: 6,
         left: &[],
     },
+];
+
+pub(crate) const ROWS_OF_2: &[Script] = &[
     // Buffers of each length, at batches of several lengths: whole batches are taken, as many as fit.
     Script {
         room: Room::Of2,
@@ -493,7 +499,7 @@ pub(crate) const PARTS_OF_2: &[Script] = &[
     },
 ];
 
-pub(crate) const ROWS_OF_4: &[Script] = &[
+pub(crate) const EDGES_OF_4: &[Script] = &[
     // What is refused at a queue that nothing was put into.
     Script {
         room: Room::Of4,
@@ -606,6 +612,9 @@ pub(crate) const ROWS_OF_4: &[Script] = &[
         taken: 20,
         left: &[],
     },
+];
+
+pub(crate) const ROWS_OF_4: &[Script] = &[
     // Buffers of each length, at batches of several lengths: whole batches are taken, as many as fit.
     Script {
         room: Room::Of4,
@@ -859,7 +868,7 @@ pub(crate) const PARTS_OF_4: &[Script] = &[
     },
 ];
 
-pub(crate) const ROWS_OF_8: &[Script] = &[
+pub(crate) const EDGES_OF_8: &[Script] = &[
     // What is refused at a queue that nothing was put into.
     Script {
         room: Room::Of8,
@@ -1050,6 +1059,9 @@ pub(crate) const ROWS_OF_8: &[Script] = &[
         taken: 72,
         left: &[],
     },
+];
+
+pub(crate) const ROWS_OF_8: &[Script] = &[
     // Buffers of each length, at batches of several lengths: whole batches are taken, as many as fit.
     Script {
         room: Room::Of8,

@@ -21,12 +21,24 @@ fn plays_all<R: Abort + Wait>(rt: &R, alloc: Global, scripts: &[Script]) {
 }
 
 #[test]
-fn rows_of_one_place(rt: HostRuntime) {
-    plays_all(&rt, rt.alloc(), ROWS_OF_1);
+fn edges_of_one_and_two_places(rt: HostRuntime) {
+    plays_all(&rt, rt.alloc(), EDGES_OF_1);
+    plays_all(&rt, rt.alloc(), EDGES_OF_2);
 }
 
 #[test]
-fn rows_of_two_places(rt: HostRuntime) {
+fn edges_of_four_places(rt: HostRuntime) {
+    plays_all(&rt, rt.alloc(), EDGES_OF_4);
+}
+
+#[test]
+fn edges_of_eight_places(rt: HostRuntime) {
+    plays_all(&rt, rt.alloc(), EDGES_OF_8);
+}
+
+#[test]
+fn rows_of_one_and_two_places(rt: HostRuntime) {
+    plays_all(&rt, rt.alloc(), ROWS_OF_1);
     plays_all(&rt, rt.alloc(), ROWS_OF_2);
 }
 

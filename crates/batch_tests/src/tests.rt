@@ -3,7 +3,8 @@ ghost use Rattle.batch_queue.specs.Handles.{IsEndOf};
 
 use crate::fixtures::{Room, close_queue, is_printed, new_queue};
 use crate::rows::{
-    PARTS_OF_1, PARTS_OF_2, PARTS_OF_4, PARTS_OF_8, ROWS_OF_1, ROWS_OF_2, ROWS_OF_4, ROWS_OF_8,
+    EDGES_OF_1, EDGES_OF_2, EDGES_OF_4, EDGES_OF_8, PARTS_OF_1, PARTS_OF_2, PARTS_OF_4, PARTS_OF_8,
+    ROWS_OF_1, ROWS_OF_2, ROWS_OF_4, ROWS_OF_8,
 };
 use crate::scripts::{Act, Script, does, plays, plays_in_turn};
 use batch_queue::*;

@@ -1,0 +1,109 @@
+-- What splitting, joining and closing leave of holders.
+use Rattle.std.proofs.Common.{◌≡◌, ℕ, zero, suc, ◌+◌, ◌<◌, List, [], ◌∷◌, map, take, refl, sym, ap, subst, arith}
+use Rattle.std.proofs.Math.Logic.{∥∥₁_elim}
+use Rattle.std.proofs.Math.Bridge.{le_prop}
+use Rattle.std.specs.List.{concat}
+use mathlib.Core.Option.{some, some-injective, some-ne-none}
+use lib.ListN.{get_elem?}
+use Rattle.table_theory.specs.declared.queues.Batch.{Batch}
+use Rattle.table_theory.specs.Batches.{line_of}
+use Rattle.table_theory.specs.Filing.{Owned, entry_of}
+use Rattle.table_theory.specs.Ledgers.{WereOpen}
+use Rattle.table_theory.specs.Listing.{IsListed}
+use Rattle.table_theory.specs.Lines.{IsCut}
+use Rattle.table_theory.specs.Sharing.{given, kept}
+use Rattle.table_theory.proofs.Counting.{given_kept}
+use Rattle.batch_queue.specs.declared.ends.BatchQueue.{BatchQueue}
+use Rattle.batch_queue.specs.Closings.{ClosedNow}
+use Rattle.batch_queue.specs.Endings.{Divided, IsNewborn}
+use Rattle.batch_queue.specs.Layout.{ends_word}
+use Rattle.batch_queue.specs.Lines.{lines_put, lines_taken}
+use Rattle.batch_queue.specs.Object.{items_of}
+use Rattle.batch_queue.specs.Own.{View}
+use Rattle.batch_queue.specs.Placed.{positions_of}
+use Rattle.pool.specs.declared.pool.Pool.{Pool}
+use Rattle.pool.specs.Buffers.{all_buffers, times}
+use Rattle.pool.specs.Holdings.{acquired, released, held, IsFair, HoldsSame, IsStocked, ListsFirst}
+use Rattle.pool.proofs.Counting.{all_once, times_append, times_concat, times_split, total_map}
+use Rattle.pool.proofs.Filed.{filed_total}
+use Rattle.pool.proofs.Owners.{first_apart, in_batch, times_lines}
+use Rattle.pool.proofs.Steps.{DidNothing, looked}
+
+-- SPLITS
+
+-- the end has the runs and takings that it had
+pub divided : (v w : View) → Divided v w → (w.own.runs ≡ v.own.runs) × (lines_taken w ≡ lines_taken v)
+divided v w d = ((λ i. (d.own i).runs), ap (map line_of) (λ i. (d.own i).takes))
+
+-- the new end has none
+pub born_runs : (v w born : View) → IsNewborn v w born → born.own.runs ≡ []
+born_runs v w born is = ap (λ (z : View). z.own.runs) is
+
+pub born_takes : (v w born : View) → IsNewborn v w born → lines_taken born ≡ []
+born_takes v w born is = ap (λ (z : View). lines_taken z) is
+
+pub idle_fair : (v : View) → v.own.runs ≡ [] → IsFair v
+idle_fair v runs x = let a = ap (λ (z : List Batch). times x (concat (map line_of (Rattle.std.specs.List.filter Rattle.pool.specs.Holdings.is_later z)))) runs in omega arith
+
+pub idle_held : (v : View) → lines_taken v ≡ [] → (x : ℕ) → held v x ≡ 0
+idle_held v takes x = let a = ap (λ (z : List (List ℕ)). times x (concat z)) takes in omega arith
+
+pub idle_lists : (count : ℕ) (v : View) → v.own.runs ≡ [] → ListsFirst count v
+idle_lists count v runs m e at start = absurd (some-ne-none e (sym (subst (λ (z : List Batch). get_elem? z m ≡ some e) runs at)))
+
+pub born_stocked : (count : ℕ) (v w born : View) → IsNewborn v w born → IsStocked count w → IsStocked count born
+born_stocked count v w born is s = subst (λ (z : View). IsStocked count z) (sym is) s
+
+-- the shares of both are the share that was split
+pub split_share : (v w born : View) → Divided v w → IsNewborn v w born → w.member.share + born.member.share ≡ v.member.share
+split_share v w born d b =
+    let left : w.member.share ≡ kept v.member.share = (λ k. (d.member k).share) in
+    let gone : born.member.share ≡ given v.member.share = ap (λ (z : View). z.member.share) b in
+    let all = given_kept v.member.share in omega arith
+
+-- CLOSES
+
+-- lines that items are cut into have what the items have
+cut_times : (x : ℕ) (items : List ℕ) (lines : List (List ℕ)) → IsCut items lines → times x (concat lines) ≡ times x items
+cut_times x items lines c =
+    let a = filed_total (times x) c.cut (lines ∷ []) c.once in let b = times_concat x lines in
+    let d = times_concat x (map entry_of c.cut) in let e = total_map (times x) entry_of c.cut in let f = ap (times x) c.whole in omega arith
+
+-- an entry of the only list
+only_list : (l k : List Batch) (c m : ℕ) (e : Batch) → get_elem? (l ∷ []) c ≡ some k → get_elem? k m ≡ some e → get_elem? l m ≡ some e
+only_list l k zero m e at at' = subst (λ (z : List Batch). get_elem? z m ≡ some e) (sym (some-injective l k at)) at'
+only_list l k (suc c) m e at at' = absurd (some-ne-none k (sym at))
+
+module _ (count : ℕ) (v : View) (lists : ListsFirst count v) where
+  -- what was put is what was released, and all buffers
+  first_put : (x : ℕ) (log : List (Owned Batch)) → IsListed 0 (positions_of v.seen.object).places log (v.own.runs ∷ []) → 0 < times 0 (concat (lines_put v)) → times x (released v) + times x (all_buffers count) ≡ times x (concat (lines_put v))
+  first_put x [] l some_put = absurd (let a = filed_total (in_batch 0) [] (v.own.runs ∷ []) l.filed in let b = times_lines 0 v.own.runs in omega arith)
+  first_put x (o ∷ log) l some_put =
+      let s = l.filed.stands 0 o refl in
+      let a = first_apart x o log (v.own.runs ∷ []) (all_buffers count) l.filed l.adjacent (l.solid 0 o refl) (lists o.1 o.2 (only_list v.own.runs s.0 o.0 o.1 o.2 s.1 s.2) l.adjacent.0) in omega arith
+
+  -- all buffers are put at least
+  all_put : (rest : List (List ℕ)) → v.seen.object.batches ≡ all_buffers count ∷ rest → 0 < count → 0 < times 0 (items_of v.seen.object)
+  all_put rest is some_buffer = let a = ap (λ (z : List (List ℕ)). times 0 (concat z)) is in let b = times_append 0 (all_buffers count) (concat rest) in let d = all_once 0 count some_buffer in omega arith
+
+  -- what the last end holds, and what is left, are all buffers
+  pub all_there : (put taken : ℕ) (left : List ℕ) → 0 < count → IsStocked count v → IsFair v → ClosedNow v put taken left → (x : ℕ) → held v x + times x left ≡ times x (all_buffers count)
+  all_there put taken left some_buffer stocked fair closed x =
+      let some_put : 0 < times 0 (items_of v.seen.object) = ∥∥₁_elim stocked le_prop (λ (r : (rest : List (List ℕ)) × (v.seen.object.batches ≡ all_buffers count ∷ rest)). all_put r.0 r.1 some_buffer) in
+      let zeros = cut_times 0 (items_of v.seen.object) (lines_put v) closed.settled.puts_are in
+      let puts = cut_times x (items_of v.seen.object) (lines_put v) closed.settled.puts_are in
+      let takes = cut_times x (take taken (items_of v.seen.object)) (lines_taken v) closed.settled.takes_are in
+      let first = first_put x closed.listed.runs closed.listed.runs_are (omega arith) in
+      let rest = ap (times x) closed.left_is in let both = times_split x taken (items_of v.seen.object) in let f = fair x in omega arith
+
+-- A refused close
+
+pub open_same : (v w : View) (others : ℕ) → WereOpen ends_word v others w → DidNothing v w
+open_same v w others o = looked v w _ o.tallied.made
+
+-- a pool is its queue and its number of buffers
+pub same_pool : (queue other : BatchQueue) (count : ℕ) (some_one some_other : 0 < count) → queue ≡ other → ◌≡◌ {A = Pool} (record { queue = queue; count = count; some = some_one }) (record { queue = other; count = count; some = some_other })
+same_pool queue other count some_one some_other is = λ i. record { queue = is i; count = count; some = le_prop some_one some_other i }
+
+pub same_takes : (v w : View) → DidNothing v w → lines_taken w ≡ lines_taken v
+same_takes v w d = ap (map line_of) d.takes_are

@@ -1,0 +1,10 @@
+mod Counting
+mod Filed
+mod Owners
+mod Steps
+mod Holding
+mod Acquiring
+mod Releasing
+mod Joining
+mod Filling
+mod Working

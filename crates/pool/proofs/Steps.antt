@@ -1,0 +1,97 @@
+-- What a call of the queue leaves of an end's runs and takings, and which steps it added.
+use Rattle.std.proofs.Common.{◌≡◌, ℕ, List, [], ◌∷◌, ◌++◌, ◌<◌, map, length, sym, subst}
+use Rattle.table_theory.specs.declared.queues.Batch.{Batch}
+use Rattle.table_theory.specs.declared.views.Moment.{Moment}
+use Rattle.table_theory.specs.Ledgers.{Adds, Made, Step, load}
+use Rattle.table_theory.proofs.Reaching.{adds_none}
+use Rattle.batch_queue.specs.declared.refusals.PutRefusal.{PutRefusal}
+use Rattle.batch_queue.specs.declared.refusals.PutRefusal.TheVariants as not_put
+use Rattle.batch_queue.specs.declared.refusals.TakeRefusal.{TakeRefusal}
+use Rattle.batch_queue.specs.declared.refusals.TakeRefusal.TheVariants as not_taken
+use Rattle.batch_queue.specs.declared.rule.BatchState.{BatchState}
+use Rattle.batch_queue.specs.declared.rule.EndRecord.{EndRecord}
+use Rattle.batch_queue.specs.Layout.{head_word}
+use Rattle.batch_queue.specs.Own.{View}
+use Rattle.batch_queue.specs.Puts.{FoundOther, IsPut, LackedRoom, RefusedPut, published}
+use Rattle.batch_queue.specs.Takings.{RefusedTake, TookBatches}
+use Rattle.std.proofs.Common.{⊎_elim}
+
+-- the end has these runs and takings then, and added these entries
+pub record Did (v w : View) (runs takes : List Batch) : Type 0 where
+  pub runs_are : w.own.runs ≡ runs
+  pub takes_are : w.own.takes ≡ takes
+  pub share : w.member.share ≡ v.member.share
+  pub entries : List (Step BatchState)
+  pub adds : Adds v entries w
+
+-- it has what it had
+abbrev pub DidNothing : View → View → Type 0
+DidNothing v w = Did v w v.own.runs v.own.takes
+
+made : (v w : View) (entries : List (Step BatchState)) (own : EndRecord) → Made v entries own w → Did v w own.runs own.takes
+made v w entries own m = record {
+  runs_are = λ i. (m.did i).runs;
+  takes_are = λ i. (m.did i).takes;
+  share = λ i. (m.member i).share;
+  entries = entries;
+  adds = m.adds;
+}
+
+-- it looked, and did nothing
+pub looked : (v w : View) (entries : List (Step BatchState)) → Made v entries v.own w → DidNothing v w
+looked v w entries m = made v w entries v.own m
+
+nothing : (v w : View) → w ≡ v → DidNothing v w
+nothing v w is = record {
+  runs_are = λ i. (is i).own.runs;
+  takes_are = λ i. (is i).own.takes;
+  share = λ i. (is i).member.share;
+  entries = [];
+  adds = subst (Adds v []) (sym is) (adds_none v);
+}
+
+pub refused_take : (room most : ℕ) (v w : View) (r : TakeRefusal) → RefusedTake room v most r w → DidNothing v w
+refused_take room most v w (not_taken.Empty at) h = made v w _ v.own h.added
+refused_take room most v w (not_taken.ShortBuffer at count) h = made v w _ v.own h.1.added
+refused_take room most v w (not_taken.Lost tail) h = ⊎_elim (λ p. made v w _ v.own p.added) (λ t. ⊎_elim (λ p. made v w _ v.own p.added) (λ p. made v w _ v.own p.added) t) h
+refused_take room most v w not_taken.Closed h = made v w _ v.own h.added
+
+-- a taking leaves the runs
+pub record Took (v w : View) : Type 0 where
+  pub runs_are : w.own.runs ≡ v.own.runs
+  pub entries : List (Step BatchState)
+  pub adds : Adds v entries w
+
+pub took_batches : (room most : ℕ) (items : List ℕ) (v w : View) → TookBatches room v most items w → Took v w
+took_batches room most items v w (tail, mark, m, t) = let d = made v w _ _ t.added in record { runs_are = d.runs_are; entries = d.entries; adds = d.adds }
+
+lacked : (room count least head free : ℕ) (moved : _) (v w : View) → LackedRoom (λ entries. Rattle.batch_queue.specs.Own.Looks v entries w) room count least head free moved → DidNothing v w
+lacked room count least head free moved v w l = made v w _ v.own l.added
+
+other : (room count least head now : ℕ) (v w : View) → FoundOther (λ entries. Rattle.batch_queue.specs.Own.Looks v entries w) room count least head now → DidNothing v w
+other room count least head now v w f = made v w _ v.own f.added
+
+pub refused_put : (room count : ℕ) (v w : View) (r : PutRefusal) → RefusedPut room v count r w → DidNothing v w
+refused_put room count v w not_put.NoItems h = nothing v w h.1
+refused_put room count v w not_put.TooLong h = nothing v w h.1
+refused_put room count v w not_put.Closed h = ⊎_elim (λ f. made v w _ v.own f.added) (λ t. other room count count t.0 t.1 v w t.3) h.1
+refused_put room count v w not_put.Spent h = made v w _ v.own h.1.added
+refused_put room count v w (not_put.Full head free) h = lacked room count count head free _ v w h.1
+refused_put room count v w (not_put.Lost head) h = ⊎_elim (λ t. lacked room count count head t.0 _ v w t.1) (λ t. other room count count t.0 head v w t.3) h.1
+
+-- A put: one run more, from the position on that was found in the head word at first
+pub record Put (v w : View) (start : ℕ) (items : List ℕ) : Type 0 where
+  pub some_item : 0 < length items
+  pub at : Moment BatchState
+  pub after : List (Step BatchState)
+  pub did : Did v w (v.own.runs ++ record { start = start; places = map published items } ∷ []) v.own.takes
+  pub adds : Adds v (load head_word start at ∷ after) w
+
+pub is_put : (room start : ℕ) (items : List ℕ) (v w : View) → IsPut room v start items w → Put v w start items
+is_put room start items v w (mark, m, c) = record {
+  some_item = c.fits.0;
+  at = c.at_head;
+  after = _;
+  did = made v w _ _ c.added;
+  adds = c.added.adds;
+}

@@ -1,0 +1,70 @@
+-- What a clause says of a pool and of a holder.
+use Rattle.std.specs.Prelude.{◌≡◌, ◌+◌, ℕ, List}
+use Rattle.batch_queue.specs.Handles as queues
+use Rattle.batch_queue.specs.Own.{View}
+use Rattle.pool.specs.declared.pool.Holder.{Holder}
+use Rattle.pool.specs.declared.pool.Pool.{Pool}
+use Rattle.pool.specs.Buffers.{all_buffers, times}
+use Rattle.pool.specs.Holdings as ends
+use Rattle.pool.specs.Holdings.{IsStocked, ListsFirst}
+
+-- what the holder knows: the lists of its end
+abbrev pub view_of : Holder → View
+view_of holder = queues.view_of holder.end
+
+-- how many buffers the pool has
+abbrev pub count_of : Pool → ℕ
+count_of pool = pool.count
+
+-- how many places the pool's queue has
+abbrev pub room_of : Pool → ℕ
+room_of pool = queues.room_of pool.queue
+
+-- it is a holder of buffers of this pool
+abbrev pub IsHolderOf : Pool → Holder → Type 0
+IsHolderOf pool holder = queues.IsEndOf pool.queue holder.end × IsStocked pool.count (view_of holder)
+    × ListsFirst pool.count (view_of holder)
+
+-- every other holder was joined
+abbrev pub IsOnlyHolder : Holder → Type 0
+IsOnlyHolder holder = queues.IsOnlyEnd holder.end
+
+-- the holder can be split
+abbrev pub IsDivisible : Holder → Type 0
+IsDivisible holder = queues.IsDivisible holder.end
+
+-- how often it holds the buffer x
+abbrev pub held_by : Holder → ℕ → ℕ
+held_by holder x = ends.held (view_of holder) x
+
+-- it holds these buffers
+abbrev pub Holds : Holder → List ℕ → Type 0
+Holds holder buffers = ends.Holds (view_of holder) buffers
+
+-- it holds none
+abbrev pub HoldsNone : Holder → Type 0
+HoldsNone holder = (x : ℕ) → held_by holder x ≡ 0
+
+-- it holds what it held before
+abbrev pub HoldsSame : Holder → Holder → Type 0
+HoldsSame old new = ends.HoldsSame (view_of old) (view_of new)
+
+-- it holds these buffers more than before
+abbrev pub HoldsMore : List ℕ → Holder → Holder → Type 0
+HoldsMore buffers old new = ends.HoldsMore buffers (view_of old) (view_of new)
+
+-- it holds these buffers less than before
+abbrev pub HoldsLess : List ℕ → Holder → Holder → Type 0
+HoldsLess buffers old new = ends.HoldsLess buffers (view_of old) (view_of new)
+
+-- the holder holds what both held
+abbrev pub HoldsBoth : Holder → Holder → Holder → Type 0
+HoldsBoth one other new = (x : ℕ) → held_by new x ≡ held_by one x + held_by other x
+
+-- it has the share of the pool that it had
+abbrev pub SameShare : Holder → Holder → Type 0
+SameShare old new = (view_of new).member.share ≡ (view_of old).member.share
+
+-- what the holder holds and these are all buffers of a pool of so many, each once
+abbrev pub AllThere : ℕ → Holder → List ℕ → Type 0
+AllThere count holder left = (x : ℕ) → held_by holder x + times x left ≡ times x (all_buffers count)

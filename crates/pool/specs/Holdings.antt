@@ -1,0 +1,53 @@
+-- Which buffers an end of the pool's queue holds: by what it took and what it put, as the end itself lists them.
+use Rattle.std.specs.Prelude.{◌≡◌, ◌==◌, ℕ, ◌-◌, ◌+◌, ◌≤◌, Bool, not, List, ◌∷◌, map}
+use Rattle.std.specs.List.{concat, filter}
+use mathlib.Core.Option.{some}
+use lib.ListN.{get_elem?}
+use Rattle.table_theory.specs.declared.queues.Batch.{Batch}
+use Rattle.batch_queue.specs.Lines.{line_of, lines_taken}
+use Rattle.batch_queue.specs.Own.{View}
+use Rattle.pool.specs.Buffers.{all_buffers, times}
+
+-- the batch is not the queue's first, by which the pool put all of its buffers
+abbrev pub is_later : Batch → Bool
+is_later batch = not (batch.start == 0)
+
+-- the buffers that the end took, one after the other
+abbrev pub acquired : View → List ℕ
+acquired v = concat (lines_taken v)
+
+-- the buffers that the end put back: all that it put, except the pool's first batch
+abbrev pub released : View → List ℕ
+released v = concat (map line_of (filter is_later v.own.runs))
+
+-- how often the end holds the buffer x: as often as it took it, less how often it put it back
+abbrev pub held : View → ℕ → ℕ
+held v x = times x (acquired v) - times x (released v)
+
+-- the end put back no buffer more often than it took it
+abbrev pub IsFair : View → Type 0
+IsFair v = (x : ℕ) → times x (released v) ≤ times x (acquired v)
+
+-- the end holds these buffers, each at least as often as it is among them
+abbrev pub Holds : View → List ℕ → Type 0
+Holds v buffers = (x : ℕ) → times x buffers ≤ held v x
+
+-- the end holds each buffer as often as before
+abbrev pub HoldsSame : View → View → Type 0
+HoldsSame v w = (x : ℕ) → held w x ≡ held v x
+
+-- the end holds these buffers more than before
+abbrev pub HoldsMore : List ℕ → View → View → Type 0
+HoldsMore buffers v w = (x : ℕ) → held w x ≡ held v x + times x buffers
+
+-- the end holds these buffers less than before
+abbrev pub HoldsLess : List ℕ → View → View → Type 0
+HoldsLess buffers v w = (x : ℕ) → held w x + times x buffers ≡ held v x
+
+-- the end has seen the queue's first batch, which has all buffers of a pool of so many
+abbrev pub IsStocked : ℕ → View → Type 0
+IsStocked count v = ∥ ((rest : List (List ℕ)) × (v.seen.object.batches ≡ all_buffers count ∷ rest)) ∥₁
+
+-- if that batch is one of the end's own, the end lists it with all buffers
+abbrev pub ListsFirst : ℕ → View → Type 0
+ListsFirst count v = (m : ℕ) (e : Batch) → get_elem? v.own.runs m ≡ some e → e.start ≡ 0 → line_of e ≡ all_buffers count

@@ -1,0 +1,5 @@
+pub mod Buffers
+pub mod Holdings
+pub mod Handles
+pub mod Between
+pub mod Turns

@@ -1,0 +1,157 @@
+//! The pool and its holders.
+ghost use Rattle.std.specs.Prelude.{◌≡◌, ◌+◌, ◌<◌, ◌≤◌, length, take, IfErr, IfOk, MatchResult};
+ghost use Rattle.table_theory.specs.Ledgers.{WereOpen};
+ghost use Rattle.batch_queue.specs.Answers.{WhyNotPut, WhyNotTaken};
+ghost use Rattle.batch_queue.specs.Handles as queues;
+ghost use Rattle.batch_queue.specs.Layout.{ends_word};
+ghost use Rattle.batch_queue.specs.Lefts.{items_left};
+ghost use Rattle.pool.specs.Buffers.{all_buffers};
+ghost use Rattle.pool.specs.Holdings.{IsFair};
+
+use batch_queue::laws::{joins_are_true, lists_are_true, never_below, numbers_say};
+use batch_queue::{BatchEnd, BatchQueue, Closed, LeftItems, OpenEnds, PutRefusal, TakeRefusal};
+use event_theory::OutOfMemory;
+use std::alloc::Global;
+
+/// A pool has at most so many buffers, 2^24.
+pub const MOST_BUFFERS: usize = 16_777_216;
+
+/// A pool of buffers, which are the numbers from 0 on. The free ones are the items of a queue.
+#[derive(Drop)]
+pub struct Pool {
+    queue: BatchQueue,
+    count: usize,
+    ghost some: { 0 < count },
+}
+
+/// One who holds buffers of a pool: those that it acquired and did not release. It has no bytes.
+#[derive(Drop)]
+pub struct Holder {
+    end: BatchEnd,
+    ghost fair: { IsFair (queues.view_of end) },
+}
+
+/// All buffers of a pool of so many.
+fn all_buffers(alloc: Global, count: usize) -> Result<Vec<u64>, OutOfMemory>
+    ensures { IfOk result (λ buffers. buffers.items ≡ all_buffers count) }
+{
+    let mut buffers = Vec::with_capacity(alloc, count)?;
+    for buffer in 0..count {
+        buffers.push(buffer as u64)?;
+    }
+    Ok(buffers)
+}
+
+impl Pool {
+    ghost use Rattle.pool.specs.Handles.{view_of, count_of, room_of, IsHolderOf, IsOnlyHolder, IsDivisible};
+    ghost use Rattle.pool.specs.Handles.{Holds, HoldsNone, HoldsSame, HoldsMore, HoldsLess, HoldsBoth, SameShare};
+    ghost use Rattle.pool.specs.Handles.{AllThere};
+
+    /// A pool of so many buffers, all of them free, and its only holder, which holds none.
+    ///
+    /// Condition: there is a buffer, and there are 2^24 at most.
+    pub fn new(alloc: Global, count: usize) -> Result<(Pool, Holder), OutOfMemory>
+        requires { (0 < count) × (count ≤ MOST_BUFFERS) }
+        ensures pool { IfOk result (λ r. IsHolderOf r.0 r.1 × (count_of r.0 ≡ count) × (count ≤ room_of r.0)) }
+        ensures holder { IfOk result (λ r. IsOnlyHolder r.1 × HoldsNone r.1) }
+    {
+        let buffers = all_buffers(alloc, count)?;
+        let (queue, mut end) = BatchQueue::new(alloc, count.next_power_of_two())?;
+        lists_are_true();
+        numbers_say();
+        let Ok(_) = queue.try_put(&mut end, buffers.as_slice()) else {
+            unreachable!()
+        };
+        Ok((Pool { queue, count }, Holder { end }))
+    }
+
+    /// One try to acquire free buffers: as many whole batches as were released side by side and fit the slice. Their
+    /// numbers are then the first of the slice. Returns how many there are.
+    pub fn acquire(&self, holder: &mut Holder, buffers: &mut [u64]) -> Result<usize, TakeRefusal>
+        requires { IsHolderOf self.now holder.old }
+        ensures pool { IsHolderOf self.now holder.new }
+        ensures effect { MatchResult result
+            (λ n. (0 < n) × (n ≤ length buffers.old) × HoldsMore (take n buffers.new) holder.old holder.new)
+            (λ r. HoldsSame holder.old holder.new × (buffers.new ≡ buffers.old)) }
+        ensures holds { IfOk result (λ n. Holds holder.new (take n buffers.new)) }
+        ensures error { IfErr result (λ r. WhyNotTaken (view_of holder.old) (length buffers.old) r (view_of holder.new)) }
+        ensures share { SameShare holder.old holder.new }
+    {
+        lists_are_true();
+        self.queue.try_take(&mut holder.end, buffers)
+    }
+
+    /// One try to release buffers: all of them or none, as one batch. They are free once the call has published them.
+    ///
+    /// Condition: the holder holds these buffers.
+    pub fn release(&self, holder: &mut Holder, buffers: &[u64]) -> Result<(), PutRefusal>
+        requires pool { IsHolderOf self.now holder.old }
+        requires holds { Holds holder.old buffers.now }
+        ensures pool { IsHolderOf self.now holder.new }
+        ensures effect { MatchResult result (λ r. HoldsLess buffers.now holder.old holder.new)
+            (λ r. HoldsSame holder.old holder.new) }
+        ensures error { IfErr result (λ r. WhyNotPut (view_of holder.old) (room_of self.now) (length buffers.now) r
+            (view_of holder.new)) }
+        ensures share { SameShare holder.old holder.new }
+    {
+        lists_are_true();
+        never_below();
+        self.queue.try_put(&mut holder.end, buffers)?;
+        Ok(())
+    }
+
+    /// A new holder, which holds none. Both are to be joined again before the pool can be closed; a holder that is
+    /// dropped can never be joined, and its buffers are lost.
+    ///
+    /// Condition: the holder's end can be split. The first one can be split two million times without a join.
+    pub fn split(&self, holder: &mut Holder) -> Holder
+        requires pool { IsHolderOf self.now holder.old }
+        requires parts { IsDivisible holder.old }
+        ensures pool { IsHolderOf self.now holder.new × IsHolderOf self.now result }
+        ensures effect { HoldsSame holder.old holder.new × HoldsNone result }
+        ensures share { (view_of holder.new).member.share + (view_of result).member.share
+            ≡ (view_of holder.old).member.share }
+    {
+        lists_are_true();
+        let end = self.queue.split(&mut holder.end);
+        Holder { end }
+    }
+
+    /// The first holder then holds what both held.
+    pub fn join(&self, holder: &mut Holder, other: Holder)
+        requires { IsHolderOf self.now holder.old × IsHolderOf self.now other }
+        ensures pool { IsHolderOf self.now holder.new }
+        ensures effect { HoldsBoth holder.old other holder.new }
+        ensures share { (view_of holder.new).member.share
+            ≡ (view_of holder.old).member.share + (view_of other).member.share }
+    {
+        lists_are_true();
+        joins_are_true();
+        let Holder { end } = other;
+        self.queue.join(&mut holder.end, end);
+    }
+
+    /// Closes the pool if every other holder has been joined, and returns the free buffers. These and the buffers that
+    /// the holder holds are all buffers of the pool, each once. Else the pool and the holder come back, and the number
+    /// of the others.
+    pub fn close(self, holder: Holder) -> Result<LeftItems, (Pool, Holder, OpenEnds)>
+        requires { IsHolderOf self holder }
+        ensures only { IsOnlyHolder holder → MatchResult result (λ left. Unit {0}) (λ e. ⊥) }
+        ensures effect { IfOk result (λ left. AllThere (count_of self) holder (items_left left)) }
+        ensures error { IfErr result (λ e. WereOpen ends_word (view_of holder) e.2.others (view_of e.1)) }
+        ensures pool { IfErr result (λ e. (e.0 ≡ self) × IsHolderOf self e.1 × HoldsSame holder e.1) }
+    {
+        lists_are_true();
+        let (Pool { queue, count }, Holder { end }) = (self, holder);
+        match queue.close(end) {
+            Ok(
+                Closed {
+                    put: _,
+                    taken: _,
+                    left,
+                },
+            ) => Ok(left),
+            Err((queue, end, open)) => Err((Pool { queue, count }, Holder { end }, open)),
+        }
+    }
+}

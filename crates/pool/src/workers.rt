@@ -1,0 +1,104 @@
+//! Two workers that share a pool, each in a thread of its own.
+ghost use Rattle.std.specs.Prelude.{◌≡◌, IfOk};
+ghost use Rattle.std.specs.Thread.{IsSync};
+ghost use Rattle.batch_queue.specs.Lefts.{items_left};
+ghost use Rattle.pool.specs.Buffers.{AreAll};
+ghost use Rattle.pool.specs.Handles.{IsHolderOf, Holds, HoldsSame, HoldsLess, SameShare};
+ghost use Rattle.pool.specs.Turns.{Works};
+
+use crate::pool::{Holder, Pool};
+use batch_queue::LeftItems;
+use event_theory::OutOfMemory;
+use std::alloc::Global;
+use std::sync::Wait;
+use std::thread;
+use std::thread::Threads;
+
+/// How many buffers the workers' pool has.
+const BUFFERS: usize = 8;
+
+/// How many turns a worker makes.
+const TURNS: usize = 100;
+
+/// Releases buffers, as one batch. It tries again while there is no room yet, and while another holder is first.
+fn give_back<R: Wait>(rt: &R, pool: &Pool, holder: &mut Holder, buffers: &[u64])
+    requires pool { IsHolderOf pool.now holder.old }
+    requires holds { Holds holder.old buffers.now }
+    ensures pool { IsHolderOf pool.now holder.new }
+    ensures effect { HoldsLess buffers.now holder.old holder.new }
+    ensures share { SameShare holder.old holder.new }
+{
+    for _ in rt.forever() {
+        match pool.release(holder, buffers) {
+            Ok(()) => return,
+            Err(_) => thread::yield_now(),
+        }
+    }
+}
+
+/// Releases buffers one by one, so that any number of them can be acquired.
+pub fn give_back_each<R: Wait>(rt: &R, pool: &Pool, holder: &mut Holder, buffers: &[u64])
+    requires pool { IsHolderOf pool.now holder.old }
+    requires holds { Holds holder.old buffers.now }
+    ensures pool { IsHolderOf pool.now holder.new }
+    ensures effect { HoldsLess buffers.now holder.old holder.new }
+    ensures share { SameShare holder.old holder.new }
+{
+    for buffer in buffers {
+        give_back(rt, pool, holder, &[*buffer]);
+    }
+}
+
+/// One turn: acquires what is free and fits the slice, and gives it back, one by one.
+fn turn<R: Wait>(rt: &R, pool: &Pool, holder: &mut Holder, buffers: &mut [u64])
+    requires { IsHolderOf pool.now holder.old }
+    ensures pool { IsHolderOf pool.now holder.new }
+    ensures effect { HoldsSame holder.old holder.new }
+    ensures share { SameShare holder.old holder.new }
+{
+    if let Ok(count) = pool.acquire(holder, buffers) {
+        give_back_each(rt, pool, holder, &buffers[..count]);
+    }
+}
+
+/// The turns of a worker, which acquires two buffers at most.
+fn work<R: Wait>(rt: &R, pool: &Pool, holder: Holder) -> Holder
+    requires { IsHolderOf pool.now holder }
+    ensures { Works pool.now holder result }
+{
+    let mut holder = holder;
+    for _ in 0..TURNS {
+        turn(rt, pool, &mut holder, &mut [0; 2]);
+    }
+    holder
+}
+
+/// Two workers acquire and release buffers of one pool. When both are done, all buffers are left in the pool, each once.
+pub fn run_workers<R: Threads + Wait + Sync>(
+    rt: &R,
+    alloc: Global,
+) -> Result<LeftItems, OutOfMemory>
+    ensures { IfOk result (λ left. AreAll 8 (items_left left)) }
+{
+    let (pool, mut one) = Pool::new(alloc, BUFFERS)?;
+    turn(rt, &pool, &mut one, &mut [0; BUFFERS]);
+    let other = pool.split(&mut one);
+    let shared = &pool;
+    let back = thread::join(
+        rt,
+        move || -> Holder
+            requires { IsSync R.row × IsHolderOf shared.now one }
+            ensures { Works shared.entry.now one result }
+        { work(rt, shared, one) },
+        move || -> Holder
+            requires { IsSync R.row × IsHolderOf shared.now other }
+            ensures { Works shared.entry.now other result }
+        { work(rt, shared, other) },
+    );
+    let (mut one, other) = back;
+    pool.join(&mut one, other);
+    match pool.close(one) {
+        Ok(left) => Ok(left),
+        Err(_) => unreachable!(),
+    }
+}

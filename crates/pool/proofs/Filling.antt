@@ -113,7 +113,7 @@ module _ (count : ℕ) (shape : Shape) (v w : View) (new : v ≡ newcomer shape)
       let e : in_later x batch ≡ 0 = ap (λ (z : Bool). cond z (in_batch x batch) 0) c in omega arith
 
   pub first_fair : IsFair w
-  first_fair x = let a = none_released x in omega arith
+  first_fair = (λ x. (let a = none_released x in omega arith), d.shuts_are ∙ ap (λ (z : View). z.own.shuts) new)
 
   pub first_held : (x : ℕ) → held w x ≡ 0
   first_held x = let a : times x (acquired w) ≡ 0 = ap (λ (z : List Batch). times x (concat (map line_of z))) (d.takes_are ∙ ap (λ (z : View). z.own.takes) new) in omega arith

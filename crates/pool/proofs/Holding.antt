@@ -74,18 +74,18 @@ more_released v w x e runs later =
 -- CALLS
 
 -- nothing was put and nothing taken
-pub same_fair : (v w : View) → w.own.runs ≡ v.own.runs → lines_taken w ≡ lines_taken v → IsFair v → IsFair w
-same_fair v w runs takes f x = let a = same_released v w x runs in let b = same_acquired v w x takes in let h = f x in omega arith
+pub same_fair : (v w : View) → w.own.runs ≡ v.own.runs → lines_taken w ≡ lines_taken v → w.own.shuts ≡ v.own.shuts → IsFair v → IsFair w
+same_fair v w runs takes shuts f = (λ x. (let a = same_released v w x runs in let b = same_acquired v w x takes in let h = f.0 x in omega arith), shuts ∙ f.1)
 
 pub same_held : (v w : View) → w.own.runs ≡ v.own.runs → lines_taken w ≡ lines_taken v → HoldsSame v w
 same_held v w runs takes x = let a = same_released v w x runs in let b = same_acquired v w x takes in omega arith
 
 -- a line was taken
-pub took_fair : (v w : View) (line : List ℕ) → w.own.runs ≡ v.own.runs → lines_taken w ≡ lines_taken v ++ line ∷ [] → IsFair v → IsFair w
-took_fair v w line runs takes f x = let a = same_released v w x runs in let b = more_acquired v w x line takes in let h = f x in omega arith
+pub took_fair : (v w : View) (line : List ℕ) → w.own.runs ≡ v.own.runs → lines_taken w ≡ lines_taken v ++ line ∷ [] → w.own.shuts ≡ v.own.shuts → IsFair v → IsFair w
+took_fair v w line runs takes shuts f = (λ x. (let a = same_released v w x runs in let b = more_acquired v w x line takes in let h = f.0 x in omega arith), shuts ∙ f.1)
 
 pub took_held : (v w : View) (line : List ℕ) → w.own.runs ≡ v.own.runs → lines_taken w ≡ lines_taken v ++ line ∷ [] → IsFair v → HoldsMore line v w
-took_held v w line runs takes f x = let a = same_released v w x runs in let b = more_acquired v w x line takes in let h = f x in omega arith
+took_held v w line runs takes f x = let a = same_released v w x runs in let b = more_acquired v w x line takes in let h = f.0 x in omega arith
 
 pub more_holds : (v w : View) (line : List ℕ) → HoldsMore line v w → Holds w line
 more_holds v w line h x = let a = h x in omega arith
@@ -95,11 +95,11 @@ module _ (v w : View) (e : Batch) (buffers : List ℕ) (runs : w.own.runs ≡ v.
   later : is_later e ≡ true
   later = ap not (ne_eqb e.start 0 (λ z. omega arith))
 
-  pub put_fair : lines_taken w ≡ lines_taken v → Holds v buffers → IsFair v → IsFair w
-  put_fair takes holds f x = let a = more_released v w x e runs later in let b = same_acquired v w x takes in let c = ap (times x) line in let d = holds x in let h = f x in omega arith
+  pub put_fair : lines_taken w ≡ lines_taken v → w.own.shuts ≡ v.own.shuts → Holds v buffers → IsFair v → IsFair w
+  put_fair takes shuts holds f = (λ x. (let a = more_released v w x e runs later in let b = same_acquired v w x takes in let c = ap (times x) line in let d = holds x in let h = f.0 x in omega arith), shuts ∙ f.1)
 
   pub put_held : lines_taken w ≡ lines_taken v → Holds v buffers → IsFair v → HoldsLess buffers v w
-  put_held takes holds f x = let a = more_released v w x e runs later in let b = same_acquired v w x takes in let c = ap (times x) line in let d = holds x in let h = f x in omega arith
+  put_held takes holds f x = let a = more_released v w x e runs later in let b = same_acquired v w x takes in let c = ap (times x) line in let d = holds x in let h = f.0 x in omega arith
 
   pub put_lists : (count : ℕ) → ListsFirst count v → ListsFirst count w
   put_lists count l m d at start = ⊎_elim (λ old. l m d old start) (λ new. absurd (let s = ap (λ (z : Batch). z.start) new.1 in omega arith))
@@ -127,11 +127,11 @@ module _ (v u w : View) (runs : w.own.runs ≡ v.own.runs ++ u.own.runs) (takes 
       total_joined f [] r = omega arith
       total_joined f (e ∷ l) r = let h = total_joined f l r in omega arith
 
-  pub both_fair : IsFair v → IsFair u → IsFair w
-  both_fair f g x = let a = both_released x in let b = both_acquired x in let h = f x in let i = g x in omega arith
+  pub both_fair : w.own.shuts ≡ v.own.shuts + u.own.shuts → IsFair v → IsFair u → IsFair w
+  both_fair shuts f g = (λ x. (let a = both_released x in let b = both_acquired x in let h = f.0 x in let i = g.0 x in omega arith), (let s = f.1 in let t = g.1 in omega arith))
 
   pub both_held : IsFair v → IsFair u → (x : ℕ) → held w x ≡ held v x + held u x
-  both_held f g x = let a = both_released x in let b = both_acquired x in let h = f x in let i = g x in omega arith
+  both_held f g x = let a = both_released x in let b = both_acquired x in let h = f.0 x in let i = g.0 x in omega arith
 
   pub both_list : (count : ℕ) → ListsFirst count v → ListsFirst count u → ListsFirst count w
   both_list count l k m e at start = ⊎_elim (λ old. l m e old start) (λ t. k t.0 e t.2 start)

@@ -12,28 +12,28 @@ use Rattle.table_theory.specs.Ledgers.{WereOpen}
 use Rattle.table_theory.specs.Listing.{IsListed}
 use Rattle.table_theory.specs.Lines.{IsCut}
 use Rattle.table_theory.specs.Sharing.{given, kept}
-use Rattle.table_theory.proofs.Counting.{given_kept}
 use Rattle.batch_queue.specs.declared.ends.BatchQueue.{BatchQueue}
 use Rattle.batch_queue.specs.Closings.{ClosedNow}
 use Rattle.batch_queue.specs.Endings.{Divided, IsNewborn}
 use Rattle.batch_queue.specs.Layout.{ends_word}
 use Rattle.batch_queue.specs.Lines.{lines_put, lines_taken}
 use Rattle.batch_queue.specs.Object.{items_of}
-use Rattle.batch_queue.specs.Own.{View}
+use Rattle.batch_queue.specs.declared.rule.EndRecord.{EndRecord}
+use Rattle.batch_queue.specs.Own.{View, nothing_did}
 use Rattle.batch_queue.specs.Placed.{positions_of}
 use Rattle.pool.specs.declared.pool.Pool.{Pool}
 use Rattle.pool.specs.Buffers.{all_buffers, times}
-use Rattle.pool.specs.Holdings.{acquired, released, held, IsFair, HoldsSame, IsStocked, ListsFirst}
+use Rattle.pool.specs.Holdings.{released, held, IsFair, IsStocked, ListsFirst}
 use Rattle.pool.proofs.Counting.{all_once, times_append, times_concat, times_split, total_map}
 use Rattle.pool.proofs.Filed.{filed_total}
-use Rattle.pool.proofs.Owners.{first_apart, in_batch, times_lines}
+use Rattle.pool.proofs.Owners.{first_apart, in_batch, released_of, times_lines}
 use Rattle.pool.proofs.Steps.{DidNothing, looked}
 
 -- SPLITS
 
 -- the end has the runs and takings that it had
-pub divided : (v w : View) → Divided v w → (w.own.runs ≡ v.own.runs) × (lines_taken w ≡ lines_taken v)
-divided v w d = ((λ i. (d.own i).runs), ap (map line_of) (λ i. (d.own i).takes))
+pub divided : (v w : View) → Divided v w → (w.own.runs ≡ v.own.runs) × (lines_taken w ≡ lines_taken v) × (w.own.shuts ≡ v.own.shuts)
+divided v w d = ((λ i. (d.own i).runs), ap (map line_of) (λ i. (d.own i).takes), (λ i. (d.own i).shuts))
 
 -- the new end has none
 pub born_runs : (v w born : View) → IsNewborn v w born → born.own.runs ≡ []
@@ -42,8 +42,12 @@ born_runs v w born is = ap (λ (z : View). z.own.runs) is
 pub born_takes : (v w born : View) → IsNewborn v w born → lines_taken born ≡ []
 born_takes v w born is = ap (λ (z : View). lines_taken z) is
 
-pub idle_fair : (v : View) → v.own.runs ≡ [] → IsFair v
-idle_fair v runs x = let a = ap (λ (z : List Batch). times x (concat (map line_of (Rattle.std.specs.List.filter Rattle.pool.specs.Holdings.is_later z)))) runs in omega arith
+-- an end that did nothing is fair
+pub idle_fair : (v : View) → v.own ≡ nothing_did → IsFair v
+idle_fair v is = (λ x. (let a = ap (λ (z : EndRecord). times x (released_of z.runs)) is in omega arith), ap (λ (z : EndRecord). z.shuts) is)
+
+pub born_fair : (v w born : View) → IsNewborn v w born → IsFair born
+born_fair v w born is = idle_fair born (ap (λ (z : View). z.own) is)
 
 pub idle_held : (v : View) → lines_taken v ≡ [] → (x : ℕ) → held v x ≡ 0
 idle_held v takes x = let a = ap (λ (z : List (List ℕ)). times x (concat z)) takes in omega arith
@@ -54,12 +58,9 @@ idle_lists count v runs m e at start = absurd (some-ne-none e (sym (subst (λ (z
 pub born_stocked : (count : ℕ) (v w born : View) → IsNewborn v w born → IsStocked count w → IsStocked count born
 born_stocked count v w born is s = subst (λ (z : View). IsStocked count z) (sym is) s
 
--- the shares of both are the share that was split
-pub split_share : (v w born : View) → Divided v w → IsNewborn v w born → w.member.share + born.member.share ≡ v.member.share
-split_share v w born d b =
-    let left : w.member.share ≡ kept v.member.share = (λ k. (d.member k).share) in
-    let gone : born.member.share ≡ given v.member.share = ap (λ (z : View). z.member.share) b in
-    let all = given_kept v.member.share in omega arith
+-- the shares of both
+pub split_share : (v w born : View) → Divided v w → IsNewborn v w born → (w.member.share ≡ kept v.member.share) × (born.member.share ≡ given v.member.share)
+split_share v w born d b = ((λ k. (d.member k).share), ap (λ (z : View). z.member.share) b)
 
 -- CLOSES
 
@@ -94,7 +95,7 @@ module _ (count : ℕ) (v : View) (lists : ListsFirst count v) where
       let puts = cut_times x (items_of v.seen.object) (lines_put v) closed.settled.puts_are in
       let takes = cut_times x (take taken (items_of v.seen.object)) (lines_taken v) closed.settled.takes_are in
       let first = first_put x closed.listed.runs closed.listed.runs_are (omega arith) in
-      let rest = ap (times x) closed.left_is in let both = times_split x taken (items_of v.seen.object) in let f = fair x in omega arith
+      let rest = ap (times x) closed.left_is in let both = times_split x taken (items_of v.seen.object) in let f = fair.0 x in omega arith
 
 -- A refused close
 

@@ -5,6 +5,7 @@ use Rattle.std.proofs.Math.Nat.{ℕ_set}
 use Rattle.std.proofs.lemmas.Bool.{ne_eqb}
 use Rattle.std.proofs.lemmas.List.{map-append}
 use Rattle.std.specs.List.{concat, filter}
+use Rattle.std.specs.Prelude.{if◌then◌else◌}
 use mathlib.Core.Bool.{cond, not}
 use mathlib.Core.Logic.{dite}
 use native.Mathlib.Decide.{ℕ_discrete}
@@ -22,10 +23,11 @@ use Rattle.table_theory.specs.Sharing.{total}
 use Rattle.batch_queue.specs.Between.{ShowsQueue}
 use Rattle.batch_queue.specs.declared.rule.Shape.{Shape}
 use Rattle.batch_queue.specs.Own.{View}
+use Rattle.batch_queue.specs.Rules.{shuts_of}
 use Rattle.pool.specs.Between.{AreHolders, EachOnce, HasOneOwner, NoneHolds, the_queue, the_end, waiting}
 use Rattle.pool.specs.Buffers.{all_buffers, times}
 use Rattle.pool.specs.Holdings.{acquired, released, held, is_later}
-use Rattle.pool.proofs.Counting.{all_once, all_other, one_alone, times_append, times_concat, times_flat, times_split, total_at, total_less, total_map, total_same}
+use Rattle.pool.proofs.Counting.{all_once, all_other, one_alone, times_append, times_concat, times_flat, times_split, total_at, total_less, total_map, total_none, total_same}
 use Rattle.pool.proofs.Filed.{filed_total}
 
 -- ONE END
@@ -100,6 +102,10 @@ times_places : (x : ℕ) (log : List (Owned Batch)) → times x (map item_of (al
 times_places x [] = refl
 times_places x (o ∷ log) = let a = ap (times x) (map-append item_of o.2.places (all_places log)) in let b = times_append x (line_of o.2) (map item_of (all_places log)) in let h = times_places x log in omega arith
 
+still_open : (shut : Bool) → ◌≡◌ {A = ℕ} (if shut then 1 else 0) 0 → shut ≡ false
+still_open true e = absurd (omega arith)
+still_open false e = refl
+
 module _ (key : Shape) (s : State ℕ View) (shows : ShowsQueue key s) (count : ℕ) (holders : AreHolders count s.views) where
   abbrev views : List View
   views = s.views
@@ -136,7 +142,7 @@ module _ (key : Shape) (s : State ℕ View) (shows : ShowsQueue key s) (count : 
   sum : (x : ℕ) → total (λ v. held v x) views + times x (waiting queue) ≡ times x (all_buffers count)
   sum x = ∥∥₁_elim holders.stocked (ℕ_set _ _) (λ (r : (rest : List (List ℕ)) × (holders.holder.seen.object.batches ≡ all_buffers count ∷ rest)).
       (let p = puts_sum x r.0 r.1 in let t = takes_sum x in let w = times_split x queue.taken (flat queue.history) in
-      let l = total_less (λ (v : View). times x (acquired v)) (λ (v : View). times x (released v)) views (λ j v at. holders.fair j v at x) in omega arith))
+      let l = total_less (λ (v : View). times x (acquired v)) (λ (v : View). times x (released v)) views (λ j v at. (holders.fair j v at).0 x) in omega arith))
 
   none_hold : (x : ℕ) → total (λ v. held v x) views ≡ 0 → NoneHolds views x
   none_hold x none j v at = let h = total_at (λ (u : View). held u x) views j v at in omega arith
@@ -146,9 +152,13 @@ module _ (key : Shape) (s : State ℕ View) (shows : ShowsQueue key s) (count : 
       (λ one. the_queue one (none_hold x (omega arith)))
       (λ no. let a = one_alone (λ (v : View). held v x) views (omega arith) in the_end a.number a.one a.here a.is a.others (omega arith))
 
-  pub each_once : EachOnce count (waiting queue) views
+  never_shut : total shuts_of views ≡ 0
+  never_shut = total_none shuts_of views (λ j v at. (holders.fair j v at).1)
+
+  pub each_once : EachOnce count queue views
   each_once = record {
     sum = sum;
     one = one_owner;
+    is_open = still_open queue.shut (sym shows.shut_once ∙ never_shut);
     other = λ x past. let s = sum x in let o = all_other x count past in (omega arith, none_hold x (omega arith));
   }

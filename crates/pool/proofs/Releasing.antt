@@ -13,7 +13,7 @@ use Rattle.batch_queue.specs.Lines.{PutLine, SameLines}
 use Rattle.batch_queue.specs.Object.{items_of}
 use Rattle.batch_queue.specs.Own.{View}
 use Rattle.batch_queue.specs.Puts.{IsPut, RefusedPut, published}
-use Rattle.pool.specs.Holdings.{IsFair, HoldsSame, HoldsLess, Holds, IsStocked, ListsFirst}
+use Rattle.pool.specs.Holdings.{IsFair, HoldsSame, Holds, Released, IsStocked, ListsFirst}
 use Rattle.pool.proofs.Steps.{Put, is_put, refused_put}
 use Rattle.pool.proofs.Holding.{Rises, Since, lists_same, put_fair, put_held, put_lists, same_fair, same_held, stocked_long, stocked_since}
 
@@ -51,12 +51,12 @@ module _ (room count : ℕ) (v w : View) (items : List ℕ) (some : 0 < count) (
   release_lists (Err e) t l = lists_same count v w (refused_put room (length items) v w e t).runs_are l
 
   pub release_fair : (r : Result ℕ PutRefusal) → Effect r → Trace r → Holds v items → IsFair v → IsFair w
-  release_fair (Ok start) e t h f = let p = is_put room start items v w t in put_fair v w (batch start) items p.did.runs_are (past start p) (line_is items) e.takes h f
-  release_fair (Err x) e t h f = same_fair v w (refused_put room (length items) v w x t).runs_are e.takes f
+  release_fair (Ok start) e t h f = let p = is_put room start items v w t in put_fair v w (batch start) items p.did.runs_are (past start p) (line_is items) e.takes p.did.shuts_are h f
+  release_fair (Err x) e t h f = let d = refused_put room (length items) v w x t in same_fair v w d.runs_are e.takes d.shuts_are f
 
-  pub release_effect : (r : Result ℕ PutRefusal) → Effect r → Trace r → Holds v items → IsFair v → MatchResult r (λ start. HoldsLess items v w) (λ e. HoldsSame v w)
-  release_effect (Ok start) e t h f = let p = is_put room start items v w t in put_held v w (batch start) items p.did.runs_are (past start p) (line_is items) e.takes h f
+  pub release_effect : (r : Result ℕ PutRefusal) → Effect r → Trace r → Holds v items → IsFair v → MatchResult r (λ start. Released items v w) (λ e. HoldsSame v w)
+  release_effect (Ok start) e t h f = let p = is_put room start items v w t in record { line = e; less = put_held v w (batch start) items p.did.runs_are (past start p) (line_is items) e.takes h f }
   release_effect (Err x) e t h f = same_held v w (refused_put room (length items) v w x t).runs_are e.takes
 
-  pub release_ok : (r : Result ℕ PutRefusal) (start : ℕ) → r ≡ Ok start → Effect r → Trace r → Holds v items → IsFair v → HoldsLess items v w
-  release_ok r start is e t h f = subst (λ z. MatchResult z (λ s. HoldsLess items v w) (λ e. HoldsSame v w)) is (release_effect r e t h f)
+  pub release_ok : (r : Result ℕ PutRefusal) (start : ℕ) → r ≡ Ok start → Effect r → Trace r → Holds v items → IsFair v → Released items v w
+  release_ok r start is e t h f = subst (λ z. MatchResult z (λ s. Released items v w) (λ e. HoldsSame v w)) is (release_effect r e t h f)

@@ -1,5 +1,5 @@
 -- What a call of the queue leaves of an end's runs and takings, and which steps it added.
-use Rattle.std.proofs.Common.{◌≡◌, ℕ, List, [], ◌∷◌, ◌++◌, ◌<◌, map, length, sym, subst}
+use Rattle.std.proofs.Common.{◌≡◌, ℕ, List, [], ◌∷◌, ◌++◌, ◌∙◌, ap, ◌<◌, map, length, refl, sym, subst}
 use Rattle.table_theory.specs.declared.queues.Batch.{Batch}
 use Rattle.table_theory.specs.declared.views.Moment.{Moment}
 use Rattle.table_theory.specs.Ledgers.{Adds, Made, Step, load}
@@ -20,6 +20,7 @@ use Rattle.std.proofs.Common.{⊎_elim}
 pub record Did (v w : View) (runs takes : List Batch) : Type 0 where
   pub runs_are : w.own.runs ≡ runs
   pub takes_are : w.own.takes ≡ takes
+  pub shuts_are : w.own.shuts ≡ v.own.shuts
   pub share : w.member.share ≡ v.member.share
   pub entries : List (Step BatchState)
   pub adds : Adds v entries w
@@ -28,10 +29,11 @@ pub record Did (v w : View) (runs takes : List Batch) : Type 0 where
 abbrev pub DidNothing : View → View → Type 0
 DidNothing v w = Did v w v.own.runs v.own.takes
 
-made : (v w : View) (entries : List (Step BatchState)) (own : EndRecord) → Made v entries own w → Did v w own.runs own.takes
-made v w entries own m = record {
+made : (v w : View) (entries : List (Step BatchState)) (own : EndRecord) → own.shuts ≡ v.own.shuts → Made v entries own w → Did v w own.runs own.takes
+made v w entries own still m = record {
   runs_are = λ i. (m.did i).runs;
   takes_are = λ i. (m.did i).takes;
+  shuts_are = ap (λ (z : EndRecord). z.shuts) m.did ∙ still;
   share = λ i. (m.member i).share;
   entries = entries;
   adds = m.adds;
@@ -39,43 +41,45 @@ made v w entries own m = record {
 
 -- it looked, and did nothing
 pub looked : (v w : View) (entries : List (Step BatchState)) → Made v entries v.own w → DidNothing v w
-looked v w entries m = made v w entries v.own m
+looked v w entries m = made v w entries v.own refl m
 
 nothing : (v w : View) → w ≡ v → DidNothing v w
 nothing v w is = record {
   runs_are = λ i. (is i).own.runs;
   takes_are = λ i. (is i).own.takes;
+  shuts_are = λ i. (is i).own.shuts;
   share = λ i. (is i).member.share;
   entries = [];
   adds = subst (Adds v []) (sym is) (adds_none v);
 }
 
 pub refused_take : (room most : ℕ) (v w : View) (r : TakeRefusal) → RefusedTake room v most r w → DidNothing v w
-refused_take room most v w (not_taken.Empty at) h = made v w _ v.own h.added
-refused_take room most v w (not_taken.ShortBuffer at count) h = made v w _ v.own h.1.added
-refused_take room most v w (not_taken.Lost tail) h = ⊎_elim (λ p. made v w _ v.own p.added) (λ t. ⊎_elim (λ p. made v w _ v.own p.added) (λ p. made v w _ v.own p.added) t) h
-refused_take room most v w not_taken.Closed h = made v w _ v.own h.added
+refused_take room most v w (not_taken.Empty at) h = looked v w _ h.added
+refused_take room most v w (not_taken.ShortBuffer at count) h = looked v w _ h.1.added
+refused_take room most v w (not_taken.Lost tail) h = ⊎_elim (λ p. looked v w _ p.added) (λ t. ⊎_elim (λ p. looked v w _ p.added) (λ p. looked v w _ p.added) t) h
+refused_take room most v w not_taken.Closed h = looked v w _ h.added
 
 -- a taking leaves the runs
 pub record Took (v w : View) : Type 0 where
   pub runs_are : w.own.runs ≡ v.own.runs
+  pub shuts_are : w.own.shuts ≡ v.own.shuts
   pub entries : List (Step BatchState)
   pub adds : Adds v entries w
 
 pub took_batches : (room most : ℕ) (items : List ℕ) (v w : View) → TookBatches room v most items w → Took v w
-took_batches room most items v w (tail, mark, m, t) = let d = made v w _ _ t.added in record { runs_are = d.runs_are; entries = d.entries; adds = d.adds }
+took_batches room most items v w (tail, mark, m, t) = let d = made v w _ _ refl t.added in record { runs_are = d.runs_are; shuts_are = d.shuts_are; entries = d.entries; adds = d.adds }
 
 lacked : (room count least head free : ℕ) (moved : _) (v w : View) → LackedRoom (λ entries. Rattle.batch_queue.specs.Own.Looks v entries w) room count least head free moved → DidNothing v w
-lacked room count least head free moved v w l = made v w _ v.own l.added
+lacked room count least head free moved v w l = looked v w _ l.added
 
 other : (room count least head now : ℕ) (v w : View) → FoundOther (λ entries. Rattle.batch_queue.specs.Own.Looks v entries w) room count least head now → DidNothing v w
-other room count least head now v w f = made v w _ v.own f.added
+other room count least head now v w f = looked v w _ f.added
 
 pub refused_put : (room count : ℕ) (v w : View) (r : PutRefusal) → RefusedPut room v count r w → DidNothing v w
 refused_put room count v w not_put.NoItems h = nothing v w h.1
 refused_put room count v w not_put.TooLong h = nothing v w h.1
-refused_put room count v w not_put.Closed h = ⊎_elim (λ f. made v w _ v.own f.added) (λ t. other room count count t.0 t.1 v w t.3) h.1
-refused_put room count v w not_put.Spent h = made v w _ v.own h.1.added
+refused_put room count v w not_put.Closed h = ⊎_elim (λ f. looked v w _ f.added) (λ t. other room count count t.0 t.1 v w t.3) h.1
+refused_put room count v w not_put.Spent h = looked v w _ h.1.added
 refused_put room count v w (not_put.Full head free) h = lacked room count count head free _ v w h.1
 refused_put room count v w (not_put.Lost head) h = ⊎_elim (λ t. lacked room count count head t.0 _ v w t.1) (λ t. other room count count t.0 head v w t.3) h.1
 
@@ -92,6 +96,6 @@ is_put room start items v w (mark, m, c) = record {
   some_item = c.fits.0;
   at = c.at_head;
   after = _;
-  did = made v w _ _ c.added;
+  did = made v w _ _ refl c.added;
   adds = c.added.adds;
 }

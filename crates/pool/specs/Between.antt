@@ -1,5 +1,5 @@
 -- Where each buffer is between any two steps: in the queue, or with one holder.
-use Rattle.std.specs.Prelude.{◌≡◌, ◌≢◌, ◌+◌, ◌<◌, ◌≤◌, ℕ, List, drop}
+use Rattle.std.specs.Prelude.{◌≡◌, ◌≢◌, ◌+◌, ◌<◌, ◌≤◌, ℕ, false, List, drop}
 use mathlib.Core.Option.{some}
 use lib.ListN.{get_elem?}
 use Rattle.event_theory.specs.Runs.{flat}
@@ -29,15 +29,16 @@ NoneElseHolds views number x = (j : ℕ) (v : View) → get_elem? views j ≡ so
 abbrev pub NoneHolds : List View → ℕ → Type 0
 NoneHolds views x = (j : ℕ) (v : View) → get_elem? views j ≡ some v → held v x ≡ 0
 
--- The buffer x has one owner: it is in the queue once, and no end holds it; or one end holds it once, no other end holds
--- it, and it is not in the queue
+-- The buffer x has one owner: it is in the queue once, and no end holds it; or one end holds it once, no other end
+-- holds it, and it is not in the queue
 pub data HasOneOwner (queue : List ℕ) (views : List View) (x : ℕ) : Type 0 where
   the_queue : times x queue ≡ 1 → NoneHolds views x → HasOneOwner queue views x
   the_end : (number : ℕ) (v : View) → get_elem? views number ≡ some v → held v x ≡ 1 → NoneElseHolds views number x
       → times x queue ≡ 0 → HasOneOwner queue views x
 
--- The numbers of owners of each buffer add up to one; so each buffer has one owner, and nobody has another number
-pub record EachOnce (count : ℕ) (queue : List ℕ) (views : List View) : Type 0 where
-  pub sum : (x : ℕ) → total (λ v. held v x) views + times x queue ≡ times x (all_buffers count)
-  pub one : (x : ℕ) → x < count → HasOneOwner queue views x
-  pub other : (x : ℕ) → count ≤ x → (times x queue ≡ 0) × NoneHolds views x
+-- The owners of each buffer add up to one, so each buffer has one owner. Nobody has any other number. The queue is open
+pub record EachOnce (count : ℕ) (queue : Queue) (views : List View) : Type 0 where
+  pub sum : (x : ℕ) → total (λ v. held v x) views + times x (waiting queue) ≡ times x (all_buffers count)
+  pub one : (x : ℕ) → x < count → HasOneOwner (waiting queue) views x
+  pub other : (x : ℕ) → count ≤ x → (times x (waiting queue) ≡ 0) × NoneHolds views x
+  pub is_open : queue.shut ≡ false

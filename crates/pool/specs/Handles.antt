@@ -1,5 +1,6 @@
 -- What a clause says of a pool and of a holder.
 use Rattle.std.specs.Prelude.{◌≡◌, ◌+◌, ℕ, List}
+use Rattle.table_theory.specs.Sharing.{given, kept}
 use Rattle.batch_queue.specs.Handles as queues
 use Rattle.batch_queue.specs.Own.{View}
 use Rattle.pool.specs.declared.pool.Holder.{Holder}
@@ -61,9 +62,17 @@ HoldsLess buffers old new = ends.HoldsLess buffers (view_of old) (view_of new)
 abbrev pub HoldsBoth : Holder → Holder → Holder → Type 0
 HoldsBoth one other new = (x : ℕ) → held_by new x ≡ held_by one x + held_by other x
 
--- it has the share of the pool that it had
+-- the holder's share of the pool
+abbrev pub share_of : Holder → ℕ
+share_of holder = (view_of holder).member.share
+
+-- it has the share that it had
 abbrev pub SameShare : Holder → Holder → Type 0
-SameShare old new = (view_of new).member.share ≡ (view_of old).member.share
+SameShare old new = share_of new ≡ share_of old
+
+-- a split leaves a part of the share, and gives the other
+abbrev pub SharesOut : Holder → Holder → Holder → Type 0
+SharesOut old new born = (share_of new ≡ kept (share_of old)) × (share_of born ≡ given (share_of old))
 
 -- what the holder holds and these are all buffers of a pool of so many, each once
 abbrev pub AllThere : ℕ → Holder → List ℕ → Type 0

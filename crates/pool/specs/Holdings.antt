@@ -1,10 +1,10 @@
 -- Which buffers an end of the pool's queue holds: by what it took and what it put, as the end itself lists them.
-use Rattle.std.specs.Prelude.{◌≡◌, ◌==◌, ℕ, ◌-◌, ◌+◌, ◌≤◌, Bool, not, List, ◌∷◌, map}
+use Rattle.std.specs.Prelude.{◌≡◌, ◌==◌, ℕ, ◌-◌, ◌+◌, ◌<◌, ◌≤◌, Bool, not, List, ◌∷◌, map, length, take, drop}
 use Rattle.std.specs.List.{concat, filter}
 use mathlib.Core.Option.{some}
 use lib.ListN.{get_elem?}
 use Rattle.table_theory.specs.declared.queues.Batch.{Batch}
-use Rattle.batch_queue.specs.Lines.{line_of, lines_taken}
+use Rattle.batch_queue.specs.Lines.{line_of, lines_taken, PutLine, TookLine}
 use Rattle.batch_queue.specs.Own.{View}
 use Rattle.pool.specs.Buffers.{all_buffers, times}
 
@@ -24,9 +24,9 @@ released v = concat (map line_of (filter is_later v.own.runs))
 abbrev pub held : View → ℕ → ℕ
 held v x = times x (acquired v) - times x (released v)
 
--- the end put back no buffer more often than it took it
+-- the end put back no buffer more often than it took it, and it never shut the queue
 abbrev pub IsFair : View → Type 0
-IsFair v = (x : ℕ) → times x (released v) ≤ times x (acquired v)
+IsFair v = ((x : ℕ) → times x (released v) ≤ times x (acquired v)) × (v.own.shuts ≡ 0)
 
 -- the end holds these buffers, each at least as often as it is among them
 abbrev pub Holds : View → List ℕ → Type 0
@@ -43,6 +43,19 @@ HoldsMore buffers v w = (x : ℕ) → held w x ≡ held v x + times x buffers
 -- the end holds these buffers less than before
 abbrev pub HoldsLess : List ℕ → View → View → Type 0
 HoldsLess buffers v w = (x : ℕ) → held w x + times x buffers ≡ held v x
+
+-- The first n of the slice are buffers that the end acquired, by one taking; the rest of the slice stays
+pub record Acquired (n : ℕ) (slice filled : List ℕ) (v w : View) : Type 0 where
+  pub some_buffer : 0 < n
+  pub fits : n ≤ length slice
+  pub rest : drop n filled ≡ drop n slice
+  pub line : TookLine (take n filled) v w
+  pub more : HoldsMore (take n filled) v w
+
+-- the end released these buffers, by one batch
+pub record Released (buffers : List ℕ) (v w : View) : Type 0 where
+  pub line : PutLine buffers v w
+  pub less : HoldsLess buffers v w
 
 -- the end has seen the queue's first batch, which has all buffers of a pool of so many
 abbrev pub IsStocked : ℕ → View → Type 0

@@ -1,24 +1,33 @@
 //! Where each buffer is between any two steps of any threads.
-ghost use Rattle.std.specs.Prelude.{ℕ};
+ghost use Rattle.std.specs.Prelude.{◌≡◌, ℕ};
 ghost use Rattle.atomic_table.specs.Table.{State};
 ghost use Rattle.batch_queue.specs.Between.{ShowsQueue};
 ghost use Rattle.batch_queue.specs.declared.rule.Shape.{Shape};
-ghost use Rattle.batch_queue.specs.Own.{View};
-ghost use Rattle.pool.specs.Between.{AreHolders, EachOnce, waiting};
+ghost use Rattle.batch_queue.specs.Own.{View, nothing_did};
+ghost use Rattle.pool.specs.Between.{AreHolders, EachOnce};
+ghost use Rattle.pool.specs.Handles.{view_of, count_of, IsHolderOf};
+ghost use Rattle.pool.specs.Holdings.{IsFair, IsStocked};
+ghost use Rattle.pool.specs.declared.pool.Holder.{Holder};
+ghost use Rattle.pool.specs.declared.pool.Pool.{Pool};
 
 use atomic_table::TableRule;
 use batch_queue::{BatchRule, Shape, View, between_steps};
 
-/// Whatever the rule of the queue holds of shows a queue; and if its views are those of the holders of a pool of so many
-/// buffers, then each buffer is in that queue once or with one holder, and nowhere else.
+/// Whatever the rule of the batch queue holds of shows a queue. If its views are those of the holders of a pool of so
+/// many buffers, each buffer is in that queue once, or with one holder once, and nowhere else.
 ///
-/// Every atomic step keeps the rule, and each holder is fair by its type. So each buffer has one owner between any two
-/// steps, whoever makes them.
+/// Every atomic step keeps the rule, so this holds between any two steps, whoever makes them. Each holder is fair, by
+/// its type, and so is an end that was joined to another. A call of a holder changes its lists by one step: before that
+/// step they are those before the call, and after it those after the call.
 pub fn each_buffer_has_one_owner()
-    ensures { (key : Shape) (state : State ℕ View) (count : ℕ)
+    ensures once { (key : Shape) (state : State ℕ View) (count : ℕ)
         → ⟦<BatchRule as TableRule<u64, View, Shape>>⟧.holds key state
         → ShowsQueue key state × ((shows : ShowsQueue key state) → AreHolders count state.views
-        → EachOnce count (waiting shows.queue) state.views) }
+        → EachOnce count shows.queue state.views) }
+    ensures fair { (holder : Holder) → IsFair (view_of holder) }
+    ensures joined { (v : View) → v.own ≡ nothing_did → IsFair v }
+    ensures stocked { (pool : Pool) (holder : Holder) → IsHolderOf pool holder
+        → IsStocked (count_of pool) (view_of holder) }
 {
     between_steps();
 }

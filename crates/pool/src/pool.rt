@@ -6,7 +6,7 @@ ghost use Rattle.batch_queue.specs.Handles as queues;
 ghost use Rattle.batch_queue.specs.Layout.{ends_word};
 ghost use Rattle.batch_queue.specs.Lefts.{items_left};
 ghost use Rattle.pool.specs.Buffers.{all_buffers};
-ghost use Rattle.pool.specs.Holdings.{IsFair};
+ghost use Rattle.pool.specs.Holdings.{IsFair, Acquired, Released};
 
 use batch_queue::laws::{joins_are_true, lists_are_true, never_below, numbers_say};
 use batch_queue::{BatchEnd, BatchQueue, Closed, LeftItems, OpenEnds, PutRefusal, TakeRefusal};
@@ -44,7 +44,7 @@ fn all_buffers(alloc: Global, count: usize) -> Result<Vec<u64>, OutOfMemory>
 
 impl Pool {
     ghost use Rattle.pool.specs.Handles.{view_of, count_of, room_of, IsHolderOf, IsOnlyHolder, IsDivisible};
-    ghost use Rattle.pool.specs.Handles.{Holds, HoldsNone, HoldsSame, HoldsMore, HoldsLess, HoldsBoth, SameShare};
+    ghost use Rattle.pool.specs.Handles.{share_of, Holds, HoldsNone, HoldsSame, HoldsBoth, SameShare, SharesOut};
     ghost use Rattle.pool.specs.Handles.{AllThere};
 
     /// A pool of so many buffers, all of them free, and its only holder, which holds none.
@@ -71,10 +71,11 @@ impl Pool {
         requires { IsHolderOf self.now holder.old }
         ensures pool { IsHolderOf self.now holder.new }
         ensures effect { MatchResult result
-            (λ n. (0 < n) × (n ≤ length buffers.old) × HoldsMore (take n buffers.new) holder.old holder.new)
+            (λ n. Acquired n buffers.old buffers.new (view_of holder.old) (view_of holder.new))
             (λ r. HoldsSame holder.old holder.new × (buffers.new ≡ buffers.old)) }
         ensures holds { IfOk result (λ n. Holds holder.new (take n buffers.new)) }
-        ensures error { IfErr result (λ r. WhyNotTaken (view_of holder.old) (length buffers.old) r (view_of holder.new)) }
+        ensures error { IfErr result (λ r. WhyNotTaken (view_of holder.old) (length buffers.old) r
+            (view_of holder.new)) }
         ensures share { SameShare holder.old holder.new }
     {
         lists_are_true();
@@ -88,7 +89,7 @@ impl Pool {
         requires pool { IsHolderOf self.now holder.old }
         requires holds { Holds holder.old buffers.now }
         ensures pool { IsHolderOf self.now holder.new }
-        ensures effect { MatchResult result (λ r. HoldsLess buffers.now holder.old holder.new)
+        ensures effect { MatchResult result (λ r. Released buffers.now (view_of holder.old) (view_of holder.new))
             (λ r. HoldsSame holder.old holder.new) }
         ensures error { IfErr result (λ r. WhyNotPut (view_of holder.old) (room_of self.now) (length buffers.now) r
             (view_of holder.new)) }
@@ -109,8 +110,7 @@ impl Pool {
         requires parts { IsDivisible holder.old }
         ensures pool { IsHolderOf self.now holder.new × IsHolderOf self.now result }
         ensures effect { HoldsSame holder.old holder.new × HoldsNone result }
-        ensures share { (view_of holder.new).member.share + (view_of result).member.share
-            ≡ (view_of holder.old).member.share }
+        ensures share { SharesOut holder.old holder.new result }
     {
         lists_are_true();
         let end = self.queue.split(&mut holder.end);
@@ -122,8 +122,7 @@ impl Pool {
         requires { IsHolderOf self.now holder.old × IsHolderOf self.now other }
         ensures pool { IsHolderOf self.now holder.new }
         ensures effect { HoldsBoth holder.old other holder.new }
-        ensures share { (view_of holder.new).member.share
-            ≡ (view_of holder.old).member.share + (view_of other).member.share }
+        ensures share { share_of holder.new ≡ share_of holder.old + share_of other }
     {
         lists_are_true();
         joins_are_true();

@@ -7,7 +7,7 @@ pub release-requires-clause-holds : goal.release-requires-clause-holds
 release-requires-clause-holds g c = same_holds (view_of c.args.holder.now) (view_of c.loop.holder) c.args.buffers.now c.loop.invariant.same c.requires.holds
 
 pub returns-in-Ok-clause-effect : goal.returns-in-Ok-clause-effect
-returns-in-Ok-clause-effect g c = less_on (view_of c.args.holder.now) (view_of c.loop.holder) (view_of c.release.new.holder) c.args.buffers.now c.loop.invariant.same c.in-Ok.ensures.effect
+returns-in-Ok-clause-effect g c = less_on (view_of c.args.holder.now) (view_of c.loop.holder) (view_of c.release.new.holder) c.args.buffers.now c.loop.invariant.same c.in-Ok.ensures.effect.less
 
 pub loop-preserved : goal.loop-preserved
 loop-preserved g c = record {

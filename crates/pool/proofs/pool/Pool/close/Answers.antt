@@ -11,7 +11,7 @@ invariant_of-result c = record { some = c.args.self.some }
 pub invariant_of-result-in-Err : goal.invariant_of-result-in-Err
 invariant_of-result-in-Err c =
     let v : View = view_of c.args.holder.end in let w : View = view_of c.in-Err.end in
-    let d = open_same v w _ c.in-Err.ensures.error in record { fair = same_fair v w d.runs_are (same_takes v w d) c.args.holder.fair }
+    let d = open_same v w _ c.in-Err.ensures.error in record { fair = same_fair v w d.runs_are (same_takes v w d) d.shuts_are c.args.holder.fair }
 
 pub returns-in-Ok-clause-effect : goal.returns-in-Ok-clause-effect
 returns-in-Ok-clause-effect c = all_there c.args.self.count (view_of c.args.holder.end) c.requires.2 c.in-Ok.field-0.put c.in-Ok.field-0.taken _ c.args.self.some c.requires.1 c.args.holder.fair c.in-Ok.ensures.effect

@@ -8,7 +8,7 @@ use Rattle.pool.proofs.pool.Pool.join.Goals as goal
 pub invariant_of-holder : goal.invariant_of-holder
 invariant_of-holder c =
     let v : View = view_of c.args.holder.now.end in let u : View = view_of c.args.other.end in let w : View = view_of c.join.new.end in
-    record { fair = both_fair v u w (λ i. (c.join.ensures.trace.own i).runs) c.join.ensures.effect.1 c.args.holder.now.fair c.args.other.fair }
+    record { fair = both_fair v u w (λ i. (c.join.ensures.trace.own i).runs) c.join.ensures.effect.1 (λ i. (c.join.ensures.trace.own i).shuts) c.args.holder.now.fair c.args.other.fair }
 
 pub returns-clause-pool : goal.returns-clause-pool
 returns-clause-pool c =

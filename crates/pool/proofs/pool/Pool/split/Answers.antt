@@ -2,13 +2,13 @@ use Rattle.std.proofs.Common.{◌∙◌}
 use Rattle.batch_queue.specs.Handles.{view_of}
 use Rattle.batch_queue.specs.Own.{View}
 use Rattle.pool.proofs.Holding.{lists_same, same_fair, same_held, stocked_since}
-use Rattle.pool.proofs.Joining.{born_runs, born_stocked, born_takes, divided, idle_fair, idle_held, idle_lists, split_share}
+use Rattle.pool.proofs.Joining.{born_runs, born_stocked, born_takes, divided, born_fair, idle_held, idle_lists, split_share}
 use Rattle.pool.proofs.pool.Pool.split.Goals as goal
 
 pub invariant_of-holder : goal.invariant_of-holder
 invariant_of-holder c =
     let v : View = view_of c.args.holder.now.end in let w : View = view_of c.split-end.new.end in
-    let d = divided v w c.split-end.ensures.trace in record { fair = same_fair v w d.0 d.1 c.args.holder.now.fair }
+    let d = divided v w c.split-end.ensures.trace in record { fair = same_fair v w d.0 d.1 d.2 c.args.holder.now.fair }
 
 pub returns-clause-pool : goal.returns-clause-pool
 returns-clause-pool c =
@@ -24,7 +24,7 @@ returns-clause-pool c =
     )
 
 pub invariant_of-result : goal.invariant_of-result
-invariant_of-result c = record { fair = idle_fair (view_of c.split-end.result) (born_runs (view_of c.args.holder.now.end) (view_of c.split-end.new.end) (view_of c.split-end.result) c.split-end.ensures.result) }
+invariant_of-result c = record { fair = born_fair (view_of c.args.holder.now.end) (view_of c.split-end.new.end) (view_of c.split-end.result) c.split-end.ensures.result }
 
 pub returns-clause-effect : goal.returns-clause-effect
 returns-clause-effect c =

@@ -1,4 +1,7 @@
 //! The pool and its holders.
+//!
+//! A holder is an end of the pool's queue, which lists what it put and took; so it needs no list of its own. The
+//! functions of `batch_queue::laws` have empty bodies. They are called since the proofs use their clauses.
 ghost use Rattle.std.specs.Prelude.{◌≡◌, ◌+◌, ◌<◌, ◌≤◌, length, take, IfErr, IfOk, MatchResult};
 ghost use Rattle.table_theory.specs.Ledgers.{WereOpen};
 ghost use Rattle.batch_queue.specs.Answers.{WhyNotPut, WhyNotTaken};
@@ -16,7 +19,8 @@ use std::alloc::Global;
 /// A pool has at most so many buffers, 2^24.
 pub const MOST_BUFFERS: usize = 16_777_216;
 
-/// A pool of buffers, which are the numbers from 0 on. The free ones are the items of a queue.
+/// A pool of buffers, which are the numbers from 0 on. The free ones are the items of a queue, as batches: first all of
+/// them as one batch, and then as they were released.
 #[derive(Drop)]
 pub struct Pool {
     queue: BatchQueue,
@@ -24,7 +28,8 @@ pub struct Pool {
     ghost some: { 0 < count },
 }
 
-/// One who holds buffers of a pool: those that it acquired and did not release. It has no bytes.
+/// One who holds buffers of a pool: those that it acquired and did not release. It has no bytes. A holder that is
+/// dropped keeps its buffers for good.
 #[derive(Drop)]
 pub struct Holder {
     end: BatchEnd,
@@ -66,7 +71,11 @@ impl Pool {
     }
 
     /// One try to acquire free buffers: as many whole batches as were released side by side and fit the slice. Their
-    /// numbers are then the first of the slice. Returns how many there are.
+    /// numbers are then the first of the slice. Returns how many there are. The refusals are those of
+    /// `BatchQueue::try_take`; Closed is none of them, since no holder shuts the queue.
+    ///
+    /// A batch is acquired whole, and all buffers of a new pool are one batch. Buffers that are released one by one can
+    /// be acquired in any number.
     pub fn acquire(&self, holder: &mut Holder, buffers: &mut [u64]) -> Result<usize, TakeRefusal>
         requires { IsHolderOf self.now holder.old }
         ensures pool { IsHolderOf self.now holder.new }
@@ -83,6 +92,8 @@ impl Pool {
     }
 
     /// One try to release buffers: all of them or none, as one batch. They are free once the call has published them.
+    /// The refusals are those of `BatchQueue::try_put`. Full comes while another holder is within an acquire: the places
+    /// of the buffers that it took are not given back yet.
     ///
     /// Condition: the holder holds these buffers.
     pub fn release(&self, holder: &mut Holder, buffers: &[u64]) -> Result<(), PutRefusal>
@@ -102,9 +113,10 @@ impl Pool {
     }
 
     /// A new holder, which holds none. Both are to be joined again before the pool can be closed; a holder that is
-    /// dropped can never be joined, and its buffers are lost.
+    /// dropped can never be joined.
     ///
-    /// Condition: the holder's end can be split. The first one can be split two million times without a join.
+    /// Condition: the holder's end can be split. The first one can be split two million times without a join, and each
+    /// of those 43 times in a chain.
     pub fn split(&self, holder: &mut Holder) -> Holder
         requires pool { IsHolderOf self.now holder.old }
         requires parts { IsDivisible holder.old }
@@ -143,13 +155,7 @@ impl Pool {
         lists_are_true();
         let (Pool { queue, count }, Holder { end }) = (self, holder);
         match queue.close(end) {
-            Ok(
-                Closed {
-                    put: _,
-                    taken: _,
-                    left,
-                },
-            ) => Ok(left),
+            Ok(Closed { left, .. }) => Ok(left),
             Err((queue, end, open)) => Err((Pool { queue, count }, Holder { end }, open)),
         }
     }

@@ -51,12 +51,12 @@ module _ (room count : ℕ) (v w : View) (items : List ℕ) (some : 0 < count) (
   release_lists (Err e) t l = lists_same count v w (refused_put room (length items) v w e t).runs_are l
 
   pub release_fair : (r : Result ℕ PutRefusal) → Effect r → Trace r → Holds v items → IsFair v → IsFair w
-  release_fair (Ok start) e t h f = let p = is_put room start items v w t in put_fair v w (batch start) items p.did.runs_are (past start p) (line_is items) e.takes p.did.shuts_are h f
-  release_fair (Err x) e t h f = let d = refused_put room (length items) v w x t in same_fair v w d.runs_are e.takes d.shuts_are f
+  release_fair (Ok start) e t h f = let p = is_put room start items v w t in put_fair v w (batch start) items p.did.runs_are (past start p) (line_is items) e.0.takes p.did.shuts_are h f
+  release_fair (Err x) e t h f = let d = refused_put room (length items) v w x t in same_fair v w d.runs_are e.0.takes d.shuts_are f
 
   pub release_effect : (r : Result ℕ PutRefusal) → Effect r → Trace r → Holds v items → IsFair v → MatchResult r (λ start. Released items v w) (λ e. HoldsSame v w)
-  release_effect (Ok start) e t h f = let p = is_put room start items v w t in record { line = e; less = put_held v w (batch start) items p.did.runs_are (past start p) (line_is items) e.takes h f }
-  release_effect (Err x) e t h f = same_held v w (refused_put room (length items) v w x t).runs_are e.takes
+  release_effect (Ok start) e t h f = let p = is_put room start items v w t in record { line = e; less = put_held v w (batch start) items p.did.runs_are (past start p) (line_is items) e.0.takes h f }
+  release_effect (Err x) e t h f = same_held v w (refused_put room (length items) v w x t).runs_are e.0.takes
 
   pub release_ok : (r : Result ℕ PutRefusal) (start : ℕ) → r ≡ Ok start → Effect r → Trace r → Holds v items → IsFair v → Released items v w
   release_ok r start is e t h f = subst (λ z. MatchResult z (λ s. Released items v w) (λ e. HoldsSame v w)) is (release_effect r e t h f)

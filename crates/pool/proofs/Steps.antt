@@ -13,7 +13,8 @@ use Rattle.batch_queue.specs.declared.rule.EndRecord.{EndRecord}
 use Rattle.batch_queue.specs.Layout.{head_word}
 use Rattle.batch_queue.specs.Own.{View}
 use Rattle.batch_queue.specs.Puts.{FoundOther, IsPut, LackedRoom, RefusedPut, published}
-use Rattle.batch_queue.specs.Takings.{RefusedTake, TookBatches}
+use Rattle.batch_queue.specs.Parts.{RefusedSomeBy, RefusedTakeSome, TookSome, with_parts}
+use Rattle.batch_queue.specs.Takings.{RefusedTake}
 use Rattle.std.proofs.Common.{⊎_elim}
 
 -- the end has these runs and takings then, and added these entries
@@ -53,11 +54,24 @@ nothing v w is = record {
   adds = subst (Adds v []) (sym is) (adds_none v);
 }
 
-pub refused_take : (room most : ℕ) (v w : View) (r : TakeRefusal) → RefusedTake room v most r w → DidNothing v w
+refused_take : (room most : ℕ) (v w : View) (r : TakeRefusal) → RefusedTake room v most r w → DidNothing v w
 refused_take room most v w (not_taken.Empty at) h = looked v w _ h.added
 refused_take room most v w (not_taken.ShortBuffer at count) h = looked v w _ h.1.added
 refused_take room most v w (not_taken.Lost tail) h = ⊎_elim (λ p. looked v w _ p.added) (λ t. ⊎_elim (λ p. looked v w _ p.added) (λ p. looked v w _ p.added) t) h
 refused_take room most v w not_taken.Closed h = looked v w _ h.added
+
+-- it looked, and parted a batch perhaps
+parted : (v w : View) (parts : ℕ) (entries : List (Step BatchState)) → Made v entries (with_parts v.own parts) w → DidNothing v w
+parted v w parts entries m = made v w entries (with_parts v.own parts) refl m
+
+refused_by : (room most : ℕ) (v w : View) (r : TakeRefusal) → RefusedSomeBy (λ parts entries. Made v entries (with_parts v.own parts) w) room most r → DidNothing v w
+refused_by room most v w (not_taken.Empty at) h = parted v w 0 _ h.added
+refused_by room most v w (not_taken.ShortBuffer at count) h = absurd h
+refused_by room most v w (not_taken.Lost tail) h = ⊎_elim (λ p. parted v w 0 _ p.added) (λ t. ⊎_elim (λ p. parted v w p.parts _ p.added) (λ n. parted v w 0 _ n.added) t) h
+refused_by room most v w not_taken.Closed h = parted v w 0 _ h.added
+
+pub refused_some : (room most : ℕ) (v w : View) (r : TakeRefusal) → RefusedTakeSome room v most r w → DidNothing v w
+refused_some room most v w r h = ⊎_elim (λ whole. refused_take room most v w r whole.1) (λ some. refused_by room most v w r some) h
 
 -- a taking leaves the runs
 pub record Took (v w : View) : Type 0 where
@@ -66,8 +80,8 @@ pub record Took (v w : View) : Type 0 where
   pub entries : List (Step BatchState)
   pub adds : Adds v entries w
 
-pub took_batches : (room most : ℕ) (items : List ℕ) (v w : View) → TookBatches room v most items w → Took v w
-took_batches room most items v w (tail, mark, m, t) = let d = made v w _ _ refl t.added in record { runs_are = d.runs_are; shuts_are = d.shuts_are; entries = d.entries; adds = d.adds }
+pub took_some : (room most : ℕ) (items : List ℕ) (v w : View) → TookSome room v most items w → Took v w
+took_some room most items v w (tail, mark, m, t) = let d = made v w _ _ refl t.added in record { runs_are = d.runs_are; shuts_are = d.shuts_are; entries = d.entries; adds = d.adds }
 
 lacked : (room count least head free : ℕ) (moved : _) (v w : View) → LackedRoom (λ entries. Rattle.batch_queue.specs.Own.Looks v entries w) room count least head free moved → DidNothing v w
 lacked room count least head free moved v w l = looked v w _ l.added

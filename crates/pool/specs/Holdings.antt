@@ -4,7 +4,8 @@ use Rattle.std.specs.List.{concat, filter}
 use mathlib.Core.Option.{some}
 use lib.ListN.{get_elem?}
 use Rattle.table_theory.specs.declared.queues.Batch.{Batch}
-use Rattle.batch_queue.specs.Lines.{line_of, lines_taken, PutLine, TookLine}
+use Rattle.table_theory.specs.Lines as lines
+use Rattle.batch_queue.specs.Lines.{line_of, lines_put, lines_taken, PutLine}
 use Rattle.batch_queue.specs.Own.{View}
 use Rattle.pool.specs.Buffers.{all_buffers, times}
 
@@ -49,7 +50,7 @@ pub record Acquired (n : ℕ) (slice filled : List ℕ) (v w : View) : Type 0 wh
   pub some_buffer : 0 < n
   pub fits : n ≤ length slice
   pub rest : drop n filled ≡ drop n slice
-  pub line : TookLine (take n filled) v w
+  pub line : lines.TookLine lines_put lines_taken (take n filled) v w
   pub more : HoldsMore (take n filled) v w
 
 -- the end released these buffers, by one batch

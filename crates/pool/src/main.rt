@@ -12,7 +12,7 @@ use std::alloc::Global;
 use std::process::ExitCode;
 use std::sync::Wait;
 use std::thread::Threads;
-use workers::{give_back_each, run_workers};
+use workers::{give_back, run_workers};
 
 /// Why a run ends early.
 type Fault = &'static str;
@@ -48,7 +48,7 @@ fn run_both<R: Wait + Print>(rt: &R, alloc: Global) -> Result<(), Fault> {
         return Err("nothing is free");
     };
     print_buffers(rt, "one acquires", &buffers[..count])?;
-    give_back_each(rt, &pool, &mut one, &buffers[..count]);
+    give_back(rt, &pool, &mut one, &buffers[..count]);
     let mut other = pool.split(&mut one);
     let (mut mine, mut yours) = ([0; 2], [0; 4]);
     let Ok(count) = pool.acquire(&mut one, &mut mine) else {
@@ -59,8 +59,8 @@ fn run_both<R: Wait + Print>(rt: &R, alloc: Global) -> Result<(), Fault> {
         return Err("nothing is free");
     };
     print_buffers(rt, "other acquires", &yours[..rest])?;
-    give_back_each(rt, &pool, &mut other, &yours[..rest]);
-    give_back_each(rt, &pool, &mut one, &mine[..count]);
+    give_back(rt, &pool, &mut other, &yours[..rest]);
+    give_back(rt, &pool, &mut one, &mine[..count]);
     pool.join(&mut one, other);
     match pool.close(one) {
         Ok(left) => print_buffers(rt, "left", sorted(alloc, &left)?.as_slice()),

@@ -4,10 +4,11 @@
 //! functions of `batch_queue::laws` have empty bodies. They are called since the proofs use their clauses.
 ghost use Rattle.std.specs.Prelude.{◌≡◌, ◌+◌, ◌<◌, ◌≤◌, length, take, IfErr, IfOk, MatchResult};
 ghost use Rattle.table_theory.specs.Ledgers.{WereOpen};
-ghost use Rattle.batch_queue.specs.Answers.{WhyNotPut, WhyNotTaken};
+ghost use Rattle.batch_queue.specs.Answers.{WhyNotPut};
 ghost use Rattle.batch_queue.specs.Handles as queues;
 ghost use Rattle.batch_queue.specs.Layout.{ends_word};
 ghost use Rattle.batch_queue.specs.Lefts.{items_left};
+ghost use Rattle.batch_queue.specs.Parts.{WhyNotTakenSome};
 ghost use Rattle.pool.specs.Buffers.{all_buffers};
 ghost use Rattle.pool.specs.Holdings.{IsFair, Acquired, Released};
 
@@ -70,12 +71,8 @@ impl Pool {
         Ok((Pool { queue, count }, Holder { end }))
     }
 
-    /// One try to acquire free buffers: as many whole batches as were released side by side and fit the slice. Their
-    /// numbers are then the first of the slice. Returns how many there are. The refusals are those of
-    /// `BatchQueue::try_take`; Closed is none of them, since no holder shuts the queue.
-    ///
-    /// A batch is acquired whole, and all buffers of a new pool are one batch. Buffers that are released one by one can
-    /// be acquired in any number.
+    /// One try to acquire free buffers: as many as are free and fit the slice, in the order in which they were released.
+    /// Their numbers are then the first of the slice. Returns how many there are.
     pub fn acquire(&self, holder: &mut Holder, buffers: &mut [u64]) -> Result<usize, TakeRefusal>
         requires { IsHolderOf self.now holder.old }
         ensures pool { IsHolderOf self.now holder.new }
@@ -83,12 +80,12 @@ impl Pool {
             (λ n. Acquired n buffers.old buffers.new (view_of holder.old) (view_of holder.new))
             (λ r. HoldsSame holder.old holder.new × (buffers.new ≡ buffers.old)) }
         ensures holds { IfOk result (λ n. Holds holder.new (take n buffers.new)) }
-        ensures error { IfErr result (λ r. WhyNotTaken (view_of holder.old) (length buffers.old) r
-            (view_of holder.new)) }
+        ensures error { IfErr result (λ r. WhyNotTakenSome (view_of holder.old) (room_of self.now)
+            (length buffers.old) r (view_of holder.new)) }
         ensures share { SameShare holder.old holder.new }
     {
         lists_are_true();
-        self.queue.try_take(&mut holder.end, buffers)
+        self.queue.try_take_some(&mut holder.end, buffers)
     }
 
     /// One try to release buffers: all of them or none, as one batch. They are free once the call has published them.

@@ -21,7 +21,7 @@ const BUFFERS: usize = 8;
 const TURNS: usize = 100;
 
 /// Releases buffers, as one batch. It tries again while there is no room yet, and while another holder is first.
-fn give_back<R: Wait>(rt: &R, pool: &Pool, holder: &mut Holder, buffers: &[u64])
+pub fn give_back<R: Wait>(rt: &R, pool: &Pool, holder: &mut Holder, buffers: &[u64])
     requires pool { IsHolderOf pool.now holder.old }
     requires holds { Holds holder.old buffers.now }
     ensures pool { IsHolderOf pool.now holder.new }
@@ -36,20 +36,7 @@ fn give_back<R: Wait>(rt: &R, pool: &Pool, holder: &mut Holder, buffers: &[u64])
     }
 }
 
-/// Releases buffers one by one, so that any number of them can be acquired.
-pub fn give_back_each<R: Wait>(rt: &R, pool: &Pool, holder: &mut Holder, buffers: &[u64])
-    requires pool { IsHolderOf pool.now holder.old }
-    requires holds { Holds holder.old buffers.now }
-    ensures pool { IsHolderOf pool.now holder.new }
-    ensures effect { HoldsLess buffers.now holder.old holder.new }
-    ensures share { SameShare holder.old holder.new }
-{
-    for buffer in buffers {
-        give_back(rt, pool, holder, &[*buffer]);
-    }
-}
-
-/// One turn: acquires what is free and fits the slice, and gives it back, one by one.
+/// One turn: acquires what is free and fits the slice, and gives it back.
 fn turn<R: Wait>(rt: &R, pool: &Pool, holder: &mut Holder, buffers: &mut [u64])
     requires { IsHolderOf pool.now holder.old }
     ensures pool { IsHolderOf pool.now holder.new }
@@ -57,7 +44,7 @@ fn turn<R: Wait>(rt: &R, pool: &Pool, holder: &mut Holder, buffers: &mut [u64])
     ensures share { SameShare holder.old holder.new }
 {
     if let Ok(count) = pool.acquire(holder, buffers) {
-        give_back_each(rt, pool, holder, &buffers[..count]);
+        give_back(rt, pool, holder, &buffers[..count]);
     }
 }
 

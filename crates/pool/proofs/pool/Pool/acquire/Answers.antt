@@ -6,19 +6,19 @@ use Rattle.pool.proofs.Holding.{lists_same, stocked_since}
 use Rattle.pool.proofs.pool.Pool.acquire.Goals as goal
 
 pub invariant_of-holder : goal.invariant_of-holder
-invariant_of-holder c = record { fair = acquire_fair _ (view_of c.args.holder.now.end) (view_of c.try_take.new.end) c.args.buffers.now c.try_take.new.items c.try_take.result c.try_take.ensures.effect c.try_take.ensures.trace c.args.holder.now.fair }
+invariant_of-holder c = record { fair = acquire_fair _ (view_of c.args.holder.now.end) (view_of c.try_take_some.new.end) c.args.buffers.now c.try_take_some.new.items c.try_take_some.result c.try_take_some.ensures.effect c.try_take_some.ensures.trace c.args.holder.now.fair }
 
 pub returns-clause-pool : goal.returns-clause-pool
 returns-clause-pool c =
-    let v : View = view_of c.args.holder.now.end in let w : View = view_of c.try_take.new.end in
-    let t = took _ v w c.args.buffers.now c.try_take.new.items c.try_take.result c.try_take.ensures.trace in (
-      c.try_take.ensures.handle.0 ∙ c.requires.0,
-      stocked_since c.args.self.now.count v w t.entries t.adds (c.lists_are_true.ensures.since c.args.holder.now.end c.try_take.new.end) c.lists_are_true.ensures.grows c.requires.1,
+    let v : View = view_of c.args.holder.now.end in let w : View = view_of c.try_take_some.new.end in
+    let t = took _ v w c.args.buffers.now c.try_take_some.new.items c.try_take_some.result c.try_take_some.ensures.trace in (
+      c.try_take_some.ensures.handle.0 ∙ c.requires.0,
+      stocked_since c.args.self.now.count v w t.entries t.adds (c.lists_are_true.ensures.since c.args.holder.now.end c.try_take_some.new.end) c.lists_are_true.ensures.grows c.requires.1,
       lists_same c.args.self.now.count v w t.runs_are c.requires.2,
     )
 
 pub returns-clause-effect : goal.returns-clause-effect
-returns-clause-effect c = acquire_effect _ (view_of c.args.holder.now.end) (view_of c.try_take.new.end) c.args.buffers.now c.try_take.new.items c.try_take.result c.try_take.ensures.effect c.try_take.ensures.trace c.args.holder.now.fair
+returns-clause-effect c = acquire_effect _ (view_of c.args.holder.now.end) (view_of c.try_take_some.new.end) c.args.buffers.now c.try_take_some.new.items c.try_take_some.result c.try_take_some.ensures.effect c.try_take_some.ensures.trace c.args.holder.now.fair
 
 pub returns-clause-holds : goal.returns-clause-holds
-returns-clause-holds c = acquire_holds _ (view_of c.args.holder.now.end) (view_of c.try_take.new.end) c.args.buffers.now c.try_take.new.items c.try_take.result c.try_take.ensures.effect c.try_take.ensures.trace c.args.holder.now.fair
+returns-clause-holds c = acquire_holds _ (view_of c.args.holder.now.end) (view_of c.try_take_some.new.end) c.args.buffers.now c.try_take_some.new.items c.try_take_some.result c.try_take_some.ensures.effect c.try_take_some.ensures.trace c.args.holder.now.fair

@@ -71,6 +71,13 @@ impl Random {
     }
 }
 
+/// So many times a wait of `Backoff` spins before it gives the processor to others.
+const SPINS: u32 = 7;
+
+/// So many times a producer gives the processor to others. Then it puts no more: on a busy machine each time costs the
+/// time slices of all others, so this bounds the time of a test.
+const PATIENCE: u32 = 200;
+
 /// What a producer has to put: so many items, in batches of up to `most`.
 #[derive(Clone, Copy, Drop)]
 struct Work {
@@ -79,10 +86,13 @@ struct Work {
     most: u64,
 }
 
-/// What a producer put: the sum of the items, and whether no put was refused except for Full and Lost.
+/// What a producer put: how many items, their sum, how often it may still give the processor to others, and whether no
+/// put was refused except for Full and Lost.
 #[derive(Drop)]
 struct Put {
+    items: u64,
     sum: u64,
+    patience: u32,
     is_right: bool,
 }
 
@@ -96,11 +106,10 @@ struct Had {
     is_right: bool,
 }
 
-/// Fills the buffer with a batch of the producer whose first item has this number, and returns the sum. If it isn't
-/// whole, each item is marked as a batch of its own, so that any front of it can be put.
-fn fill(buffer: &mut [u64], producer: u64, number: u64, is_whole: bool) -> u64 {
+/// Fills the buffer with a batch of the producer whose first item has this number. If it isn't whole, each item is
+/// marked as a batch of its own, so that any front of it can be put.
+fn fill(buffer: &mut [u64], producer: u64, number: u64, is_whole: bool) {
     let count = buffer.len() as u64;
-    let mut sum = 0u64;
     for (at, item) in buffer.iter_mut().enumerate() {
         let before = at as u64;
         let after = count.wrapping_sub(before).wrapping_sub(1);
@@ -111,44 +120,99 @@ fn fill(buffer: &mut [u64], producer: u64, number: u64, is_whole: bool) -> u64 {
             after: if is_whole { after } else { 0 },
         };
         *item = mark.to_item();
-        sum = sum.wrapping_add(*item);
     }
-    sum
 }
 
-/// Puts the batch, and tries again while the queue is full. Returns false if it is refused for another reason.
-fn put_whole<R: Wait>(rt: &R, queue: &BatchQueue, end: &mut BatchEnd, items: &[u64]) -> bool
+impl Put {
+    fn note(&mut self, items: &[u64]) {
+        self.items = self.items.wrapping_add(items.len() as u64);
+        for item in items {
+            self.sum = self.sum.wrapping_add(*item);
+        }
+    }
+
+    /// Waits for room, after so many waits for the same. Returns false if the producer has waited long enough.
+    fn waits(&mut self, backoff: &Backoff, waited: u32) -> bool {
+        if waited >= SPINS {
+            if self.patience == 0 {
+                return false;
+            }
+            self.patience -= 1;
+        }
+        backoff.snooze();
+        true
+    }
+}
+
+/// Puts the batch, and tries again while the queue is full. Returns false if the producer puts no more.
+fn put_whole<R: Wait>(
+    rt: &R,
+    queue: &BatchQueue,
+    end: &mut BatchEnd,
+    items: &[u64],
+    put: &mut Put,
+) -> bool
     requires { IsEndOf queue.now end.old }
     ensures { IsEndOf queue.now end.new }
 {
     let backoff = Backoff::new();
+    let mut waited = 0u32;
     for _ in rt.forever() {
         match queue.put(rt, end, items) {
-            Ok(_start) => return true,
-            Err(PutRefusal::Full { head: _, free: _ }) => backoff.snooze(),
-            Err(_) => return false,
+            Ok(_start) => {
+                put.note(items);
+                return true;
+            }
+            Err(PutRefusal::Full { head: _, free: _ }) => {
+                if !put.waits(&backoff, waited) {
+                    return false;
+                }
+            }
+            Err(_) => {
+                put.is_right = false;
+                return false;
+            }
         }
+        waited = waited.saturating_add(1);
     }
     unreachable!()
 }
 
-/// Puts the items front by front, each as long as there is room.
-fn put_fronts<R: Wait>(rt: &R, queue: &BatchQueue, end: &mut BatchEnd, items: &[u64]) -> bool
+/// Puts the items front by front, each as long as there is room. Returns false if the producer puts no more.
+fn put_fronts<R: Wait>(
+    rt: &R,
+    queue: &BatchQueue,
+    end: &mut BatchEnd,
+    items: &[u64],
+    put: &mut Put,
+) -> bool
     requires { IsEndOf queue.now end.old }
     ensures { IsEndOf queue.now end.new }
 {
-    let backoff = Backoff::new();
+    let mut backoff = Backoff::new();
+    let mut waited = 0u32;
     let mut left = items;
     for _ in rt.forever() {
         match queue.try_put_some(end, left) {
-            Ok((_start, count)) => left = left.get(count..).unwrap_or(&[]),
-            Err(PutRefusal::Full { head: _, free: _ } | PutRefusal::Lost { head: _ }) => {
-                backoff.snooze()
+            Ok((_start, count)) => {
+                let (front, rest) = left.split_at(count.min(left.len()));
+                put.note(front);
+                left = rest;
+                if left.is_empty() {
+                    return true;
+                }
+                (backoff, waited) = (Backoff::new(), 0);
             }
-            Err(_) => return false,
-        }
-        if left.is_empty() {
-            return true;
+            Err(PutRefusal::Full { head: _, free: _ } | PutRefusal::Lost { head: _ }) => {
+                if !put.waits(&backoff, waited) {
+                    return false;
+                }
+                waited = waited.saturating_add(1);
+            }
+            Err(_) => {
+                put.is_right = false;
+                return false;
+            }
         }
     }
     unreachable!()
@@ -160,17 +224,18 @@ fn put_batch<R: Wait>(
     end: &mut BatchEnd,
     items: &[u64],
     is_whole: bool,
+    put: &mut Put,
 ) -> bool
     requires { IsEndOf queue.now end.old }
     ensures { IsEndOf queue.now end.new }
 {
     if is_whole {
-        return put_whole(rt, queue, end, items);
+        return put_whole(rt, queue, end, items, put);
     }
-    put_fronts(rt, queue, end, items)
+    put_fronts(rt, queue, end, items, put)
 }
 
-/// Puts all items of the work, in batches of random lengths.
+/// Puts the items of the work, in batches of random lengths.
 fn feed<R: Wait>(rt: &R, queue: &BatchQueue, end: BatchEnd, work: Work) -> (BatchEnd, Put)
     requires { IsEndOf queue.now end }
     ensures { IsEndOf queue.now result.0 }
@@ -182,22 +247,23 @@ fn feed<R: Wait>(rt: &R, queue: &BatchQueue, end: BatchEnd, work: Work) -> (Batc
         state: work.producer.wrapping_add(88_172_645_463_325_252),
     };
     let mut put = Put {
+        items: 0,
         sum: 0,
+        patience: PATIENCE,
         is_right: true,
     };
-    let mut number = 0u64;
     for batch in 0..work.items {
-        if number >= work.items {
+        if put.items >= work.items {
             break;
         }
-        let length = random.next(work.most).min(work.items - number);
+        let length = random.next(work.most).min(work.items - put.items);
         let count = (length as usize).min(places.len());
         let (buffer, _) = places.split_at_mut(count);
         let is_whole = batch % 2 == 0;
-        let sum = fill(buffer, work.producer, number, is_whole);
-        put.is_right = put_batch(rt, queue, &mut end, buffer, is_whole) && put.is_right;
-        put.sum = put.sum.wrapping_add(sum);
-        number = number.wrapping_add(count as u64);
+        fill(buffer, work.producer, put.items, is_whole);
+        if !put_batch(rt, queue, &mut end, buffer, is_whole, &mut put) {
+            break;
+        }
     }
     (end, put)
 }
@@ -388,7 +454,9 @@ fn feed_two_and_shut<R: Threads + Wait + Sync>(
     let _was_open = queue.shut(&mut one);
     queue.join(&mut one, other);
     let put = Put {
+        items: first.items.wrapping_add(second.items),
         sum: first.sum.wrapping_add(second.sum),
+        patience: 0,
         is_right: first.is_right && second.is_right,
     };
     (one, put)
@@ -493,10 +561,10 @@ fn one_to_one<R: Threads + Wait + Abort + Sync>(rt: &R, alloc: Global, room: Roo
         most,
     );
     queue.join(&mut last, taker);
-    closes(rt, queue, last, work.items);
+    closes(rt, queue, last, put.items);
     assert!(rt; put.is_right && had.is_right);
     assert!(rt; put.sum == had.sum);
-    assert!(rt; came_once(&had, &none) == work.items);
+    assert!(rt; came_once(&had, &none) == put.items);
 }
 
 /// Two threads put, each as much, and two take: one of them parts batches, or none does.
@@ -533,11 +601,10 @@ fn two_to_two<R: Threads + Wait + Abort + Sync>(
     );
     queue.join(&mut last, one);
     queue.join(&mut last, other);
-    let items = work.items.wrapping_mul(2);
-    closes(rt, queue, last, items);
+    closes(rt, queue, last, put.items);
     assert!(rt; put.is_right && had.is_right && more.is_right);
     assert!(rt; put.sum == had.sum.wrapping_add(more.sum));
-    assert!(rt; came_once(&had, &more) == items);
+    assert!(rt; came_once(&had, &more) == put.items);
 }
 
 fn work_of(items: u64, most: u64) -> Work {

@@ -72,7 +72,8 @@ impl Pool {
     }
 
     /// One try to acquire free buffers: as many as are free and fit the slice, in the order in which they were released.
-    /// Their numbers are then the first of the slice. Returns how many there are.
+    /// Their numbers are then the first of the slice. Returns how many there are. The refusals are those of
+    /// `BatchQueue::try_take_some`; Closed is none of them, since no holder shuts the queue.
     pub fn acquire(&self, holder: &mut Holder, buffers: &mut [u64]) -> Result<usize, TakeRefusal>
         requires { IsHolderOf self.now holder.old }
         ensures pool { IsHolderOf self.now holder.new }

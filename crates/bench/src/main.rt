@@ -2,6 +2,7 @@
 #![tactic(auto)]
 
 mod array;
+mod batch;
 mod boots;
 mod chains;
 mod claim;

@@ -1,8 +1,10 @@
-//! Lines of items through a queue: the claim queue, which puts and takes whole lines, or the kit's `ArrayQueue`.
+//! Lines of items through a queue: the claim queue or the batch queue, which put and take whole lines, or the kit's
+//! `ArrayQueue`.
+use crate::batch::Room;
 use crate::fault::Fault;
 use crate::line::{line_of, sum_of};
 use crate::measure::{Done, Measured};
-use crate::{array, claim};
+use crate::{array, batch, claim};
 use std::alloc::Global;
 use std::rt::Clock;
 use std::sync::Wait;
@@ -26,6 +28,7 @@ pub enum Course {
 #[derive(Clone, Copy)]
 pub enum Structure {
     ClaimQueue,
+    BatchQueue(Room),
     ArrayQueue,
 }
 
@@ -42,6 +45,9 @@ fn time_lines<R: Threads + Wait + Clock + Sync>(
         (Course::Alone, Structure::ClaimQueue) => claim::alone(rt, alloc, line, lines),
         (Course::Pair, Structure::ClaimQueue) => claim::pair(rt, alloc, line, lines),
         (Course::Four, Structure::ClaimQueue) => claim::four(rt, alloc, line, lines),
+        (Course::Alone, Structure::BatchQueue(room)) => batch::alone(rt, alloc, room, line, lines),
+        (Course::Pair, Structure::BatchQueue(room)) => batch::pair(rt, alloc, room, line, lines),
+        (Course::Four, Structure::BatchQueue(room)) => batch::four(rt, alloc, room, line, lines),
         (Course::Alone, Structure::ArrayQueue) => array::alone(rt, alloc, line, lines),
         (Course::Pair, Structure::ArrayQueue) => array::pair(rt, alloc, line, lines),
         (Course::Four, Structure::ArrayQueue) => array::four(rt, alloc, line, lines),

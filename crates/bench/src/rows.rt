@@ -1,4 +1,5 @@
 //! The rows that the program prints, by the words that name them.
+use crate::batch::Room;
 use crate::figures::{Figure, Task, Unit};
 use crate::notes::Notes;
 use crate::queues::{Course, Structure};
@@ -26,14 +27,26 @@ const SIZES: [u8; 4] = [1, 4, 16, 64];
 pub static ROWS: [Rows; 11] = [
     Rows { word: "alone", numbers: &LENGTHS, figures: &[
         Figure { name: "alone ClaimQueue", task: Task::Lines(Course::Alone, Structure::ClaimQueue), unit: Unit::Each("item") },
+        Figure { name: "alone BatchQueue", unit: Unit::Each("item"),
+            task: Task::Lines(Course::Alone, Structure::BatchQueue(Room::Of256)) },
+        Figure { name: "alone BatchQueue(4096)", unit: Unit::Each("item"),
+            task: Task::Lines(Course::Alone, Structure::BatchQueue(Room::Of4096)) },
         Figure { name: "alone ArrayQueue", task: Task::Lines(Course::Alone, Structure::ArrayQueue), unit: Unit::Each("item") },
     ] },
     Rows { word: "pairs", numbers: &LENGTHS, figures: &[
         Figure { name: "pair ClaimQueue", task: Task::Lines(Course::Pair, Structure::ClaimQueue), unit: Unit::Each("item") },
+        Figure { name: "pair BatchQueue", unit: Unit::Each("item"),
+            task: Task::Lines(Course::Pair, Structure::BatchQueue(Room::Of256)) },
+        Figure { name: "pair BatchQueue(4096)", unit: Unit::Each("item"),
+            task: Task::Lines(Course::Pair, Structure::BatchQueue(Room::Of4096)) },
         Figure { name: "pair ArrayQueue", task: Task::Lines(Course::Pair, Structure::ArrayQueue), unit: Unit::Each("item") },
     ] },
     Rows { word: "fours", numbers: &LENGTHS, figures: &[
         Figure { name: "four ClaimQueue", task: Task::Lines(Course::Four, Structure::ClaimQueue), unit: Unit::Each("item") },
+        Figure { name: "four BatchQueue", unit: Unit::Each("item"),
+            task: Task::Lines(Course::Four, Structure::BatchQueue(Room::Of256)) },
+        Figure { name: "four BatchQueue(4096)", unit: Unit::Each("item"),
+            task: Task::Lines(Course::Four, Structure::BatchQueue(Room::Of4096)) },
         Figure { name: "four ArrayQueue", task: Task::Lines(Course::Four, Structure::ArrayQueue), unit: Unit::Each("item") },
     ] },
     Rows { word: "chains", numbers: &[1], figures: &[

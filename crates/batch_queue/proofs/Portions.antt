@@ -27,7 +27,7 @@ parted_once room p parts es (meanwhile mark found m n low ne on none is) = omega
 pub once : (room tail most to parts : ℕ) (es : List (Step BatchState)) → StopBy room tail most to parts es → parts ≤ 1
 once room tail most to parts es (all f is none) = omega arith
 once room tail most to parts es (no_more mark r nothing none) = omega arith
-once room tail most to parts es (one_more at mark r on is fits none) = omega arith
+once room tail most to parts es (one_more at mark more r on is fits none) = omega arith
 once room tail most to parts es (within at mark before after again r on far is by are) = parted_once room to parts after by
 
 module _ (room most : ℕ) (v u b c : View) (tail first new : ℕ) (rooms : v.first.room ≡ room) (x : Found v tail_word tail u) (y : Found u (mark_word room tail) first b) (s : FoundStop room tail (min most room) first new b c) (less : tail < new) (far : new ≤ tail + min most room) (g : Grows b.seen.object c.seen.object) where

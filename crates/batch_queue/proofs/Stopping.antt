@@ -50,8 +50,8 @@ module _ (room tail most first : ℕ) (on : LeadsOn 0 tail first) where
       pub stop_none : (LeadsOn 0 at mark → ⊥) → FoundStop room tail most first at v w
       stop_none none = record { loads = f.loads ++ next; parts = 0; by = λ m. no_more mark (reached m) none refl; made = made_none_parted v w (f.loads ++ next) both_made }
 
-      pub stop_more : LeadsOn 0 at mark → mark / 2 ≤ tail + most → FoundStop room tail most first (mark / 2) v w
-      stop_more leads fits = record { loads = f.loads ++ next; parts = 0; by = λ m. one_more at mark (reached m) leads refl fits refl; made = made_none_parted v w (f.loads ++ next) both_made }
+      pub stop_more : tail < at → LeadsOn 0 at mark → mark / 2 ≤ tail + most → FoundStop room tail most first (mark / 2) v w
+      stop_more after leads fits = record { loads = f.loads ++ next; parts = 0; by = λ m. one_more at mark after (reached m) leads refl fits refl; made = made_none_parted v w (f.loads ++ next) both_made }
 
   pub reached_first : (m : Moment BatchState) → Reached room tail most tail first (load (mark_word room tail) first m ∷ [])
   reached_first m = at_tail refl m refl

@@ -69,7 +69,7 @@ pub data StopBy (room tail most to parts : ℕ) (loads : List (Step BatchState))
       → StopBy room tail most to parts loads
   no_more : (mark : ℕ) → Reached room tail most to mark loads → (LeadsOn 0 to mark → ⊥) → parts ≡ 0
       → StopBy room tail most to parts loads
-  one_more : (at mark : ℕ) → Reached room tail most at mark loads → LeadsOn 0 at mark → to ≡ mark / 2
+  one_more : (at mark : ℕ) → tail < at → Reached room tail most at mark loads → LeadsOn 0 at mark → to ≡ mark / 2
       → to ≤ tail + most → parts ≡ 0 → StopBy room tail most to parts loads
   within : (at mark : ℕ) (before after : List (Step BatchState)) (again : Moment BatchState)
       → Reached room tail most at mark before → LeadsOn 0 at mark → tail + most < mark / 2 → to ≡ tail + most

@@ -24,7 +24,7 @@ pub(crate) const FREE: usize = 32;
 pub(crate) const FIRST_MARK: usize = 48;
 
 /// A queue has at most so many places, 2^24.
-pub(crate) const MOST_PLACES: usize = 16_777_216;
+pub const MOST_PLACES: usize = 16_777_216;
 
 /// No claim ends at this position or after it, 2^62.
 pub(crate) const POSITIONS: u64 = 4_611_686_018_427_387_904;

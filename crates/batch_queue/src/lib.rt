@@ -36,6 +36,7 @@ mod walk;
 pub use between::{between_steps, ends_between_steps};
 pub use close::Closed;
 pub use ends::{BatchEnd, BatchQueue};
+pub use layout::MOST_PLACES;
 pub use left::LeftItems;
 pub use refusals::{PutRefusal, TakeRefusal};
 pub use rule::{BatchRule, BatchState, EndRecord, HeldSlots, Shape, View};

@@ -40,7 +40,7 @@ pub returns-then-mark-last-clause-stop : goal.returns-then-mark-last-clause-stop
 returns-then-mark-last-clause-stop c = let on = c.requires.first.0.1 in let low = c.walk-at.ensures.on.0 in let past = c.if-not-leads_on.ensures.1 in (rest_stop c.load_mark-mark.new.seat.me.0 _ _ _ (rest_more c.args.room _ _ _ _ _ c.args.seat.now.me.0 c.walk-at.new.seat.me.0 c.load_mark-mark.new.seat.me.0 c.requires.queue.rooms (let o = c.walk-at.ensures.on.0 in let on = c.requires.first.0.1 in omega arith) c.walk-at.ensures.starts c.walk-at.ensures.passed c.walk-at.ensures.trace c.load_mark-mark.ensures.found c.if-not-leads_on.ensures), omega arith, c.if-mark-last.true)
 
 pub returns-then-mark-last-clause-trace : goal.returns-then-mark-last-clause-trace
-returns-then-mark-last-clause-trace c = stop_more c.args.room c.args.tail c.args.most c.args.first c.requires.first.0 (let b = c.if-first-last.false in omega arith) _ _ _ c.walk-at.ensures.trace _ _ c.load_mark-mark.ensures.found (let o = c.walk-at.ensures.on.1 in let ne = c.if-at-last.false in omega arith) c.if-not-leads_on.ensures c.if-mark-last.true
+returns-then-mark-last-clause-trace c = stop_more c.args.room c.args.tail c.args.most c.args.first c.requires.first.0 (let b = c.if-first-last.false in omega arith) _ _ _ c.walk-at.ensures.trace _ _ c.load_mark-mark.ensures.found (let o = c.walk-at.ensures.on.1 in let ne = c.if-at-last.false in omega arith) (let o = c.walk-at.ensures.on.0 in let on = c.requires.first.0.1 in omega arith) c.if-not-leads_on.ensures c.if-mark-last.true
 
 -- the last batch is too long
 pub stop_within-requires-2-clause-rest : goal.stop_within-requires-2-clause-rest

@@ -8,7 +8,7 @@ ghost use Rattle.batch_queue.specs.Answers.{WhyNotPut};
 ghost use Rattle.batch_queue.specs.Handles as queues;
 ghost use Rattle.batch_queue.specs.Layout.{ends_word};
 ghost use Rattle.batch_queue.specs.Lefts.{items_left};
-ghost use Rattle.batch_queue.specs.Parts.{WhyNotTakenSome};
+ghost use Rattle.batch_queue.specs.Parts.{RefusedTakeSome, TookSome, WhyNotTakenSome};
 ghost use Rattle.pool.specs.Buffers.{all_buffers};
 ghost use Rattle.pool.specs.Holdings.{IsFair, Acquired, Released};
 
@@ -83,6 +83,10 @@ impl Pool {
         ensures holds { IfOk result (λ n. Holds holder.new (take n buffers.new)) }
         ensures error { IfErr result (λ r. WhyNotTakenSome (view_of holder.old) (room_of self.now)
             (length buffers.old) r (view_of holder.new)) }
+        ensures trace { MatchResult result
+            (λ n. TookSome (room_of self.now) (view_of holder.old) (length buffers.old) (take n buffers.new)
+            (view_of holder.new))
+            (λ r. RefusedTakeSome (room_of self.now) (view_of holder.old) (length buffers.old) r (view_of holder.new)) }
         ensures share { SameShare holder.old holder.new }
     {
         lists_are_true();

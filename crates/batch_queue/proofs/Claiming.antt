@@ -83,6 +83,7 @@ module _ (key : Shape) (n id : ℕ) (v : View) (claim : List ℕ) (old new : ℕ
       head = get_or-set_same s.words head_word new 0 (let w = shows.wide in omega arith) ∙ (let l = long in let m = ap mark is_open.0 in let e : new ≡ length (items_of r) + mark o.shut = omega arith in e);
       tail = same_words tail_word (λ e. omega arith) ∙ shows.tail;
       free = same_words free_word (λ e. omega arith) ∙ shows.free;
+      marks_are = λ p. same_words (mark_word o.room p) (λ z. omega arith) ∙ shows.marks_are p;
       batch_mark = λ p e b l from up. same_words (mark_word o.room p) (λ z. omega arith) ∙ ⊎_elim
           (λ t. shows.batch_mark p e (record { before = b.before; batch = b.batch; rest = t.0; all = t.1; at = b.at; end = b.end }) l from (let q = same_phase p in omega arith))
           (λ t. absurd (let a = b.at in let s = ap (λ (z : List (List ℕ)). length (concat z)) t.0 in let hd = head_is in let u = unclaimed p (omega arith) in let q = same_phase p in omega arith))

@@ -36,13 +36,13 @@ pub use Rattle.batch_queue.specs.Layout.{IsUsed, by_ends, by_free, by_head, by_m
 pub use Rattle.batch_queue.specs.Closings.{ClosedNow}
 pub use Rattle.batch_queue.specs.Lefts.{left_from}
 pub use Rattle.batch_queue.specs.Lines.{AreInOrder, IsSettled}
-pub use Rattle.batch_queue.specs.Object.{AreGroups, AreIn, AreSolid, AreWhole, Becomes, Grows, IsBatch, IsEdge, IsParted, IsRest, IsStop, IsWithin, Lawful, empty, items_of, phase_at, set_range, was_claimed, was_freed, was_given, was_parted, was_published, was_shut, was_taken, with_batch, with_freed, with_part, with_phase, with_shut, with_taken}
+pub use Rattle.batch_queue.specs.Object.{AreGroups, AreIn, AreSolid, AreWhole, Becomes, Grows, IsBatch, IsEdge, IsParted, IsRest, IsStop, IsWithin, Lawful, empty, items_of, mark_of, phase_at, set_range, was_claimed, was_freed, was_given, was_parted, was_published, was_shut, was_taken, with_back, with_batch, with_freed, with_mark, with_part, with_phase, with_shut, with_taken, with_up}
 pub use Rattle.batch_queue.specs.Own.{HasRun, Holds, View, did_both, holding, no_slots, nothing_did, of_batches, part_of, run, taking, with_no_slots, with_parting, with_published, with_run, with_shutting, with_taking}
 pub use Rattle.batch_queue.specs.Placed.{cell_of, cells, positions_of, raised_run, with_raises}
 pub use Rattle.batch_queue.specs.Rules.{Apart, HomeShows, IsHeld, IsRuled, OwnShows, Rule, newcomer, parts_of, shuts_of, times_shut}
 pub use Rattle.batch_queue.specs.Shown.{MarkSays, WordsShow}
 pub use Rattle.batch_queue.specs.Slots.{give_all, slots_of, take_all}
-pub use Rattle.batch_queue.specs.Steps.{Claimed, counts, Found, Freed, HasBack, HasFound, HasStop, HoldsRange, IsClaim, IsSeated, Missed, Parted, Released, Stays, Stepped, Took, claims, counts_down, counts_up, finds, frees, parts, releases, shuts, takes_tail}
+pub use Rattle.batch_queue.specs.Steps.{Claimed, counts, Found, Freed, HasBack, HasFound, HasStop, HoldsRange, IsClaim, IsSeated, Missed, Parted, Released, Stays, Stepped, Took, claims, counts_down, counts_up, finds, frees, parts, released, releases, shuts, takes_tail}
 pub use Rattle.batch_queue.specs.declared.layout.TheConstants.{FIRST_MARK, POSITIONS, SHUT}
 pub use Rattle.batch_queue.specs.declared.rule.BatchState.{BatchState}
 pub use Rattle.batch_queue.specs.declared.rule.EndRecord.{EndRecord}

@@ -1,5 +1,5 @@
 -- What the look at a mark says at which a batch is parted.
-use Rattle.batch_queue.proofs.Common.{HasStop, POSITIONS, append_assoc, tail_word, BatchState, EndRecord, Found, Grows, IsStop, IsWithin, List, Made, MarkSays, Moment, Parted, Step, View, [], ap, arith, at_last, change, dec_lt, dite, false, get_or, inl, inr, length, load, mark_word, phase_at, refl, subst, sym, true, with_part, with_parting, ℕ, ℕ_discrete, ⊎_elim, ◌%◌, ◌++◌, ◌+◌, ◌/◌, ◌<◌, ◌∙◌, ◌∷◌, ◌≡◌, ◌≢◌, ◌≤◌, ◌⊎◌}
+use Rattle.batch_queue.proofs.Common.{HasStop, POSITIONS, append_assoc, tail_word, BatchState, EndRecord, Found, Grows, IsStop, IsWithin, List, Made, MarkSays, Moment, Parted, Step, View, [], ap, arith, at_last, change, dec_lt, dite, false, get_or, inl, inr, length, load, mark_word, phase_at, refl, subst, sym, true, mark_of, with_part, with_parting, ℕ, ℕ_discrete, ⊎_elim, ◌%◌, ◌++◌, ◌+◌, ◌/◌, ◌<◌, ◌∙◌, ◌∷◌, ◌≡◌, ◌≢◌, ◌≤◌, ◌⊎◌}
 use Rattle.std.specs.Prelude.{Bool, MatchBool, IsTrue}
 use Rattle.std.proofs.Common.{true≢false}
 use Rattle.table_theory.proofs.Parting.{made_on}
@@ -33,20 +33,22 @@ pub odd_on : (p mark : ℕ) → (LeadsOn 0 p mark → ⊥) → p < mark / 2 → 
 odd_on p mark none past = dite (ℕ_discrete (mark % 2) 0) (λ even. absurd (none (even, past))) (λ odd. (omega arith, past))
 
 -- a mark was changed during a longer call
-changed_on : (room : ℕ) (v u c w : View) (xs ys : List (Step BatchState)) {a b : EndRecord} → Made v xs a u → Made c ys b w → u.member.share ≡ v.member.share → c.member.share ≡ v.member.share → MarkChanged room u c → MarkChanged room v w
-changed_on room v u c w xs ys m n share share' h = let rest : List (Step BatchState) = h.between ++ h.second ∷ h.after in let l : List (Step BatchState) = h.before ++ h.first ∷ rest in
-    let is : (xs ++ l) ++ ys ≡ (xs ++ h.before) ++ h.first ∷ (h.between ++ h.second ∷ (h.after ++ ys)) = append_assoc xs l ys ∙ (ap (λ (z : List (Step BatchState)). xs ++ z) (append_assoc h.before (h.first ∷ rest) ys ∙ ap (λ (z : List (Step BatchState)). h.before ++ h.first ∷ z) (append_assoc h.between (h.second ∷ h.after) ys)) ∙ sym (append_assoc xs h.before (h.first ∷ (h.between ++ h.second ∷ (h.after ++ ys))))) in record {
+changed_on : (v u c w : View) (xs ys : List (Step BatchState)) {a b : EndRecord} → Made v xs a u → Made c ys b w → u.member.share ≡ v.member.share → c.member.share ≡ v.member.share → MarkChanged u c → MarkChanged v w
+changed_on v u c w xs ys m n share share' (p, h) = let rest : List (Step BatchState) = h.between ++ h.second ∷ h.after in let l : List (Step BatchState) = h.before ++ h.first ∷ rest in
+    let is : (xs ++ l) ++ ys ≡ (xs ++ h.before) ++ h.first ∷ (h.between ++ h.second ∷ (h.after ++ ys)) = append_assoc xs l ys ∙ (ap (λ (z : List (Step BatchState)). xs ++ z) (append_assoc h.before (h.first ∷ rest) ys ∙ ap (λ (z : List (Step BatchState)). h.before ++ h.first ∷ z) (append_assoc h.between (h.second ∷ h.after) ys)) ∙ sym (append_assoc xs h.before (h.first ∷ (h.between ++ h.second ∷ (h.after ++ ys))))) in (p, record {
       before = xs ++ h.before;
       first = h.first;
       between = h.between;
       second = h.second;
       after = h.after ++ ys;
       adds = subst (λ (z : List (Step BatchState)). Adds v z w) is (adds_behind v c w (xs ++ l) ys share' (adds_behind v u c xs l share m.adds h.adds) n.adds);
-      position = h.position;
-      is_mark = h.is_mark;
-      same = h.same;
-      other = h.other;
-    }
+      holds = h.holds;
+    })
+
+-- a mark that was found is the one that the queue had
+pub mark_found : (room : ℕ) (v u : View) (p mark : ℕ) → Found v (mark_word room p) mark u → u.first.room ≡ room → mark_of u.seen.object p ≡ mark
+mark_found room v u p mark f rooms = let r = found_real v u (mark_word room p) mark f in let same : u.seen.object.room ≡ room = seen_room u f.ruled ∙ rooms in
+    sym (r.shows.marks_are p) ∙ (ap (λ (z : ℕ). get_or r.words (mark_word z p) 0) same ∙ sym r.is)
 
 module _ (room : ℕ) (v u : View) (p end mark : ℕ) (f : Found v (mark_word room p) mark u) (rooms : v.first.room ≡ room) (within : IsWithin v.seen.object p end) where
   abbrev o : BatchState
@@ -73,23 +75,23 @@ module _ (room : ℕ) (v u : View) (p end mark : ℕ) (f : Found v (mark_word ro
   pub passed_given : LeadsOn 1 p mark → p < o.taken
   passed_given on = ⊎_elim (λ y. y) (λ t. absurd (let b = t.0.back on.0 p (omega arith) on.1 in let low = t.1 in omega arith)) (says on.1)
 
-  pub already_look : LeadsOn 0 p mark → PartedLook room p true v u
+  pub already_look : LeadsOn 0 p mark → PartedLook room p end true v u
   already_look on = record { entries = one ∷ []; parts = 0; by = already mark u.seen on refl refl; made = made_none_parted v u (one ∷ []) f.made }
 
-  pub given_look : LeadsOn 1 p mark → PartedLook room p false v u
+  pub given_look : LeadsOn 1 p mark → PartedLook room p end false v u
   given_look on = record { entries = one ∷ []; parts = 0; by = (refl, given mark u.seen on refl); made = made_none_parted v u (one ∷ []) f.made }
 
   module _ (w : View) (low : mark / 2 ≤ p) where
-    pub parted_grows : Parted u (mark_word room p) mark p w → Grows v.seen.object w.seen.object
-    parted_grows t = let e : Step BatchState = change (mark_word room p) mark t.0 (with_part t.0.object p) in let real = step_real u w e (with_parting u.own) t.1 in
+    pub parted_grows : Parted u (mark_word room p) mark p end w → Grows v.seen.object w.seen.object
+    parted_grows t = let e : Step BatchState = change (mark_word room p) mark t.0 (with_part t.0.object p end) in let real = step_real u w e (with_parting u.own) t.1 in
         grows_trans v.seen.object u.seen.object w.seen.object f.grows (grows_trans u.seen.object t.0.object w.seen.object t.1.grows (subst (λ (z : Moment BatchState). Grows t.0.object z.object) (step_next u w e (with_parting u.own) t.1) (real_grows e real)))
 
-    pub parted_stop : Parted u (mark_word room p) mark p w → IsStop w.seen.object p
-    parted_stop t = let e : Step BatchState = change (mark_word room p) mark t.0 (with_part t.0.object p) in
+    pub parted_stop : Parted u (mark_word room p) mark p end w → IsStop w.seen.object p
+    parted_stop t = let e : Step BatchState = change (mark_word room p) mark t.0 (with_part t.0.object p end) in
         subst (λ (z : Moment BatchState). IsStop z.object p) (step_next u w e (with_parting u.own) t.1) (inr (length t.0.object.parted, at_last t.0.object.parted p (length t.0.object.parted) refl))
 
-    pub parted_look : Parted u (mark_word room p) mark p w → PartedLook room p true v w
-    parted_look t = let e : Step BatchState = change (mark_word room p) mark t.0 (with_part t.0.object p) in record {
+    pub parted_look : Parted u (mark_word room p) mark p end w → PartedLook room p end true v w
+    parted_look t = let e : Step BatchState = change (mark_word room p) mark t.0 (with_part t.0.object p end) in record {
       entries = one ∷ e ∷ [];
       parts = 1;
       by = parted mark u.seen t.0 low refl refl;
@@ -103,18 +105,21 @@ module _ (room : ℕ) (v u : View) (p end mark : ℕ) (f : Found v (mark_word ro
       both : Made v (one ∷ two ∷ []) v.own w
       both = made_on v u w (one ∷ []) (two ∷ []) v.own v.own f.made (subst (λ (z : EndRecord). Made u (two ∷ []) z w) f.made.did g.made)
 
-      pub meanwhile_look : LeadsOn 0 p found → PartedLook room p true v w
+      pub meanwhile_look : LeadsOn 0 p found → PartedLook room p end true v w
       meanwhile_look on = record { entries = one ∷ two ∷ []; parts = 0; by = meanwhile mark found u.seen w.seen low ne on refl refl; made = made_none_parted v w (one ∷ two ∷ []) both }
 
-      pub changed_look : (LeadsOn 0 p found → ⊥) → PartedLook room p false v w
+      pub changed_look : (LeadsOn 0 p found → ⊥) → PartedLook room p end false v w
       changed_look none = record { entries = one ∷ two ∷ []; parts = 0; by = (refl, changed mark found u.seen w.seen low ne none refl); made = made_none_parted v w (one ∷ two ∷ []) both }
 
-      pub found_look : (b : Bool) → MatchBool b (LeadsOn 0 p found) (LeadsOn 0 p found → ⊥) → PartedLook room p b v w
+      pub found_look : (b : Bool) → MatchBool b (LeadsOn 0 p found) (LeadsOn 0 p found → ⊥) → PartedLook room p end b v w
       found_look true on = meanwhile_look on
       found_look false none = changed_look none
 
-      pub mark_changed : MarkChanged room v w
-      mark_changed = record { before = []; first = one; between = []; second = two; after = []; adds = both.adds; position = p; is_mark = refl; same = refl; other = λ e. ne (sym e) }
+      later_rooms : w.first.room ≡ room
+      later_rooms = ap (λ (z : BatchState). z.room) g.made.adds.first ∙ still_rooms
+
+      pub mark_changed : MarkChanged v w
+      mark_changed = (p, record { before = []; first = one; between = []; second = two; after = []; adds = both.adds; holds = λ e. ne (sym (mark_found room u w p found g later_rooms) ∙ (sym e ∙ mark_found room v u p mark f still_rooms)) })
 
 -- THE STOP WITHIN A BATCH
 
@@ -144,8 +149,8 @@ up_to_stop v w tail at end last g h far stop low = ⊎_elim
     (λ all. ⊎_elim (λ past. inl (let l : last < w.seen.object.taken = past in omega arith)) (λ s. inr ((λ i a b. all.0 i a (omega arith)), s)) stop)
     (rest_grows v w tail at end g h)
 
-pub stopped_within : (room tail last : ℕ) (v u w : View) → Found v tail_word tail u → PartedLook room last true u w → StoppedWithin room tail last v w
-stopped_within room tail last v u w f p = record {
+pub stopped_within : (room tail last end : ℕ) (v u w : View) → Found v tail_word tail u → PartedLook room last end true u w → StoppedWithin room tail last end v w
+stopped_within room tail last end v u w f p = record {
   again = u.seen;
   after = p.entries;
   parts = p.parts;
@@ -156,10 +161,10 @@ stopped_within room tail last v u w f p = record {
 pub passed_within : (room tail last now : ℕ) (v u : View) → tail ≤ v.seen.object.taken → now ≢ tail → Found v tail_word now u → LostWithin room tail last now v u
 passed_within room tail last now v u low ne f = let is = (found_tail v u now f).0 in let g = f.grows.taken in passed (omega arith) u.seen f.made
 
-pub passed_why : (room tail now : ℕ) (v u : View) → tail ≤ v.seen.object.taken → now ≢ tail → Found v tail_word now u → WhyNoStop room tail now v u
-passed_why room tail now v u low ne f = let is = (found_tail v u now f).0 in let g = f.grows.taken in inl (was_so_now v u (load tail_word now u.seen) v.own _ f.made (omega arith, sym is))
+pub passed_why : (tail now : ℕ) (v u : View) → tail ≤ v.seen.object.taken → now ≢ tail → Found v tail_word now u → WhyNoStop tail now v u
+passed_why tail now v u low ne f = let is = (found_tail v u now f).0 in let g = f.grows.taken in inl (was_so_now v u (load tail_word now u.seen) v.own _ f.made (omega arith, sym is))
 
-module _ (room tail last now : ℕ) (v u c w : View) (f : Found v tail_word tail u) (p : PartedLook room last false u c) (t : Found c tail_word now w) where
+module _ (room tail last finish now : ℕ) (v u c w : View) (f : Found v tail_word tail u) (p : PartedLook room last finish false u c) (t : Found c tail_word now w) where
   abbrev again : List (Step BatchState)
   again = load tail_word tail u.seen ∷ []
 
@@ -178,8 +183,8 @@ module _ (room tail last now : ℕ) (v u c w : View) (f : Found v tail_word tail
   now_is : w.seen.object.taken ≡ now
   now_is = sym (found_tail c w now t).0
 
-  pub lost_why : tail ≤ last → ((last < c.seen.object.taken) ⊎ MarkChanged room u c) → WhyNoStop room tail now v w
+  pub lost_why : tail ≤ last → ((last < c.seen.object.taken) ⊎ MarkChanged u c) → WhyNoStop tail now v w
   lost_why low h = let g = t.grows.taken in let is = now_is in let last_step = load tail_word now w.seen in ⊎_elim
       (λ past. inl record { before = again ++ p.entries; step = last_step; after = []; adds = all.adds; holds = (let l : last < c.seen.object.taken = past in omega arith, now_is) })
-      (λ m. inr (record { before = again ++ p.entries; step = last_step; after = []; adds = all.adds; holds = now_is }, changed_on room v u c w again end f.made t.made (ap (λ (z : Part). z.share) f.made.member) (ap (λ (z : Part). z.share) (p.made.member ∙ f.made.member)) m))
+      (λ m. inr (record { before = again ++ p.entries; step = last_step; after = []; adds = all.adds; holds = now_is }, changed_on v u c w again end f.made t.made (ap (λ (z : Part). z.share) f.made.member) (ap (λ (z : Part). z.share) (p.made.member ∙ f.made.member)) m))
       h

@@ -34,10 +34,11 @@ opens room zs slots is many some_room = let key : Shape = record { room = room }
       now = opened o;
       room = refl;
       stands = ends.stands_first of_batches nothing_did o (set zs ends_word 1)
-          record { some_room = some_room; long = refl; within = omega arith; before = λ i h. absurd (omega arith); after = λ i h. omega arith; behind = λ i h. absurd (omega arith); whole = λ p e b. absurd (no_batch b.before b.batch b.rest b.all); stop = inl first_edge; solid = λ p e b. absurd (no_batch b.before b.batch b.rest b.all); solid_takings = λ p e b. absurd (no_batch b.before b.batch b.rest b.all); stops = λ p e b. absurd (no_batch b.before b.batch b.rest b.all); groups = λ none. record { groups = []; left = []; all = refl; each = refl }; parts = λ p h. absurd (some-ne-none p (sym h.1)); taken_is = refl; items = refl; freed_edge = first_edge }
+          record { some_room = some_room; long = refl; mark_each = length-replicate room 0; within = omega arith; before = λ i h. absurd (omega arith); after = λ i h. omega arith; behind = λ i h. absurd (omega arith); whole = λ p e b. absurd (no_batch b.before b.batch b.rest b.all); stop = inl first_edge; solid = λ p e b. absurd (no_batch b.before b.batch b.rest b.all); solid_takings = λ p e b. absurd (no_batch b.before b.batch b.rest b.all); stops = λ p e b. absurd (no_batch b.before b.batch b.rest b.all); groups = λ none. record { groups = []; left = []; all = refl; each = refl }; parts = λ p h. absurd (some-ne-none p (sym h.1)); taken_is = refl; items = refl; freed_edge = first_edge }
           record {
             wide = omega arith;
             bounded = omega arith;
+            marks_are = λ p. let near : p % room < room = mod-lt p some_room in word (mark_word room p) (λ e. omega arith) (omega arith) ∙ sym (get_or-replicate room (p % room) 0 0 near);
             batch_mark = λ p e b l from up. absurd (no_batch b.before b.batch b.rest b.all);
             rest_mark = λ p h from. absurd (some-ne-none p (sym h.1));
             taking_mark = λ p e b l from up. absurd (no_batch b.before b.batch b.rest b.all);

@@ -1,5 +1,5 @@
 -- Which event of the core the change of a real step is.
-use Rattle.batch_queue.proofs.Common.{with_part, AreIn, Batch, BatchState, Becomes, Cell, IsBatch, IsReal, IsStop, Lawful, List, Moment, Owned, Positions, QueueView, Step, ViewsShow, [], ap, arith, at_below, at_map, at_set, blank, cell_of, change, dec_lt, dite, false, free_word, get_elem?, get_or, head_of, head_word, history_of, inl, inr, is_lawful_queue, items_of, length, length-append, map, map-set, mark, of_batches, phase_at, positions_of, raised_run, refl, run, set, set-set, set_again, set_here, some, subst, sym, tail_word, take, taking, was_claimed, was_freed, was_given, was_parted, was_published, was_shut, was_taken, with_batch, with_freed, with_phase, with_raises, with_shut, with_take, with_taken, ℕ, ⊎_elim, ◌++◌, ◌+◌, ◌-◌, ◌<◌, ◌∙◌, ◌∷◌, ◌≡◌, ◌≤◌, ◌⊎◌}
+use Rattle.batch_queue.proofs.Common.{with_part, AreIn, Batch, BatchState, Becomes, Cell, IsBatch, IsReal, IsStop, Lawful, List, Moment, Owned, Positions, QueueView, Step, ViewsShow, [], ap, arith, at_below, at_map, at_set, blank, cell_of, change, dec_lt, dite, false, free_word, get_elem?, get_or, head_of, head_word, history_of, inl, inr, is_lawful_queue, items_of, length, length-append, map, map-set, mark, of_batches, phase_at, positions_of, raised_run, refl, run, set, set-set, set_again, set_here, some, subst, sym, tail_word, take, taking, was_claimed, was_freed, was_given, was_parted, was_published, was_shut, was_taken, with_batch, with_freed, with_back, with_up, with_raises, with_shut, with_take, with_taken, ℕ, ⊎_elim, ◌++◌, ◌+◌, ◌-◌, ◌<◌, ◌∙◌, ◌∷◌, ◌≡◌, ◌≤◌, ◌⊎◌}
 use Rattle.std.specs.Prelude.{Ok}
 use Rattle.event_theory.specs.Marks.{shut}
 use Rattle.event_theory.specs.Queues.{claim, take_first}
@@ -112,15 +112,15 @@ module _ (m : Moment BatchState) (views : List QueueView) (seat : ℕ) (v w : Qu
   pub shut_is : (head : ℕ) → IsReal of_batches (change head_word head m (with_shut o)) → w.runs ≡ v.runs → w.takes ≡ v.takes → positions.Grows w.queue (positions_of (with_shut o)) → IsEvent q (positions_of (with_shut o)) seat v w (λ c. Ok (shut c))
   shut_is head r runs takes later = shut_event q views seat v w l at (placing.lawful_positions o r.lawful) runs takes later
 
-  pub give_is : (word found a b : ℕ) → IsReal of_batches (change word found m (with_phase o a b 3)) → AreIn o 2 a b → a < b → w.runs ≡ v.runs → w.takes ≡ v.takes → positions.Grows w.queue (positions_of (with_phase o a b 3)) → IsEvent q (positions_of (with_phase o a b 3)) seat v w no_event
+  pub give_is : (word found a b : ℕ) → IsReal of_batches (change word found m (with_back o a b)) → AreIn o 2 a b → a < b → w.runs ≡ v.runs → w.takes ≡ v.takes → positions.Grows w.queue (positions_of (with_back o a b)) → IsEvent q (positions_of (with_back o a b)) seat v w no_event
   give_is word found a b r was less runs takes later = let same = placing.given o a b r.lawful (below_head o 2 a b r.lawful (omega arith) was less) was in
       subst (λ (z : Positions). IsEvent q z seat v w no_event) (sym same) (nothing_event q views seat v w l (placing.lawful_positions o r.lawful) at runs takes (subst (λ (z : Positions). positions.Grows w.queue z) same later))
 
   pub free_is : (free new : ℕ) → IsReal of_batches (change free_word free m (with_freed o new)) → w.runs ≡ v.runs → w.takes ≡ v.takes → positions.Grows w.queue (positions_of (with_freed o new)) → (free ≡ o.freed) × IsEvent q (positions_of (with_freed o new)) seat v w no_event
   free_is free new r runs takes later = (free_says (change free_word free m (with_freed o new)) refl r, nothing_event q views seat v w l (placing.lawful_positions o r.lawful) at runs takes later)
 
-  pub part_is : (word found p : ℕ) → IsReal of_batches (change word found m (with_part o p)) → w.runs ≡ v.runs → w.takes ≡ v.takes → positions.Grows w.queue (positions_of (with_part o p)) → IsEvent q (positions_of (with_part o p)) seat v w no_event
-  part_is word found p r runs takes later = nothing_event q views seat v w l (placing.lawful_positions o r.lawful) at runs takes later
+  pub part_is : (word found p end : ℕ) → IsReal of_batches (change word found m (with_part o p end)) → w.runs ≡ v.runs → w.takes ≡ v.takes → positions.Grows w.queue (positions_of (with_part o p end)) → IsEvent q (positions_of (with_part o p end)) seat v w no_event
+  part_is word found p end r runs takes later = nothing_event q views seat v w l (placing.lawful_positions o r.lawful) at runs takes later
 
   -- nothing of such a run is raised
   low_is : (number : ℕ) (e : Batch) (a : ℕ) {b : ℕ} → get_elem? v.runs number ≡ some e → e.start ≡ a → Lawful o → AreIn o 0 a b → a + length e.places ≤ b → (i : ℕ) → i < length e.places → (get_or e.places i blank).written < 2
@@ -128,12 +128,12 @@ module _ (m : Moment BatchState) (views : List QueueView) (seat : ℕ) (v w : Qu
       let cell : get_or e.places i blank ≡ cell_of (get_or (items_of o) (a + i) 0) (phase_at o (a + i)) = sym (t.same i below) ∙ (ap (positions.place_at q) here ∙ placing.cell_at (items_of o) o.phases (a + i) (omega arith) lawful.long) in
       let low = placing.cell_none (get_or (items_of o) (a + i) 0) (phase_at o (a + i)) (was (a + i) (omega arith) (omega arith)) in subst (λ (z : Cell). z.written < 2) (sym cell) low
 
-  pub publish_is : (word found a b number : ℕ) (e : Batch) → IsReal of_batches (change word found m (with_phase o a b 1)) → IsBatch o.batches a b → AreIn o 0 a b → get_elem? v.runs number ≡ some e → e.start ≡ a → a + length e.places ≡ b
-      → w.runs ≡ set v.runs number (raised_run e 0 (length e.places)) → w.takes ≡ v.takes → positions.Grows w.queue (positions_of (with_phase o a b 1))
-      → (k : ℕ) × (event : IsEvent q (positions_of (with_phase o a b 1)) seat v w (raise_all seat k 0 (length e.places))) × (get_elem? event.shown.lists.runs k ≡ some (seat, number, e))
+  pub publish_is : (word found a b number : ℕ) (e : Batch) → IsReal of_batches (change word found m (with_up o a b)) → IsBatch o.batches a b → AreIn o 0 a b → get_elem? v.runs number ≡ some e → e.start ≡ a → a + length e.places ≡ b
+      → w.runs ≡ set v.runs number (raised_run e 0 (length e.places)) → w.takes ≡ v.takes → positions.Grows w.queue (positions_of (with_up o a b))
+      → (k : ℕ) × (event : IsEvent q (positions_of (with_up o a b)) seat v w (raise_all seat k 0 (length e.places))) × (get_elem? event.shown.lists.runs k ≡ some (seat, number, e))
   publish_is word found a b number e r batch was has start end runs takes later = let n : ℕ = length e.places in let some_item = r.lawful.solid a b batch in let below = batch_below o a b batch in let lawful = placing.lawful_positions o r.lawful in
       let taken_before : o.taken ≤ a = dite (dec_lt a o.taken) (λ y. let two = r.lawful.before a y in let z = was a (omega arith) some_item in absurd (omega arith)) (λ no. omega arith) in
-      let same : positions_of (with_phase o a b 1) ≡ with_raises q a n = ap (λ (z : ℕ). positions_of (with_phase o a z 1)) (sym end) ∙ placing.published o a n r.lawful (omega arith) in
+      let same : positions_of (with_up o a b) ≡ with_raises q a n = ap (λ (z : ℕ). positions_of (with_up o a z)) (sym end) ∙ placing.published o a n r.lawful (omega arith) in
       let p = published q views seat number a v e l at has (omega arith) (omega arith) lawful taken_before (λ i h. low_is number e a has start r.lawful was (omega arith) i h) (λ i. placing.cells_low (items_of o) o.phases i) in let event = p.1 in
       let after : QueueView = view_after q a v number e in let then : List QueueView = set event.views seat after in
       let x = again (with_raises q a n) then seat after w event.new_shown (set_here event.views seat after (at_below event.views seat v event.here)) runs takes (subst (λ (z : Positions). positions.Grows w.queue z) same later) in

@@ -1,5 +1,5 @@
 -- A taking: what was taken is in the buffer, and its places are given back.
-use Rattle.batch_queue.proofs.Common.{BatchState, Cell, EndRecord, List, Made, Me, Released, Step, View, [], ap, arith, cells, change, drop, items_of, length, map, map-append, mark_word, no_slots, positions_of, refl, subst, suc, sym, take, taking, with_no_slots, with_phase, with_taking, zero, ℕ, ◌++◌, ◌+◌, ◌∙◌, ◌∷◌, ◌≡◌}
+use Rattle.batch_queue.proofs.Common.{BatchState, Cell, EndRecord, List, Made, Me, Released, Step, View, [], ap, arith, cells, change, drop, items_of, length, map, map-append, mark_word, no_slots, positions_of, refl, subst, suc, sym, take, taking, with_no_slots, with_back, with_taking, zero, ℕ, ◌++◌, ◌+◌, ◌∙◌, ◌∷◌, ◌≡◌}
 use Rattle.std.proofs.Math.Seq.{take-append_seam}
 use Rattle.table_theory.proofs.Parting.{made_on}
 use Rattle.table_theory.specs.Positioned.{item_of}
@@ -15,7 +15,7 @@ line_own : (d c : EndRecord) (o : BatchState) (n : ℕ) → c ≡ with_taking d 
 line_own d c o n is bare = λ i. record { runs = (is i).runs; takes = (is i).takes; shuts = (is i).shuts; parts = (is i).parts; held = sym bare i }
 
 pub took_of : (room most tail count : ℕ) (items : List ℕ) (v w : View) (m m' : Me ℕ View) → v.own.held ≡ no_slots → HasTaken room most v tail items m → w ≡ m.0 → count ≡ length items → Released w (mark_word room tail) tail (tail + count) 2 m' → TookBatches room v most items m'.0
-took_of room most tail count items v w m m' bare h same many p = let t = h.taken in let o : BatchState = t.at_taking.object in let end : ℕ → Step BatchState = (λ z. change (mark_word room tail) p.found p.at (with_phase p.at.object tail (tail + z) 3)) in (
+took_of room most tail count items v w m m' bare h same many p = let t = h.taken in let o : BatchState = t.at_taking.object in let end : ℕ → Step BatchState = (λ z. change (mark_word room tail) p.found p.at (with_back p.at.object tail (tail + z))) in (
   tail,
   p.found,
   p.at,

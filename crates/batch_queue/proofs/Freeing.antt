@@ -77,6 +77,7 @@ module _ (key : Shape) (n id : ℕ) (me : Me ℕ View) (old new : ℕ) (more : o
       head = same_words head_word (λ e. omega arith) ∙ shows.head;
       tail = same_words tail_word (λ e. omega arith) ∙ shows.tail;
       free = get_or-set_same s.words free_word new 0 (let w = shows.wide in omega arith);
+      marks_are = λ p. same_words (mark_word o.room p) (λ z. omega arith) ∙ shows.marks_are p;
       batch_mark = λ p e b l from phase. same_words (mark_word o.room p) (λ z. omega arith) ∙ shows.batch_mark p e b l from phase;
       rest_mark = λ p is from. let t = shows.rest_mark p is from in (t.0, t.1, same_words (mark_word o.room p) (λ z. omega arith) ∙ t.2);
       taking_mark = λ p e b l from phase. same_words (mark_word o.room p) (λ z. omega arith) ∙ shows.taking_mark p e b l (let f = free_is in omega arith) phase;

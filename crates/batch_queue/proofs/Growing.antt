@@ -1,5 +1,5 @@
 -- A queue grows by each event, and stays lawful.
-use Rattle.batch_queue.proofs.Common.{at_snoc, AreIn, BatchState, Becomes, Grows, IsBatch, IsReal, Lawful, List, Moment, Step, [], ap, append-nil, append_assoc, arith, concat, concat-append, dec_lt, dite, drop, inl, inr, items_of, length, length-append, length-drop, length-take-le, of_batches, phase_at, refl, replicate, subst, suc, sym, take, taking, was_claimed, was_freed, was_given, was_parted, was_published, was_shut, was_taken, with_batch, with_phase, with_taken, ℕ, ⊎_elim, ◌++◌, ◌-◌, ◌<◌, ◌∙◌, ◌∷◌, ◌≡◌, ◌≤◌, ◌⊎◌}
+use Rattle.batch_queue.proofs.Common.{at_snoc, AreIn, BatchState, Becomes, Grows, IsBatch, IsReal, Lawful, List, Moment, Step, [], ap, append-nil, append_assoc, arith, concat, concat-append, dec_lt, dite, drop, inl, inr, items_of, length, length-append, length-set, length-drop, length-take-le, of_batches, phase_at, refl, replicate, subst, suc, sym, take, taking, was_claimed, was_freed, was_given, was_parted, was_published, was_shut, was_taken, with_batch, with_mark, with_phase, with_taken, ℕ, ⊎_elim, ◌*◌, ◌++◌, ◌+◌, ◌%◌, ◌-◌, ◌<◌, ◌∙◌, ◌∷◌, ◌≡◌, ◌≤◌, ◌⊎◌}
 use Rattle.batch_queue.proofs.Ranges.{get_behind, get_longer, is_in, range_at, range_in, range_length, range_out, replicated}
 use Rattle.table_theory.specs.Ledgers.{Reaches, Passes}
 use Rattle.table_theory.proofs.Saying as steps
@@ -59,22 +59,23 @@ phase_grows o a b x was i = ⊎_elim
     (λ out. let e = range_out o.phases a b (suc x) i out in omega arith)
     (is_in a b i)
 
-released_grows : (o : BatchState) (a b x : ℕ) → AreIn o x a b → Grows o (with_phase o a b (suc x))
-released_grows o a b x was = record { room = refl; more = ([], append-nil o.batches); takings = ([], append-nil o.takings); phases = phase_grows o a b x was; taken = omega arith; freed = omega arith; shut = λ e. e; parted = ([], append-nil o.parted) }
+released_grows : (o : BatchState) (a b x m : ℕ) → AreIn o x a b → Grows o (with_mark (with_phase o a b (suc x)) a m)
+released_grows o a b x m was = record { room = refl; more = ([], append-nil o.batches); takings = ([], append-nil o.takings); phases = phase_grows o a b x was; taken = omega arith; freed = omega arith; shut = λ e. e; parted = ([], append-nil o.parted) }
 
 pub becomes_grows : (o r : BatchState) → Becomes o r → Grows o r
 becomes_grows o r (was_claimed claim some_item is_open fits e) = subst (Grows o) (sym e) record { room = refl; more = (claim ∷ [], refl); takings = ([], append-nil o.takings); phases = λ i. let e = get_longer o.phases (length claim) i in omega arith; taken = omega arith; freed = omega arith; shut = λ e. e; parted = ([], append-nil o.parted) }
-becomes_grows o r (was_published a b less batch was e) = subst (Grows o) (sym e) (released_grows o a b 0 was)
+becomes_grows o r (was_published a b less batch was e) = subst (Grows o) (sym e) (released_grows o a b 0 (2 * b) was)
 becomes_grows o r (was_taken new less le stop was e) = subst (Grows o) (sym e) record { room = refl; more = ([], append-nil o.batches); takings = (take (new - o.taken) (drop o.taken (items_of o)) ∷ [], refl); phases = phase_grows o o.taken new 1 was; taken = omega arith; freed = omega arith; shut = λ e. e; parted = ([], append-nil o.parted) }
-becomes_grows o r (was_given a b less taking was e) = subst (Grows o) (sym e) (released_grows o a b 2 was)
+becomes_grows o r (was_given a b less taking was e) = subst (Grows o) (sym e) (released_grows o a b 2 (2 * b + 1) was)
 becomes_grows o r (was_freed new less edge was e) = subst (Grows o) (sym e) record { room = refl; more = ([], append-nil o.batches); takings = ([], append-nil o.takings); phases = λ i. omega arith; taken = omega arith; freed = omega arith; shut = λ e. e; parted = ([], append-nil o.parted) }
 becomes_grows o r (was_shut e) = subst (Grows o) (sym e) record { room = refl; more = ([], append-nil o.batches); takings = ([], append-nil o.takings); phases = λ i. omega arith; taken = omega arith; freed = omega arith; shut = λ e. refl; parted = ([], append-nil o.parted) }
 becomes_grows o r (was_parted p end within e) = subst (Grows o) (sym e) record { room = refl; more = ([], append-nil o.batches); takings = ([], append-nil o.takings); phases = λ i. omega arith; taken = omega arith; freed = omega arith; shut = λ e. e; parted = (p ∷ [], refl) }
 
-released_lawful : (o : BatchState) (a b x : ℕ) → Lawful o → b ≤ length (items_of o) → AreIn o x a b → (x ≡ 0) ⊎ (x ≡ 2) → (x ≡ 0 → IsBatch o.batches a b) → Lawful (with_phase o a b (suc x))
-released_lawful o a b x l le was kind batch = let g = phase_grows o a b x was in let long = l.long in record {
+released_lawful : (o : BatchState) (a b x m : ℕ) → Lawful o → b ≤ length (items_of o) → AreIn o x a b → (x ≡ 0) ⊎ (x ≡ 2) → (x ≡ 0 → IsBatch o.batches a b) → Lawful (with_mark (with_phase o a b (suc x)) a m)
+released_lawful o a b x m l le was kind batch = let g = phase_grows o a b x was in let long = l.long in record {
   some_room = l.some_room;
   long = range_length o.phases a b (suc x) ∙ l.long;
+  mark_each = length-set o.marks (a % o.room) m ∙ l.mark_each;
   within = l.within;
   before = λ i h. let n = g i in let y = l.before i h in omega arith;
   after = λ i h. let y = l.after i h in ⊎_elim
@@ -88,7 +89,7 @@ released_lawful o a b x l le was kind batch = let g = phase_grows o a b x was in
   solid_takings = l.solid_takings;
   stops = l.stops;
   groups = l.groups;
-  parts = parts_on o (with_phase o a b (suc x)) (released_grows o a b x was) refl l.parts;
+  parts = parts_on o (with_mark (with_phase o a b (suc x)) a m) (released_grows o a b x m was) refl l.parts;
   taken_is = l.taken_is;
   items = l.items;
   freed_edge = l.freed_edge;
@@ -98,6 +99,7 @@ pub becomes_lawful : (o r : BatchState) → Lawful o → Becomes o r → Lawful 
 becomes_lawful o r l (was_claimed claim some_item is_open fits e) = subst Lawful (sym e) (let is = ap length (batch_items o claim) in let n = length-append (items_of o) claim in let m = length-append o.phases (replicate (length claim) 0) in let z = replicated (length claim) 0 in let long = l.long in record {
   some_room = l.some_room;
   long = omega arith;
+  mark_each = l.mark_each;
   within = omega arith;
   before = λ i h. let p = get_longer o.phases (length claim) i in let b = l.before i h in omega arith;
   after = λ i h. let p = get_longer o.phases (length claim) i in let b = l.after i h in omega arith;
@@ -113,11 +115,12 @@ becomes_lawful o r l (was_claimed claim some_item is_open fits e) = subst Lawful
   items = l.items ∙ sym (ap (take o.taken) (batch_items o claim) ∙ take-append-le o.taken (items_of o) claim (taken_claimed o l));
   freed_edge = l.freed_edge;
 })
-becomes_lawful o r l (was_published a b less batch was e) = subst Lawful (sym e) (released_lawful o a b 0 l (batch_below o a b batch) was (inl refl) (λ z. batch))
-becomes_lawful o r l (was_given a b less taking was e) = subst Lawful (sym e) (released_lawful o a b 2 l (below_head o 2 a b l (omega arith) was less) was (inr refl) (λ z. absurd (omega arith)))
+becomes_lawful o r l (was_published a b less batch was e) = subst Lawful (sym e) (released_lawful o a b 0 (2 * b) l (batch_below o a b batch) was (inl refl) (λ z. batch))
+becomes_lawful o r l (was_given a b less taking was e) = subst Lawful (sym e) (released_lawful o a b 2 (2 * b + 1) l (below_head o 2 a b l (omega arith) was less) was (inr refl) (λ z. absurd (omega arith)))
 becomes_lawful o r l (was_taken new less le stop was e) = subst Lawful (sym e) (let g = phase_grows o o.taken new 1 was in let long = l.long in let part : List ℕ = take (new - o.taken) (drop o.taken (items_of o)) in record {
   some_room = l.some_room;
   long = range_length o.phases o.taken new 2 ∙ l.long;
+  mark_each = l.mark_each;
   within = l.within;
   before = λ i h. dite (dec_lt i o.taken) (λ y. let n = g i in let b = l.before i y in omega arith) (λ no. let n = range_in o.phases o.taken new 2 i (omega arith) (omega arith) h in omega arith);
   after = λ i h. let n = range_out o.phases o.taken new 2 i (λ t. let t1 = t.1 in omega arith) in let y = l.after i (omega arith) in omega arith;
@@ -139,6 +142,7 @@ becomes_lawful o r l (was_taken new less le stop was e) = subst Lawful (sym e) (
 becomes_lawful o r l (was_freed new less edge was e) = subst Lawful (sym e) record {
   some_room = l.some_room;
   long = l.long;
+  mark_each = l.mark_each;
   within = let w = l.within in omega arith;
   before = l.before;
   after = l.after;
@@ -154,19 +158,20 @@ becomes_lawful o r l (was_freed new less edge was e) = subst Lawful (sym e) reco
   items = l.items;
   freed_edge = edge;
 }
-becomes_lawful o r l (was_shut e) = subst Lawful (sym e) record { some_room = l.some_room; long = l.long; within = l.within; before = l.before; after = l.after; behind = l.behind; whole = l.whole; stop = l.stop; solid = l.solid; solid_takings = l.solid_takings; stops = l.stops; groups = l.groups; parts = l.parts; taken_is = l.taken_is; items = l.items; freed_edge = l.freed_edge }
+becomes_lawful o r l (was_shut e) = subst Lawful (sym e) record { some_room = l.some_room; long = l.long; mark_each = l.mark_each; within = l.within; before = l.before; after = l.after; behind = l.behind; whole = l.whole; stop = l.stop; solid = l.solid; solid_takings = l.solid_takings; stops = l.stops; groups = l.groups; parts = l.parts; taken_is = l.taken_is; items = l.items; freed_edge = l.freed_edge }
 becomes_lawful o r l (was_parted p end within e) = subst Lawful (sym e) record {
   some_room = l.some_room;
   long = l.long;
+  mark_each = length-set o.marks (p % o.room) (2 * end) ∙ l.mark_each;
   within = l.within;
   before = l.before;
   after = l.after;
   behind = l.behind;
   whole = l.whole;
-  stop = stop_parted o p o.taken l.stop;
+  stop = stop_parted o p end o.taken l.stop;
   solid = l.solid;
   solid_takings = l.solid_takings;
-  stops = λ a b t. stop_parted o p b (l.stops a b t);
+  stops = λ a b t. stop_parted o p end b (l.stops a b t);
   groups = λ none. absurd (let n = ap length none in let m = length-append o.parted (p ∷ []) in omega arith);
   parts = λ q h. ⊎_elim (λ old. l.parts q (h.0, old)) (λ is. (end, subst (λ (z : ℕ). IsWithin o z end) is within)) (at_snoc o.parted p q h.0 h.1);
   taken_is = l.taken_is;

@@ -37,3 +37,4 @@ mod Filling
 mod Portions
 mod Trying
 mod Unrivalled
+mod SoleTaking

@@ -1,5 +1,5 @@
 -- One exchange of a mark parts a batch that is published: a taking may end there then.
-use Rattle.batch_queue.proofs.Common.{Allows, BatchState, Becomes, EndRecord, FIRST_MARK, Grows, IsBatch, IsParted, IsRest, IsUsed, IsWithin, Lawful, MarkSays, Me, OwnShows, Rule, Shape, Stepped, View, WordsShow, [], ap, arith, at_last, at_map, at_snoc, by_mark, change, dec_lt, dite, either, eqb, free_word, get_elem?, get_or, get_or-set_other, get_or-set_same, head_word, inr, items_of, keeps, length, length-append, length-set, listed_look, map, mark_word, mod-lt, none, one_turn, part_of, parts, phase_at, positions_of, refl, set, some, step, subst, sym, tail_word, unused_kept, was_parted, with_part, with_parting, ℕ, ℕ_discrete, ⊎_elim, ◌%◌, ◌*◌, ◌+◌, ◌/◌, ◌<◌, ◌∙◌, ◌∷◌, ◌≡◌, ◌≢◌, ◌≤◌}
+use Rattle.batch_queue.proofs.Common.{Allows, BatchState, Becomes, EndRecord, FIRST_MARK, Grows, IsBatch, IsParted, IsRest, IsUsed, IsWithin, Lawful, MarkSays, Me, OwnShows, Rule, Shape, Stepped, View, WordsShow, [], ap, arith, at_last, at_map, at_snoc, by_mark, change, dec_lt, dite, either, eqb, free_word, get_elem?, get_or, get_or-set_other, get_or-set_same, head_word, inr, items_of, keeps, mark_of, length, length-append, length-set, listed_look, map, mark_word, mod-lt, none, one_turn, part_of, parts, phase_at, positions_of, refl, set, some, step, subst, sym, tail_word, unused_kept, was_parted, with_part, with_parting, ℕ, ℕ_discrete, ⊎_elim, ◌%◌, ◌*◌, ◌+◌, ◌/◌, ◌<◌, ◌∙◌, ◌∷◌, ◌≡◌, ◌≢◌, ◌≤◌}
 use Rattle.table_theory.proofs.Tables as tables
 use Rattle.table_theory.proofs.Positioned as positioned
 use Rattle.batch_queue.proofs.Growing.{batch_below, becomes_grows, claimed_at, freed_taken}
@@ -19,7 +19,7 @@ module _ (key : Shape) (n id : ℕ) (me : Me ℕ View) (word p mark end : ℕ) (
     o = k.now.object
 
     abbrev r : BatchState
-    r = with_part o p
+    r = with_part o p end
 
     lawful : Lawful o
     lawful = k.stands.lawful
@@ -103,9 +103,16 @@ module _ (key : Shape) (n id : ℕ) (me : Me ℕ View) (word p mark end : ℕ) (
           up = t.up;
           back = t.back;
           bound = t.bound;
-          whole = λ e l. let w = t.whole e l in (stop_parted o p q w.0, w.1);
+          whole = λ e l. let w = t.whole e l in (stop_parted o p end q w.0, w.1);
           whole_back = t.whole_back;
         }))
+
+    marks_are : (q : ℕ) → get_or (set s.words word m) (mark_word o.room q) 0 ≡ mark_of r q
+    marks_are q = dite (ℕ_discrete (q % o.room) (p % o.room))
+        (λ e. ap (λ (z : ℕ). get_or (set s.words word m) z 0) (ap (λ (z : ℕ). z + 48) e ∙ sym word_at) ∙ (new_word
+        ∙ sym (ap (λ (z : ℕ). get_or (set o.marks (p % o.room) m) z 0) e ∙ get_or-set_same o.marks (p % o.room) m 0 (let l = lawful.mark_each in let n = wide in omega arith))))
+        (λ ne. same_words (mark_word o.room q) (λ z. let i = word_at in ne (omega arith))
+        ∙ (shows.marks_are q ∙ sym (get_or-set_other o.marks (p % o.room) (q % o.room) m 0 ne)))
 
     batch_mark : (q e : ℕ) → IsBatch o.batches q e → q < e → o.taken ≤ q → 1 ≤ phase_at o q → get_or (set s.words word m) (mark_word o.room q) 0 ≡ 2 * e
     batch_mark q e b l from high = let t = shows.batch_mark q e b l from high in let c = claimed_at o lawful q high in let f = freed_taken o lawful in let w = lawful.within in
@@ -130,6 +137,7 @@ module _ (key : Shape) (n id : ℕ) (me : Me ℕ View) (word p mark end : ℕ) (
       tail = low_words tail_word (omega arith) ∙ shows.tail;
       free = low_words free_word (omega arith) ∙ shows.free;
       marks = marks;
+      marks_are = marks_are;
       batch_mark = batch_mark;
       rest_mark = rest_mark;
       taking_mark = taking_mark;
@@ -145,8 +153,8 @@ module _ (key : Shape) (n id : ℕ) (me : Me ℕ View) (word p mark end : ℕ) (
     mine : OwnShows r own
     mine = record { runs = still.runs; takes = still.takes; kind = still.kind; batch = still.batch; run = λ z l. let t = still.run z l in record { number = t.number; run = t.run; here = t.here; start = t.start; long = t.long; low = t.low }; taking = still.taking; holds = still.holds }
 
-    goes : tables.Goes (table key) n id me s word m (parts p (step n word mark m none) me (get_or s.words word 0))
-    goes = acts key n id me s k at word m own r keeps (parts p (step n word mark m none) me (get_or s.words word 0)) live (λ e. let i = word_is in omega arith)
+    goes : tables.Goes (table key) n id me s word m (parts p end (step n word mark m none) me (get_or s.words word 0))
+    goes = acts key n id me s k at word m own r keeps (parts p end (step n word mark m none) me (get_or s.words word 0)) live (λ e. let i = word_is in omega arith)
         event
         shows'
         tt
@@ -159,7 +167,11 @@ module _ (key : Shape) (n id : ℕ) (me : Me ℕ View) (word p mark end : ℕ) (
         (let l = length-append o.parted (p ∷ []) in omega arith)
         (λ w stays step. (stays, (λ e. (refl, (k.now, subst (λ (z : ℕ). Stepped v (change word z k.now r) own w) hit step))), λ miss. absurd (miss hit)))
 
-  pub parts_batch : Allows (Rule key) n id me word (λ x. either (eqb x mark) m x) (parts p (step n word mark m none) me)
-  parts_batch = tables.exchanges (table key) n id me (parts p (step n word mark m none) me) word mark m live
+  pub parts_batch : Allows (Rule key) n id me word (λ x. either (eqb x mark) m x) (parts p end (step n word mark m none) me)
+  parts_batch = tables.exchanges (table key) n id me (parts p end (step n word mark m none) me) word mark m live
       (λ s k at hit. goes s k at hit)
       (λ s k at miss r. let f = found key n id me s k at word r in (f.0, (λ hit. absurd (miss hit)), λ _. (f.1, f.2)))
+
+  -- the end of the batch by another name
+  pub parts_at : (finish : ℕ) → finish ≡ end → Allows (Rule key) n id me word (λ x. either (eqb x mark) m x) (parts p finish (step n word mark m none) me)
+  parts_at finish is = subst (λ (z : ℕ). Allows (Rule key) n id me word (λ x. either (eqb x mark) m x) (parts p z (step n word mark m none) me)) (sym is) parts_batch

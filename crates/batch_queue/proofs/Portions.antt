@@ -1,5 +1,5 @@
 -- What the steps of a taking of some items say together.
-use Rattle.batch_queue.proofs.Common.{BatchState, EndRecord, Found, Grows, IsStop, List, Made, Me, Released, Step, Took, View, [], ap, arith, cells, change, drop, inl, inr, items_of, length, length-drop, length-take-le, line_of, load, map, map-append, mark_word, no_slots, positions_of, refl, slots_of, subst, sym, tail_word, take, taking, with_no_slots, with_phase, with_taken, with_taking, ℕ, ⊎_elim, ◌++◌, ◌+◌, ◌-◌, ◌<◌, ◌∙◌, ◌∷◌, ◌≡◌, ◌≢◌, ◌≤◌}
+use Rattle.batch_queue.proofs.Common.{BatchState, EndRecord, Found, Grows, IsStop, List, Made, Me, Released, Step, Took, View, [], ap, arith, cells, change, drop, inl, inr, items_of, length, length-drop, length-take-le, line_of, load, map, map-append, mark_word, no_slots, positions_of, refl, slots_of, subst, sym, tail_word, take, taking, with_no_slots, with_back, with_taken, with_taking, ℕ, ⊎_elim, ◌++◌, ◌+◌, ◌/◌, ◌-◌, ◌<◌, ◌∙◌, ◌∷◌, ◌≡◌, ◌≢◌, ◌≤◌}
 use Rattle.std.specs.Prelude.{min}
 use Rattle.std.proofs.Math.Seq.{take-append_seam}
 use Rattle.table_theory.proofs.Parting.{made_on}
@@ -19,16 +19,16 @@ use Rattle.batch_queue.proofs.Stopping.{changed_after}
 use Rattle.batch_queue.proofs.Timing.{changed_by, was_so_after, was_so_map}
 
 -- a batch is parted once, or none
-parted_once : (room p parts : ℕ) (es : List (Step BatchState)) → PartedBy room p parts es → parts ≤ 1
-parted_once room p parts es (already mark m on none is) = omega arith
-parted_once room p parts es (parted mark m n low one is) = omega arith
-parted_once room p parts es (meanwhile mark found m n low ne on none is) = omega arith
+parted_once : (room p end parts : ℕ) (es : List (Step BatchState)) → PartedBy room p end parts es → parts ≤ 1
+parted_once room p end parts es (already mark m on none is) = omega arith
+parted_once room p end parts es (parted mark m n low one is) = omega arith
+parted_once room p end parts es (meanwhile mark found m n low ne on none is) = omega arith
 
 pub once : (room tail most to parts : ℕ) (es : List (Step BatchState)) → StopBy room tail most to parts es → parts ≤ 1
 once room tail most to parts es (all f is none) = omega arith
 once room tail most to parts es (no_more mark r nothing none) = omega arith
 once room tail most to parts es (one_more at mark more r on is fits none) = omega arith
-once room tail most to parts es (within at mark before after again r on far is by are) = parted_once room to parts after by
+once room tail most to parts es (within at mark before after again r on far is by are) = parted_once room to (mark / 2) parts after by
 
 module _ (room most : ℕ) (v u b c : View) (tail first new : ℕ) (rooms : v.first.room ≡ room) (x : Found v tail_word tail u) (y : Found u (mark_word room tail) first b) (s : FoundStop room tail (min most room) first new b c) (less : tail < new) (far : new ≤ tail + min most room) (g : Grows b.seen.object c.seen.object) where
   abbrev looks : List (Step BatchState)
@@ -51,7 +51,7 @@ module _ (room most : ℕ) (v u b c : View) (tail first new : ℕ) (rooms : v.fi
   past : (now : ℕ) (w : View) → now ≢ tail → Found c tail_word now w → tail < now
   past now w ne t = let is = (found_tail v u tail x).0 in let is' = (found_tail c w now t).0 in let g0 = y.grows.taken in let g1 = g.taken in let g2 = t.grows.taken in omega arith
 
-  pub passed_error : (now : ℕ) (w : View) → now ≢ tail → Found c tail_word now w → WhyNotTakenSome v room most (Lost now) w
+  pub passed_error : (now : ℕ) (w : View) → now ≢ tail → Found c tail_word now w → WhyNotTakenSome v most (Lost now) w
   passed_error now w ne t = let p = past now w ne t in let is = (found_tail v u tail x).0 in let is' = (found_tail c w now t).0 in inl record { before = []; first = load tail_word tail u.seen; between = looks; second = load tail_word now w.seen; after = []; adds = (lost now w t).adds; holds = (omega arith, sym is') }
 
   pub passed_refused : (now : ℕ) (w : View) → now ≢ tail → Found c tail_word now w → RefusedSomeBy (λ parts entries. Made v entries (with_parts v.own parts) w) room most (Lost now)
@@ -92,14 +92,14 @@ module _ (room most : ℕ) (v u b w : View) (tail first now : ℕ) (x : Found v 
   made_before : Made v before v.own b
   made_before = made_on v u b (load tail_word tail u.seen ∷ []) (load (mark_word room tail) first b.seen ∷ []) v.own v.own x.made (subst (λ (z : EndRecord). Made u (load (mark_word room tail) first b.seen ∷ []) z b) x.made.did y.made)
 
-  no_stop_lost : WhyNoStop room tail now b w → WhyNotTakenSome v room most (Lost now) w
+  no_stop_lost : WhyNoStop tail now b w → WhyNotTakenSome v most (Lost now) w
   no_stop_lost h = let is = (found_tail v u tail x).0 in ⊎_elim
       (λ s. inl (changed_by v u w (load tail_word tail u.seen) v.own _ x.made (was_so_map u w _ _ (λ o t. (let less = t.0 in omega arith, t.1)) (was_so_after u b w (load (mark_word room tail) first b.seen ∷ []) _ (ap (λ (z : Part). z.share) y.made.member) y.made.adds s))))
-      (λ t. inr (was_so_after v b w before _ (ap (λ (z : Part). z.share) made_before.member) made_before.adds t.0, changed_after room v b w before made_before t.1))
+      (λ t. inr (was_so_after v b w before _ (ap (λ (z : Part). z.share) made_before.member) made_before.adds t.0, changed_after v b w before made_before t.1))
       h
 
-  pub no_stop_error : (r : TakeRefusal) → r ≡ Lost now → WhyNoStop room tail now b w → WhyNotTakenSome v room most r w
-  no_stop_error r is h = subst (λ (z : TakeRefusal). WhyNotTakenSome v room most z w) (sym is) (no_stop_lost h)
+  pub no_stop_error : (r : TakeRefusal) → r ≡ Lost now → WhyNoStop tail now b w → WhyNotTakenSome v most r w
+  no_stop_error r is h = subst (λ (z : TakeRefusal). WhyNotTakenSome v most z w) (sym is) (no_stop_lost h)
 
   no_stop_by : LostStop room tail (min most room) first now b w → RefusedSomeBy (λ parts entries. Made v entries (with_parts v.own parts) w) room most (Lost now)
   no_stop_by l = inr (inr record {
@@ -114,7 +114,7 @@ module _ (room most : ℕ) (v u b w : View) (tail first now : ℕ) (x : Found v 
   no_stop_refused r is l = subst (λ (z : TakeRefusal). RefusedSomeBy (λ parts entries. Made v entries (with_parts v.own parts) w) room most z) (sym is) (no_stop_by l)
 
   -- nothing was published at the tail
-  pub none_some_error : (r : TakeRefusal) → IsNone tail b r w → WhyNotTaken v most r w → WhyNotTakenSome v room most r w
+  pub none_some_error : (r : TakeRefusal) → IsNone tail b r w → WhyNotTaken v most r w → WhyNotTakenSome v most r w
   none_some_error (Empty at) n h = h
   none_some_error (ShortBuffer at count) n h = absurd n
   none_some_error (Lost at) n h = inl h
@@ -133,7 +133,7 @@ line_own : (d c e : EndRecord) (o : BatchState) (n : ℕ) → c ≡ with_taking 
 line_own d c e o n is bare same = λ i. record { runs = (is i).runs; takes = (is i).takes; shuts = (is i).shuts; parts = (is i).parts; held = sym (same ∙ bare) i }
 
 pub took_some_of : (room most tail count : ℕ) (items : List ℕ) (v w : View) (m m' : Me ℕ View) → v.own.held ≡ no_slots → HasTakenSome room most v tail items m → w ≡ m.0 → count ≡ length items → Released w (mark_word room tail) tail (tail + count) 2 m' → TookSome room v most items m'.0
-took_some_of room most tail count items v w m m' bare h same many p = let t = h.taken in let o : BatchState = t.at_taking.object in let end : ℕ → Step BatchState = (λ z. change (mark_word room tail) p.found p.at (with_phase p.at.object tail (tail + z) 3)) in let d : EndRecord = with_parts v.own t.parts in (
+took_some_of room most tail count items v w m m' bare h same many p = let t = h.taken in let o : BatchState = t.at_taking.object in let end : ℕ → Step BatchState = (λ z. change (mark_word room tail) p.found p.at (with_back p.at.object tail (tail + z))) in let d : EndRecord = with_parts v.own t.parts in (
   tail,
   p.found,
   p.at,
@@ -197,8 +197,8 @@ refused_some room most v w Closed h = same_made v w 0 _ (omega arith) h.added
 pub same_some : (v w : View) → SameLines v w → SameSome v w
 same_some v w h = let p = h.1 in (h.0, (omega arith, omega arith))
 
-pub empty_error : (v w : View) (room most : ℕ) (r : TakeRefusal) → most ≡ 0 → WhyNotTaken v most r w → WhyNotTakenSome v room most r w
-empty_error v w room most (Empty at) none h = h
-empty_error v w room most (ShortBuffer at count) none h = (none, h)
-empty_error v w room most (Lost now) none h = inl h
-empty_error v w room most Closed none h = h
+pub empty_error : (v w : View) (most : ℕ) (r : TakeRefusal) → most ≡ 0 → WhyNotTaken v most r w → WhyNotTakenSome v most r w
+empty_error v w most (Empty at) none h = h
+empty_error v w most (ShortBuffer at count) none h = (none, h)
+empty_error v w most (Lost now) none h = inl h
+empty_error v w most Closed none h = h

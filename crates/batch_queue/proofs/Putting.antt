@@ -1,7 +1,7 @@
 -- A put: the claim, and the store that publishes it.
 use Rattle.std.specs.Prelude.{min}
 use Rattle.batch_queue.proofs.Turning.{take_whole}
-use Rattle.batch_queue.proofs.Common.{Batch, BatchState, Cell, EndRecord, HasRun, List, Made, Me, Released, Step, View, [], ap, append_assoc, arith, at_last, blank, change, fresh, get_elem?, get_or, length, length-append, length-map, map, map-append, mark_word, no_slots, raised_run, refl, run, set, some, some-injective, subst, suc, sym, take, with_phase, with_published, with_run, written_to, zero, ℕ, ◌++◌, ◌+◌, ◌∙◌, ◌∷◌, ◌≡◌, ◌≤◌}
+use Rattle.batch_queue.proofs.Common.{Batch, BatchState, Cell, EndRecord, HasRun, List, Made, Me, Released, Step, View, [], ap, append_assoc, arith, at_last, blank, change, fresh, get_elem?, get_or, length, length-append, length-map, map, map-append, mark_word, no_slots, raised_run, refl, run, set, some, some-injective, subst, suc, sym, take, with_up, with_published, with_run, written_to, zero, ℕ, ◌++◌, ◌+◌, ◌∙◌, ◌∷◌, ◌≡◌, ◌≤◌}
 use Rattle.table_theory.proofs.Moving.{last}
 use Rattle.table_theory.proofs.Parting.{made_on}
 use Rattle.table_theory.specs.Listing.{Distinct}
@@ -58,7 +58,7 @@ put_own d c start items is bare apart h =
     λ i. record { runs = changed i; takes = (is i).takes; shuts = (is i).shuts; parts = (is i).parts; held = sym bare i }
 
 pub put_of : (room want start : ℕ) (items : List ℕ) (v w : View) (m m' : Me ℕ View) → v.own.held ≡ no_slots → HasClaimed room want v start items m → w ≡ m.0 → Released w (mark_word room start) start (start + length items) 0 m' → PutBy (λ entries. Made v entries (with_put v.own start items) m'.0) room want start items
-put_of room want start items v w m m' bare h same p = let c = h.claim in let e : Step BatchState = change (mark_word room start) p.found p.at (with_phase p.at.object start (start + length items) 1) in let own = p.published refl in (
+put_of room want start items v w m m' bare h same p = let c = h.claim in let e : Step BatchState = change (mark_word room start) p.found p.at (with_up p.at.object start (start + length items)) in let own = p.published refl in (
   p.found,
   p.at,
   record {

@@ -1,5 +1,5 @@
 -- A store of a mark gives home all slots that the end holds: where it publishes them, and where it gives them back.
-use Rattle.batch_queue.proofs.Common.{Allows, Batch, BatchState, Becomes, EndRecord, FIRST_MARK, Grows, HasRun, HeldSlots, Holds, HomeShows, IsBatch, IsEdge, IsParted, IsRest, IsUsed, Lawful, List, MarkSays, Option, OwnShows, Positions, Rule, Shape, Stepped, View, ViewsShow, WordsShow, [], ap, append_assoc, arith, at_map, at_set, blank, by_mark, change, concat, concat-append, dec_lt, dite, free_word, get_elem?, get_or, get_or-set_other, get_or-set_same, give_all, head_word, homes_after, inl, inr, items_of, length, length-set, listed_look, map, mark_word, mod-lt, no_slots, none, part_of, phase_at, positions_of, raised_run, refl, releases, set, slots_of, some, step, subst, suc, sym, tail_word, times_shut, unused_kept, was_given, was_published, with_phase, with_published, written_to, zero, ℕ, ℕ_discrete, ⊎_elim, ◌%◌, ◌*◌, ◌++◌, ◌+◌, ◌-◌, ◌/◌, ◌<◌, ◌∙◌, ◌∷◌, ◌≡◌, ◌≤◌, ◌⊎◌}
+use Rattle.batch_queue.proofs.Common.{Allows, Batch, BatchState, Becomes, EndRecord, FIRST_MARK, Grows, HasRun, HeldSlots, Holds, HomeShows, IsBatch, IsEdge, IsParted, IsRest, IsUsed, Lawful, List, MarkSays, Option, OwnShows, Positions, Rule, Shape, Stepped, View, ViewsShow, WordsShow, [], ap, append_assoc, arith, at_map, at_set, blank, by_mark, change, concat, concat-append, dec_lt, dite, free_word, get_elem?, get_or, get_or-set_other, get_or-set_same, give_all, head_word, homes_after, inl, inr, items_of, length, length-set, listed_look, map, mark_word, mod-lt, no_slots, none, part_of, phase_at, positions_of, raised_run, refl, releases, set, slots_of, some, step, subst, suc, sym, tail_word, times_shut, unused_kept, was_given, was_published, with_back, with_mark, with_phase, with_published, with_up, released, mark_of, written_to, zero, ℕ, ℕ_discrete, ⊎_elim, ◌%◌, ◌*◌, ◌++◌, ◌+◌, ◌-◌, ◌/◌, ◌<◌, ◌∙◌, ◌∷◌, ◌≡◌, ◌≤◌, ◌⊎◌}
 use Rattle.table_theory.proofs.Tables as tables
 use Rattle.table_theory.proofs.Positioned as positioned
 use Rattle.batch_queue.proofs.Placing as placing
@@ -45,7 +45,7 @@ module _ (key : Shape) (n id : ℕ) (v : View) (x b : ℕ) (ys : List ℕ) (m : 
     o = k.now.object
 
     abbrev r : BatchState
-    r = with_phase o a b (suc x)
+    r = with_mark (with_phase o a b (suc x)) a m
 
     lawful : Lawful o
     lawful = k.stands.lawful
@@ -109,6 +109,13 @@ module _ (key : Shape) (n id : ℕ) (v : View) (x b : ℕ) (ys : List ℕ) (m : 
           whole = t.whole;
           whole_back = t.whole_back;
         }))
+
+    marks_are : (p : ℕ) → get_or (set s.words word m) (mark_word o.room p) 0 ≡ mark_of r p
+    marks_are p = dite (ℕ_discrete (p % o.room) (a % o.room))
+        (λ e. ap (λ (z : ℕ). get_or (set s.words word m) z 0) (ap (λ (z : ℕ). z + 48) e ∙ sym word_at) ∙ (get_or-set_same s.words word m 0 (let l = shows.wide in let i = word_at in let n = wide in omega arith)
+        ∙ sym (ap (λ (z : ℕ). get_or (set o.marks (a % o.room) m) z 0) e ∙ get_or-set_same o.marks (a % o.room) m 0 (let l = lawful.mark_each in let n = wide in omega arith))))
+        (λ ne. get_or-set_other s.words word (mark_word o.room p) m 0 (λ z. let i = word_at in ne (omega arith))
+        ∙ (shows.marks_are p ∙ sym (get_or-set_other o.marks (a % o.room) (p % o.room) m 0 ne)))
 
     fits : length ys ≤ o.room
     fits = let h = to_head in let w = lawful.within in let f = from_freed in omega arith
@@ -181,6 +188,7 @@ module _ (key : Shape) (n id : ℕ) (v : View) (x b : ℕ) (ys : List ℕ) (m : 
       head = same_words head_word (omega arith) ∙ shows.head;
       tail = same_words tail_word (omega arith) ∙ shows.tail;
       free = same_words free_word (omega arith) ∙ shows.free;
+      marks_are = marks_are;
       batch_mark = batch_mark;
       rest_mark = rest_mark;
       taking_mark = taking_mark;
@@ -215,12 +223,12 @@ module _ (key : Shape) (n id : ℕ) (v : View) (x b : ℕ) (ys : List ℕ) (m : 
     listed_of (inl z) = let h = mine.run (kind ∙ z) some_item in let n : ℕ = length h.run.places in let long' = h.long in let q : Positions = positions_of o in
         let taken_before : o.taken ≤ a = dite (dec_lt a o.taken) (λ y. let two = lawful.before a y in let w = was a (omega arith) (omega arith) in absurd (omega arith)) (λ no. omega arith) in
         let start = h.start in let head = to_head in
-        subst (λ (y : ℕ). Lists (positions_of (with_phase o a b (suc y))) (with_published v.own h)) (sym z)
+        subst (λ (y : ℕ). Lists (positions_of (with_mark (with_phase o a b (suc y)) a m)) (with_published v.own h)) (sym z)
         (subst (λ (y : ℕ). Lists (positions_of (with_phase o a y 1)) (with_published v.own h)) (let e : a + n ≡ b = omega arith in e)
         (subst (λ (y : Positions). Lists y (with_published v.own h)) (sym (placing.published o a n lawful (omega arith)))
         (listed_published q (map part_of s.views) id h.number a (part_of v) h.run k.listed (at_map part_of s.views id v at) h.here (omega arith) (omega arith) taken_before h.low (λ i. placing.cells_low (items_of o) o.phases i))))
     listed_of (inr z) = let q : Positions = positions_of o in
-        subst (λ (y : ℕ). Lists (positions_of (with_phase o a b (suc y))) (record v.own { held = no_slots })) (sym z)
+        subst (λ (y : ℕ). Lists (positions_of (with_mark (with_phase o a b (suc y)) a m)) (record v.own { held = no_slots })) (sym z)
         (subst (λ (y : Positions). Lists y (record v.own { held = no_slots })) (sym (placing.given o a b lawful to_head (λ i f t. was i f t ∙ z)))
         (listed_look q (map part_of s.views) id (part_of v) (record { queue = q; runs = v.own.runs; takes = v.own.takes }) k.listed (at_map part_of s.views id v at) refl refl (positioned.grows_refl q)))
 
@@ -244,9 +252,19 @@ module _ (key : Shape) (n id : ℕ) (v : View) (x b : ℕ) (ys : List ℕ) (m : 
     no_in_held : (i : ℕ) → Holds own.held i → ⊥
     no_in_held i h = let h' : Holds no_slots i = subst (λ (z : HeldSlots). Holds z i) (held_of x_is) h in let l = h'.1 in omega arith
 
+    up_is : x ≡ 0 → r ≡ with_up o a b
+    up_is z = let even = odd.0 z in let e : m ≡ 2 * b = omega arith in λ i. with_mark (with_phase o a b (suc (z i))) a (e i)
+
+    back_is : x ≡ 2 → r ≡ with_back o a b
+    back_is z = let is_odd = odd.1 z in let e : m ≡ 2 * b + 1 = omega arith in λ i. with_mark (with_phase o a b (suc (z i))) a (e i)
+
+    next_is : (x ≡ 0) ⊎ (x ≡ 2) → r ≡ released o x a b
+    next_is (inl z) = up_is z ∙ ap (λ (y : ℕ). released o y a b) (sym z)
+    next_is (inr z) = back_is z ∙ ap (λ (y : ℕ). released o y a b) (sym z)
+
     event : (x ≡ 0) ⊎ (x ≡ 2) → Becomes o r
-    event (inl z) = was_published a b (omega arith) (own_batch z) (λ i f t. was i f t ∙ z) (ap (λ (y : ℕ). with_phase o a b (suc y)) z)
-    event (inr z) = was_given a b (omega arith) (own_taking z) (λ i f t. was i f t ∙ z) (ap (λ (y : ℕ). with_phase o a b (suc y)) z)
+    event (inl z) = was_published a b (omega arith) (own_batch z) (λ i f t. was i f t ∙ z) (up_is z)
+    event (inr z) = was_given a b (omega arith) (own_taking z) (λ i f t. was i f t ∙ z) (back_is z)
 
     grows : Grows o r
     grows = becomes_grows o r (event x_is)
@@ -291,7 +309,7 @@ module _ (key : Shape) (n id : ℕ) (v : View) (x b : ℕ) (ys : List ℕ) (m : 
             own = own;
             published = λ e. published_of x_is (sym kind ∙ e);
             given = λ e. given_of x_is (sym kind ∙ e);
-            step = subst (λ (z : ℕ). Stepped v (change word (get_or s.words word 0) k.now (with_phase o a z (suc v.own.held.phase))) own w) end (subst (λ (z : ℕ). Stepped v (change word (get_or s.words word 0) k.now (with_phase o a b (suc z))) own w) (sym kind) step);
+            step = subst (λ (z : ℕ). Stepped v (change word (get_or s.words word 0) k.now (released o v.own.held.phase a z)) own w) end (subst (λ (z : ℕ). Stepped v (change word (get_or s.words word 0) k.now (released o z a b)) own w) (sym kind) (subst (λ (z : BatchState). Stepped v (change word (get_or s.words word 0) k.now z) own w) (next_is x_is) step));
             bare = give_carries o.room a ys;
           },
         ))

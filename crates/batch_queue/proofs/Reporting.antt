@@ -1,5 +1,5 @@
 -- What the number of a real step says of the queue.
-use Rattle.batch_queue.proofs.Common.{IsParted, IsStop, IsRest, AreIn, BatchState, IsBatch, IsEdge, IsReal, MarkSays, POSITIONS, SHUT, Step, arith, dec_lt, dite, free_word, head_word, items_of, length, mark, mark_word, of_batches, phase_at, subst, sym, tail_word, taking, ℕ, ⊎_elim, ◌%◌, ◌*◌, ◌+◌, ◌/◌, ◌<◌, ◌∙◌, ◌≡◌, ◌≢◌, ◌≤◌}
+use Rattle.batch_queue.proofs.Common.{IsParted, IsStop, IsRest, AreIn, BatchState, IsBatch, IsEdge, IsReal, MarkSays, POSITIONS, SHUT, Step, arith, dec_lt, dite, free_word, head_word, items_of, length, mark, mark_of, mark_word, of_batches, phase_at, subst, sym, tail_word, taking, ℕ, ⊎_elim, ◌%◌, ◌*◌, ◌+◌, ◌/◌, ◌<◌, ◌∙◌, ◌≡◌, ◌≢◌, ◌≤◌}
 use Rattle.table_theory.proofs.Saying.{at_word}
 use Rattle.batch_queue.proofs.Settling.{low_of}
 
@@ -14,6 +14,9 @@ tail_says e is r = at_word of_batches e tail_word is r ∙ r.shows.tail
 
 pub free_says : (e : Step BatchState) → e.word ≡ free_word → IsReal of_batches e → e.found ≡ e.then.object.freed
 free_says e is r = at_word of_batches e free_word is r ∙ r.shows.free
+
+pub mark_is : (e : Step BatchState) (p : ℕ) → e.word ≡ mark_word e.then.object.room p → IsReal of_batches e → e.found ≡ mark_of e.then.object p
+mark_is e p is r = at_word of_batches e (mark_word e.then.object.room p) is r ∙ r.shows.marks_are p
 
 -- the mark of a position of the window
 mark_says : (e : Step BatchState) (p : ℕ) → e.word ≡ mark_word e.then.object.room p → IsReal of_batches e → e.then.object.freed ≤ p → p < e.then.object.freed + e.then.object.room → MarkSays e.then.object p e.found

@@ -20,6 +20,7 @@ shuts_head key n id me live s k _ at _ = let v : View = me.0 in let o : BatchSta
       tail = get_or-set_other s.words head_word tail_word new 0 (λ e. omega arith) ∙ h.tail;
       free = get_or-set_other s.words head_word free_word new 0 (λ e. omega arith) ∙ h.free;
       marks = λ p from to. subst (MarkSays r p) (sym (get_or-set_other s.words head_word (mark_word o.room p) new 0 (λ e. omega arith))) (let t = h.marks p from to in record { up = t.up; back = t.back; bound = t.bound; whole = t.whole; whole_back = t.whole_back });
+      marks_are = λ p. get_or-set_other s.words head_word (mark_word o.room p) new 0 (λ z. omega arith) ∙ h.marks_are p;
       batch_mark = λ p e b l from up. get_or-set_other s.words head_word (mark_word o.room p) new 0 (λ z. omega arith) ∙ h.batch_mark p e b l from up;
       rest_mark = λ p is from. let t = h.rest_mark p is from in (t.0, t.1, get_or-set_other s.words head_word (mark_word o.room p) new 0 (λ z. omega arith) ∙ t.2);
       taking_mark = λ p e b l from up. get_or-set_other s.words head_word (mark_word o.room p) new 0 (λ z. omega arith) ∙ h.taking_mark p e b l from up;

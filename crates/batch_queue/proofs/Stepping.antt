@@ -46,6 +46,7 @@ shows_count o words y h = record {
   head = get_or-set_other words ends_word head_word y 0 (λ e. omega arith) ∙ h.head;
   tail = get_or-set_other words ends_word tail_word y 0 (λ e. omega arith) ∙ h.tail;
   free = get_or-set_other words ends_word free_word y 0 (λ e. omega arith) ∙ h.free;
+  marks_are = λ p. get_or-set_other words ends_word (mark_word o.room p) y 0 (λ z. omega arith) ∙ h.marks_are p;
   batch_mark = λ p e b l from up. get_or-set_other words ends_word (mark_word o.room p) y 0 (λ z. omega arith) ∙ h.batch_mark p e b l from up;
   rest_mark = λ p is from. let t = h.rest_mark p is from in (t.0, t.1, get_or-set_other words ends_word (mark_word o.room p) y 0 (λ z. omega arith) ∙ t.2);
   taking_mark = λ p e b l from up. get_or-set_other words ends_word (mark_word o.room p) y 0 (λ z. omega arith) ∙ h.taking_mark p e b l from up;

@@ -57,7 +57,7 @@ module _ (room tail most first : ℕ) (on : LeadsOn 0 tail first) where
   reached_first m = at_tail refl m refl
 
   module _ (at mark : ℕ) (v u w : View) (pre : List (Step BatchState)) (reach : (m : Moment BatchState) → Reached room tail most at mark (load (mark_word room tail) first m ∷ pre)) (leads : LeadsOn 0 at mark) (far : tail + most < mark / 2) (made : Made v pre v.own u) where
-    pub stop_within_batch : StoppedWithin room tail (tail + most) u w → FoundStop room tail most first (tail + most) v w
+    pub stop_within_batch : StoppedWithin room tail (tail + most) (mark / 2) u w → FoundStop room tail most first (tail + most) v w
     stop_within_batch s = let rest : List (Step BatchState) = load tail_word tail s.again ∷ s.after in record {
       loads = pre ++ rest;
       parts = s.parts;
@@ -79,38 +79,35 @@ module _ (room tail most first : ℕ) (on : LeadsOn 0 tail first) where
 
 -- WHAT CAME OF IT, AFTER OTHER STEPS
 
-pub changed_after : (room : ℕ) (v u w : View) (xs : List (Step BatchState)) {a : EndRecord} → Made v xs a u → MarkChanged room u w → MarkChanged room v w
-changed_after room v u w xs m h = record {
+pub changed_after : (v u w : View) (xs : List (Step BatchState)) {a : EndRecord} → Made v xs a u → MarkChanged u w → MarkChanged v w
+changed_after v u w xs m (p, h) = (p, record {
   before = xs ++ h.before;
   first = h.first;
   between = h.between;
   second = h.second;
   after = h.after;
   adds = subst (λ (z : List (Step BatchState)). Adds v z w) (sym (append_assoc xs h.before (h.first ∷ (h.between ++ h.second ∷ h.after)))) (adds_behind v u w xs (h.before ++ h.first ∷ (h.between ++ h.second ∷ h.after)) (ap (λ (z : Part). z.share) m.member) m.adds h.adds);
-  position = h.position;
-  is_mark = h.is_mark;
-  same = h.same;
-  other = h.other;
-}
+  holds = h.holds;
+})
 
-pub why_after : (room tail now : ℕ) (v u w : View) (xs : List (Step BatchState)) {a : EndRecord} → Made v xs a u → WhyNoStop room tail now u w → WhyNoStop room tail now v w
-why_after room tail now v u w xs m h = let share = ap (λ (z : Part). z.share) m.member in ⊎_elim
+pub why_after : (tail now : ℕ) (v u w : View) (xs : List (Step BatchState)) {a : EndRecord} → Made v xs a u → WhyNoStop tail now u w → WhyNoStop tail now v w
+why_after tail now v u w xs m h = let share = ap (λ (z : Part). z.share) m.member in ⊎_elim
     (λ s. inl (was_so_after v u w xs _ share m.adds s))
-    (λ t. inr (was_so_after v u w xs _ share m.adds t.0, changed_after room v u w xs m t.1))
+    (λ t. inr (was_so_after v u w xs _ share m.adds t.0, changed_after v u w xs m t.1))
     h
 
-abbrev Stops : ℕ → ℕ → ℕ → Result ℕ TakeRefusal → View → View → Type 0
-Stops room tail last r u w = MatchResult r (λ to. (to ≡ last) × HasStop w tail last) (λ e. (now : ℕ) × (e ≡ Lost now) × WhyNoStop room tail now u w)
+abbrev Stops : ℕ → ℕ → Result ℕ TakeRefusal → View → View → Type 0
+Stops tail last r u w = MatchResult r (λ to. (to ≡ last) × HasStop w tail last) (λ e. (now : ℕ) × (e ≡ Lost now) × WhyNoStop tail now u w)
 
-abbrev Traces : ℕ → ℕ → ℕ → Result ℕ TakeRefusal → View → View → Type 0
-Traces room tail last r u w = MatchResult r (λ to. StoppedWithin room tail last u w) (λ e. (now : ℕ) × (e ≡ Lost now) × LostWithin room tail last now u w)
+abbrev Traces : ℕ → ℕ → ℕ → ℕ → Result ℕ TakeRefusal → View → View → Type 0
+Traces room tail last end r u w = MatchResult r (λ to. StoppedWithin room tail last end u w) (λ e. (now : ℕ) × (e ≡ Lost now) × LostWithin room tail last now u w)
 
-pub stops_after : (room tail most : ℕ) (r : Result ℕ TakeRefusal) (v u w : View) (xs : List (Step BatchState)) {a : EndRecord} → 0 < most → Made v xs a u → Stops room tail (tail + most) r u w
-    → MatchResult r (λ to. HasStop w tail to × (tail < to) × (to ≤ tail + most)) (λ e. (now : ℕ) × (e ≡ Lost now) × WhyNoStop room tail now v w)
-stops_after room tail most (Ok to) v u w xs some_item m (is, h) = (subst (HasStop w tail) (sym is) h, omega arith, omega arith)
-stops_after room tail most (Err e) v u w xs some_item m (now, is, h) = (now, is, why_after room tail now v u w xs m h)
+pub stops_after : (tail most : ℕ) (r : Result ℕ TakeRefusal) (v u w : View) (xs : List (Step BatchState)) {a : EndRecord} → 0 < most → Made v xs a u → Stops tail (tail + most) r u w
+    → MatchResult r (λ to. HasStop w tail to × (tail < to) × (to ≤ tail + most)) (λ e. (now : ℕ) × (e ≡ Lost now) × WhyNoStop tail now v w)
+stops_after tail most (Ok to) v u w xs some_item m (is, h) = (subst (HasStop w tail) (sym is) h, omega arith, omega arith)
+stops_after tail most (Err e) v u w xs some_item m (now, is, h) = (now, is, why_after tail now v u w xs m h)
 
-pub traces_after : (room tail most first at mark : ℕ) (r : Result ℕ TakeRefusal) (v u w : View) (pre : List (Step BatchState)) → LeadsOn 0 tail first → ((m : Moment BatchState) → Reached room tail most at mark (load (mark_word room tail) first m ∷ pre)) → LeadsOn 0 at mark → tail + most < mark / 2 → Made v pre v.own u → Stops room tail (tail + most) r u w → Traces room tail (tail + most) r u w
+pub traces_after : (room tail most first at mark : ℕ) (r : Result ℕ TakeRefusal) (v u w : View) (pre : List (Step BatchState)) → LeadsOn 0 tail first → ((m : Moment BatchState) → Reached room tail most at mark (load (mark_word room tail) first m ∷ pre)) → LeadsOn 0 at mark → tail + most < mark / 2 → Made v pre v.own u → Stops tail (tail + most) r u w → Traces room tail (tail + most) (mark / 2) r u w
     → MatchResult r (λ to. FoundStop room tail most first to v w) (λ e. (now : ℕ) × (e ≡ Lost now) × LostStop room tail most first now v w)
 traces_after room tail most first at mark (Ok to) v u w pre on reach leads far made (is, h) t = subst (λ (z : ℕ). FoundStop room tail most first z v w) (sym is) (stop_within_batch room tail most first on at mark v u w pre reach leads far made t)
 traces_after room tail most first at mark (Err e) v u w pre on reach leads far made s (now, is, t) = (now, is, lost_stop room tail most first on at mark v u w pre reach leads far made now t)

@@ -29,8 +29,8 @@ parts_on o r g same parts p h = let w = parts p (h.0, subst (λ (z : List ℕ). 
 pub stop_claimed : (o : BatchState) (claim : List ℕ) (p : ℕ) → IsStop o p → IsStop (with_batch o claim) p
 stop_claimed o claim p h = ⊎_elim (λ e. inl (edge_on o.batches (o.batches ++ claim ∷ []) (claim ∷ []) p refl e)) (λ t. inr t) h
 
-pub stop_parted : (o : BatchState) (q p : ℕ) → IsStop o p → IsStop (with_part o q) p
-stop_parted o q p h = ⊎_elim (λ e. inl e) (λ t. inr (t.0, at_longer o.parted (q ∷ []) t.0 p t.1)) h
+pub stop_parted : (o : BatchState) (q end p : ℕ) → IsStop o p → IsStop (with_part o q end) p
+stop_parted o q end p h = ⊎_elim (λ e. inl e) (λ t. inr (t.0, at_longer o.parted (q ∷ []) t.0 p t.1)) h
 
 -- if no batch was parted, a taking ends where a batch ends
 pub edge_if : (o : BatchState) (p : ℕ) → o.parted ≡ [] → IsStop o p → IsEdge o.batches p

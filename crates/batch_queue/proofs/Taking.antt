@@ -107,6 +107,7 @@ module _ (key : Shape) (n id : ℕ) (v : View) (tail new : ℕ) (some_item : tai
       head = same_words head_word (λ e. omega arith) ∙ shows.head;
       tail = get_or-set_same s.words tail_word new 0 (let w = shows.wide in omega arith);
       free = same_words free_word (λ e. omega arith) ∙ shows.free;
+      marks_are = λ p. same_words (mark_word o.room p) (λ z. omega arith) ∙ shows.marks_are p;
       batch_mark = λ p e b l from phase. same_words (mark_word o.room p) (λ z. omega arith) ∙ shows.batch_mark p e b l (let t = tail_is in omega arith) (let q = out_of p (λ y. let y1 = y.1 in omega arith) in omega arith);
       marks = λ p from to. subst (MarkSays r p) (sym (same_words (mark_word o.room p) (λ e. omega arith))) (let t = shows.marks p from to in record {
         up = λ e i c d. let q = t.up e i c d in let g = grow i in omega arith;

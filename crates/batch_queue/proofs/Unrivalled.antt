@@ -25,7 +25,7 @@ stop_stays : (parity most room p : ℕ) (loads ys : Steps) (a b : Moment BatchSt
 stop_stays parity most room p loads ys a b (at_most is no_load) c = subst (λ (z : Steps). Continues a (z ++ ys) b) no_load c
 stop_stays parity most room p loads ys a b (at_mark number m no_lead is) c = let d = subst (λ (z : Steps). Continues a (z ++ ys) b) is c in subst (λ (z : Moment BatchState). Continues z ys b) (sym d.0) d.1
 
-followed_stays : (parity most room from to : ℕ) (loads ys : Steps) (a b : Moment BatchState) → FollowedBy parity most room from to loads → Continues a (loads ++ ys) b → Continues a ys b
+pub followed_stays : (parity most room from to : ℕ) (loads ys : Steps) (a b : Moment BatchState) → FollowedBy parity most room from to loads → Continues a (loads ++ ys) b → Continues a ys b
 followed_stays parity most room from to loads ys a b f c = stop_stays parity most room to f.stop ys a b f.stops
     (walked_stays room from f.walk (f.stop ++ ys) a b (subst (λ (z : Steps). Continues a z b) (append_assoc (walked room from f.walk) f.stop ys) (subst (λ (z : Steps). Continues a (z ++ ys) b) f.loads_are c)))
 
@@ -76,7 +76,7 @@ module _ (v w : View) (x : IsHonest of_batches v) (y : IsHonest of_batches w) (w
   pub put_not_lost : (room count head : ℕ) → RefusedPut room v count (not_put.Lost head) w → ⊥
   put_not_lost room count now (fits, h) = ⊎_elim (λ t. lacked room count count now t.0 t.1) (λ t. other room count count t.0 now t.1 t.2 t.3) h
 
-  passed_empty : (room now : ℕ) → PassedEmpty (λ entries. Made v entries v.own w) room now → ⊥
+  pub passed_empty : (room now : ℕ) → PassedEmpty (λ entries. Made v entries v.own w) room now → ⊥
   passed_empty room now p = let g = p.glance in let s = alone_since of_batches v w _ whole x y p.added.adds in let t = tail_says (load tail_word g.tail g.at_tail) refl s.1.0 in let t' = tail_says (load tail_word now p.again) refl s.1.1.1.1.0 in
       let same = ap (λ (z : Moment BatchState). z.object.taken) (s.0.1.0 ∙ (s.0.1.1.0 ∙ s.0.1.1.1.0)) in let past = p.past in omega arith
 

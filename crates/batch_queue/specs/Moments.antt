@@ -3,8 +3,7 @@
 use Rattle.std.specs.Prelude.{◌≡◌, ◌≢◌, ◌<◌, ◌≤◌, ℕ, List, ◌∷◌, ◌++◌, length}
 use Rattle.table_theory.specs.Ledgers.{Step, Adds}
 use Rattle.batch_queue.specs.declared.rule.BatchState.{BatchState}
-use Rattle.batch_queue.specs.Layout.{mark_word}
-use Rattle.batch_queue.specs.Object.{items_of, phase_at}
+use Rattle.batch_queue.specs.Object.{items_of, mark_of, phase_at}
 use Rattle.batch_queue.specs.Own.{View}
 
 -- the queue was so at a moment of the call
@@ -33,15 +32,6 @@ claimed o = length (items_of o)
 abbrev pub IsGivenBackTo : BatchState → ℕ → Type 0
 IsGivenBackTo o free = ((i : ℕ) → i < free → 3 ≤ phase_at o i) × (phase_at o free < 3)
 
--- two numbers were found in the mark of one place: another end changed it during the call
-pub record MarkChanged (room : ℕ) (v w : View) : Type 0 where
-  pub before : List (Step BatchState)
-  pub first : Step BatchState
-  pub between : List (Step BatchState)
-  pub second : Step BatchState
-  pub after : List (Step BatchState)
-  pub adds : Adds v (before ++ first ∷ (between ++ second ∷ after)) w
-  pub position : ℕ
-  pub is_mark : first.word ≡ mark_word room position
-  pub same : second.word ≡ first.word
-  pub other : first.found ≢ second.found
+-- the mark of a place was one number at a moment of the call, and another later
+abbrev pub MarkChanged : View → View → Type 0
+MarkChanged v w = (p : ℕ) × Changed v w (λ o later. mark_of o p ≢ mark_of later p)

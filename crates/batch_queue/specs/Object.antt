@@ -1,6 +1,6 @@
 -- A queue by its positions: what keeps it lawful, and its events.
 use Rattle.std.specs.Prelude.{◌≡◌, ◌⊎◌, ℕ, zero, suc, ◌+◌, ◌<◌, ◌≤◌, List, [], ◌∷◌, ◌++◌, length, replicate}
-use Rattle.std.specs.Prelude.{◌-◌, slice_index_or, map, take, drop, true, false}
+use Rattle.std.specs.Prelude.{◌-◌, ◌*◌, ◌%◌, slice_index_or, slice_set, map, take, drop, true, false}
 use Rattle.std.specs.List.{concat, flat_map}
 use mathlib.Core.Option.{some}
 use lib.ListN.{get_elem?}
@@ -15,6 +15,10 @@ items_of o = concat o.batches
 -- back
 abbrev pub phase_at : BatchState → ℕ → ℕ
 phase_at o i = slice_index_or o.phases i 0
+
+-- the mark of the place of a position
+abbrev pub mark_of : BatchState → ℕ → ℕ
+mark_of o p = slice_index_or o.marks (p % o.room) 0
 
 -- a batch ends at this position, or it is the first
 pub record IsEdge (batches : List (List ℕ)) (p : ℕ) : Type 0 where
@@ -76,6 +80,7 @@ pub record AreGroups (batches takings : List (List ℕ)) : Type 0 where
 pub record Lawful (o : BatchState) : Type 0 where
   pub some_room : 0 < o.room
   pub long : length o.phases ≡ length (items_of o)
+  pub mark_each : length o.marks ≡ o.room
   pub within : length (items_of o) ≤ o.freed + o.room
   pub before : (i : ℕ) → i < o.taken → 2 ≤ phase_at o i
   pub after : (i : ℕ) → o.taken ≤ i → phase_at o i ≤ 1
@@ -109,6 +114,18 @@ with_batch o claim = record o {
 abbrev pub with_phase : BatchState → ℕ → ℕ → ℕ → BatchState
 with_phase o a b y = record o { phases = set_range o.phases a b y }
 
+-- the mark of the place of this position is m
+abbrev pub with_mark : BatchState → ℕ → ℕ → BatchState
+with_mark o p m = record o { marks = slice_set o.marks (p % o.room) m }
+
+-- the positions from a on and before b are published: the mark of a is twice b
+abbrev pub with_up : BatchState → ℕ → ℕ → BatchState
+with_up o a b = with_mark (with_phase o a b 1) a (2 * b)
+
+-- the places of the positions from a on and before b are given back: the mark of a is twice b and one
+abbrev pub with_back : BatchState → ℕ → ℕ → BatchState
+with_back o a b = with_mark (with_phase o a b 3) a (2 * b + 1)
+
 -- one taking more was made, of the positions before the new one
 abbrev pub with_taken : BatchState → ℕ → BatchState
 with_taken o new = record (with_phase o o.taken new 2) {
@@ -123,9 +140,9 @@ with_freed o new = record o { freed = new }
 abbrev pub with_shut : BatchState → BatchState
 with_shut o = record o { shut = true }
 
--- a batch was parted at this position
-abbrev pub with_part : BatchState → ℕ → BatchState
-with_part o p = record o { parted = o.parted ++ p ∷ [] }
+-- the batch that ends at e was parted at p: the mark of p is twice e
+abbrev pub with_part : BatchState → ℕ → ℕ → BatchState
+with_part o p e = record (with_mark o p (2 * e)) { parted = o.parted ++ p ∷ [] }
 
 -- all these positions have this phase
 abbrev pub AreIn : BatchState → ℕ → ℕ → ℕ → Type 0
@@ -137,14 +154,14 @@ AreIn o phase a b = (i : ℕ) → a ≤ i → i < b → phase_at o i ≡ phase
 pub data Becomes (o r : BatchState) : Type 0 where
   was_claimed : (claim : List ℕ) → 0 < length claim → o.shut ≡ false
       → length (items_of o) + length claim ≤ o.freed + o.room → r ≡ with_batch o claim → Becomes o r
-  was_published : (a b : ℕ) → a < b → IsBatch o.batches a b → AreIn o 0 a b → r ≡ with_phase o a b 1 → Becomes o r
+  was_published : (a b : ℕ) → a < b → IsBatch o.batches a b → AreIn o 0 a b → r ≡ with_up o a b → Becomes o r
   was_taken : (new : ℕ) → o.taken < new → new ≤ length (items_of o) → IsStop o new → AreIn o 1 o.taken new
       → r ≡ with_taken o new → Becomes o r
-  was_given : (a b : ℕ) → a < b → IsBatch o.takings a b → AreIn o 2 a b → r ≡ with_phase o a b 3 → Becomes o r
+  was_given : (a b : ℕ) → a < b → IsBatch o.takings a b → AreIn o 2 a b → r ≡ with_back o a b → Becomes o r
   was_freed : (new : ℕ) → o.freed < new → IsEdge o.takings new → ((i : ℕ) → o.freed ≤ i → i < new → 3 ≤ phase_at o i)
       → r ≡ with_freed o new → Becomes o r
   was_shut : r ≡ with_shut o → Becomes o r
-  was_parted : (p e : ℕ) → IsWithin o p e → r ≡ with_part o p → Becomes o r
+  was_parted : (p e : ℕ) → IsWithin o p e → r ≡ with_part o p e → Becomes o r
 
 -- r is o, or o some events later
 pub record Grows (o r : BatchState) : Type 0 where
@@ -168,4 +185,5 @@ empty key = record {
   freed = 0;
   shut = false;
   parted = [];
+  marks = replicate key.room 0;
 }

@@ -13,7 +13,7 @@ use Rattle.batch_queue.specs.Answers.{WhyNotTaken}
 use Rattle.batch_queue.specs.Layout.{tail_word, mark_word}
 use Rattle.batch_queue.specs.Lines.{lines_put, lines_taken, times_parted}
 use Rattle.batch_queue.specs.Moments.{WasSo, MarkChanged}
-use Rattle.batch_queue.specs.Object.{items_of, phase_at, IsRest, IsStop, with_part, with_phase, with_taken}
+use Rattle.batch_queue.specs.Object.{items_of, phase_at, IsRest, IsStop, with_back, with_part, with_taken}
 use Rattle.batch_queue.specs.Own.{View, with_taking}
 use Rattle.batch_queue.specs.Slots.{slots_of}
 use Rattle.batch_queue.specs.Steps.{HoldsRange}
@@ -24,19 +24,19 @@ use Rattle.batch_queue.specs.Walks.{LeadsOn, FollowedBy}
 abbrev pub with_parts : EndRecord → ℕ → EndRecord
 with_parts d n = record d { parts = d.parts + n }
 
--- A taking can end at this position, by what was found: its mark led on already, was exchanged now, or led on when it
--- was found again. `parts` counts the exchange
-pub data PartedBy (room position parts : ℕ) (entries : List (Step BatchState)) : Type 0 where
+-- A taking can end at this position, within the batch that ends at `end`, by what was found: its mark led on already, was
+-- exchanged now, or led on when it was found again. `parts` counts the exchange
+pub data PartedBy (room position end parts : ℕ) (entries : List (Step BatchState)) : Type 0 where
   already : (mark : ℕ) (m : Moment BatchState) → LeadsOn 0 position mark → parts ≡ 0
-      → entries ≡ load (mark_word room position) mark m ∷ [] → PartedBy room position parts entries
+      → entries ≡ load (mark_word room position) mark m ∷ [] → PartedBy room position end parts entries
   parted : (mark : ℕ) (m n : Moment BatchState) → mark / 2 ≤ position → parts ≡ 1
       → entries ≡ load (mark_word room position) mark m
-      ∷ change (mark_word room position) mark n (with_part n.object position) ∷ []
-      → PartedBy room position parts entries
+      ∷ change (mark_word room position) mark n (with_part n.object position end) ∷ []
+      → PartedBy room position end parts entries
   meanwhile : (mark found : ℕ) (m n : Moment BatchState) → mark / 2 ≤ position → found ≢ mark
       → LeadsOn 0 position found → parts ≡ 0
       → entries ≡ load (mark_word room position) mark m ∷ load (mark_word room position) found n ∷ []
-      → PartedBy room position parts entries
+      → PartedBy room position end parts entries
 
 -- nothing is known of a stop at this position: its place was given back, or its mark was changed to another number
 pub data NotPartedBy (room position : ℕ) (entries : List (Step BatchState)) : Type 0 where
@@ -48,10 +48,10 @@ pub data NotPartedBy (room position : ℕ) (entries : List (Step BatchState)) : 
       → NotPartedBy room position entries
 
 -- the same, by the end
-pub record PartedLook (room position : ℕ) (stop : Bool) (v w : View) : Type 0 where
+pub record PartedLook (room position end : ℕ) (stop : Bool) (v w : View) : Type 0 where
   pub entries : List (Step BatchState)
   pub parts : ℕ
-  pub by : MatchBool stop (PartedBy room position parts entries) ((parts ≡ 0) × NotPartedBy room position entries)
+  pub by : MatchBool stop (PartedBy room position end parts entries) ((parts ≡ 0) × NotPartedBy room position entries)
   pub made : Made v entries (with_parts v.own parts) w
 
 -- the mark of this position was found to be this one: it is the tail, or marks of published batches were followed there
@@ -73,7 +73,7 @@ pub data StopBy (room tail most to parts : ℕ) (loads : List (Step BatchState))
       → to ≤ tail + most → parts ≡ 0 → StopBy room tail most to parts loads
   within : (at mark : ℕ) (before after : List (Step BatchState)) (again : Moment BatchState)
       → Reached room tail most at mark before → LeadsOn 0 at mark → tail + most < mark / 2 → to ≡ tail + most
-      → PartedBy room to parts after → loads ≡ before ++ load tail_word tail again ∷ after
+      → PartedBy room to (mark / 2) parts after → loads ≡ before ++ load tail_word tail again ∷ after
       → StopBy room tail most to parts loads
 
 -- Why no taking ends within the batch that is too long: the tail had passed when it was found again, or nothing was
@@ -107,11 +107,11 @@ pub record LostStop (room tail most first now : ℕ) (v w : View) : Type 0 where
   pub made : Made v loads v.own w
 
 -- the tail was found again, and the batch was parted
-pub record StoppedWithin (room tail last : ℕ) (v w : View) : Type 0 where
+pub record StoppedWithin (room tail last end : ℕ) (v w : View) : Type 0 where
   pub again : Moment BatchState
   pub after : List (Step BatchState)
   pub parts : ℕ
-  pub by : PartedBy room last parts after
+  pub by : PartedBy room last end parts after
   pub made : Made v (load tail_word tail again ∷ after) (with_parts v.own parts) w
 
 -- the tail had passed, or was found again, and nothing was known of a stop, and then it was found once more
@@ -123,9 +123,9 @@ pub data LostWithin (room tail last now : ℕ) (v w : View) : Type 0 where
       → LostWithin room tail last now v w
 
 -- the tail was found to be this one at a moment of the call: past the one before, or a mark was changed meanwhile
-abbrev pub WhyNoStop : ℕ → ℕ → ℕ → View → View → Type 0
-WhyNoStop room tail now v w = WasSo v w (λ o. (tail < o.taken) × (o.taken ≡ now))
-    ⊎ (WasSo v w (λ o. o.taken ≡ now) × MarkChanged room v w)
+abbrev pub WhyNoStop : ℕ → ℕ → View → View → Type 0
+WhyNoStop tail now v w = WasSo v w (λ o. (tail < o.taken) × (o.taken ≡ now))
+    ⊎ (WasSo v w (λ o. o.taken ≡ now) × MarkChanged v w)
 
 -- The items taken are the first ones left, and after them a batch ends or was parted
 pub record AreSome (o : BatchState) (items : List ℕ) : Type 0 where
@@ -159,7 +159,7 @@ pub record HasTakenSome (room most : ℕ) (v : View) (tail : ℕ) (items : List 
 -- the first
 abbrev pub TookSome : ℕ → View → ℕ → List ℕ → View → Type 0
 TookSome room v most items w = (tail mark : ℕ) × (m : Moment BatchState) × SomeBy (λ at parts entries. Made v
-    (entries ++ change (mark_word room tail) mark m (with_phase m.object tail (tail + length items) 3) ∷ [])
+    (entries ++ change (mark_word room tail) mark m (with_back m.object tail (tail + length items)) ∷ [])
     (with_line (with_parts v.own parts) at.object (length items)) w) room most tail items
 
 -- it was found where the taking ends, but the exchange found another tail, past the one loaded
@@ -194,12 +194,12 @@ RefusedTakeSome room v most refusal w = ((most ≡ 0) × RefusedTake room v most
     ⊎ RefusedSomeBy (λ parts entries. Made v entries (with_parts v.own parts) w) room most refusal
 
 -- Why nothing was taken. It is ShortBuffer only if the buffer has no room. It is Lost too if a mark was changed during
--- the call
-abbrev pub WhyNotTakenSome : View → ℕ → ℕ → TakeRefusal → View → Type 0
-WhyNotTakenSome v room most (ShortBuffer at count) w = (most ≡ 0) × WhyNotTaken v most (ShortBuffer at count) w
-WhyNotTakenSome v room most (Lost now) w = WhyNotTaken v most (Lost now) w
-    ⊎ (WasSo v w (λ o. o.taken ≡ now) × MarkChanged room v w)
-WhyNotTakenSome v room most refusal w = WhyNotTaken v most refusal w
+-- the call, which another end's event did
+abbrev pub WhyNotTakenSome : View → ℕ → TakeRefusal → View → Type 0
+WhyNotTakenSome v most (ShortBuffer at count) w = (most ≡ 0) × WhyNotTaken v most (ShortBuffer at count) w
+WhyNotTakenSome v most (Lost now) w = WhyNotTaken v most (Lost now) w
+    ⊎ (WasSo v w (λ o. o.taken ≡ now) × MarkChanged v w)
+WhyNotTakenSome v most refusal w = WhyNotTaken v most refusal w
 
 -- the end parted a batch once, or none
 abbrev pub MayPart : View → View → Type 0

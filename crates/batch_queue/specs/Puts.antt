@@ -13,7 +13,7 @@ use Rattle.batch_queue.specs.declared.refusals.PutRefusal.TheVariants.{NoItems, 
 use Rattle.batch_queue.specs.declared.rule.BatchState.{BatchState}
 use Rattle.batch_queue.specs.declared.rule.EndRecord.{EndRecord}
 use Rattle.batch_queue.specs.Layout.{head_word, mark_word}
-use Rattle.batch_queue.specs.Object.{with_batch, with_phase}
+use Rattle.batch_queue.specs.Object.{with_batch, with_up}
 use Rattle.batch_queue.specs.Own.{View, Looks, with_run}
 use Rattle.batch_queue.specs.Slots.{slots_of}
 use Rattle.batch_queue.specs.Steps.{HoldsRange, IsClaim}
@@ -60,7 +60,7 @@ pub record HasClaimed (room want : ℕ) (v : View) (start : ℕ) (items : List �
 abbrev pub PutBy : (List (Step BatchState) → Type 0) → ℕ → ℕ → ℕ → List ℕ → Type 0
 PutBy Added room want start items = (mark : ℕ) × (m : Moment BatchState)
     × ClaimedBy (λ entries. Added (entries ++ change (mark_word room start) mark m
-    (with_phase m.object start (start + length items) 1) ∷ [])) room want start items
+    (with_up m.object start (start + length items)) ∷ [])) room want start items
 
 -- the items were put as one batch, from this position on
 abbrev pub IsPut : ℕ → View → ℕ → List ℕ → View → Type 0

@@ -4,7 +4,7 @@ use Rattle.batch_queue.specs.declared.layout.TheConstants.{POSITIONS}
 use Rattle.batch_queue.specs.declared.rule.BatchState.{BatchState}
 use Rattle.batch_queue.specs.Layout.{head_word, tail_word, free_word, mark_word, width, IsUsed, mark}
 use Rattle.table_theory.specs.Unused.{AreZero}
-use Rattle.batch_queue.specs.Object.{items_of, phase_at, IsEdge, IsBatch, IsParted, IsRest, IsStop}
+use Rattle.batch_queue.specs.Object.{items_of, mark_of, phase_at, IsEdge, IsBatch, IsParted, IsRest, IsStop}
 
 -- What the mark of a position p of the window says. An even mark past p: a batch begins at p or was parted there, and
 -- its positions from p on, up to the half of the mark, are published. An odd one: the places up to its half are given
@@ -16,8 +16,8 @@ pub record MarkSays (o : BatchState) (p m : ℕ) : Type 0 where
   pub whole : m % 2 ≡ 0 → p < m / 2 → IsStop o p × IsRest o.batches p (m / 2)
   pub whole_back : m % 2 ≡ 1 → p < m / 2 → IsEdge o.takings (m / 2)
 
--- The words show the head, whether the queue is shut, the tail, the free position, and the marks of the places. A word
--- without a use is 0
+-- The words show the head, whether the queue is shut, the tail, the free position, and the marks of the places, and no
+-- more: a word without a use is 0. The marks show what is published and what is given back
 pub record WordsShow (o : BatchState) (words : List ℕ) : Type 0 where
   pub wide : length words ≡ width o.room
   pub bounded : length (items_of o) < POSITIONS
@@ -26,6 +26,7 @@ pub record WordsShow (o : BatchState) (words : List ℕ) : Type 0 where
   pub free : slice_index_or words free_word 0 ≡ o.freed
   pub marks : (p : ℕ) → o.freed ≤ p → p < o.freed + o.room
       → MarkSays o p (slice_index_or words (mark_word o.room p) 0)
+  pub marks_are : (p : ℕ) → slice_index_or words (mark_word o.room p) 0 ≡ mark_of o p
   -- each batch that is published and not taken has its mark
   pub batch_mark : (p e : ℕ) → IsBatch o.batches p e → p < e → o.taken ≤ p → 1 ≤ phase_at o p
       → slice_index_or words (mark_word o.room p) 0 ≡ 2 * e

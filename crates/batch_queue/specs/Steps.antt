@@ -1,6 +1,6 @@
 -- What each step says to its end: its entry, what the end has done then, what it sees, and the slots that it holds. The
 -- calls' answers are made of the entries.
-use Rattle.std.specs.Prelude.{◌≡◌, ◌≢◌, ◌⊎◌, ℕ, suc, ◌+◌, ◌-◌, ◌<◌, ◌≤◌, List, [], ◌∷◌, ◌++◌}
+use Rattle.std.specs.Prelude.{◌≡◌, ◌≢◌, ◌⊎◌, ℕ, zero, suc, ◌+◌, ◌-◌, ◌<◌, ◌≤◌, List, [], ◌∷◌, ◌++◌}
 use Rattle.std.specs.Prelude.{length, take, drop, nat_lt}
 use Rattle.atomic_table.specs.Seated.{TableId}
 use Rattle.atomic_table.specs.Table.{Me, Step}
@@ -12,7 +12,7 @@ use Rattle.batch_queue.specs.declared.layout.TheConstants.{MOST_PLACES, POSITION
 use Rattle.batch_queue.specs.declared.rule.BatchState.{BatchState}
 use Rattle.batch_queue.specs.declared.rule.EndRecord.{EndRecord}
 use Rattle.batch_queue.specs.Layout.{head_word, tail_word, free_word, ends_word, width, IsPowerOfTwo}
-use Rattle.batch_queue.specs.Object.{items_of, phase_at, IsEdge, IsStop, with_batch, with_phase, with_taken}
+use Rattle.batch_queue.specs.Object.{items_of, phase_at, IsEdge, IsStop, with_batch, with_up, with_back, with_taken}
 use Rattle.batch_queue.specs.Object.{with_freed, with_shut, with_part, Grows}
 use Rattle.batch_queue.specs.Own.{View, HasRun, with_run, with_taking, with_published, with_no_slots}
 use Rattle.batch_queue.specs.Own.{with_shutting, with_parting}
@@ -63,6 +63,11 @@ pub record Claimed (v : View) (head : ℕ) (items : List ℕ) (m : Me ℕ View) 
 abbrev pub claims : List ℕ → Step ℕ → Me ℕ View → ℕ → Me ℕ View → Type 0
 claims items st m r m' = Stays m.0 m'.0 × (r ≡ st.first → Claimed m.0 st.first items m') × Missed st m r m'
 
+-- The positions from a on and before b, all in the phase x, are one phase on: published, or given back
+abbrev pub released : BatchState → ℕ → ℕ → ℕ → BatchState
+released o zero a b = with_up o a b
+released o (suc x) a b = with_back o a b
+
 -- the positions whose slots the end held, in the phase x, are one phase on, and the slots are home
 pub record Released (v : View) (word start end x : ℕ) (m : Me ℕ View) : Type 0 where
   pub at : Moment BatchState
@@ -70,7 +75,7 @@ pub record Released (v : View) (word start end x : ℕ) (m : Me ℕ View) : Type
   pub own : EndRecord
   pub published : x ≡ 0 → (h : HasRun v.own) × (own ≡ with_published v.own h)
   pub given : x ≡ 2 → own ≡ with_no_slots v.own
-  pub step : Stepped v (change word found at (with_phase at.object start end (suc x))) own m.0
+  pub step : Stepped v (change word found at (released at.object x start end)) own m.0
   pub bare : m.1 ≡ []
 
 abbrev pub releases : Step ℕ → Me ℕ View → ℕ → Me ℕ View → Type 0
@@ -126,14 +131,14 @@ Freed v free new w = (at : Moment BatchState) × Stepped v (change free_word fre
 abbrev pub frees : Step ℕ → Me ℕ View → ℕ → Me ℕ View → Type 0
 frees st m r m' = Stays m.0 m'.0 × (r ≡ st.first → (m'.1 ≡ m.1) × Freed m.0 st.first st.second m'.0) × Missed st m r m'
 
--- a batch was parted at this position, by the exchange of its mark
-abbrev pub Parted : View → ℕ → ℕ → ℕ → View → Type 0
-Parted v word found position w = (at : Moment BatchState)
-    × Stepped v (change word found at (with_part at.object position)) (with_parting v.own) w
+-- the batch that ends there was parted at this position, by the exchange of its mark
+abbrev pub Parted : View → ℕ → ℕ → ℕ → ℕ → View → Type 0
+Parted v word found position end w = (at : Moment BatchState)
+    × Stepped v (change word found at (with_part at.object position end)) (with_parting v.own) w
 
-abbrev pub parts : ℕ → Step ℕ → Me ℕ View → ℕ → Me ℕ View → Type 0
-parts position st m r m' = Stays m.0 m'.0
-    × (r ≡ st.first → (m'.1 ≡ m.1) × Parted m.0 st.word st.first position m'.0) × Missed st m r m'
+abbrev pub parts : ℕ → ℕ → Step ℕ → Me ℕ View → ℕ → Me ℕ View → Type 0
+parts position end st m r m' = Stays m.0 m'.0
+    × (r ≡ st.first → (m'.1 ≡ m.1) × Parted m.0 st.word st.first position end m'.0) × Missed st m r m'
 
 -- the queue is shut, and this head word was found
 abbrev pub Shut : View → ℕ → View → Type 0

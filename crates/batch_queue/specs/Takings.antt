@@ -13,7 +13,7 @@ use Rattle.batch_queue.specs.declared.rule.BatchState.{BatchState}
 use Rattle.batch_queue.specs.declared.rule.EndRecord.{EndRecord}
 use Rattle.batch_queue.specs.Layout.{head_word, tail_word, mark_word}
 use Rattle.batch_queue.specs.Lines.{TookLine}
-use Rattle.batch_queue.specs.Object.{items_of, IsEdge, with_phase, with_taken}
+use Rattle.batch_queue.specs.Object.{items_of, IsEdge, with_back, with_taken}
 use Rattle.batch_queue.specs.Own.{View, taking, with_taking}
 use Rattle.batch_queue.specs.Placed.{positions_of}
 use Rattle.batch_queue.specs.Puts.{tried}
@@ -76,7 +76,7 @@ pub record HasTaken (room most : ℕ) (v : View) (tail : ℕ) (items : List ℕ)
 abbrev pub TookBy : (Moment BatchState → List (Step BatchState) → Type 0) → ℕ → ℕ → List ℕ → Type 0
 TookBy Added room most items = (tail mark : ℕ) × (m : Moment BatchState)
     × TakenBy (λ at entries. Added at (entries ++ change (mark_word room tail) mark m
-    (with_phase m.object tail (tail + length items) 3) ∷ [])) room most tail items
+    (with_back m.object tail (tail + length items)) ∷ [])) room most tail items
 
 -- the items were taken into a buffer of so many
 abbrev pub TookBatches : ℕ → View → ℕ → List ℕ → View → Type 0

@@ -24,10 +24,11 @@ ghost use Rattle.batch_queue.specs.declared.rule.BatchState.{BatchState};
 ghost use Rattle.batch_queue.specs.Endings.{TookIn};
 ghost use Rattle.batch_queue.specs.Handles.{view_of, room_of, IsEndOf, IsOnlyEnd};
 ghost use Rattle.batch_queue.specs.Layout.{head_word, tail_word, free_word, ends_word, mark_word, width, mark};
-ghost use Rattle.batch_queue.specs.Object.{items_of, phase_at, IsEdge, IsBatch, IsParted, IsRest, IsStop, AreIn};
-ghost use Rattle.batch_queue.specs.Object.{Becomes, Grows, with_batch, with_phase, with_taken, with_freed, with_shut};
+ghost use Rattle.batch_queue.specs.Object.{items_of, mark_of, phase_at, IsEdge, IsBatch, IsParted, IsRest, IsStop, AreIn};
+ghost use Rattle.batch_queue.specs.Object.{Becomes, Grows, with_batch, with_up, with_back, with_taken, with_freed, with_shut};
 ghost use Rattle.batch_queue.specs.Object.{Lawful, with_part};
 ghost use Rattle.batch_queue.specs.Own.{View, of_batches, part_of, run, taking};
+ghost use Rattle.batch_queue.specs.Parts.{RefusedTakeSome};
 ghost use Rattle.batch_queue.specs.Placed.{positions_of, raised_run};
 ghost use Rattle.batch_queue.specs.Puts.{RefusedPut};
 ghost use Rattle.batch_queue.specs.Raises.{raise_all};
@@ -80,8 +81,8 @@ pub fn ends_list_queues()
 {}
 
 /// What the number says that a step found: the number of ends, the head and the mark of a shut queue, the tail, the
-/// free position, or the mark of a position of the window. A mark says in both directions what is published and what is
-/// given back.
+/// free position, or the mark of a place: so no step but one of an event changes a word. A mark of a position of the
+/// window says in both directions what is published and what is given back.
 pub fn numbers_say()
     ensures ends { (found : ℕ) (m : Moment BatchState) → IsReal of_batches (load ends_word found m) → found ≡ m.ends }
     ensures head { (e : Step BatchState) → e.word ≡ head_word → IsReal of_batches e
@@ -89,6 +90,8 @@ pub fn numbers_say()
         × (length (items_of e.then.object) < POSITIONS) }
     ensures tail { (e : Step BatchState) → e.word ≡ tail_word → IsReal of_batches e → e.found ≡ e.then.object.taken }
     ensures free { (e : Step BatchState) → e.word ≡ free_word → IsReal of_batches e → e.found ≡ e.then.object.freed }
+    ensures mark { (e : Step BatchState) (p : ℕ) → e.word ≡ mark_word e.then.object.room p → IsReal of_batches e
+        → e.found ≡ mark_of e.then.object p }
     ensures published { (e : Step BatchState) (p : ℕ) → e.word ≡ mark_word e.then.object.room p
         → IsReal of_batches e → e.then.object.freed ≤ p → p < e.then.object.freed + e.then.object.room
         → e.found % 2 ≡ 0 → p < e.found / 2
@@ -123,12 +126,12 @@ pub fn changes_are_events()
         × IsEvent (positions_of m.object) (positions_of (with_batch m.object items)) seat v w
         (claim m.object.room seat items) }
     ensures published { (word found a b : ℕ) (m : Moment BatchState) (views : List QueueView) (seat number : ℕ)
-        (v w : QueueView) (e : Batch) → IsReal of_batches (change word found m (with_phase m.object a b 1))
+        (v w : QueueView) (e : Batch) → IsReal of_batches (change word found m (with_up m.object a b))
         → IsBatch m.object.batches a b → AreIn m.object 0 a b → ViewsShow (positions_of m.object) views
         → get_elem? views seat ≡ some v → get_elem? v.runs number ≡ some e → e.start ≡ a → a + length e.places ≡ b
         → w.runs ≡ slice_set v.runs number (raised_run e 0 (length e.places)) → w.takes ≡ v.takes
-        → positions.Grows w.queue (positions_of (with_phase m.object a b 1))
-        → (k : ℕ) × (event : IsEvent (positions_of m.object) (positions_of (with_phase m.object a b 1)) seat v w
+        → positions.Grows w.queue (positions_of (with_up m.object a b))
+        → (k : ℕ) × (event : IsEvent (positions_of m.object) (positions_of (with_up m.object a b)) seat v w
         (raise_all seat k 0 (length e.places)))
         × (get_elem? event.shown.lists.runs k ≡ some (seat, number, e)) }
     ensures taken { (tail new : ℕ) (m : Moment BatchState) (views : List QueueView) (seat : ℕ) (v w : QueueView)
@@ -140,21 +143,21 @@ pub fn changes_are_events()
         × IsEvent (positions_of m.object) (positions_of (with_taken m.object new)) seat v w
         (take_first m.object.room (new - m.object.taken)) }
     ensures given { (word found a b : ℕ) (m : Moment BatchState) (views : List QueueView) (seat : ℕ) (v w : QueueView)
-        → IsReal of_batches (change word found m (with_phase m.object a b 3)) → AreIn m.object 2 a b → a < b
+        → IsReal of_batches (change word found m (with_back m.object a b)) → AreIn m.object 2 a b → a < b
         → ViewsShow (positions_of m.object) views → get_elem? views seat ≡ some v → w.runs ≡ v.runs
-        → w.takes ≡ v.takes → positions.Grows w.queue (positions_of (with_phase m.object a b 3))
-        → IsEvent (positions_of m.object) (positions_of (with_phase m.object a b 3)) seat v w no_event }
+        → w.takes ≡ v.takes → positions.Grows w.queue (positions_of (with_back m.object a b))
+        → IsEvent (positions_of m.object) (positions_of (with_back m.object a b)) seat v w no_event }
     ensures freed { (free new : ℕ) (m : Moment BatchState) (views : List QueueView) (seat : ℕ) (v w : QueueView)
         → IsReal of_batches (change free_word free m (with_freed m.object new))
         → ViewsShow (positions_of m.object) views → get_elem? views seat ≡ some v → w.runs ≡ v.runs
         → w.takes ≡ v.takes → positions.Grows w.queue (positions_of (with_freed m.object new))
         → (free ≡ m.object.freed)
         × IsEvent (positions_of m.object) (positions_of (with_freed m.object new)) seat v w no_event }
-    ensures parted { (word found p : ℕ) (m : Moment BatchState) (views : List QueueView) (seat : ℕ) (v w : QueueView)
-        → IsReal of_batches (change word found m (with_part m.object p))
+    ensures parted { (word found p end : ℕ) (m : Moment BatchState) (views : List QueueView) (seat : ℕ) (v w : QueueView)
+        → IsReal of_batches (change word found m (with_part m.object p end))
         → ViewsShow (positions_of m.object) views → get_elem? views seat ≡ some v → w.runs ≡ v.runs
-        → w.takes ≡ v.takes → positions.Grows w.queue (positions_of (with_part m.object p))
-        → IsEvent (positions_of m.object) (positions_of (with_part m.object p)) seat v w no_event }
+        → w.takes ≡ v.takes → positions.Grows w.queue (positions_of (with_part m.object p end))
+        → IsEvent (positions_of m.object) (positions_of (with_part m.object p end)) seat v w no_event }
     ensures shut { (head : ℕ) (m : Moment BatchState) (views : List QueueView) (seat : ℕ) (v w : QueueView)
         → IsReal of_batches (change head_word head m (with_shut m.object))
         → ViewsShow (positions_of m.object) views → get_elem? views seat ≡ some v → w.runs ≡ v.runs
@@ -202,6 +205,8 @@ pub fn only_ends_are_never_lost()
         → RefusedPut room (view_of old) count (not_put.Lost head) (view_of new) → ⊥ }
     ensures take { (old new : BatchEnd) (room most tail : ℕ) → IsOnlyEnd old
         → RefusedTake room (view_of old) most (not_taken.Lost tail) (view_of new) → ⊥ }
+    ensures take_some { (queue : BatchQueue) (old new : BatchEnd) (most tail : ℕ) → IsEndOf queue old → IsOnlyEnd old
+        → RefusedTakeSome (room_of queue) (view_of old) most (not_taken.Lost tail) (view_of new) → ⊥ }
 {}
 
 /// The numbers of the layout: where the words are, how many words a queue has, how many places it can have, the number

@@ -51,13 +51,17 @@ impl Play<u64, View> for Frees {
     ghost then = { frees };
 }
 
-/// The position at which a batch is parted.
+/// The position at which a batch is parted, and the position at which the batch ends.
 pub trait PartPosition {
     ghost position: { ℕ };
+
+    ghost end: { ℕ };
 }
 
 impl PartPosition for Brand {
     ghost position = { 0 };
+
+    ghost end = { 0 };
 }
 
 pub struct Parts<J> {
@@ -65,7 +69,7 @@ pub struct Parts<J> {
 }
 
 impl<J: PartPosition> Play<u64, View> for Parts<J> {
-    ghost then = { parts J.position };
+    ghost then = { parts J.position J.end };
 }
 
 pub struct Shuts;

@@ -28,10 +28,9 @@ pub struct EndRecord {
 }
 
 /// A queue: its batches in the order of their claims, its takings in their order, the phase of each position, the
-/// position of the next item that is taken, the position that the window begins at, whether it is shut, and the
-/// positions at which batches were parted, so that a taking may end there. A
-/// position's phase is 0 from its claim on, 1 once it is published, 2 once it is taken, and 3 once its place is given
-/// back.
+/// position of the next item that is taken, the position that the window begins at, whether it is shut, the positions
+/// at which batches were parted, so that a taking may end there, and the mark of each place. A position's phase is 0
+/// from its claim on, 1 once it is published, 2 once it is taken, and 3 once its place is given back.
 pub struct BatchState {
     pub room: u64,
     pub batches: LinkedList<LinkedList<u64>>,
@@ -41,6 +40,7 @@ pub struct BatchState {
     pub freed: u64,
     pub shut: bool,
     pub parted: LinkedList<u64>,
+    pub marks: LinkedList<u64>,
 }
 
 /// What an end knows: what it did, its steps, and all ends' steps up to its own last one.

@@ -39,8 +39,8 @@ fn part(words: &Words, seat: &mut Seat<u64, View>, room: usize, position: u64, e
     ensures stop { IsTrue result
         → (position < seat.new.me.0.seen.object.taken) ⊎ IsStop seat.new.me.0.seen.object position }
     ensures changed { IsFalse result
-        → (position < seat.new.me.0.seen.object.taken) ⊎ MarkChanged room seat.old.me.0 seat.new.me.0 }
-    ensures trace { PartedLook room position result seat.old.me.0 seat.new.me.0 }
+        → (position < seat.new.me.0.seen.object.taken) ⊎ MarkChanged seat.old.me.0 seat.new.me.0 }
+    ensures trace { PartedLook room position end result seat.old.me.0 seat.new.me.0 }
 {
     let mark = load_mark(words, seat, room, position);
     if leads_on(PUBLISHED, position, mark) {
@@ -76,8 +76,8 @@ fn stop_within(
     ensures slots { seat.new.me.1 ≡ seat.old.me.1 }
     ensures grows { Grows seat.old.me.0.seen.object seat.new.me.0.seen.object }
     ensures stop { MatchResult result (λ to. (to ≡ last) × HasStop seat.new.me.0 tail last)
-        (λ r. (now : ℕ) × (r ≡ refusals.Lost now) × WhyNoStop room tail now seat.old.me.0 seat.new.me.0) }
-    ensures trace { MatchResult result (λ to. StoppedWithin room tail last seat.old.me.0 seat.new.me.0)
+        (λ r. (now : ℕ) × (r ≡ refusals.Lost now) × WhyNoStop tail now seat.old.me.0 seat.new.me.0) }
+    ensures trace { MatchResult result (λ to. StoppedWithin room tail last end seat.old.me.0 seat.new.me.0)
         (λ r. (now : ℕ) × (r ≡ refusals.Lost now) × LostWithin room tail last now seat.old.me.0 seat.new.me.0) }
 {
     let now = load_tail(words, seat);
@@ -110,7 +110,7 @@ fn find_stop(
     ensures slots { seat.new.me.1 ≡ seat.old.me.1 }
     ensures grows { Grows seat.old.me.0.seen.object seat.new.me.0.seen.object }
     ensures stop { MatchResult result (λ to. HasStop seat.new.me.0 tail to × (tail < to) × (to ≤ tail + most))
-        (λ r. (now : ℕ) × (r ≡ refusals.Lost now) × WhyNoStop room tail now seat.old.me.0 seat.new.me.0) }
+        (λ r. (now : ℕ) × (r ≡ refusals.Lost now) × WhyNoStop tail now seat.old.me.0 seat.new.me.0) }
     ensures trace { MatchResult result (λ to. FoundStop room tail most first to seat.old.me.0 seat.new.me.0)
         (λ r. (now : ℕ) × (r ≡ refusals.Lost now) × LostStop room tail most first now seat.old.me.0 seat.new.me.0) }
 {
@@ -146,7 +146,7 @@ fn take_some(
     ensures queue { IsSame seat.old seat.new × Stays seat.old.me.0 seat.new.me.0 }
     ensures taken { MatchResult result (λ r. (items : List ℕ) × (length items ≡ r.1)
         × HasTakenSome room most seat.old.me.0 r.0 items seat.new.me) (λ r. seat.new.me.1 ≡ []) }
-    ensures error { IfErr result (λ r. WhyNotTakenSome seat.old.me.0 room most r seat.new.me.0) }
+    ensures error { IfErr result (λ r. WhyNotTakenSome seat.old.me.0 most r seat.new.me.0) }
     ensures refused { IfErr result (λ r. RefusedSomeBy (λ parts entries. Made seat.old.me.0 entries
         (with_parts seat.old.me.0.own parts) seat.new.me.0) room most r) }
 {
@@ -182,8 +182,7 @@ impl BatchQueue {
         ensures effect { MatchResult result
             (λ n. FilledSome n items.old items.new (view_of end.old) (view_of end.new))
             (λ r. SameSome (view_of end.old) (view_of end.new) × (items.new ≡ items.old)) }
-        ensures error { IfErr result (λ r. WhyNotTakenSome (view_of end.old) (room_of self.now) (length items.old) r
-            (view_of end.new)) }
+        ensures error { IfErr result (λ r. WhyNotTakenSome (view_of end.old) (length items.old) r (view_of end.new)) }
         ensures trace { MatchResult result
             (λ n. TookSome (room_of self.now) (view_of end.old) (length items.old) (take n items.new)
             (view_of end.new))

@@ -99,13 +99,14 @@ pub(crate) fn exchange_mark<J: PartPosition>(
     end: u64,
 ) -> u64
     requires queue { IsSeated room words.now.table_id seat.old }
-    requires position { J.position ≡ position }
+    requires position { (J.position ≡ position) × (J.end ≡ end) }
     requires within { IsWithin seat.old.me.0.seen.object position end }
     requires idle { mark / 2 ≤ position }
     requires near { (end ≤ position + room) × (end < POSITIONS) }
     ensures queue { IsSame seat.old seat.new × Stays seat.old.me.0 seat.new.me.0 }
     ensures slots { seat.new.me.1 ≡ seat.old.me.1 }
-    ensures hit { result ≡ mark → Parted seat.old.me.0 (mark_word room position) mark position seat.new.me.0 }
+    ensures hit { result ≡ mark → Parted seat.old.me.0 (mark_word room position) mark position end
+        seat.new.me.0 }
     ensures miss { result ≢ mark → Found seat.old.me.0 (mark_word room position) result seat.new.me.0 }
 {
     let word = mark_word(room, position);

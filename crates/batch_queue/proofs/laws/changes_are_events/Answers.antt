@@ -8,6 +8,6 @@ returns c = record {
   taken = λ tail new m views seat v w r less l at takes runs later. take_is m views seat v w l at tail new r less takes runs later;
   given = λ word found a b m views seat v w r was less l at runs takes later. give_is m views seat v w l at word found a b r was less runs takes later;
   freed = λ free new m views seat v w r l at runs takes later. free_is m views seat v w l at free new r runs takes later;
-  parted = λ word found p m views seat v w r l at runs takes later. part_is m views seat v w l at word found p r runs takes later;
+  parted = λ word found p end m views seat v w r l at runs takes later. part_is m views seat v w l at word found p end r runs takes later;
   shut = λ head m views seat v w r l at runs takes later. shut_is m views seat v w l at head r runs takes later;
 }

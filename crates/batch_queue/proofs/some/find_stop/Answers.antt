@@ -7,7 +7,7 @@ use Rattle.batch_queue.proofs.some.find_stop.Goals as goal
 
 -- the first batch is too long
 pub returns-then-first-last-clause-stop : goal.returns-then-first-last-clause-stop
-returns-then-first-last-clause-stop c = stops_after c.args.room c.args.tail c.args.most _ _ _ _ _ c.requires.most.0 (made_none _) c.stop_within.ensures.stop
+returns-then-first-last-clause-stop c = stops_after c.args.tail c.args.most _ _ _ _ _ c.requires.most.0 (made_none _) c.stop_within.ensures.stop
 
 pub returns-then-first-last-clause-trace : goal.returns-then-first-last-clause-trace
 returns-then-first-last-clause-trace c = traces_after c.args.room c.args.tail c.args.most c.args.first c.args.tail c.args.first _ _ _ _ _ c.requires.first.0 (reached_first c.args.room c.args.tail c.args.most c.args.first c.requires.first.0) c.requires.first.0 c.if-first-last.true (made_none _) c.stop_within.ensures.stop c.stop_within.ensures.trace
@@ -50,7 +50,7 @@ pub returns-clause-grows : goal.returns-clause-grows
 returns-clause-grows c = grows_trans _ _ _ c.walk-at.ensures.grows (grows_trans _ _ _ c.load_mark-mark.ensures.found.grows c.stop_within-2.ensures.grows)
 
 pub returns-clause-stop : goal.returns-clause-stop
-returns-clause-stop c = stops_after c.args.room c.args.tail c.args.most _ _ _ _ _ c.requires.most.0 (both_made c.args.room c.args.tail c.args.most c.args.first c.requires.first.0 (let b = c.if-first-last.false in omega arith) _ _ _ c.walk-at.ensures.trace _ _ c.load_mark-mark.ensures.found (let o = c.walk-at.ensures.on.1 in let ne = c.if-at-last.false in omega arith)) c.stop_within-2.ensures.stop
+returns-clause-stop c = stops_after c.args.tail c.args.most _ _ _ _ _ c.requires.most.0 (both_made c.args.room c.args.tail c.args.most c.args.first c.requires.first.0 (let b = c.if-first-last.false in omega arith) _ _ _ c.walk-at.ensures.trace _ _ c.load_mark-mark.ensures.found (let o = c.walk-at.ensures.on.1 in let ne = c.if-at-last.false in omega arith)) c.stop_within-2.ensures.stop
 
 pub returns-clause-trace : goal.returns-clause-trace
 returns-clause-trace c = traces_after c.args.room c.args.tail c.args.most c.args.first c.walk-at.result c.load_mark-mark.result _ _ _ _ _ c.requires.first.0

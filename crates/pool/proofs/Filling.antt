@@ -23,7 +23,7 @@ use Rattle.batch_queue.specs.declared.refusals.PutRefusal.TheVariants as not_put
 use Rattle.batch_queue.specs.declared.rule.BatchState.{BatchState}
 use Rattle.batch_queue.specs.declared.rule.Shape.{Shape}
 use Rattle.batch_queue.specs.Layout.{head_word, mark, mark_word}
-use Rattle.batch_queue.specs.Object.{items_of, with_batch, with_phase}
+use Rattle.batch_queue.specs.Object.{items_of, with_batch, with_up}
 use Rattle.batch_queue.specs.Own.{Looks, View, of_batches}
 use Rattle.batch_queue.specs.Puts.{FoundOther, FoundShut, IsPut, LackedRoom, RefusedPut, WasSpent, published}
 use Rattle.batch_queue.specs.Rules.{newcomer}
@@ -86,7 +86,7 @@ module _ (shape : Shape) (v w : View) (new : v ≡ newcomer shape) (x : IsHonest
     pub put_first : (start : ℕ) (items : List ℕ) → length items ≡ count → IsPut room v start items w → (start ≡ 0) × (w.seen.object.batches ≡ items ∷ [])
     put_first start items long (number, m, c) =
         let claim : Step BatchState = change head_word start c.at_claim (with_batch c.at_claim.object items) in
-        let publish : Step BatchState = change (mark_word room start) number m (with_phase m.object start (start + length items) 1) in
+        let publish : Step BatchState = change (mark_word room start) number m (with_up m.object start (start + length items)) in
         let a = alone ((load head_word start c.at_head ∷ (c.looks ++ claim ∷ [])) ++ publish ∷ []) c.added.adds in
         let n = no_head start c.at_head a.0.0 a.1.0 in
         let on : Continues c.at_head (c.looks ++ (claim ∷ publish ∷ [])) w.seen = subst (λ (z : Steps). Continues c.at_head z w.seen) (append_assoc c.looks (claim ∷ []) (publish ∷ [])) a.0.1 in

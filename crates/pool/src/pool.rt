@@ -81,8 +81,8 @@ impl Pool {
             (λ n. Acquired n buffers.old buffers.new (view_of holder.old) (view_of holder.new))
             (λ r. HoldsSame holder.old holder.new × (buffers.new ≡ buffers.old)) }
         ensures holds { IfOk result (λ n. Holds holder.new (take n buffers.new)) }
-        ensures error { IfErr result (λ r. WhyNotTakenSome (view_of holder.old) (room_of self.now)
-            (length buffers.old) r (view_of holder.new)) }
+        ensures error { IfErr result (λ r. WhyNotTakenSome (view_of holder.old) (length buffers.old) r
+            (view_of holder.new)) }
         ensures trace { MatchResult result
             (λ n. TookSome (room_of self.now) (view_of holder.old) (length buffers.old) (take n buffers.new)
             (view_of holder.new))

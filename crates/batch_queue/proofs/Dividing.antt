@@ -35,15 +35,18 @@ odd_on p mark none past = dite (ℕ_discrete (mark % 2) 0) (λ even. absurd (non
 -- a mark was changed during a longer call
 changed_on : (v u c w : View) (xs ys : List (Step BatchState)) {a b : EndRecord} → Made v xs a u → Made c ys b w → u.member.share ≡ v.member.share → c.member.share ≡ v.member.share → MarkChanged u c → MarkChanged v w
 changed_on v u c w xs ys m n share share' (p, h) = let rest : List (Step BatchState) = h.between ++ h.second ∷ h.after in let l : List (Step BatchState) = h.before ++ h.first ∷ rest in
-    let is : (xs ++ l) ++ ys ≡ (xs ++ h.before) ++ h.first ∷ (h.between ++ h.second ∷ (h.after ++ ys)) = append_assoc xs l ys ∙ (ap (λ (z : List (Step BatchState)). xs ++ z) (append_assoc h.before (h.first ∷ rest) ys ∙ ap (λ (z : List (Step BatchState)). h.before ++ h.first ∷ z) (append_assoc h.between (h.second ∷ h.after) ys)) ∙ sym (append_assoc xs h.before (h.first ∷ (h.between ++ h.second ∷ (h.after ++ ys))))) in (p, record {
-      before = xs ++ h.before;
-      first = h.first;
-      between = h.between;
-      second = h.second;
-      after = h.after ++ ys;
-      adds = subst (λ (z : List (Step BatchState)). Adds v z w) is (adds_behind v c w (xs ++ l) ys share' (adds_behind v u c xs l share m.adds h.adds) n.adds);
-      holds = h.holds;
-    })
+    let is : (xs ++ l) ++ ys ≡ (xs ++ h.before) ++ h.first ∷ (h.between ++ h.second ∷ (h.after ++ ys)) = append_assoc xs l ys ∙ (ap (λ (z : List (Step BatchState)). xs ++ z) (append_assoc h.before (h.first ∷ rest) ys ∙ ap (λ (z : List (Step BatchState)). h.before ++ h.first ∷ z) (append_assoc h.between (h.second ∷ h.after) ys)) ∙ sym (append_assoc xs h.before (h.first ∷ (h.between ++ h.second ∷ (h.after ++ ys))))) in (
+      p,
+      record {
+        before = xs ++ h.before;
+        first = h.first;
+        between = h.between;
+        second = h.second;
+        after = h.after ++ ys;
+        adds = subst (λ (z : List (Step BatchState)). Adds v z w) is (adds_behind v c w (xs ++ l) ys share' (adds_behind v u c xs l share m.adds h.adds) n.adds);
+        holds = h.holds;
+      },
+    )
 
 -- a mark that was found is the one that the queue had
 pub mark_found : (room : ℕ) (v u : View) (p mark : ℕ) → Found v (mark_word room p) mark u → u.first.room ≡ room → mark_of u.seen.object p ≡ mark

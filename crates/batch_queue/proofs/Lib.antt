@@ -38,3 +38,4 @@ mod Portions
 mod Trying
 mod Unrivalled
 mod SoleTaking
+mod Peeking

@@ -80,15 +80,18 @@ module _ (room tail most first : ℕ) (on : LeadsOn 0 tail first) where
 -- WHAT CAME OF IT, AFTER OTHER STEPS
 
 pub changed_after : (v u w : View) (xs : List (Step BatchState)) {a : EndRecord} → Made v xs a u → MarkChanged u w → MarkChanged v w
-changed_after v u w xs m (p, h) = (p, record {
-  before = xs ++ h.before;
-  first = h.first;
-  between = h.between;
-  second = h.second;
-  after = h.after;
-  adds = subst (λ (z : List (Step BatchState)). Adds v z w) (sym (append_assoc xs h.before (h.first ∷ (h.between ++ h.second ∷ h.after)))) (adds_behind v u w xs (h.before ++ h.first ∷ (h.between ++ h.second ∷ h.after)) (ap (λ (z : Part). z.share) m.member) m.adds h.adds);
-  holds = h.holds;
-})
+changed_after v u w xs m (p, h) = (
+  p,
+  record {
+    before = xs ++ h.before;
+    first = h.first;
+    between = h.between;
+    second = h.second;
+    after = h.after;
+    adds = subst (λ (z : List (Step BatchState)). Adds v z w) (sym (append_assoc xs h.before (h.first ∷ (h.between ++ h.second ∷ h.after)))) (adds_behind v u w xs (h.before ++ h.first ∷ (h.between ++ h.second ∷ h.after)) (ap (λ (z : Part). z.share) m.member) m.adds h.adds);
+    holds = h.holds;
+  },
+)
 
 pub why_after : (tail now : ℕ) (v u w : View) (xs : List (Step BatchState)) {a : EndRecord} → Made v xs a u → WhyNoStop tail now u w → WhyNoStop tail now v w
 why_after tail now v u w xs m h = let share = ap (λ (z : Part). z.share) m.member in ⊎_elim

@@ -24,6 +24,8 @@ pub(crate) enum Act {
     /// Shuts the queue, which was open or not.
     Shut(bool),
     Len(u64),
+    /// The tail, the position up to which items are published, the head, and whether the queue is shut.
+    Look(u64, u64, u64, bool),
 }
 
 /// Calls at a queue of this room, and what its close then has: how many items were put and taken, and those left.
@@ -111,6 +113,10 @@ fn is_answered<R: Wait>(rt: &R, queue: &BatchQueue, end: &mut BatchEnd, act: &Ac
         Act::TakeAgain(most, wanted) => takes_again(rt, queue, end, *most, wanted),
         Act::Shut(was_open) => queue.shut(end) == *was_open,
         Act::Len(count) => queue.len(end) == *count,
+        Act::Look(tail, published, head, shut) => {
+            let look = queue.look(end);
+            (look.tail, look.published, look.head, look.shut) == (*tail, *published, *head, *shut)
+        }
     }
 }
 

@@ -105,6 +105,38 @@ fn open_ends(rt: HostRuntime) {
     assert!(rt; (closed.put, closed.taken, closed.left.len()) == (0, 0, 0));
 }
 
+const LOOKS: Script = Script {
+    room: Room::Of4,
+    acts: &[
+        Act::Look(0, 0, 0, false),
+        Act::Put(&[1, 2], Ok(0)),
+        Act::Look(0, 2, 2, false),
+        Act::Put(&[3], Ok(2)),
+        Act::Look(0, 3, 3, false),
+        Act::Take(2, Ok(&[1, 2])),
+        Act::Look(2, 3, 3, false),
+        // A full ring, whose window begins at 2.
+        Act::Put(&[4, 5, 6], Ok(3)),
+        Act::Look(2, 6, 6, false),
+        // A batch that is parted.
+        Act::TakeSome(2, Ok(&[3, 4])),
+        Act::Look(4, 6, 6, false),
+        Act::Shut(true),
+        Act::Look(4, 6, 6, true),
+        Act::Take(4, Ok(&[5, 6])),
+        Act::Look(6, 6, 6, true),
+    ],
+    put: 6,
+    taken: 6,
+    left: &[],
+};
+
+/// A look finds the tail, how far items are published, the head, and whether the queue is shut.
+#[test]
+fn looks(rt: HostRuntime) {
+    plays(&rt, rt.alloc(), &LOOKS);
+}
+
 /// If an end is dropped, the others go on with the queue, and it can't be closed any more.
 #[test]
 fn dropped_end(rt: HostRuntime) {

@@ -1,9 +1,12 @@
 -- The table as it is made, and the steps that count, make and join ends.
-use Rattle.batch_queue.proofs.Common.{parts_of, inl, Allows, Apart, Batch, BatchState, Bool, EndRecord, FIRST_MARK, Grows, Holds, IsEdge, IsRuled, IsUsed, Joins, List, Me, OwnShows, Positions, QueueView, Rule, Shape, Splits, View, ViewsShow, [], all_alike, ap, arith, at_below, at_joined, at_last, at_longer, at_map, at_snoc, both, by_ends, counts, counts_down, counts_up, did_both, emptied, empty, ends_word, false, free_word, get_elem?, get_or, get_or-replicate, get_or-set_other, get_or-set_same, head_word, if◌then◌else◌, length, length-replicate, length-set, listed_first, listed_join, listed_look, listed_new, map, map-append, map-set, mark_word, mod-lt, nat_lt, newborn, newcomer, no_slots, none, nothing_did, of_batches, opened, opening, part_of, positions_of, refl, replicate, rest_of, set, set_else, set_here, shuts_of, some, some-injective, some-ne-none, some_there, step, subst, suc, sym, tail_word, total, total_kept, total_push, total_set, true, unused_kept, width, zero, ℕ, ⊎_elim, ◌%◌, ◌++◌, ◌+◌, ◌-◌, ◌<◌, ◌∙◌, ◌∷◌, ◌≡◌, ◌≢◌, ◌≤◌}
+use Rattle.batch_queue.proofs.Common.{parts_of, inl, Allows, Apart, Batch, BatchState, Bool, EndRecord, FIRST_MARK, Grows, Holds, IsEdge, IsRuled, IsUsed, Joins, List, Me, OwnShows, Positions, QueueView, Rule, Shape, Splits, View, ViewsShow, [], all_alike, ap, arith, at_below, at_joined, at_last, at_longer, at_map, at_snoc, both, by_ends, did_both, emptied, empty, ends_word, false, free_word, get_elem?, get_or, get_or-replicate, get_or-set_other, get_or-set_same, head_word, if◌then◌else◌, length, length-replicate, length-set, listed_first, listed_join, listed_look, listed_new, map, map-append, map-set, mark_word, mod-lt, nat_lt, newborn, newcomer, no_slots, none, nothing_did, of_batches, opened, opening, part_of, positions_of, refl, replicate, rest_of, set, set_else, set_here, shuts_of, some, some-injective, some-ne-none, some_there, step, subst, suc, sym, tail_word, total, total_kept, total_push, total_set, true, unused_kept, width, zero, ℕ, ⊎_elim, ◌%◌, ◌++◌, ◌+◌, ◌-◌, ◌<◌, ◌∙◌, ◌∷◌, ◌≡◌, ◌≢◌, ◌≤◌}
+use Rattle.table_theory.specs.Plays.{counts, counts_down, counts_up}
 use Rattle.table_theory.specs.Positioned as pos
 use Rattle.table_theory.proofs.Positioned as positioned
+use Rattle.table_theory.proofs.Ruling as ruling
 use Rattle.table_theory.proofs.Stepping as ends
 use Rattle.table_theory.proofs.Tables as tables
+use Rattle.batch_queue.specs.Rules.{HasTallied, now_of}
 use Rattle.batch_queue.proofs.Growing.{grows_refl}
 use Rattle.batch_queue.proofs.Owning.{own_bare}
 use Rattle.batch_queue.proofs.Stepping.{apart_set, found, held_by, held_now, ruled_now, table, views_set}
@@ -60,15 +63,15 @@ opens room zs slots is many some_room = let key : Shape = record { room = room }
     }
 
 module _ (key : Shape) (n id : ℕ) (me : Me ℕ View) where
-  pub ups : me.0.member.ends + 1 ≤ me.0.member.share → Allows (Rule key) n id me ends_word (λ x. (x + 1) % 18446744073709551616) (counts_up (step n ends_word 1 0 none) me)
-  ups parts = tables.ups (table key) n id me (counts_up (step n ends_word 1 0 none) me) parts (λ s k at r. (refl, ruled_now key _ s.homes s id me.0 _ at r, ends.counted_up k.stands id me.0 at))
+  pub ups : me.0.member.ends + 1 ≤ me.0.member.share → Allows (Rule key) n id me ends_word (λ x. (x + 1) % 18446744073709551616) (counts_up IsRuled (step n ends_word 1 0 none) me)
+  ups parts = tables.ups (table key) n id me (counts_up IsRuled (step n ends_word 1 0 none) me) parts (λ s k at r. ((refl, ruled_now key _ s.homes s id me.0 _ at r), ends.counted_up k.stands id me.0 at))
 
-  pub downs : 2 ≤ me.0.member.ends → Allows (Rule key) n id me ends_word (λ x. (x + (18446744073709551616 - 1)) % 18446744073709551616) (counts_down (step n ends_word 1 0 none) me)
-  downs two = tables.downs (table key) n id me (counts_down (step n ends_word 1 0 none) me) two (λ s k at r. (refl, ruled_now key _ s.homes s id me.0 _ at r, ends.counted_down k.stands id me.0 at))
+  pub downs : 2 ≤ me.0.member.ends → Allows (Rule key) n id me ends_word (λ x. (x + (18446744073709551616 - 1)) % 18446744073709551616) (counts_down IsRuled (step n ends_word 1 0 none) me)
+  downs two = tables.downs (table key) n id me (counts_down IsRuled (step n ends_word 1 0 none) me) two (λ s k at r. ((refl, ruled_now key _ s.homes s id me.0 _ at r), ends.counted_down k.stands id me.0 at))
 
   -- the count is found
-  pub tallies : me.0.member.ends ≡ 1 → Allows (Rule key) n id me ends_word (λ x. x) (counts (step n ends_word 0 0 none) me)
-  tallies one = tables.looks (table key) n id me (counts (step n ends_word 0 0 none) me) ends_word (omega arith) (λ s k at r. let f = found key n id me s k at ends_word r in (f.0, refl, ends.tallied_now k.stands id me.0 at one))
+  pub tallies : me.0.member.ends ≡ 1 → Allows (Rule key) n id me ends_word (λ x. x) (counts HasTallied (step n ends_word 0 0 none) me)
+  tallies one = tables.looks (table key) n id me (counts HasTallied (step n ends_word 0 0 none) me) ends_word (omega arith) (λ s k at r. (refl, (ruled_now key _ s.homes s id me.0 _ at r, ends.tallied_now k.stands id me.0 at one)))
 
 owns_in : (o : BatchState) (views : List View) → ((j : ℕ) (v : View) → get_elem? views j ≡ some v → OwnShows o v.own) → (w : View) → OwnShows o w.own → (j : ℕ) (v : View) → get_elem? (views ++ w ∷ []) j ≡ some v → OwnShows o v.own
 owns_in o views h w mine j v e = ⊎_elim (λ t. h j v t) (λ t. subst (λ (z : View). OwnShows o z.own) t mine) (at_snoc views w v j e)
@@ -138,22 +141,10 @@ new_ruled room some_room = let zs : List ℕ = replicate (width room) 0 in let s
 
 -- both ends of a split stand under the rule
 module _ (v : View) (two : v.member.ends ≡ 2) (r : IsRuled v) where
-  abbrev left : List View
-  left = set r.state.views r.number (rest_of v)
-
-  parted : (w : View) (number : ℕ) → get_elem? (left ++ newborn nothing_did v ∷ []) number ≡ some w → w.seen ≡ v.seen → IsRuled w
-  unfolding splits
-  parted w number here seen = record {
-    key = r.key;
-    state = record { words = r.state.words; homes = r.state.homes; views = left ++ newborn nothing_did v ∷ [] };
-    rule = splits r.key r.number v two r.state r.rule r.here;
-    number = number;
-    here = here;
-    seen = seen ∙ r.seen;
-  }
-
   pub rest_ruled : IsRuled (rest_of v)
-  rest_ruled = parted (rest_of v) r.number (at_longer left (newborn nothing_did v ∷ []) r.number (rest_of v) (set_here r.state.views r.number (rest_of v) (at_below r.state.views r.number v r.here))) refl
+  unfolding splits
+  rest_ruled = ruling.rest_ruled Rule now_of nothing_did splits (λ key id u is s k at. refl) v two r
 
   pub born_ruled : IsRuled (newborn nothing_did v)
-  born_ruled = parted (newborn nothing_did v) (length left) (at_last left (newborn nothing_did v) (length left) refl) refl
+  unfolding splits
+  born_ruled = ruling.born_ruled Rule now_of nothing_did splits (λ key id u is s k at. refl) v two r

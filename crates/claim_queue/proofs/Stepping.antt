@@ -1,14 +1,16 @@
 -- What every step keeps and tells: the rule after an event and after a look.
-use Rattle.claim_queue.proofs.Common.{◌≡◌, ◌≢◌, ◌≤◌, ◌<◌, ◌+◌, ◌*◌, ℕ, List, [], ◌∷◌, map, get_or, get_or-set_other, set, length-set, sym, refl, ap, ◌∙◌, subst, arith, map-set, some, none, get_elem?, Me, step, Allows, at_map, set_here, Positions, Moment, Step, change, IsReal, IsHonest, ViewsShow, Grows, listed_look, at_below, grows_refl, entries_real, Goes, total_set, total_kept, Did, Shape, Becomes, empty, FIRST_PLACE, head_word, tail_word, ends_word, data_in, flag_in, View, of_queues, nothing_did, part_of, shuts_of, times_shut, Rule, IsRuled, WordsShow, Stepped, IsUsed, by_ends, unused_kept}
+use Rattle.claim_queue.proofs.Common.{◌≡◌, ◌≢◌, ◌≤◌, ◌<◌, ◌+◌, ◌*◌, ℕ, List, map, get_or, get_or-set_other, set, length-set, sym, refl, ap, ◌∙◌, subst, arith, map-set, some, none, get_elem?, Me, step, Allows, at_map, Positions, Moment, Step, change, IsReal, IsHonest, ViewsShow, Grows, listed_look, grows_refl, Goes, total_set, total_kept, Did, Shape, Becomes, empty, FIRST_PLACE, head_word, tail_word, ends_word, data_in, flag_in, View, of_queues, nothing_did, part_of, shuts_of, times_shut, Rule, IsRuled, WordsShow, Stepped, IsUsed, by_ends, unused_kept}
 use Rattle.atomic_table.specs.Table.{State, keeps}
 use Rattle.table_theory.specs.Ledgers.{Stands}
 use Rattle.table_theory.specs.Windows.{PlacesShow}
+use Rattle.table_theory.proofs.Ruling as ruling
 use Rattle.table_theory.proofs.Stepping as ends
 use Rattle.table_theory.proofs.Tables.{IsTable}
 use Rattle.table_theory.proofs.Tables as tables
 use Rattle.table_theory.specs.Rests.{PlacesRest}
 use Rattle.table_theory.proofs.Rests.{rests_same}
 use Rattle.table_theory.proofs.Windows.{window_same}
+use Rattle.claim_queue.specs.Rules.{now_of}
 use Rattle.claim_queue.specs.Steps.{Stays, finds}
 use Rattle.claim_queue.proofs.Growing.{becomes_grows, becomes_lawful}
 
@@ -72,14 +74,14 @@ table key = record {
 
 -- the end stands under the rule that is kept by its step
 pub ruled_now : (key : Shape) (words : List ℕ) (s : St) (id : ℕ) (v w : View) → get_elem? s.views id ≡ some v → (r : Rule key record { words = words; homes = s.homes; views = set s.views id w }) × (w.seen ≡ r.now) → IsRuled w
-ruled_now key words s id v w at r = record { key = key; state = record { words = words; homes = s.homes; views = set s.views id w }; rule = r.0; number = id; here = set_here s.views id w (at_below s.views id v at); seen = r.1 }
+ruled_now key words s id v w at r = ruling.ruled_now Rule now_of key words s.homes s id v w at r
 
 -- what the end lists under the rule is true, as is the entry of its last step
 pub honest : (v : View) → IsRuled v → IsHonest of_queues v
-honest v r = ends.honest r.rule.stands r.number v r.here
+honest v r = ruling.honest Rule now_of (λ key s k. k.stands) v r
 
 pub step_real : (v w : View) (e : Step Positions) (own : Did) → Stepped v e own w → IsReal of_queues e
-step_real v w e own s = (entries_real of_queues v w (e ∷ []) (honest w s.ruled) s.made.adds).0
+step_real v w e own s = ruling.step_real Rule now_of (λ key s k. k.stands) v w e own s.ruled s.made
 
 module _ (key : Shape) (n id : ℕ) (me : Me Unit View) (s : St) (k : Rule key s) (at : get_elem? s.views id ≡ some me.0) where
   -- an event of a live end, which found this number in the word i, keeps the rule

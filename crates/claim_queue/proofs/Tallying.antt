@@ -1,31 +1,34 @@
 -- The steps that make, split, join and count ends keep the rule.
-use Rattle.claim_queue.proofs.Common.{◌≡◌, ℕ, ◌+◌, ◌-◌, ◌%◌, ◌<◌, ◌≤◌, List, [], ◌∷◌, ◌++◌, map, length, get_or, set, sym, refl, ap, ◌∙◌, subst, arith, mod-lt, length-set, get_or-set_same, get_or-set_other, map-set, map-append, some, none, get_elem?, Me, step, Allows, at_map, set_else, at_last, at_longer, set_here, Positions, QueueView, both, emptied, ViewsShow, spot, listed_look, at_below, grows_refl, total_kept, total_set, head_word, tail_word, ends_word, flag_word, Shape, empty, View, of_queues, nothing_did, did_both, part_of, shuts_of, Rule, newcomer, IsRuled, ◌*◌, data_in, flag_in, IsUsed, by_ends, by_head, by_tail, unused_kept}
+use Rattle.claim_queue.proofs.Common.{◌≡◌, ℕ, ◌+◌, ◌-◌, ◌%◌, ◌<◌, ◌≤◌, List, [], ◌∷◌, ◌++◌, map, length, get_or, set, sym, refl, ap, ◌∙◌, subst, arith, mod-lt, length-set, get_or-set_same, get_or-set_other, map-set, map-append, some, none, get_elem?, Me, step, Allows, at_map, set_else, set_here, Positions, QueueView, both, emptied, ViewsShow, spot, listed_look, at_below, grows_refl, total_kept, total_set, head_word, tail_word, ends_word, flag_word, Shape, empty, View, of_queues, nothing_did, did_both, part_of, shuts_of, Rule, newcomer, IsRuled, ◌*◌, data_in, flag_in, IsUsed, by_ends, by_head, by_tail, unused_kept}
 use Rattle.table_theory.proofs.Rests.{rests_first}
 use Rattle.table_theory.proofs.Unused.{all_alike}
 use Rattle.std.proofs.Common.{replicate}
 use Rattle.std.proofs.lemmas.List.{length-replicate, get_or-replicate}
 use Rattle.atomic_table.specs.Table.{Splits, Joins, opening}
 use Rattle.table_theory.specs.Ledgers.{opened, rest_of, newborn}
+use Rattle.table_theory.specs.Plays.{counts_up, counts_down, counts}
 use Rattle.table_theory.specs.Sharing.{total}
 use Rattle.table_theory.proofs.Listing.{listed_new, listed_join, listed_first}
+use Rattle.table_theory.proofs.Ruling as ruling
 use Rattle.table_theory.proofs.Stepping as ends
 use Rattle.table_theory.proofs.Tables as tables
 use Rattle.table_theory.proofs.Totals.{total_push}
 use Rattle.claim_queue.specs.Layout.{width}
-use Rattle.claim_queue.specs.Steps.{counts_up, counts_down, counts}
+use Rattle.claim_queue.specs.Rules.{now_of, HasTallied}
 use Rattle.claim_queue.proofs.Growing.{reaches_grow}
-use Rattle.claim_queue.proofs.Stepping.{table, found, seen_grows, ruled_now}
+use Rattle.claim_queue.proofs.Stepping.{table, seen_grows, ruled_now}
 
+-- the number of ends is counted up and down, and found
 module _ (key : Shape) (n id : ℕ) (me : Me Unit View) where
-  pub ups : me.0.member.ends + 1 ≤ me.0.member.share → Allows (Rule key) n id me ends_word (λ x. (x + 1) % 18446744073709551616) (counts_up (step n ends_word 1 0 none) me)
-  ups parts = tables.ups (table key) n id me (counts_up (step n ends_word 1 0 none) me) parts (λ s k at r. (refl, ruled_now key _ s id me.0 _ at r, ends.counted_up k.stands id me.0 at))
+  pub ups : me.0.member.ends + 1 ≤ me.0.member.share → Allows (Rule key) n id me ends_word (λ x. (x + 1) % 18446744073709551616) (counts_up IsRuled (step n ends_word 1 0 none) me)
+  ups parts = tables.ups (table key) n id me (counts_up IsRuled (step n ends_word 1 0 none) me) parts (λ s k at r. ((refl, ruled_now key _ s id me.0 _ at r), ends.counted_up k.stands id me.0 at))
 
-  pub downs : 2 ≤ me.0.member.ends → Allows (Rule key) n id me ends_word (λ x. (x + (18446744073709551616 - 1)) % 18446744073709551616) (counts_down (step n ends_word 1 0 none) me)
-  downs two = tables.downs (table key) n id me (counts_down (step n ends_word 1 0 none) me) two (λ s k at r. (refl, ruled_now key _ s id me.0 _ at r, ends.counted_down k.stands id me.0 at))
+  pub downs : 2 ≤ me.0.member.ends → Allows (Rule key) n id me ends_word (λ x. (x + (18446744073709551616 - 1)) % 18446744073709551616) (counts_down IsRuled (step n ends_word 1 0 none) me)
+  downs two = tables.downs (table key) n id me (counts_down IsRuled (step n ends_word 1 0 none) me) two (λ s k at r. ((refl, ruled_now key _ s id me.0 _ at r), ends.counted_down k.stands id me.0 at))
 
   -- the count is found
-  pub tallies : me.0.member.ends ≡ 1 → Allows (Rule key) n id me ends_word (λ x. x) (counts (step n ends_word 0 0 none) me)
-  tallies one = tables.looks (table key) n id me (counts (step n ends_word 0 0 none) me) ends_word (omega arith) (λ s k at r. ((found key n id me s k at ends_word r).0, ends.tallied_now k.stands id me.0 at one))
+  pub tallies : me.0.member.ends ≡ 1 → Allows (Rule key) n id me ends_word (λ x. x) (counts HasTallied (step n ends_word 0 0 none) me)
+  tallies one = tables.looks (table key) n id me (counts HasTallied (step n ends_word 0 0 none) me) ends_word (omega arith) (λ s k at r. (refl, (ruled_now key _ s id me.0 _ at r, ends.tallied_now k.stands id me.0 at one)))
 
 pub splits : (key : Shape) (id : ℕ) (v : View) → v.member.ends ≡ 2 → Splits (Rule key) id v (rest_of v) (newborn nothing_did v)
 splits key id v two s k at = let q : Positions = k.now.object in let later = seen_grows key s k id v at in let left : View = rest_of v in let right : View = newborn nothing_did v in record {
@@ -40,25 +43,13 @@ splits key id v two s k at = let q : Positions = k.now.object in let later = see
 
 -- both ends of a split stand under the rule
 module _ (v : View) (two : v.member.ends ≡ 2) (r : IsRuled v) where
-  abbrev left : List View
-  left = set r.state.views r.number (rest_of v)
-
-  parted : (w : View) (number : ℕ) → get_elem? (left ++ newborn nothing_did v ∷ []) number ≡ some w → w.seen ≡ v.seen → IsRuled w
-  unfolding splits
-  parted w number here seen = record {
-    key = r.key;
-    state = record { words = r.state.words; homes = r.state.homes; views = left ++ newborn nothing_did v ∷ [] };
-    rule = splits r.key r.number v two r.state r.rule r.here;
-    number = number;
-    here = here;
-    seen = seen ∙ r.seen;
-  }
-
   pub rest_ruled : IsRuled (rest_of v)
-  rest_ruled = parted (rest_of v) r.number (at_longer left (newborn nothing_did v ∷ []) r.number (rest_of v) (set_here r.state.views r.number (rest_of v) (at_below r.state.views r.number v r.here))) refl
+  unfolding splits
+  rest_ruled = ruling.rest_ruled Rule now_of nothing_did splits (λ key id u is s k at. refl) v two r
 
   pub born_ruled : IsRuled (newborn nothing_did v)
-  born_ruled = parted (newborn nothing_did v) (length left) (at_last left (newborn nothing_did v) (length left) refl) refl
+  unfolding splits
+  born_ruled = ruling.born_ruled Rule now_of nothing_did splits (λ key id u is s k at. refl) v two r
 
 pub joins : (key : Shape) (id other : ℕ) (v w : View) → 1 ≤ v.member.ends → Joins (Rule key) id v other w (both did_both v w) (emptied nothing_did v)
 joins key id other v w live s k at ne has = let one : View = both did_both v w in let spent : View = emptied nothing_did v in let q : Positions = k.now.object in let at' : get_elem? s.views other ≡ some w = sym (set_else s.views id other one ne) ∙ has in

@@ -19,7 +19,7 @@ use Rattle.table_theory.specs.Positioned.{Grows, with_claim, with_take, with_shu
 use Rattle.claim_queue.specs.Changes.{IsPlace, written}
 use Rattle.claim_queue.specs.declared.layout.TheConstants.{SHUT, MOST_PLACES}
 use Rattle.claim_queue.specs.declared.rule.Did.{Did}
-use Rattle.claim_queue.specs.Layout.{head_word, tail_word, ends_word, width}
+use Rattle.claim_queue.specs.Layout.{head_word, tail_word, width}
 use Rattle.claim_queue.specs.Own.{View, run, taking, with_run, with_changed, with_taking, with_shutting}
 use Rattle.claim_queue.specs.Rules.{IsRuled}
 
@@ -94,15 +94,3 @@ Shut v found w = (at : Moment Positions)
 
 abbrev pub shuts : Step Unit → Me Unit View → ℕ → Me Unit View → Type 0
 shuts st m r m' = Stays m m' × Shut m.0 r m'.0
-
--- what counting one end more tells
-abbrev pub counts_up : Step Unit → Me Unit View → ℕ → Me Unit View → Type 0
-counts_up st m r m' = (m'.1 ≡ m.1) × IsRuled m'.0 × ends.CountedUp ends_word m.0 m'.0
-
--- what counting one end less tells
-abbrev pub counts_down : Step Unit → Me Unit View → ℕ → Me Unit View → Type 0
-counts_down st m r m' = (m'.1 ≡ m.1) × IsRuled m'.0 × ends.CountedDown ends_word m.0 m'.0
-
--- what a look at the number of ends tells
-abbrev pub counts : Step Unit → Me Unit View → ℕ → Me Unit View → Type 0
-counts st m r m' = Stays m m' × ends.Tallied ends_word m.0 r m'.0

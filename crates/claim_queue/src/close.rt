@@ -9,13 +9,14 @@ ghost use Rattle.table_theory.specs.declared.positions.TheConstants.{POSITIONS};
 ghost use Rattle.claim_queue.specs.Layout.{width, ends_word};
 ghost use Rattle.claim_queue.specs.Lines.{SameLines};
 
-use crate::counting::{close_by, count};
 use crate::ends::{ClaimQueue, QueueEnd};
-use crate::layout::{HEAD, SHUT, TAIL, data_word, flag_word};
+use crate::layout::{ENDS, HEAD, SHUT, TAIL, data_word, flag_word};
 use crate::steps::or_head;
 use arrayvec::ArrayVec;
 use std::alloc::Global;
+use std::marker::Brand;
 use table_theory::OpenEnds;
+use table_theory::last_end::{close_by, count};
 
 /// What a queue had at its end: its first position, how many items were put (claimed) and taken, and those left, in the
 /// order of their claims. None stands for a place that was claimed and never raised.
@@ -86,7 +87,7 @@ impl<const N: usize> ClaimQueue<N> {
         ensures same { IfErr result (λ e. (e.0 ≡ self.entry) × IsSameEnd end.entry e.1) }
     {
         let QueueEnd { seat } = end;
-        let last = match count(&self.table.shared, seat) {
+        let last = match count::<_, _, _, _, Brand>(&self.table.shared, seat, ENDS) {
             Ok(last) => last,
             Err((seat, ends)) => {
                 return Err((self, QueueEnd { seat }, OpenEnds { others: ends - 1 }));

@@ -9,11 +9,11 @@ ghost use Rattle.claim_queue.specs.Lines.{lines_put, lines_taken};
 
 use crate::layout::{ENDS, HEAD, TAIL, width};
 use crate::rule::{ClaimRule, Shape, View};
-use crate::steps::{count_down, count_up, split_off, take_in};
 use atomic_table::{Seat, Table};
 use event_theory::OutOfMemory;
 use std::alloc::Global;
 use std::marker::Brand;
+use table_theory::end_steps::{count_down, count_up, split_off, take_in};
 
 #[derive(Drop)]
 pub struct ClaimQueue<const N: usize> {
@@ -75,7 +75,7 @@ impl<const N: usize> ClaimQueue<N> {
         ensures claims { KeepsClaims (view_of end.old) (view_of end.new) }
         ensures same { IsSameEnd end.old end.new × AreOfOneQueue end.old result }
     {
-        count_up(&self.table.shared, &mut end.seat);
+        count_up(&self.table.shared, &mut end.seat, ENDS);
         let seat = split_off(&self.table.shared, &mut end.seat);
         QueueEnd { seat }
     }
@@ -92,7 +92,7 @@ impl<const N: usize> ClaimQueue<N> {
         ensures same { IsSameEnd end.old end.new }
     {
         let QueueEnd { seat } = other;
-        take_in::<Brand>(&self.table.shared, &mut end.seat, seat);
-        count_down(&self.table.shared, &mut end.seat);
+        take_in::<_, _, _, _, _, Brand>(&self.table.shared, &mut end.seat, seat);
+        count_down(&self.table.shared, &mut end.seat, ENDS);
     }
 }

@@ -1,21 +1,15 @@
 //! The atomic steps. No signature has a const parameter, since a call of such a function could not pick ghost members.
-ghost use Rattle.std.specs.Prelude.{◌≡◌, ◌≢◌, ◌+◌, ◌-◌, ◌%◌, ◌<◌, ◌≤◌, ℕ, false, [], length};
+ghost use Rattle.std.specs.Prelude.{◌≡◌, ◌≢◌, ◌+◌, ◌-◌, ◌<◌, ◌≤◌, ℕ, false, length};
 ghost use Rattle.table_theory.specs.declared.positions.TheConstants.{POSITIONS};
-ghost use Rattle.table_theory.specs.Ledgers.{CountedUp, CountedDown, rest_of, newborn, both, emptied};
 ghost use Rattle.table_theory.specs.Positioned.{fresh, tail_of, item_at, written_at};
 ghost use Rattle.table_theory.specs.Seating.{IsSame};
-ghost use Rattle.claim_queue.specs.Layout.{head_word, tail_word, ends_word, data_word, flag_word};
+ghost use Rattle.claim_queue.specs.Layout.{head_word, tail_word, data_word, flag_word};
 ghost use Rattle.claim_queue.specs.declared.layout.TheConstants.{FIRST_PLACE, MOST_PLACES, SHUT};
-ghost use Rattle.claim_queue.specs.Own.{nothing_did, did_both};
-ghost use Rattle.claim_queue.specs.Rules.{IsRuled};
 ghost use Rattle.claim_queue.specs.Steps.{IsSeated, IsNear, HasPlace, Stays, Found, Claimed, WroteAt, Took, Shut};
 ghost use Rattle.claim_queue.specs.Takings.{HasRaised};
 
-use crate::layout::{ENDS, HEAD, SHUT, TAIL, data_word, flag_word};
-use crate::plays::{
-    ClaimItems, Claims, CountsDown, CountsUp, Finds, Gives, Joins, Shuts, Spent, Spot, StoresData,
-    StoresFlag, Takes,
-};
+use crate::layout::{HEAD, SHUT, TAIL, data_word, flag_word};
+use crate::plays::{ClaimItems, Claims, Finds, Shuts, Spot, StoresData, StoresFlag, Takes};
 use crate::rule::{ClaimRule, Shape, View};
 use atomic_table::{Seat, Shared};
 
@@ -152,45 +146,4 @@ pub(crate) fn or_head(words: &Words, seat: &mut Seat<(), View>) -> u64
     ensures shut { Shut seat.old.me.0 result seat.new.me.0 }
 {
     words.fetch_or::<Shuts>(seat, HEAD, SHUT)
-}
-
-pub(crate) fn count_up(words: &Words, seat: &mut Seat<(), View>) -> u64
-    requires queue { (seat.old.table_id ≡ words.now.table_id) × (FIRST_PLACE ≤ words.now.table_id.words) }
-    requires parts { seat.old.me.0.member.ends + 1 ≤ seat.old.me.0.member.share }
-    ensures queue { IsSame seat.old seat.new × (seat.new.me.1 ≡ seat.old.me.1) }
-    ensures ruled { IsRuled seat.new.me.0 }
-    ensures counted { CountedUp ends_word seat.old.me.0 seat.new.me.0 }
-{
-    words.fetch_add::<CountsUp>(seat, ENDS, 1)
-}
-
-pub(crate) fn count_down(words: &Words, seat: &mut Seat<(), View>) -> u64
-    requires queue { (seat.old.table_id ≡ words.now.table_id) × (FIRST_PLACE ≤ words.now.table_id.words) }
-    requires live { 2 ≤ seat.old.me.0.member.ends }
-    ensures queue { IsSame seat.old seat.new × (seat.new.me.1 ≡ seat.old.me.1) }
-    ensures ruled { IsRuled seat.new.me.0 }
-    ensures counted { CountedDown ends_word seat.old.me.0 seat.new.me.0 }
-{
-    words.fetch_sub::<CountsDown>(seat, ENDS, 1)
-}
-
-pub(crate) fn split_off(words: &Words, seat: &mut Seat<(), View>) -> Seat<(), View>
-    requires queue { (seat.old.table_id ≡ words.now.table_id) × (FIRST_PLACE ≤ words.now.table_id.words) }
-    requires live { seat.old.me.0.member.ends ≡ 2 }
-    ensures queue { IsSame seat.old seat.new × (result.table_id ≡ seat.old.table_id) }
-    ensures split { (seat.new.me ≡ (rest_of seat.old.me.0, seat.old.me.1))
-        × (result.me ≡ (newborn nothing_did seat.old.me.0, [])) }
-{
-    words.split_seat::<Gives>(seat)
-}
-
-pub(crate) fn take_in<J: Spent>(words: &Words, seat: &mut Seat<(), View>, other: Seat<(), View>)
-    requires queue { (seat.old.table_id ≡ words.now.table_id) × (other.table_id ≡ words.now.table_id)
-        × (other.me.1 ≡ []) × (FIRST_PLACE ≤ words.now.table_id.words) }
-    requires live { (1 ≤ seat.old.me.0.member.ends) × (1 ≤ other.me.0.member.ends) }
-    requires spent { J.view ≡ emptied nothing_did seat.old.me.0 }
-    ensures queue { IsSame seat.old seat.new }
-    ensures joined { seat.new.me ≡ (both did_both seat.old.me.0 other.me.0, seat.old.me.1) }
-{
-    words.join_seat::<Joins<J>>(seat, other);
 }

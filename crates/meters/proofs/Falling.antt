@@ -1,5 +1,5 @@
 -- No clock that a call has found is below one that its end had seen.
-use Rattle.meters.proofs.Common.{◌≡◌, ℕ, ◌+◌, ◌<◌, ◌≤◌, ⊎_elim, List, [], ◌∷◌, ◌++◌, arith, Moment, Step, Adds, IsReal, IsHonest, Reading, SeatView, clock_word, of_meters}
+use Rattle.meters.proofs.Common.{◌≡◌, ◌≤◌, ⊎_elim, List, ◌∷◌, ◌++◌, arith, Moment, Step, Adds, IsReal, IsHonest, Reading, SeatView, clock_word, of_meters}
 use Rattle.table_theory.specs.Ledgers.{Passes}
 use Rattle.table_theory.proofs.Reaching.{passes_since}
 use Rattle.table_theory.proofs.Saying.{passes_split, real_goes, passes_go}

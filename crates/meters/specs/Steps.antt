@@ -5,14 +5,13 @@ use Rattle.atomic_table.specs.Seated.{TableId}
 use Rattle.atomic_table.specs.Table.{Me, Step}
 use Rattle.atomic_table.specs.declared.shared.Seat.{Seat}
 use Rattle.table_theory.specs.declared.views.Moment.{Moment}
-use Rattle.table_theory.specs.Ledgers.{change, IsHonest, Looked, Made, CountedDown}
+use Rattle.table_theory.specs.Ledgers.{change, IsHonest, Looked, Made}
 use Rattle.table_theory.specs.Plays.{Stays}
 use Rattle.table_theory.specs.Seating.{IsSame}
-use Rattle.meters.specs.Layout.{ends_word, gauge_word, clock_word, slot_word, width, word_of}
+use Rattle.meters.specs.Layout.{gauge_word, clock_word, slot_word, width, word_of}
 use Rattle.meters.specs.declared.rule.Reading.{Reading}
 use Rattle.meters.specs.Changes.{with_tick, with_advance, with_alarm, with_fired, with_cancelled}
 use Rattle.meters.specs.Own.{SeatView, of_meters}
-use Rattle.meters.specs.Views.{IsPart}
 use Rattle.meters.specs.Words.{IsInRange, Fits}
 use Rattle.meters.specs.Answers.{Visit, entries_of, IsVisit, gave}
 
@@ -32,7 +31,7 @@ WasTicked v gauge amount found w = (m : Moment Reading)
 
 -- what adding to a gauge tells
 abbrev pub ticks : Step Unit → Me Unit SeatView → ℕ → Me Unit SeatView → Type 0
-ticks st m r m' = Stays of_meters m m'
+ticks st m r m' = Stays (IsHonest of_meters) m m'
     × ((gauge : ℕ) → st.word ≡ gauge_word gauge → WasTicked m.0 gauge st.first r m'.0)
 
 -- the clock was found at this tick, and moved on
@@ -43,7 +42,7 @@ WasAdvanced v clock w = (m : Moment Reading)
 
 -- what an exchange of the clock tells
 abbrev pub advances : Step Unit → Me Unit SeatView → ℕ → Me Unit SeatView → Type 0
-advances st m r m' = Stays of_meters m m'
+advances st m r m' = Stays (IsHonest of_meters) m m'
     × (r ≡ st.first → WasAdvanced m.0 st.first m'.0)
     × (r ≢ st.first → Looked m.0 st.word r m'.0)
 
@@ -63,7 +62,7 @@ WasSet v slot alarm w = (m : Moment Reading)
 -- have the bits
 abbrev pub exchanges : (SeatView → ℕ → Alarm → SeatView → Type 0) → ℕ → Step Unit → Me Unit SeatView → ℕ
     → Me Unit SeatView → Type 0
-exchanges Was bits st m r m' = Stays of_meters m m'
+exchanges Was bits st m r m' = Stays (IsHonest of_meters) m m'
     × (r ≡ st.first → (slot : ℕ) (alarm : Alarm) → IsWordOf slot alarm st.word bits → Was m.0 slot alarm m'.0)
     × (r ≢ st.first → Looked m.0 st.word r m'.0)
 
@@ -90,10 +89,6 @@ WasCancelled v slot alarm w = (m : Moment Reading)
 -- what an exchange tells that is to cancel an alarm
 abbrev pub cancels : Step Unit → Me Unit SeatView → ℕ → Me Unit SeatView → Type 0
 cancels st m r m' = exchanges WasCancelled st.first st m r m'
-
--- what counting one end less tells; no alarm that was set or taken out is had by two ends
-abbrev pub counts_down : Step Unit → Me Unit SeatView → ℕ → Me Unit SeatView → Type 0
-counts_down st m r m' = Stays of_meters m m' × CountedDown ends_word m.0 m'.0 × IsPart m'.0
 
 -- a slot's word was found, which says this
 pub record FoundIn (v : SeatView) (slot : ℕ) (stood : Option Alarm) (w : SeatView) : Type 0 where

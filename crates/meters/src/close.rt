@@ -6,15 +6,16 @@ ghost use Rattle.meters.specs.Layout.{gauges_in, width};
 ghost use Rattle.meters.specs.Words.{SlotsShow, standing};
 ghost use Rattle.meters.specs.Closings.{ClosedNow, WereOpen};
 
-use crate::counting::{close_by, count};
 use crate::ends::{MeterSeat, Meters};
-use crate::layout::{CLOCK, FIRST_GAUGE, FIRST_SLOT, GAUGES, SLOTS};
+use crate::layout::{CLOCK, ENDS, FIRST_GAUGE, FIRST_SLOT, GAUGES, SLOTS};
 use crate::word::AlarmWord;
 use arrayvec::ArrayVec;
 use atomic_table::Closed;
 use event_theory::Alarm;
 use std::alloc::Global;
+use std::marker::Brand;
 use table_theory::OpenEnds;
+use table_theory::last_end::{close_by, count};
 
 /// The meters at their end: the gauges, the clock, and the alarms that stand, in the order of their slots.
 #[derive(Drop)]
@@ -63,7 +64,7 @@ impl Meters {
         ensures same { IfErr result (λ e. (e.0 ≡ self) × IsSameSeat seat e.1) }
     {
         let MeterSeat { seat } = seat;
-        let last = match count(&self.table.shared, seat) {
+        let last = match count::<_, _, _, _, Brand>(&self.table.shared, seat, ENDS) {
             Ok(last) => last,
             Err((seat, ends)) => {
                 return Err((self, MeterSeat { seat }, OpenEnds { others: ends - 1 }));

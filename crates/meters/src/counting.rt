@@ -1,69 +1,23 @@
-//! The look at the number of ends before a close.
-//!
-//! An end that found no other is a `Last`, which can do nothing but close the table: it can't be let go, copied or made
-//! elsewhere. So a close that succeeds makes one look at the table, and none after it. None comes before it either: an
-//! end that isn't alone comes back with this one look in its list, and no other load of the number of ends could say
-//! sooner that it is alone.
-ghost use Rattle.std.specs.Prelude.{◌≡◌, ◌≢◌, ◌≤◌, IfOk, IfErr};
-ghost use Rattle.std.specs.Mem.Slots.{slots_items, slots_len, IsFull};
-ghost use Rattle.atomic_table.specs.Table.{Final, Seen};
-ghost use Rattle.table_theory.specs.Ledgers.{Tallied};
-ghost use Rattle.table_theory.specs.Plays.{counts};
-ghost use Rattle.table_theory.specs.Seating.{IsSame};
-ghost use Rattle.meters.specs.Layout.{ends_word, width};
-ghost use Rattle.meters.specs.Own.{of_meters};
-ghost use Rattle.meters.specs.Rules.{Rule};
-ghost use Rattle.meters.specs.Steps.{HasStepped};
+//! How the ends of the meters are counted: what the steps of the theory of tables take from their rule.
+use crate::rule::{Did, MeterRule, Reading, Shape, View};
+use table_theory::end_steps::EndsRule;
+use table_theory::last_end::CountRule;
 
-use crate::layout::ENDS;
-use crate::rule::{MeterRule, Shape, View};
-use crate::steps::Words;
-use atomic_table::{Closed, Play, Seat, Table};
-use std::alloc::Global;
+impl CountRule<(), View, Shape> for MeterRule {
+    ghost use Rattle.meters.specs.Rules.{HasTallied};
 
-/// The number of ends where there is no other.
-const ALONE: u64 = 1;
-
-struct Counts;
-
-impl Play<(), View> for Counts {
-    ghost then = { counts of_meters };
+    ghost tallied = { λ id. HasTallied };
 }
 
-/// An end that found no other.
-pub(crate) struct Last {
-    seat: Seat<(), View>,
-}
+impl EndsRule<(), Did, Reading, Shape> for MeterRule {
+    ghost use Rattle.meters.specs.Own.{nothing_did, did_both};
+    ghost use Rattle.meters.specs.Rules.{newcomer, IsSound};
 
-/// Looks at the number of ends. Where others stand, the end comes back with the number of all.
-pub(crate) fn count(words: &Words, seat: Seat<(), View>) -> Result<Last, (Seat<(), View>, u64)>
-    requires seat { (seat.table_id ≡ words.now.table_id) × (width ≤ words.now.table_id.words) }
-    requires one { seat.me.0.member.ends ≡ 1 }
-    ensures alone { IfOk result (λ last. IsSame seat last.seat
-        × Tallied ends_word seat.me.0 1 last.seat.me.0) }
-    ensures others { IfErr result (λ e. (e.1 ≢ 1) × HasStepped seat e.0
-        × Tallied ends_word seat.me.0 e.1 e.0.me.0) }
-{
-    let mut seat = seat;
-    let ends = words.load::<Counts>(&mut seat, ENDS);
-    if ends == ALONE {
-        return Ok(Last { seat });
-    }
-    Err((seat, ends))
-}
+    ghost suits = { IsSound };
 
-/// Closes the table by its last end.
-pub(crate) fn close_by(
-    table: Table<(), View, Shape, MeterRule, Global>,
-    last: Last,
-) -> Closed<(), Global>
-    requires { last.seat.table_id ≡ table.shared.table_id }
-    ensures counts { (slots_len result.words ≡ table.shared.table_id.words)
-        × (slots_len result.slots ≡ table.shared.table_id.slots) }
-    ensures values { IsFull result.words × IsFull result.slots
-        × Final (Seen (Rule table.shared.key) last.seat.id last.seat.me.0)
-        (slots_items result.words) (slots_items result.slots) }
-{
-    let Last { seat } = last;
-    table.close_with(seat)
+    ghost nothing = { nothing_did };
+
+    ghost plus = { did_both };
+
+    ghost some_view = { newcomer (record { clock = 0 }) };
 }

@@ -8,11 +8,11 @@ ghost use Rattle.table_theory.specs.Ledgers.{IsHonest};
 
 use crate::layout::{CLOCK, ENDS, WORDS};
 use crate::rule::{MeterRule, Shape, View};
-use crate::steps::{count_down, count_up, split_off, take_in};
 use atomic_table::{Seat, Table};
 use event_theory::OutOfMemory;
 use std::alloc::Global;
 use std::marker::Brand;
+use table_theory::end_steps::{count_down, count_up, split_off, take_in};
 
 /// 8 gauges, a clock, and 16 slots for alarms.
 ///
@@ -69,7 +69,7 @@ impl Meters {
         ensures steps { Divided (view_of seat.old) (view_of seat.new) }
         ensures same { IsSameSeat seat.old seat.new × AreOfOneTable seat.old result }
     {
-        count_up(&self.table.shared, &mut seat.seat);
+        count_up(&self.table.shared, &mut seat.seat, ENDS);
         let new = split_off(&self.table.shared, &mut seat.seat);
         MeterSeat { seat: new }
     }
@@ -83,7 +83,7 @@ impl Meters {
         ensures same { IsSameSeat seat.old seat.new }
     {
         let MeterSeat { seat: spent } = other;
-        take_in::<Brand>(&self.table.shared, &mut seat.seat, spent);
-        count_down(&self.table.shared, &mut seat.seat);
+        take_in::<_, _, _, _, _, Brand>(&self.table.shared, &mut seat.seat, spent);
+        count_down(&self.table.shared, &mut seat.seat, ENDS);
     }
 }

@@ -1,19 +1,13 @@
 //! The atomic steps, one function for each kind.
-ghost use Rattle.std.specs.Prelude.{◌≡◌, ◌≢◌, ◌+◌, ◌<◌, ◌≤◌, [], IsTrue, IsFalse, Option, Some, None};
-ghost use Rattle.table_theory.specs.Seating.{IsSame};
-ghost use Rattle.table_theory.specs.Ledgers.{Looked, CountedUp, CountedDown};
-ghost use Rattle.table_theory.specs.Ledgers.{rest_of, newborn, both, emptied};
-ghost use Rattle.meters.specs.Layout.{ends_word, clock_word, width, word_of};
+ghost use Rattle.std.specs.Prelude.{◌≡◌, ◌≢◌, ◌+◌, ◌<◌, ◌≤◌, IsTrue, IsFalse, Option, Some, None};
+ghost use Rattle.table_theory.specs.Ledgers.{Looked};
+ghost use Rattle.meters.specs.Layout.{clock_word, word_of};
 ghost use Rattle.meters.specs.declared.layout.TheConstants.{GAUGES, SLOTS, TICKS, LAST_TICK};
-ghost use Rattle.meters.specs.Own.{of_meters, nothing_did, did_both};
 ghost use Rattle.meters.specs.Steps.{CanStep, HasStepped};
 ghost use Rattle.meters.specs.Steps.{WasTicked, WasAdvanced, WasSet, WasFired, WasCancelled, FoundIn, FoundOther};
-ghost use Rattle.meters.specs.Views.{IsPart};
 
-use crate::layout::{CLOCK, ENDS, FIRST_GAUGE, FIRST_SLOT};
-use crate::plays::{
-    Advances, Cancels, CountsDown, CountsUp, Finds, Fires, Gives, Joins, Sets, Spent, Ticks,
-};
+use crate::layout::{CLOCK, FIRST_GAUGE, FIRST_SLOT};
+use crate::plays::{Advances, Cancels, Finds, Fires, Sets, Ticks};
 use crate::rule::{MeterRule, Shape, View};
 use crate::word::AlarmWord;
 use atomic_table::{Seat, Shared};
@@ -129,43 +123,4 @@ pub(crate) fn exchange_cancelled(
 {
     let word = AlarmWord::of(alarm).bits();
     words.compare_exchange::<Cancels>(seat, FIRST_SLOT + slot, word, 0) == word
-}
-
-pub(crate) fn count_up(words: &Words, seat: &mut Seat<(), View>) -> u64
-    requires seat { (seat.old.table_id ≡ words.now.table_id) × (width ≤ words.now.table_id.words) }
-    requires parts { seat.old.me.0.member.ends + 1 ≤ seat.old.me.0.member.share }
-    ensures seat { HasStepped seat.old seat.new }
-    ensures counted { CountedUp ends_word seat.old.me.0 seat.new.me.0 }
-{
-    words.fetch_add::<CountsUp>(seat, ENDS, 1)
-}
-
-pub(crate) fn count_down(words: &Words, seat: &mut Seat<(), View>) -> u64
-    requires seat { (seat.old.table_id ≡ words.now.table_id) × (width ≤ words.now.table_id.words) }
-    requires live { 2 ≤ seat.old.me.0.member.ends }
-    ensures seat { HasStepped seat.old seat.new }
-    ensures counted { CountedDown ends_word seat.old.me.0 seat.new.me.0 × IsPart seat.new.me.0 }
-{
-    words.fetch_sub::<CountsDown>(seat, ENDS, 1)
-}
-
-pub(crate) fn split_off(words: &Words, seat: &mut Seat<(), View>) -> Seat<(), View>
-    requires seat { (seat.old.table_id ≡ words.now.table_id) × (width ≤ words.now.table_id.words) }
-    requires two { seat.old.me.0.member.ends ≡ 2 }
-    ensures seat { IsSame seat.old seat.new × (result.table_id ≡ seat.old.table_id) }
-    ensures split { (seat.new.me ≡ (rest_of seat.old.me.0, seat.old.me.1))
-        × (result.me ≡ (newborn nothing_did seat.old.me.0, [])) }
-{
-    words.split_seat::<Gives>(seat)
-}
-
-pub(crate) fn take_in<J: Spent>(words: &Words, seat: &mut Seat<(), View>, other: Seat<(), View>)
-    requires seat { (seat.old.table_id ≡ words.now.table_id) × (other.table_id ≡ words.now.table_id)
-        × (other.me.1 ≡ []) × (width ≤ words.now.table_id.words) }
-    requires live { (1 ≤ seat.old.me.0.member.ends) × (1 ≤ other.me.0.member.ends) }
-    requires spent { J.view ≡ emptied nothing_did seat.old.me.0 }
-    ensures seat { IsSame seat.old seat.new }
-    ensures joined { seat.new.me ≡ (both did_both seat.old.me.0 other.me.0, seat.old.me.1) }
-{
-    words.join_seat::<Joins<J>>(seat, other);
 }

@@ -24,6 +24,7 @@ pub mod QueueOf
 pub mod Reading
 pub mod Reaching
 pub mod Rests
+pub mod Ruling
 pub mod Saying
 pub mod Standing
 pub mod Stepping

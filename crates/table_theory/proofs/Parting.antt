@@ -1,5 +1,5 @@
 -- What the calls that split, join and close tell, by the steps that they are made of.
-use Rattle.table_theory.proofs.Common.{◌≡◌, ◌≢◌, ℕ, ◌+◌, ◌-◌, Bool, true, false, List, [], ◌++◌, sym, refl, ap, ◌∙◌, subst, arith, if◌then◌else◌, nat_lt, Ledger, Begins, kept, given, Step, Made, CountedUp, CountedDown, TookIn, Tallied, rest_of, newborn, both, Part}
+use Rattle.table_theory.proofs.Common.{◌≡◌, ◌≢◌, ℕ, ◌+◌, ◌-◌, ◌≤◌, Bool, true, false, List, [], ◌++◌, sym, refl, ap, ◌∙◌, subst, arith, if◌then◌else◌, nat_lt, Ledger, Begins, kept, given, Step, Made, CountedUp, CountedDown, TookIn, Tallied, rest_of, newborn, both, Part}
 use Rattle.std.specs.Prelude.{length}
 use Rattle.table_theory.specs.Ledgers.{Divided, IsNewborn, WereOpen}
 use Rattle.table_theory.proofs.Reaching.{adds_none, adds_behind}
@@ -39,6 +39,10 @@ module _ {K O : Type 0} (nothing : K) (plus : K → K → K) (word : ℕ) where
   -- the two ends of a split, as they are given back
   pub split_views : {A : Type 0} (v u : (Ledger K O)) (one other : (Ledger K O) × A) (a b : A) → CountedUp word v u → one ≡ (rest_of u, a) → other ≡ (newborn nothing u, b) → Divided word v one.0 × IsNewborn nothing v one.0 other.0
   split_views v u one other a b c e e' = (subst (λ z. Divided word v z.0) (sym e) (divided v u c), subst (λ z. IsNewborn nothing v z.0 other.0) (sym e) (subst (λ z. IsNewborn nothing v (rest_of u) z.0) (sym e') (born v u c)))
+
+  -- an end that took in another can count one end less
+  pub two_ends : (v u b : (Ledger K O)) → v.member.ends ≡ 1 → u.member.ends ≡ 1 → b ≡ both plus v u → 2 ≤ b.member.ends
+  two_ends v u b one one' is = let e : b.member.ends ≡ v.member.ends + u.member.ends = ap (λ (z : Ledger K O). z.member.ends) is in omega arith
 
   -- an end that took in another, and then was counted down
   pub took_in : (v u b w : (Ledger K O)) → v.member.ends ≡ 1 → u.member.ends ≡ 1 → b ≡ both plus v u → CountedDown word b w → TookIn plus word v u w

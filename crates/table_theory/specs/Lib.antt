@@ -13,6 +13,7 @@ pub mod Positioned
 pub mod QueueOf
 pub mod Reads
 pub mod Rests
+pub mod Ruled
 pub mod Seating
 pub mod Seeing
 pub mod Sharing

@@ -1,14 +1,24 @@
--- What the steps tell that every table has: a look at a word, and the steps on the number of ends. Each leaves the
--- end's list true, and what it holds as it was.
+-- What the steps tell that every table has: a look at a word, and the steps on the number of ends. Each leaves what the
+-- end holds as it was, and of what the end knows then the table says what is so, as that its list is true.
 use Rattle.std.specs.Prelude.{◌≡◌, ℕ}
+use mathlib.Core.Option.{Option, none, some}
 use Rattle.atomic_table.specs.Table.{Me, Step}
 use Rattle.table_theory.specs.declared.views.Ledger.{Ledger}
-use Rattle.table_theory.specs.Ledgers.{Subject, IsHonest, Looked, CountedUp, CountedDown, Tallied}
+use Rattle.table_theory.specs.Ledgers.{Looked, CountedUp, CountedDown}
 
-module _ {S K O : Type 0} (subject : Subject O) where
-  -- what the end holds stays, and its list is true
+-- the view that was picked, or one where none was
+abbrev pub the_view : {V : Type 0} → Option V → V → V
+the_view none other = other
+the_view (some view) other = view
+
+-- what a look at the number of ends tells, in a table whose ends know this by it
+abbrev pub counts : {S V : Type 0} → (V → ℕ → V → Type 0) → Step S → Me S V → ℕ → Me S V → Type 0
+counts Tallied st m r m' = (m'.1 ≡ m.1) × Tallied m.0 r m'.0
+
+module _ {S K O : Type 0} (Suits : Ledger K O → Type 0) where
+  -- what the end holds stays, and what it knows then suits the table
   abbrev pub Stays : Me S (Ledger K O) → Me S (Ledger K O) → Type 0
-  Stays m m' = (m'.1 ≡ m.1) × IsHonest subject m'.0
+  Stays m m' = (m'.1 ≡ m.1) × Suits m'.0
 
   -- what a look at a word tells
   abbrev pub finds : Step S → Me S (Ledger K O) → ℕ → Me S (Ledger K O) → Type 0
@@ -16,12 +26,8 @@ module _ {S K O : Type 0} (subject : Subject O) where
 
   -- what counting one end more tells
   abbrev pub counts_up : Step S → Me S (Ledger K O) → ℕ → Me S (Ledger K O) → Type 0
-  counts_up st m r m' = Stays m m' × CountedUp subject.ends_word m.0 m'.0
+  counts_up st m r m' = Stays m m' × CountedUp st.word m.0 m'.0
 
   -- what counting one end less tells
   abbrev pub counts_down : Step S → Me S (Ledger K O) → ℕ → Me S (Ledger K O) → Type 0
-  counts_down st m r m' = Stays m m' × CountedDown subject.ends_word m.0 m'.0
-
-  -- what a look at the number of ends tells
-  abbrev pub counts : Step S → Me S (Ledger K O) → ℕ → Me S (Ledger K O) → Type 0
-  counts st m r m' = Stays m m' × Tallied subject.ends_word m.0 r m'.0
+  counts_down st m r m' = Stays m m' × CountedDown st.word m.0 m'.0

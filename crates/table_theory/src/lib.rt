@@ -7,6 +7,8 @@
 //! split, joined and counted.
 #![tactic(auto)]
 
+pub mod end_steps;
+pub mod last_end;
 pub mod laws;
 pub mod positions;
 pub mod queues;

@@ -145,8 +145,9 @@ counts_up call st m r m' = Tells call (CountedUp m.0 r m'.0) m m'
 abbrev pub counts_down : ℕ → Step Unit → Me Unit View → ℕ → Me Unit View → Type 0
 counts_down call st m r m' = Tells call (CountedDown m.0 r m'.0) m m'
 
-abbrev pub tallies : ℕ → Step Unit → Me Unit View → ℕ → Me Unit View → Type 0
-tallies call st m r m' = Tells call (Tallied m.0 r m'.0) m m'
+-- what the hand of this call knows that found the number of hands
+abbrev pub HasTallied : ℕ → View → ℕ → View → Type 0
+HasTallied call v found w = Tallied v found w × Stands call w
 
 -- the marks of the first list that the second has not
 abbrev pub parted : List Bool → List Bool → List Bool

@@ -8,15 +8,15 @@ ghost use Rattle.thread_table.specs.declared.places.Place.TheVariants as places;
 ghost use Rattle.thread_table.specs.Closings.{ClosedNow, WereOpen, PlaceOf, word_at};
 ghost use Rattle.thread_table.specs.Handles.{view_of, call_of, IsHandOf, IsOnlyHand, IsSameHand};
 
-use crate::counting::{close_by, count};
 use crate::hand::{Hand, ThreadTable};
-use crate::layout::{done_word, state_word};
+use crate::layout::{ENDS, done_word, state_word};
 use crate::places::{Place, place_of};
 use crate::words::StateWord;
 use atomic_table::Closed;
 use std::alloc::Global;
 use std::marker::Brand;
 use table_theory::OpenEnds;
+use table_theory::last_end::{close_by, count};
 
 /// What a table had at its end, each list by the number of the element.
 #[derive(Drop)]
@@ -110,7 +110,7 @@ impl ThreadTable {
             served,
             running,
         } = hand;
-        let last = match count::<Brand>(&self.table.shared, seat) {
+        let last = match count::<_, _, _, _, Brand>(&self.table.shared, seat, ENDS) {
             Ok(last) => last,
             Err((seat, ends)) => {
                 let hand = Hand {

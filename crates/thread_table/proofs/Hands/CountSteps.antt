@@ -4,10 +4,11 @@ use Rattle.thread_table.proofs.Hands.Releases.{hold_own}
 use Rattle.thread_table.proofs.Shown.QueueWords.{ring_kept, shows_else}
 use Rattle.atomic_table.specs.Table.{step}
 use Rattle.table_theory.specs.Ledgers.{Step}
+use Rattle.table_theory.specs.Plays.{counts}
 use Rattle.table_theory.proofs.Standing.{stand_up, stand_down, number_is}
 use Rattle.thread_table.specs.Schedules.{elements_after}
 use Rattle.thread_table.proofs.Schedule.JoinEvents.{joined_set, none_uncounted, one_uncounted}
-use Rattle.thread_table.specs.Steps.{after, with_split, with_join, counts_up, counts_down, tallies, reads_pc}
+use Rattle.thread_table.specs.Steps.{after, with_split, with_join, counts_up, counts_down, HasTallied, reads_pc}
 use Rattle.thread_table.proofs.Schedule.Acting.{stepped}
 use Rattle.thread_table.proofs.Hands.Looks.{St, steps_to, now_at, hand_counts, hand_quiet, stood_look, real_step, kept, kept_look, found_now, sees_of, honest_of, looked, stepped_now}
 
@@ -69,13 +70,13 @@ downs key n id call me mine live stale s k _ at _ = let v : View = me.0 in let c
     )
 
 -- the number of hands is found
-pub tallies_ends : (key : Shape) (n id call : ℕ) (me : Me Unit View) → call ≡ id → me.0.member.ends ≡ 1 → me.0.own.fresh ≡ true → Allows (Rule key) n id me 0 (λ x. x) (tallies call (step n 0 0 0 none) me)
+pub tallies_ends : (key : Shape) (n id call : ℕ) (me : Me Unit View) → call ≡ id → me.0.member.ends ≡ 1 → me.0.own.fresh ≡ true → Allows (Rule key) n id me 0 (λ x. x) (counts (HasTallied call) (step n 0 0 0 none) me)
 tallies_ends key n id call me mine live fresh s k _ at _ = let v : View = me.0 in let c : ℕ = get_or s.words 0 0 in let active : IsActive v = (omega arith, fresh) in (
   looked v 0 c (steps_to k) (now_at k),
   keeps,
   tt,
   kept_look key s k 0 id c v refl at active,
-  (refl, record { looked = found_now key s k 0 id v at active; number = refl; count = number_is (nothing_of key.first) had_by_both c s.views id v k.ends at live }, subst (λ (z : ℕ). Stands z (looked v 0 c (steps_to k) (now_at k))) (sym mine) (stood_look key s k id 0 c v at)),
+  (refl, (record { looked = found_now key s k 0 id v at active; number = refl; count = number_is (nothing_of key.first) had_by_both c s.views id v k.ends at live }, subst (λ (z : ℕ). Stands z (looked v 0 c (steps_to k) (now_at k))) (sym mine) (stood_look key s k id 0 c v at))),
 )
 
 some_count : (a b : Counted) → ◌≡◌ {A = Option Counted} (Some a) (Some b) → a ≡ b

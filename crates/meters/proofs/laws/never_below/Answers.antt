@@ -1,4 +1,4 @@
-use Rattle.meters.proofs.Common.{◌≤◌, ∥∥₁_elim, IsHonest, of_meters, view_of}
+use Rattle.meters.proofs.Common.{∥∥₁_elim, IsHonest, of_meters, view_of}
 use Rattle.std.proofs.Math.Bridge.{le_prop}
 use Rattle.meters.specs.declared.ends.MeterSeat.{MeterSeat}
 use Rattle.meters.proofs.Falling.{clock_around, clocks_in_order}

@@ -1,10 +1,17 @@
 use Rattle.claim_queue.proofs.Common.{rules, refl, sym, subst, arith, ◌∙◌, ◌+◌, ◌-◌, ◌%◌, ◌≤◌, ℕ, slots_items, left_from}
 use Rattle.claim_queue.proofs.Settling.{spans, closes}
+use Rattle.claim_queue.proofs.Tallying.{tallies}
 use Rattle.claim_queue.proofs.ends.ClaimQueue.close.Goals as goal
+
+pub count-requires-clause-allowed : goal.count-requires-clause-allowed
+count-requires-clause-allowed g c = tallies _ _ _ _ c.args.end.one
 
 pub read_left-left-requires : goal.read_left-left-requires
 read_left-left-requires g c = let s = spans c.args.self.table.shared.key _ _ _ _ _ _ c.close_by-closed.ensures.values.2 c.word-head.ensures c.word-tail.ensures in
     (search rules, (search rules, (s.behind, subst (λ (z : ℕ). c.word-head.result % 4294967296 ≤ c.word-tail.result + z) c.args.self.shaped.1 s.within, s.bounded)))
+
+pub overflow_sub-result-2 : goal.overflow_sub-result-2
+overflow_sub-result-2 g c = let s = spans c.args.self.table.shared.key _ _ _ _ _ _ c.close_by-closed.ensures.values.2 c.word-head.ensures c.word-tail.ensures in let behind = s.behind in let started = s.started in let first = c.args.self.shaped.0 in omega arith
 
 pub overflow_sub-result-3 : goal.overflow_sub-result-3
 overflow_sub-result-3 g c = let s = spans c.args.self.table.shared.key _ _ _ _ _ _ c.close_by-closed.ensures.values.2 c.word-head.ensures c.word-tail.ensures in let started = s.started in let first = c.args.self.shaped.0 in omega arith
@@ -15,6 +22,6 @@ overflow_cast-result-4 g c = let s = spans c.args.self.table.shared.key _ _ _ _ 
 pub returns-clause-closed : goal.returns-clause-closed
 returns-clause-closed g c = let k = c.args.self.table.shared.key in let first = c.args.self.shaped.0 in let room = c.args.self.shaped.1 in let ws = slots_items c.close_by-closed.result.words in (
   refl,
-  closes k _ _ _ _ c.word-head.result c.word-tail.result _ _ ws _ _ c.args.self.first c.args.end.one first c.in-Ok.ensures.alone.1 refl c.close_by-closed.ensures.values.2 c.word-head.ensures c.word-tail.ensures
+  closes k _ _ _ _ c.word-head.result c.word-tail.result _ _ ws _ _ c.args.self.first c.args.end.one first c.in-Ok.ensures.alone.1.1 refl c.close_by-closed.ensures.values.2 c.word-head.ensures c.word-tail.ensures
       (λ i. c.word-head.result % 4294967296 - sym first i) (λ i. c.word-tail.result - sym first i) (c.read_left-left.ensures ∙ (λ i. left_from (sym room i) ws c.word-tail.result (c.word-head.result % 4294967296 - c.word-tail.result))),
 )

@@ -1,16 +1,20 @@
 use Rattle.thread_table.proofs.Common.{rules, refl, subst, ℕ, Final, slots_items, Rule}
 use Rattle.atomic_table.specs.Table.{Seen}
 use Rattle.thread_table.proofs.Closing.Settling.{were_open, closes}
+use Rattle.thread_table.proofs.Hands.CountSteps.{tallies_ends}
 use Rattle.thread_table.proofs.hand.ThreadTable.close.Goals as goal
 
+pub count-requires-clause-allowed : goal.count-requires-clause-allowed
+count-requires-clause-allowed c = tallies_ends _ _ _ _ _ refl c.args.hand.one c.args.hand.fresh
+
 pub returns-in-Err-clause-steps : goal.returns-in-Err-clause-steps
-returns-in-Err-clause-steps c = let o = c.in-Err.ensures.others in were_open _ _ _ _ o.4 o.0 (search rules)
+returns-in-Err-clause-steps c = let o = c.in-Err.ensures.others in were_open _ _ _ _ o.3.0 o.0 (search rules)
 
 pub returns-in-Err-clause-only : goal.returns-in-Err-clause-only
-returns-in-Err-clause-only c = let o = c.in-Err.ensures.others in λ whole. o.0 (o.4.count.whole whole)
+returns-in-Err-clause-only c = let o = c.in-Err.ensures.others in λ whole. o.0 (o.3.0.count.whole whole)
 
 pub returns-clause-closed : goal.returns-clause-closed
 returns-clause-closed c = let key = c.args.self.table.shared.key in let ws = slots_items c.close_by-closed.result.words in let xs = slots_items c.close_by-closed.result.slots in let o = c.in-Ok.ensures.alone in let w = c.in-Ok.last.seat.me.0 in
-    closes key _ w _ _ ws xs _ _ _ _ c.args.hand.fresh c.args.hand.none o.1 refl
+    closes key _ w _ _ ws xs _ _ _ _ c.args.hand.fresh c.args.hand.none o.1.0 refl
     (subst (λ (n : ℕ). Final (Seen (Rule key) n w) ws xs) o.0.1 c.close_by-closed.ensures.values.2)
     c.read_places.ensures c.read_pcs.ensures c.read_pending.ensures c.read_stops.ensures

@@ -1,4 +1,4 @@
 use Rattle.thread_table.proofs.hand.ThreadTable.close.Given as goal
 
 abbrev pub ghosts-count : goal.ghosts-count
-ghosts-count a = record { call = a.seat.id; element = 0 }
+ghosts-count a = record { call = a.seat.id }

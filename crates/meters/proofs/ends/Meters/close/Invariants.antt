@@ -1,0 +1,4 @@
+use Rattle.meters.proofs.ends.Meters.close.Given as goal
+
+abbrev pub ghosts-count : goal.ghosts-count
+ghosts-count a = record { call = a.seat.id }

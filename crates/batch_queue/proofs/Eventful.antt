@@ -15,14 +15,14 @@ use Rattle.batch_queue.proofs.Placing as placing
 use Rattle.batch_queue.proofs.Raising.{published, view_after}
 use Rattle.batch_queue.proofs.Reporting.{free_says, head_says, tail_says}
 
-abbrev Change : BatchState → BatchState → Type 0
+abbrev pub Change : BatchState → BatchState → Type 0
 Change o r = (r ≡ o) ⊎ Becomes o r
 
 one_more : (bs : List (List ℕ)) (b : List ℕ) → bs ++ b ∷ [] ≡ bs → ⊥
 one_more bs b e = let n = length-append bs (b ∷ []) in let l = ap length e in omega arith
 
 -- if a batch was claimed, the queue was open
-claim_open : (o r : BatchState) (items : List ℕ) → r ≡ with_batch o items → Change o r → o.shut ≡ false
+pub claim_open : (o r : BatchState) (items : List ℕ) → r ≡ with_batch o items → Change o r → o.shut ≡ false
 claim_open o r items is (inl same) = absurd (one_more o.batches items (ap (λ (z : BatchState). z.batches) (sym is ∙ same)))
 claim_open o r items is (inr (was_claimed claim some_item is_open fits e)) = is_open
 claim_open o r items is (inr (was_published a b less batch was e)) = absurd (one_more o.batches items (ap (λ (z : BatchState). z.batches) (sym is ∙ e)))
@@ -33,10 +33,14 @@ claim_open o r items is (inr (was_shut e)) = absurd (one_more o.batches items (a
 claim_open o r items is (inr (was_parted p end within e)) = absurd (one_more o.batches items (ap (λ (z : BatchState). z.batches) (sym is ∙ e)))
 
 -- what was taken was published, and up to where a batch ends or was parted
-Taken : BatchState → ℕ → Type 0
+pub Taken : BatchState → ℕ → Type 0
 Taken o new = (new ≤ length (items_of o)) × IsStop o new × AreIn o 1 o.taken new
 
-take_whole : (o r : BatchState) (new : ℕ) → o.taken < new → r ≡ with_taken o new → Change o r → Taken o new
+pub taken_parts : (o : BatchState) (new : ℕ) → Taken o new → (new ≤ length (items_of o)) × IsStop o new × AreIn o 1 o.taken new
+unfolding Taken
+taken_parts o new t = t
+
+pub take_whole : (o r : BatchState) (new : ℕ) → o.taken < new → r ≡ with_taken o new → Change o r → Taken o new
 unfolding Taken
 take_whole o r new less is (inl same) = absurd (let e = ap (λ (z : BatchState). z.taken) (sym is ∙ same) in omega arith)
 take_whole o r new less is (inr (was_claimed claim some_item is_open fits e)) = absurd (let t = ap (λ (z : BatchState). z.taken) (sym is ∙ e) in omega arith)

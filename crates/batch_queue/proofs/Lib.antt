@@ -39,3 +39,4 @@ mod Trying
 mod Unrivalled
 mod SoleTaking
 mod Peeking
+mod Historic

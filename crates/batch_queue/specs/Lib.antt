@@ -19,4 +19,5 @@ pub mod Puts
 pub mod Takings
 pub mod Raises
 pub mod Hints
+pub mod Histories
 pub mod Parts

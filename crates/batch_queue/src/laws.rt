@@ -12,9 +12,10 @@ ghost use Rattle.table_theory.specs.declared.queues.QueueView.{QueueView};
 ghost use Rattle.table_theory.specs.declared.views.Moment.{Moment};
 ghost use Rattle.table_theory.specs.Ledgers.{Step, load, change, count_down, Adds, IsReal, IsHonest, Reaches, Passes};
 ghost use Rattle.table_theory.specs.Apart.{AreApart};
+ghost use Rattle.table_theory.specs.Filing.{Owned};
 ghost use Rattle.table_theory.specs.Listing.{ViewsShow};
 ghost use Rattle.table_theory.specs.Positioned as positions;
-ghost use Rattle.table_theory.specs.QueueOf.{IsEvent, no_event};
+ghost use Rattle.table_theory.specs.QueueOf.{IsEvent, IsEventOf, no_event};
 ghost use Rattle.batch_queue.specs.declared.ends.BatchEnd.{BatchEnd};
 ghost use Rattle.batch_queue.specs.declared.ends.BatchQueue.{BatchQueue};
 ghost use Rattle.batch_queue.specs.declared.layout.TheConstants.{MOST_PLACES, POSITIONS, SHUT};
@@ -23,6 +24,7 @@ ghost use Rattle.batch_queue.specs.declared.refusals.TakeRefusal.TheVariants as 
 ghost use Rattle.batch_queue.specs.declared.rule.BatchState.{BatchState};
 ghost use Rattle.batch_queue.specs.Endings.{TookIn};
 ghost use Rattle.batch_queue.specs.Handles.{view_of, room_of, IsEndOf, IsOnlyEnd};
+ghost use Rattle.batch_queue.specs.Histories.{IsBatchHistory};
 ghost use Rattle.batch_queue.specs.Layout.{head_word, tail_word, free_word, ends_word, mark_word, width, mark};
 ghost use Rattle.batch_queue.specs.Object.{items_of, mark_of, phase_at, IsEdge, IsBatch, IsParted, IsRest, IsStop, AreIn};
 ghost use Rattle.batch_queue.specs.Object.{Becomes, Grows, with_batch, with_up, with_back, with_taken, with_freed, with_shut};
@@ -163,6 +165,46 @@ pub fn changes_are_events()
         → ViewsShow (positions_of m.object) views → get_elem? views seat ≡ some v → w.runs ≡ v.runs
         → w.takes ≡ v.takes → positions.Grows w.queue (positions_of (with_shut m.object))
         → IsEvent (positions_of m.object) (positions_of (with_shut m.object)) seat v w (λ c. Ok (shut c)) }
+{}
+
+/// The same for each history of the queue as the step found it, whoever made its runs: the runs are the batches. There is
+/// such a history.
+pub fn changes_are_events_of_histories()
+    ensures history { (e : Step BatchState) → IsReal of_batches e
+        → (runs : List (Owned Batch)) × IsBatchHistory e.then.object runs }
+    ensures claimed { (head call number : ℕ) (items : List ℕ) (m : Moment BatchState) (runs : List (Owned Batch))
+        → IsReal of_batches (change head_word head m (with_batch m.object items)) → 0 < length items
+        → IsBatchHistory m.object runs → (m.object.shut ≡ false) × (head ≡ length (items_of m.object))
+        × IsEventOf (positions_of m.object) runs (claim m.object.room call items)
+        (positions_of (with_batch m.object items)) (runs ++ (call, number, run head items) ∷ [])
+        × IsBatchHistory (with_batch m.object items) (runs ++ (call, number, run head items) ∷ []) }
+    ensures published { (word found a b : ℕ) (m : Moment BatchState) (runs : List (Owned Batch))
+        → IsReal of_batches (change word found m (with_up m.object a b)) → IsBatch m.object.batches a b
+        → AreIn m.object 0 a b → IsBatchHistory m.object runs
+        → (k : ℕ) × (run : Owned Batch) × (get_elem? runs k ≡ some run) × (run.2.start ≡ a)
+        × (a + length run.2.places ≡ b)
+        × IsEventOf (positions_of m.object) runs (raise_all run.0 k 0 (length run.2.places))
+        (positions_of (with_up m.object a b))
+        (slice_set runs k (run.0, run.1, raised_run run.2 0 (length run.2.places))) }
+    ensures taken { (tail new : ℕ) (m : Moment BatchState) (runs : List (Owned Batch))
+        → IsReal of_batches (change tail_word tail m (with_taken m.object new)) → m.object.taken < new
+        → IsBatchHistory m.object runs → (tail ≡ m.object.taken)
+        × IsEventOf (positions_of m.object) runs (take_first m.object.room (new - m.object.taken))
+        (positions_of (with_taken m.object new)) runs }
+    ensures given { (word found a b : ℕ) (m : Moment BatchState) (runs : List (Owned Batch))
+        → IsReal of_batches (change word found m (with_back m.object a b)) → AreIn m.object 2 a b → a < b
+        → IsBatchHistory m.object runs
+        → IsEventOf (positions_of m.object) runs no_event (positions_of (with_back m.object a b)) runs }
+    ensures freed { (free new : ℕ) (m : Moment BatchState) (runs : List (Owned Batch))
+        → IsReal of_batches (change free_word free m (with_freed m.object new)) → IsBatchHistory m.object runs
+        → (free ≡ m.object.freed)
+        × IsEventOf (positions_of m.object) runs no_event (positions_of (with_freed m.object new)) runs }
+    ensures parted { (word found p end : ℕ) (m : Moment BatchState) (runs : List (Owned Batch))
+        → IsReal of_batches (change word found m (with_part m.object p end)) → IsBatchHistory m.object runs
+        → IsEventOf (positions_of m.object) runs no_event (positions_of (with_part m.object p end)) runs }
+    ensures shut { (head : ℕ) (m : Moment BatchState) (runs : List (Owned Batch))
+        → IsReal of_batches (change head_word head m (with_shut m.object)) → IsBatchHistory m.object runs
+        → IsEventOf (positions_of m.object) runs (λ c. Ok (shut c)) (positions_of (with_shut m.object)) runs }
 {}
 
 /// No head, tail or free position that a call has found is below one that the end had seen: a number that an entry

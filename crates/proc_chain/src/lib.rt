@@ -52,6 +52,7 @@ mod chaining;
 mod close;
 mod counting;
 mod ends;
+mod held;
 pub mod laws;
 mod layout;
 mod passing;

@@ -2,5 +2,6 @@
 
 mod client_tests;
 mod place_tests;
+mod pull_tests;
 mod tests;
 mod thread_tests;

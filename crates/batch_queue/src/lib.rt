@@ -2,6 +2,22 @@
 //! given back by one store; the items are in plain memory. It has many producers and many consumers (Massalin 1992, the
 //! buffered queues; the bursts of DPDK's rings).
 //!
+//! ```rust
+//! let Ok((queue, mut sender)) = BatchQueue::new(rt.alloc(), 256) else {
+//!     panic!(rt; "no memory")
+//! };
+//! let mut receiver = queue.split(&mut sender);
+//! assert!(rt; queue.try_put(&mut sender, &[10, 20, 30]) == Ok(0));
+//! let mut items = [0; 64];
+//! assert!(rt; queue.try_take(&mut receiver, &mut items) == Ok(3));
+//! assert!(rt; items[..3] == [10, 20, 30]);
+//! queue.join(&mut sender, receiver);
+//! let Ok(closed) = queue.close(sender) else {
+//!     panic!(rt; "open ends")
+//! };
+//! assert!(rt; (closed.put, closed.taken, closed.left.len()) == (3, 3, 0));
+//! ```
+//!
 //! The number of places is chosen at run time, a power of two up to 2^24. An item is a `u64`. A position is a place of
 //! the queue from its beginning on, and is used once: no claim reaches 2^62. The numbers in an answer are positions.
 //!

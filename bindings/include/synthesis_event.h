@@ -144,13 +144,15 @@ typedef struct synth_event {
 #define SYNTH_EVENT_SECOND_ ((int64_t)1000000000)
 
 #ifndef SYNTH_EVENT_PTHREAD
-/* The C library's `syscall`, which some language modes don't declare. */
+/* Two functions of the C library, which some language modes don't declare. */
 #ifdef __cplusplus
-extern "C"
-#else
-extern
+extern "C" {
 #endif
 long synth_event_syscall_(long number, ...) __asm__("syscall");
+int synth_event_clock_(int clock, struct timespec *now) __asm__("clock_gettime");
+#ifdef __cplusplus
+}
+#endif
 #endif
 
 /* The time in nanoseconds, by the clock of the limits. */
@@ -160,8 +162,8 @@ static inline int64_t synth_event_now(void)
 #ifdef SYNTH_EVENT_PTHREAD
     (void)timespec_get(&now, TIME_UTC);
 #else
-    const long monotonic = 1;
-    (void)synth_event_syscall_(SYS_clock_gettime, monotonic, &now);
+    const int monotonic = 1;
+    (void)synth_event_clock_(monotonic, &now);
 #endif
     return (int64_t)now.tv_sec * SYNTH_EVENT_SECOND_ + (int64_t)now.tv_nsec;
 }

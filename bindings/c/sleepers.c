@@ -28,7 +28,7 @@ static struct job jobs[THREADS];
 static uint64_t number_of_items;
 static uint64_t faults;
 
-/* Who waits for an item sleeps on the first one, and who waits for a place on the second. */
+/* Takers sleep on the first one, while the queue is empty, and producers on the second, while it is full. */
 static synth_event items = SYNTH_EVENT_INIT;
 static synth_event places = SYNTH_EVENT_INIT;
 

@@ -142,7 +142,7 @@ fn waits_time_out() {
 }
 
 #[test]
-fn a_queue_that_stays_full_or_empty_is_told() {
+fn a_queue_that_stays_full_or_empty_is_refused_in_time() {
     let (events, limit) = (QueueEvents::default(), Some(Duration::from_millis(1)));
     let mut end = QueueEnd::<64>::new(0).unwrap();
     assert_eq!(end.take_wait(&events, limit), Err(TakeRefusal::Empty { at: 0 }));

@@ -34,15 +34,17 @@
 //! # Ok::<(), Box<dyn std::error::Error>>(())
 //! ```
 //!
-//! No call takes a lock of its own, sleeps or waits. None but `new` and `split` takes memory, but for the lists that
-//! `close` gives. Refusals are values, and a refusal changes nothing. An object of which an end was dropped is never
-//! closed, and ends with its last end. The chain is not here: what it runs, its quajects, is Rattle code.
+//! No call of an object takes a lock of its own, sleeps or waits, except `put_wait` and `take_wait` of a queue, which
+//! sleep on an [`Event`]. None but `new` and `split` takes memory, but for the lists that `close` gives. Refusals are
+//! values, and a refusal changes nothing. An object of which an end was dropped is never closed, and ends with its last
+//! end. The chain is not here: what it runs, its quajects, is Rattle code.
 //!
 //! A program has one version of this crate, and Cargo refuses two: a join knows the ends of an object by marks that
 //! one copy of the library gives.
 #![warn(missing_docs)]
 
 mod ends;
+mod event;
 mod hand;
 mod line;
 mod meters;
@@ -52,6 +54,7 @@ mod raw;
 mod words;
 
 pub use ends::{OtherObject, OutOfMemory, SplitRefusal, StillOpen};
+pub use event::{Event, EventTicket};
 pub use hand::{
     Hand, HandRefusal, HandSplitRefusal, Lost, MoveRefusal, NextRefusal, NotHeld, OffRefusal, OnRefusal, Place, Places,
     Signalled, Started, StateRefusal, StateWord, StepRefusal,
@@ -59,4 +62,4 @@ pub use hand::{
 pub use line::{finish, line, LineIn, LineOut, LineRefusal, LineTotals};
 pub use meters::{AdvanceRefusal, Alarm, MeterSeat, Metered, SetRefusal, Slot};
 pub use names::{Element, Gauge, Processor, Signal, WaitNumber};
-pub use queue::{ClaimRefusal, Closed, QueueEnd, TakeRefusal};
+pub use queue::{ClaimRefusal, Closed, QueueEnd, QueueEvents, TakeRefusal};

@@ -1,5 +1,9 @@
 //! Claim queues: any number of producers and takers.
 
+mod waits;
+
+pub use waits::QueueEvents;
+
 use crate::ends::{closed, joined, made, split_off, OtherObject, OutOfMemory, SplitRefusal, StillOpen};
 use crate::raw;
 use crate::words::says;

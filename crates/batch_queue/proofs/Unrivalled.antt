@@ -23,7 +23,7 @@ walked_stays room p (f ∷ walk) ys a b c = subst (λ (z : Moment BatchState). C
 
 stop_stays : (parity most room p : ℕ) (loads ys : Steps) (a b : Moment BatchState) → IsStop parity most room p loads → Continues a (loads ++ ys) b → Continues a ys b
 stop_stays parity most room p loads ys a b (at_most is no_load) c = subst (λ (z : Steps). Continues a (z ++ ys) b) no_load c
-stop_stays parity most room p loads ys a b (at_mark number m no_lead is) c = let d = subst (λ (z : Steps). Continues a (z ++ ys) b) is c in subst (λ (z : Moment BatchState). Continues z ys b) (sym d.0) d.1
+stop_stays parity most room p loads ys a b (at_mark low number m no_lead is) c = let d = subst (λ (z : Steps). Continues a (z ++ ys) b) is c in subst (λ (z : Moment BatchState). Continues z ys b) (sym d.0) d.1
 
 pub followed_stays : (parity most room from to : ℕ) (loads ys : Steps) (a b : Moment BatchState) → FollowedBy parity most room from to loads → Continues a (loads ++ ys) b → Continues a ys b
 followed_stays parity most room from to loads ys a b f c = stop_stays parity most room to f.stop ys a b f.stops

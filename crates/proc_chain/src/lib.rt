@@ -69,7 +69,7 @@ pub use chaining::{ChainRefusal, Chained};
 pub use close::ChainClosed;
 pub use ends::{ChainEnd, ProcChain};
 pub use quaject::{Quaject, Ran};
-pub use rule::{ChainRule, Did, GatedQueue, Shape, View};
+pub use rule::{ChainRule, Did, GatedQueue, Pact, Shape, View};
 pub use running::Turn;
 pub use serve::Served;
 pub use table_theory::OpenEnds;

@@ -5,13 +5,14 @@ use Rattle.std.specs.declared.option.Option.TheVariants.{None, Some}
 use Rattle.bindings.specs.declared.handle.Handle.{Handle}
 use Rattle.bindings.specs.declared.payload.Payload.{Payload}
 use Rattle.bindings.specs.declared.queue.held.HeldQueue.{HeldQueue}
+use Rattle.bindings.specs.declared.chain.held.HeldChain.{HeldChain}
 use Rattle.bindings.specs.declared.hand.held.HeldHand.{HeldHand}
 use Rattle.bindings.specs.declared.seat.held.HeldSeat.{HeldSeat}
 use Rattle.bindings.specs.declared.line.held.HeldIn.{HeldIn}
 use Rattle.bindings.specs.declared.line.held.HeldOut.{HeldOut}
 use Rattle.bindings.specs.Codes.{Done, NoMemory, EmptyHandle, FullHandle, OtherObject, NoShare}
 use Rattle.bindings.specs.Hiding.{is_some}
-use Rattle.bindings.specs.Kinds.{queue_in, hand_in, seat_in, line_in_in, line_out_in}
+use Rattle.bindings.specs.Kinds.{queue_in, chain_in, hand_in, seat_in, line_in_in, line_out_in}
 
 -- what it holds, None where it is empty
 abbrev pub held_by : Handle → Option Payload
@@ -25,6 +26,10 @@ of_kind kind (Some p) = kind p
 -- the end of a queue that is held, None where the handle is empty or holds another kind
 abbrev pub queue_of : Handle → Option HeldQueue
 queue_of h = of_kind queue_in (held_by h)
+
+-- the end of a chain that is held
+abbrev pub chain_of : Handle → Option HeldChain
+chain_of h = of_kind chain_in (held_by h)
 
 -- the hand that is held
 abbrev pub hand_of : Handle → Option HeldHand

@@ -2,8 +2,9 @@
 use Rattle.std.specs.declared.option.Option.{Option}
 use Rattle.std.specs.declared.option.Option.TheVariants.{None, Some}
 use Rattle.bindings.specs.declared.payload.Payload.{Payload}
-use Rattle.bindings.specs.declared.payload.Payload.TheVariants.{Queue, Hand, Seat, LineIn, LineOut}
+use Rattle.bindings.specs.declared.payload.Payload.TheVariants.{Queue, Chain, Hand, Seat, LineIn, LineOut}
 use Rattle.bindings.specs.declared.queue.held.HeldQueue.{HeldQueue}
+use Rattle.bindings.specs.declared.chain.held.HeldChain.{HeldChain}
 use Rattle.bindings.specs.declared.hand.held.HeldHand.{HeldHand}
 use Rattle.bindings.specs.declared.seat.held.HeldSeat.{HeldSeat}
 use Rattle.bindings.specs.declared.line.held.HeldIn.{HeldIn}
@@ -13,6 +14,11 @@ use Rattle.bindings.specs.declared.line.held.HeldOut.{HeldOut}
 abbrev pub queue_in : Payload → Option HeldQueue
 queue_in (Queue x) = Some x
 queue_in _ = None
+
+-- the end of a chain, if it is one
+abbrev pub chain_in : Payload → Option HeldChain
+chain_in (Chain x) = Some x
+chain_in _ = None
 
 -- the hand of a table of thread elements, if it is one
 abbrev pub hand_in : Payload → Option HeldHand

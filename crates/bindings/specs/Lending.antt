@@ -6,8 +6,9 @@ use Rattle.std.specs.declared.option.Option.TheVariants.{Some}
 use Rattle.bindings.specs.declared.hidden.Hidden.{Hidden}
 use Rattle.bindings.specs.declared.handle.Handle.{Handle}
 use Rattle.bindings.specs.declared.payload.Payload.{Payload}
-use Rattle.bindings.specs.declared.payload.Payload.TheVariants.{Queue, Hand, Seat, LineIn, LineOut}
+use Rattle.bindings.specs.declared.payload.Payload.TheVariants.{Queue, Chain, Hand, Seat, LineIn, LineOut}
 use Rattle.bindings.specs.declared.queue.held.HeldQueue.{HeldQueue}
+use Rattle.bindings.specs.declared.chain.held.HeldChain.{HeldChain}
 use Rattle.bindings.specs.declared.hand.held.HeldHand.{HeldHand}
 use Rattle.bindings.specs.declared.seat.held.HeldSeat.{HeldSeat}
 use Rattle.bindings.specs.declared.line.held.HeldIn.{HeldIn}
@@ -16,6 +17,7 @@ use Rattle.bindings.specs.contracts.hidden.Hidden as hidden
 use Rattle.bindings.specs.contracts.handle.Handle as handle
 use Rattle.bindings.specs.contracts.payload.Payload as payload
 use Rattle.bindings.specs.contracts.queue.held.HeldQueue as queue
+use Rattle.bindings.specs.contracts.chain.held.HeldChain as chain
 use Rattle.bindings.specs.contracts.hand.held.HeldHand as hand
 use Rattle.bindings.specs.contracts.seat.held.HeldSeat as seat
 use Rattle.bindings.specs.contracts.line.held.HeldIn as line_in
@@ -40,6 +42,10 @@ LendsHandle s r = Lends handle.the_row payload.the_row s r (holding s.now)
 -- the same, of an end of a queue alone; a handle that lends nothing is as it was
 abbrev pub LendsQueue : MutBor Handle → Option (MutBor HeldQueue) → Fml
 LendsQueue s r = LendsIf handle.the_row queue.the_row s r (λ w. holding s.now (Queue w)) s.now
+
+-- the same of an end of a chain
+abbrev pub LendsChain : MutBor Handle → Option (MutBor HeldChain) → Fml
+LendsChain s r = LendsIf handle.the_row chain.the_row s r (λ w. holding s.now (Chain w)) s.now
 
 -- the same of a hand
 abbrev pub LendsHand : MutBor Handle → Option (MutBor HeldHand) → Fml

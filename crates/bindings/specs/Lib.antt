@@ -1,3 +1,5 @@
+pub mod ChainCalls
+pub mod ChainHeld
 pub mod Codes
 pub mod HandCalls
 pub mod HandClosing
@@ -8,6 +10,7 @@ pub mod HandTakings
 pub mod HandWakes
 pub mod Handles
 pub mod Hiding
+pub mod Inboxes
 pub mod Kinds
 pub mod Lending
 pub mod LineCalls

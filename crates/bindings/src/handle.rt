@@ -4,6 +4,7 @@ ghost use Rattle.std.specs.Option.{MatchOption};
 ghost use Rattle.std.specs.declared.option.Option.TheVariants.{None, Some};
 ghost use Rattle.bindings.specs.Hiding.{is_some};
 
+use crate::chain::held::HeldChain;
 use crate::hand::held::HeldHand;
 use crate::hidden::Hidden;
 use crate::line::held::{HeldIn, HeldOut};
@@ -26,9 +27,10 @@ pub struct Handle {
 impl Handle {
     ghost use Rattle.std.specs.Prelude.{true};
     ghost use Rattle.std.specs.Borrow.{sem};
-    ghost use Rattle.bindings.specs.Handles.{held_by, queue_of, hand_of, seat_of, line_in_of, line_out_of};
-    ghost use Rattle.bindings.specs.Lending.{LendsHandle, LendsQueue, LendsHand, LendsSeat, LendsLineIn, LendsLineOut};
-    ghost use Rattle.bindings.specs.declared.payload.Payload.TheVariants.{Queue, Hand, Seat, LineIn, LineOut};
+    ghost use Rattle.bindings.specs.Handles.{held_by, queue_of, chain_of, hand_of, seat_of, line_in_of, line_out_of};
+    ghost use Rattle.bindings.specs.Lending.{LendsHandle, LendsQueue, LendsChain, LendsHand, LendsSeat};
+    ghost use Rattle.bindings.specs.Lending.{LendsLineIn, LendsLineOut};
+    ghost use Rattle.bindings.specs.declared.payload.Payload.TheVariants.{Queue, Chain, Hand, Seat, LineIn, LineOut};
 
     /// Whether it holds an end.
     pub fn is_full(&self) -> bool
@@ -79,6 +81,20 @@ impl Handle {
         }
         match self.as_mut() {
             Payload::Queue(held) => Some(held),
+            _ => None,
+        }
+    }
+
+    /// The end of a chain that it holds, where it is.
+    pub fn chain(&mut self) -> Option<&mut HeldChain>
+        ensures* writes_back { sem 𝓛 (LendsChain self.entry result) }
+        ensures value { MatchOption result (chain_of self.old ≡ None) (λ r. held_by self.old ≡ Some (Chain r.now)) }
+    {
+        if !self.full {
+            return None;
+        }
+        match self.as_mut() {
+            Payload::Chain(held) => Some(held),
             _ => None,
         }
     }

@@ -2,6 +2,7 @@
 #![tactic(auto)]
 
 mod answer;
+mod chain;
 mod hand;
 mod handle;
 mod hidden;

@@ -2,6 +2,7 @@
 ghost use Rattle.std.specs.Prelude.{◌≡◌, true};
 ghost use Rattle.bindings.specs.Hiding.{is_some};
 
+use crate::chain::held::HeldChain;
 use crate::hand::held::HeldHand;
 use crate::line::held::{HeldIn, HeldOut};
 use crate::queue::held::HeldQueue;
@@ -11,6 +12,7 @@ use crate::seat::held::HeldSeat;
 #[derive(Drop)]
 pub enum Payload {
     Queue(HeldQueue),
+    Chain(HeldChain),
     Hand(HeldHand),
     Seat(HeldSeat),
     LineIn(HeldIn),
@@ -18,7 +20,7 @@ pub enum Payload {
 }
 
 impl Payload {
-    ghost use Rattle.bindings.specs.Kinds.{queue_in, hand_in, seat_in, line_in_in, line_out_in};
+    ghost use Rattle.bindings.specs.Kinds.{queue_in, chain_in, hand_in, seat_in, line_in_in, line_out_in};
     ghost use Rattle.std.specs.declared.option.Option.TheVariants.{Some};
 
     /// Condition: it is an end of a queue.
@@ -28,6 +30,17 @@ impl Payload {
     {
         match self {
             Payload::Queue(held) => held,
+            _ => unreachable!(),
+        }
+    }
+
+    /// Condition: it is an end of a chain.
+    pub fn into_chain(self) -> HeldChain
+        requires { is_some (chain_in self) ≡ true }
+        ensures { chain_in self ≡ Some result }
+    {
+        match self {
+            Payload::Chain(held) => held,
             _ => unreachable!(),
         }
     }

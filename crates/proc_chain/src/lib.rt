@@ -68,6 +68,7 @@ pub use between::{between_steps, ends_between_steps};
 pub use chaining::{ChainRefusal, Chained};
 pub use close::ChainClosed;
 pub use ends::{ChainEnd, ProcChain};
+pub use held::ServedKept;
 pub use quaject::{Quaject, Ran};
 pub use rule::{ChainRule, Did, GatedQueue, Pact, Shape, View};
 pub use running::Turn;

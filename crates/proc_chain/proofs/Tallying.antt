@@ -5,6 +5,7 @@ use Rattle.std.proofs.Common.{replicate, get_or-set_other}
 use Rattle.std.proofs.lemmas.List.{get_or-replicate}
 use Rattle.atomic_table.specs.Table.{opening}
 use Rattle.table_theory.specs.Ledgers.{opened}
+use Rattle.table_theory.specs.Plays.{counts}
 use Rattle.table_theory.proofs.Stepping.{counted_up, counted_down, tallied_now, stands_split, stands_join, stands_first, leads}
 use Rattle.table_theory.proofs.Tables as tables
 use Rattle.table_theory.specs.Windows.{PlacesShow}
@@ -12,7 +13,7 @@ use Rattle.table_theory.proofs.Latest.{both_leads}
 use Rattle.table_theory.proofs.Listing.{listed_look, listed_first}
 use Rattle.proc_chain.specs.Changes.{empty_from}
 use Rattle.proc_chain.specs.Rules.{newcomer}
-use Rattle.proc_chain.specs.Steps.{counts_up, counts_down, counts}
+use Rattle.proc_chain.specs.Steps.{counts_up, counts_down, HasTallied}
 use Rattle.proc_chain.proofs.Becoming.{reaches_grow}
 use Rattle.proc_chain.proofs.Events.{and_false}
 use Rattle.proc_chain.proofs.Gates.{not_true, owed_on, covers_more, gated_same, gated_none, gated_new}
@@ -72,8 +73,8 @@ module _ {Q W : Type 0} (made : W → Q → List ℕ → Type 0) (fits : W → Q
     pub downs : 2 ≤ me.0.member.ends → Allows R n id me ends_word (λ x. (x + (18446744073709551616 - 1)) % 18446744073709551616) (counts_down (step n ends_word 1 0 none) me)
     downs live = tables.downs (table made fits key) n id me (counts_down (step n ends_word 1 0 none) me) live (λ s k at b. ((refl, behind_told made fits key s _ id me.0 _ at b.0 b.1), counted_down k.stands id me.0 at, meets made fits key s k id me.0 at, k.undoubled id me.0 at))
 
-    pub tallies : me.0.member.ends ≡ 1 → Allows R n id me ends_word (λ x. x) (counts (step n ends_word 0 0 none) me)
-    tallies one = tables.looks (table made fits key) n id me (counts (step n ends_word 0 0 none) me) ends_word (omega arith) (λ s k at b. ((refl, behind_told made fits key s _ id me.0 _ at b.0 b.1), tallied_now k.stands id me.0 at one, meets made fits key s k id me.0 at))
+    pub tallies : me.0.member.ends ≡ 1 → Allows R n id me ends_word (λ x. x) (counts HasTallied (step n ends_word 0 0 none) me)
+    tallies one = tables.looks (table made fits key) n id me (counts HasTallied (step n ends_word 0 0 none) me) ends_word (omega arith) (λ s k at b. (refl, (behind_told made fits key s _ id me.0 _ at b.0 b.1, tallied_now k.stands id me.0 at one, meets made fits key s k id me.0 at)))
 
   pub splits : (id : ℕ) (v : View) → v.member.ends ≡ 2 → Splits R id v (rest_of v) (newborn nothing_did v)
   splits id v two s k at = let both_shown = newborn_shown k.now.object s.views id v record { listed = k.listed; gate = k.gate } at in record {

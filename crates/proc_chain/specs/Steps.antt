@@ -145,7 +145,7 @@ module _ {Q : Type 0} where
   leaves st m r m' = IsTold m'.0 × (r ≡ RUNNING → (m'.1 ≡ rest m.1) × HasLeft m.0 m'.0)
       × (r ≢ RUNNING → (m'.1 ≡ m.1) × Found m.0 st.word r m'.0 × (r ≡ MORE))
 
-  -- what counting one end more or less tells, and a look at the number of ends
+  -- what counting one end more or less tells
   abbrev pub counts_up : Doing Q → Me Q View → ℕ → Me Q View → Type 0
   counts_up st m r m' = Stays m m' × CountedUp ends_word m.0 m'.0 × Meets m.0 m'.0.seen.object
 
@@ -153,5 +153,6 @@ module _ {Q : Type 0} where
   counts_down st m r m' = Stays m m' × CountedDown ends_word m.0 m'.0 × Meets m.0 m'.0.seen.object
       × (m.0.own.doubled ≡ false)
 
-  abbrev pub counts : Doing Q → Me Q View → ℕ → Me Q View → Type 0
-  counts st m r m' = Stays m m' × Tallied ends_word m.0 r m'.0 × Meets m.0 m'.0.seen.object
+-- what an end knows that found the number of ends
+abbrev pub HasTallied : View → ℕ → View → Type 0
+HasTallied v number w = IsTold w × Tallied ends_word v number w × Meets v w.seen.object

@@ -7,15 +7,16 @@ ghost use Rattle.proc_chain.specs.Layout.{width};
 ghost use Rattle.proc_chain.specs.Rules.{suits, makes};
 ghost use Rattle.proc_chain.specs.Closings.{ClosedNow, WereOpen, left_at, left_from};
 
-use crate::counting::{close_by, count};
 use crate::ends::{ChainEnd, ProcChain};
-use crate::layout::{HEAD, PLACES, TAIL, place_word};
+use crate::layout::{ENDS, HEAD, PLACES, TAIL, place_word};
 use crate::quaject::Quaject;
 use crate::word::PlaceWord;
 use arrayvec::ArrayVec;
 use atomic_table::Closed;
 use std::alloc::Global;
+use std::marker::Brand;
 use table_theory::OpenEnds;
+use table_theory::last_end::{close_by, count};
 
 /// What a chain had at its end: its quaject, how many notes were put (claimed) and taken, and those left, of which
 /// there are none, since each end has raised and told of all that it claimed.
@@ -75,7 +76,7 @@ impl<Q: Quaject> ProcChain<Q> {
         ensures same { IfErr result (λ e. (e.0 ≡ self) × IsSameEnd end e.1 × KeepsTurn end e.1) }
     {
         let ChainEnd { seat, turn } = end;
-        let last = match count(&self.table.shared, seat) {
+        let last = match count::<_, _, _, _, Brand>(&self.table.shared, seat, ENDS) {
             Ok(last) => last,
             Err((seat, ends)) => {
                 return Err((self, ChainEnd { seat, turn }, OpenEnds { others: ends - 1 }));

@@ -1,6 +1,10 @@
 use Rattle.proc_chain.proofs.Common.{refl, sym, arith, ◌∙◌, ◌-◌, suits, makes}
 use Rattle.proc_chain.proofs.Closing.{spans, emptied_slot, closes}
+use Rattle.proc_chain.proofs.Tallying.{tallies}
 use Rattle.proc_chain.proofs.ends.ProcChain.close.Goals as goal
+
+pub count-requires-clause-allowed : goal.count-requires-clause-allowed
+count-requires-clause-allowed g c = tallies _ _ _ _ _ _ c.args.end.rests.one
 
 pub read_left-left-requires-clause-range : goal.read_left-left-requires-clause-range
 read_left-left-requires-clause-range g c = let s = spans (makes g.Q.Quaject.made_by) (suits g.Q.Quaject.fits) c.args.self.table.shared.key _ _ _ _ _ _ c.close_by-closed.ensures.values.2 c.word-head.ensures c.word-tail.ensures in (s.behind, s.within, s.bounded)
@@ -16,5 +20,5 @@ free-requires g c = let slots = c.take-quaject.ensures.others in λ k below. emp
 
 pub returns-clause-closed : goal.returns-clause-closed
 returns-clause-closed g c = let k = c.args.self.table.shared.key in let first = c.args.self.shaped in let end = c.args.end in
-    closes (makes g.Q.Quaject.made_by) (suits g.Q.Quaject.fits) k _ _ _ _ c.word-head.result c.word-tail.result _ _ c.args.self.first _ _ _ _ first end.rests c.in-Ok.ensures.alone.1 refl (end.turned ∙ c.requires.turn) c.close_by-closed.ensures.values.2
+    closes (makes g.Q.Quaject.made_by) (suits g.Q.Quaject.fits) k _ _ _ _ c.word-head.result c.word-tail.result _ _ c.args.self.first _ _ _ _ first end.rests c.in-Ok.ensures.alone.1.1 refl (end.turned ∙ c.requires.turn) c.close_by-closed.ensures.values.2
     c.word-head.ensures c.word-tail.ensures c.take-quaject.ensures.value (λ i. c.word-head.result - sym first i) (λ i. c.word-tail.result - sym first i) c.read_left-left.ensures

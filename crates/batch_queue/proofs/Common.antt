@@ -42,7 +42,7 @@ pub use Rattle.batch_queue.specs.Placed.{cell_of, cells, positions_of, raised_ru
 pub use Rattle.batch_queue.specs.Rules.{Apart, HomeShows, IsHeld, IsRuled, OwnShows, Rule, newcomer, parts_of, shuts_of, times_shut}
 pub use Rattle.batch_queue.specs.Shown.{MarkSays, WordsShow}
 pub use Rattle.batch_queue.specs.Slots.{give_all, slots_of, take_all}
-pub use Rattle.batch_queue.specs.Steps.{Claimed, counts, Found, Freed, HasBack, HasFound, HasStop, HoldsRange, IsClaim, IsSeated, Missed, Parted, Released, Stays, Stepped, Took, claims, counts_down, counts_up, finds, frees, parts, releases, shuts, takes_tail}
+pub use Rattle.batch_queue.specs.Steps.{Claimed, Found, Freed, HasBack, HasFound, HasStop, HoldsRange, IsClaim, IsSeated, Missed, Parted, Released, Stays, Stepped, Took, claims, finds, frees, parts, releases, shuts, takes_tail}
 pub use Rattle.batch_queue.specs.declared.layout.TheConstants.{FIRST_MARK, POSITIONS, SHUT}
 pub use Rattle.batch_queue.specs.declared.rule.BatchState.{BatchState}
 pub use Rattle.batch_queue.specs.declared.rule.EndRecord.{EndRecord}

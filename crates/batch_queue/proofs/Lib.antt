@@ -32,6 +32,7 @@ mod Getting
 mod Certain
 mod Reporting
 mod Eventful
+mod Historic
 mod Rising
 mod Filling
 mod Portions

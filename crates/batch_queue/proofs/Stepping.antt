@@ -1,6 +1,9 @@
 -- What every step keeps and tells, by the theory of tables.
-use Rattle.batch_queue.proofs.Common.{parts_of, Act, Allows, Apart, BatchState, Becomes, EndRecord, Grows, Holds, HomeShows, IsHeld, IsHonest, IsReal, IsRuled, IsTable, IsUsed, List, MarkSays, Me, Moment, Option, OwnShows, Rule, Shape, Stands, State, Stays, Step, Stepped, Valid, View, ViewsShow, WordsShow, [], ap, arith, at_below, at_map, at_set, by_ends, carried_after, change, dec_le, dite, empty, ends_word, entries_real, finds, free_word, get_elem?, get_or, get_or-set_other, head_word, homes_after, inl, inr, items_of, length, length-set, listed_look, map, map-set, mark_word, none, nothing_did, of_batches, one_turn, part_of, phase_at, positions_of, refl, set, set_else, set_here, shuts, shuts_of, some, some-injective, step, subst, sym, tail_word, times_shut, total_kept, total_set, unused_kept, ℕ, ℕ_discrete, ⊎_elim, ◌%◌, ◌+◌, ◌<◌, ◌∙◌, ◌∷◌, ◌≡◌, ◌≢◌, ◌≤◌, ◌⊎◌}
+use Rattle.batch_queue.proofs.Common.{parts_of, Act, Allows, Apart, BatchState, Becomes, EndRecord, Grows, Holds, HomeShows, IsHeld, IsHonest, IsReal, IsRuled, IsTable, IsUsed, List, MarkSays, Me, Moment, Option, OwnShows, Rule, Shape, Stands, State, Stays, Step, Stepped, Valid, View, ViewsShow, WordsShow, ap, arith, at_below, at_set, by_ends, carried_after, change, dec_le, dite, empty, ends_word, finds, free_word, get_elem?, get_or, get_or-set_other, head_word, homes_after, inl, inr, items_of, length, length-set, map, map-set, mark_word, none, nothing_did, of_batches, one_turn, part_of, phase_at, positions_of, refl, set, set_else, set_here, shuts, shuts_of, some, some-injective, step, subst, sym, tail_word, times_shut, total_kept, total_set, unused_kept, ℕ, ℕ_discrete, ⊎_elim, ◌%◌, ◌+◌, ◌<◌, ◌∙◌, ◌≡◌, ◌≢◌, ◌≤◌, ◌⊎◌}
+use Rattle.table_theory.proofs.Listing.{look_in}
+use Rattle.table_theory.proofs.Ruling as ruling
 use Rattle.table_theory.proofs.Stepping as ends
+use Rattle.batch_queue.specs.Rules.{now_of}
 use Rattle.table_theory.proofs.Tables as tables
 use Rattle.table_theory.specs.Positioned as pos
 use Rattle.table_theory.proofs.Positioned as positioned
@@ -61,8 +64,7 @@ kept key s k words id number v w at own seen stands = (
     now = record k.now { ends = number };
     room = k.room;
     stands = stands;
-    listed = subst (ViewsShow (positions_of k.now.object)) (sym (map-set part_of s.views id w))
-        (listed_look (positions_of k.now.object) (map part_of s.views) id (part_of v) (part_of w) k.listed (at_map part_of s.views id v at) (λ i. (own i).runs) (λ i. (own i).takes) (subst (λ (z : Moment BatchState). pos.Grows (positions_of z.object) (positions_of k.now.object)) (sym seen) (positioned.grows_refl (positions_of k.now.object))));
+    listed = look_in part_of (positions_of k.now.object) s.views id v w k.listed at (λ i. (own i).runs) (λ i. (own i).takes) (subst (λ (z : Moment BatchState). pos.Grows (positions_of z.object) (positions_of k.now.object)) (sym seen) (positioned.grows_refl (positions_of k.now.object)));
     seen = views_set (λ u. Grows u.seen.object k.now.object) s.views id w (subst (λ (z : Moment BatchState). Grows z.object k.now.object) (sym seen) (grows_refl k.now.object)) (λ j u e ne. k.seen j u e);
     homes = k.homes;
     owns = views_set (λ u. OwnShows k.now.object u.own) s.views id w (subst (λ (z : EndRecord). OwnShows k.now.object z) (sym own) (k.owns id v at)) (λ j u e ne. k.owns j u e);
@@ -89,14 +91,14 @@ first_room key s k id v at = ap (λ (z : BatchState). z.room) (k.stands.true_end
 
 -- the end stands under the rule that is kept by its step
 pub ruled_now : (key : Shape) (words : List ℕ) (homes : List (Option ℕ)) (s : St) (id : ℕ) (v w : View) → get_elem? s.views id ≡ some v → (r : Rule key record { words = words; homes = homes; views = set s.views id w }) × (w.seen ≡ r.now) → IsRuled w
-ruled_now key words homes s id v w at r = record { key = key; state = record { words = words; homes = homes; views = set s.views id w }; rule = r.0; number = id; here = set_here s.views id w (at_below s.views id v at); seen = r.1 }
+ruled_now key words homes s id v w at r = ruling.ruled_now Rule now_of key words homes s id v w at r
 
 -- what the end lists under the rule is true, as is the entry of its last step
 pub honest : (v : View) → IsRuled v → IsHonest of_batches v
-honest v r = ends.honest r.rule.stands r.number v r.here
+honest v r = ruling.honest Rule now_of (λ key s k. k.stands) v r
 
 pub step_real : (v w : View) (e : Step BatchState) (own : EndRecord) → Stepped v e own w → IsReal of_batches e
-step_real v w e own s = (entries_real of_batches v w (e ∷ []) (honest w s.ruled) s.made.adds).0
+step_real v w e own s = ruling.step_real Rule now_of (λ key s k. k.stands) v w e own s.ruled s.made
 
 module _ (key : Shape) (n id : ℕ) (me : Me ℕ View) (s : St) (k : Rule key s) (at : get_elem? s.views id ≡ some me.0) where
   -- what a look tells

@@ -17,6 +17,5 @@ pub mod Moments
 pub mod Answers
 pub mod Puts
 pub mod Takings
-pub mod Raises
 pub mod Hints
 pub mod Parts

@@ -8,6 +8,7 @@ use Rattle.table_theory.specs.declared.queues.Batch.{Batch}
 use Rattle.table_theory.specs.declared.views.Moment.{Moment}
 use Rattle.table_theory.specs.Listing.{ViewsShow}
 use Rattle.table_theory.specs.Ledgers.{Stands, first_of}
+use Rattle.table_theory.specs.Ruled as ruled
 use Rattle.table_theory.specs.Sharing.{total}
 use Rattle.batch_queue.specs.declared.rule.BatchState.{BatchState}
 use Rattle.batch_queue.specs.declared.rule.EndRecord.{EndRecord}
@@ -76,11 +77,10 @@ pub record Rule (key : Shape) (s : State ℕ View) : Type 0 where
 abbrev pub newcomer : Shape → View
 newcomer key = first_of nothing_did (empty key)
 
--- at the end's last step the rule held, of a state in which the end has this view, and the end saw the queue as it was
-pub record IsRuled (v : View) : Type 0 where
-  pub key : Shape
-  pub state : State ℕ View
-  pub rule : Rule key state
-  pub number : ℕ
-  pub here : get_elem? state.views number ≡ some v
-  pub seen : v.seen ≡ rule.now
+-- the queue as the rule has it
+abbrev pub now_of : (key : Shape) (s : State ℕ View) → Rule key s → Moment BatchState
+now_of key s k = k.now
+
+-- at the end's last step the rule held, and the end saw the queue as it was
+abbrev pub IsRuled : View → Type 0
+IsRuled v = ruled.IsRuled Rule now_of v

@@ -11,7 +11,7 @@ use Rattle.table_theory.specs.Ledgers as ends
 use Rattle.batch_queue.specs.declared.layout.TheConstants.{MOST_PLACES, POSITIONS, SHUT}
 use Rattle.batch_queue.specs.declared.rule.BatchState.{BatchState}
 use Rattle.batch_queue.specs.declared.rule.EndRecord.{EndRecord}
-use Rattle.batch_queue.specs.Layout.{head_word, tail_word, free_word, ends_word, width, IsPowerOfTwo}
+use Rattle.batch_queue.specs.Layout.{head_word, tail_word, free_word, width, IsPowerOfTwo}
 use Rattle.batch_queue.specs.Object.{items_of, phase_at, IsEdge, IsStop, with_batch, with_phase, with_taken}
 use Rattle.batch_queue.specs.Object.{with_freed, with_shut, with_part, Grows}
 use Rattle.batch_queue.specs.Own.{View, HasRun, with_run, with_taking, with_published, with_no_slots}
@@ -142,15 +142,3 @@ Shut v found w = (at : Moment BatchState)
 
 abbrev pub shuts : Step ℕ → Me ℕ View → ℕ → Me ℕ View → Type 0
 shuts st m r m' = Stays m.0 m'.0 × (m'.1 ≡ m.1) × Shut m.0 r m'.0
-
--- what counting one end more says
-abbrev pub counts_up : Step ℕ → Me ℕ View → ℕ → Me ℕ View → Type 0
-counts_up st m r m' = (m'.1 ≡ m.1) × IsRuled m'.0 × ends.CountedUp ends_word m.0 m'.0
-
--- what counting one end less says
-abbrev pub counts_down : Step ℕ → Me ℕ View → ℕ → Me ℕ View → Type 0
-counts_down st m r m' = (m'.1 ≡ m.1) × IsRuled m'.0 × ends.CountedDown ends_word m.0 m'.0
-
--- what a look at the number of ends says
-abbrev pub counts : Step ℕ → Me ℕ View → ℕ → Me ℕ View → Type 0
-counts st m r m' = Stays m.0 m'.0 × (m'.1 ≡ m.1) × ends.Tallied ends_word m.0 r m'.0

@@ -6,12 +6,13 @@ ghost use Rattle.batch_queue.specs.Layout.{ends_word};
 ghost use Rattle.batch_queue.specs.Lefts.{items_left};
 ghost use Rattle.batch_queue.specs.Lines.{SameLines};
 
-use crate::counting::{close_by, count};
 use crate::ends::{BatchEnd, BatchQueue};
-use crate::layout::{HEAD, SHUT, TAIL};
+use crate::layout::{ENDS, HEAD, SHUT, TAIL};
 use crate::left::LeftItems;
 use crate::steps::or_head;
+use std::marker::Brand;
 use table_theory::OpenEnds;
+use table_theory::last_end::{close_by, count};
 
 /// What a queue had at its end: how many items were put and taken, and those left, in the order of their claims.
 #[derive(Drop)]
@@ -45,7 +46,7 @@ impl BatchQueue {
         ensures handle { IfErr result (λ e. (e.0 ≡ self) × IsSameEnd end e.1) }
     {
         let BatchEnd { seat } = end;
-        let last = match count(&self.table.shared, seat) {
+        let last = match count::<_, _, _, _, Brand>(&self.table.shared, seat, ENDS) {
             Ok(last) => last,
             Err((seat, ends)) => {
                 return Err((self, BatchEnd { seat }, OpenEnds { others: ends - 1 }));

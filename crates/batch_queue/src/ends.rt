@@ -9,11 +9,11 @@ ghost use Rattle.batch_queue.specs.declared.layout.TheConstants.{MOST_PLACES};
 
 use crate::layout::{ENDS, width};
 use crate::rule::{BatchRule, Shape, View};
-use crate::steps::{count_down, count_up, split_off, take_in};
 use atomic_table::{Seat, Table};
 use event_theory::OutOfMemory;
 use std::alloc::Global;
 use std::marker::Brand;
+use table_theory::end_steps::{count_down, count_up, split_off, take_in};
 
 #[derive(Drop)]
 pub struct BatchQueue {
@@ -77,7 +77,7 @@ impl BatchQueue {
         ensures trace { Divided (view_of end.old) (view_of end.new) }
         ensures handle { IsSameEnd end.old end.new × AreOfOneQueue end.old result }
     {
-        count_up(&self.table.shared, &mut end.seat);
+        count_up(&self.table.shared, &mut end.seat, ENDS);
         let seat = split_off(&self.table.shared, &mut end.seat);
         BatchEnd { seat }
     }
@@ -93,7 +93,7 @@ impl BatchQueue {
         ensures handle { IsSameEnd end.old end.new }
     {
         let BatchEnd { seat } = other;
-        take_in::<Brand>(&self.table.shared, &mut end.seat, seat);
-        count_down(&self.table.shared, &mut end.seat);
+        take_in::<_, _, _, _, _, Brand>(&self.table.shared, &mut end.seat, seat);
+        count_down(&self.table.shared, &mut end.seat, ENDS);
     }
 }

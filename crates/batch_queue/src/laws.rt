@@ -14,7 +14,9 @@ ghost use Rattle.table_theory.specs.Ledgers.{Step, load, change, count_down, Add
 ghost use Rattle.table_theory.specs.Apart.{AreApart};
 ghost use Rattle.table_theory.specs.Listing.{ViewsShow};
 ghost use Rattle.table_theory.specs.Positioned as positions;
-ghost use Rattle.table_theory.specs.QueueOf.{IsEvent, no_event};
+ghost use Rattle.table_theory.specs.Filing.{Owned};
+ghost use Rattle.table_theory.specs.QueueOf.{IsEvent, IsEventOf, IsHistory, no_event};
+ghost use Rattle.table_theory.specs.Raises.{AreAt, Spot, raise_all, raise_each};
 ghost use Rattle.batch_queue.specs.declared.ends.BatchEnd.{BatchEnd};
 ghost use Rattle.batch_queue.specs.declared.ends.BatchQueue.{BatchQueue};
 ghost use Rattle.batch_queue.specs.declared.layout.TheConstants.{MOST_PLACES, POSITIONS, SHUT};
@@ -30,7 +32,6 @@ ghost use Rattle.batch_queue.specs.Object.{Lawful, with_part};
 ghost use Rattle.batch_queue.specs.Own.{View, of_batches, part_of, run, taking};
 ghost use Rattle.batch_queue.specs.Placed.{positions_of, raised_run};
 ghost use Rattle.batch_queue.specs.Puts.{RefusedPut};
-ghost use Rattle.batch_queue.specs.Raises.{raise_all};
 ghost use Rattle.batch_queue.specs.Takings.{RefusedTake};
 
 /// What an end lists is true: each entry that a call adds is a real step. It found a lawful queue that the words
@@ -160,6 +161,51 @@ pub fn changes_are_events()
         → ViewsShow (positions_of m.object) views → get_elem? views seat ≡ some v → w.runs ≡ v.runs
         → w.takes ≡ v.takes → positions.Grows w.queue (positions_of (with_shut m.object))
         → IsEvent (positions_of m.object) (positions_of (with_shut m.object)) seat v w (λ c. Ok (shut c)) }
+{}
+
+/// Each change that an answer lists is the event of the core that its name says, whoever made the runs that the queue
+/// had then: for each history of the queue as the step found it, and there is one. The event leaves a history of the
+/// queue as the step left it. A publication raises each item of the batch, in their order, at one step, wherever the
+/// history has their places; if the batch is a run of the history, it is a raise of all of that run.
+pub fn changes_are_events_of_histories()
+    ensures history { (e : Step BatchState) → IsReal of_batches e
+        → (runs : List (Owned Batch)) × IsHistory (positions_of e.then.object) runs }
+    ensures claimed { (head call number : ℕ) (items : List ℕ) (m : Moment BatchState) (runs : List (Owned Batch))
+        → IsReal of_batches (change head_word head m (with_batch m.object items)) → 0 < length items
+        → IsHistory (positions_of m.object) runs → (m.object.shut ≡ false) × (head ≡ length (items_of m.object))
+        × IsEventOf (positions_of m.object) runs (claim m.object.room call items)
+        (positions_of (with_batch m.object items)) (runs ++ (call, number, run head items) ∷ []) }
+    ensures published { (word found a b : ℕ) (m : Moment BatchState) (runs : List (Owned Batch))
+        → IsReal of_batches (change word found m (with_phase m.object a b 1))
+        → IsBatch m.object.batches a b → AreIn m.object 0 a b → IsHistory (positions_of m.object) runs
+        → (spots : List Spot) × AreAt runs a spots b × (left : List (Owned Batch))
+        × IsEventOf (positions_of m.object) runs (raise_each spots) (positions_of (with_phase m.object a b 1)) left }
+    ensures published_run { (word found a b k : ℕ) (m : Moment BatchState) (runs : List (Owned Batch))
+        (e : Owned Batch) → IsReal of_batches (change word found m (with_phase m.object a b 1))
+        → IsBatch m.object.batches a b → AreIn m.object 0 a b → IsHistory (positions_of m.object) runs
+        → get_elem? runs k ≡ some e → e.2.start ≡ a → a + length e.2.places ≡ b
+        → IsEventOf (positions_of m.object) runs (raise_all e.0 k 0 (length e.2.places))
+        (positions_of (with_phase m.object a b 1))
+        (slice_set runs k (e.0, e.1, raised_run e.2 0 (length e.2.places))) }
+    ensures taken { (tail new : ℕ) (m : Moment BatchState) (runs : List (Owned Batch))
+        → IsReal of_batches (change tail_word tail m (with_taken m.object new)) → m.object.taken < new
+        → IsHistory (positions_of m.object) runs → (tail ≡ m.object.taken) × IsStop m.object new
+        × IsEventOf (positions_of m.object) runs (take_first m.object.room (new - m.object.taken))
+        (positions_of (with_taken m.object new)) runs }
+    ensures given { (word found a b : ℕ) (m : Moment BatchState) (runs : List (Owned Batch))
+        → IsReal of_batches (change word found m (with_phase m.object a b 3)) → AreIn m.object 2 a b → a < b
+        → IsHistory (positions_of m.object) runs
+        → IsEventOf (positions_of m.object) runs no_event (positions_of (with_phase m.object a b 3)) runs }
+    ensures freed { (free new : ℕ) (m : Moment BatchState) (runs : List (Owned Batch))
+        → IsReal of_batches (change free_word free m (with_freed m.object new)) → IsHistory (positions_of m.object) runs
+        → (free ≡ m.object.freed)
+        × IsEventOf (positions_of m.object) runs no_event (positions_of (with_freed m.object new)) runs }
+    ensures parted { (word found p : ℕ) (m : Moment BatchState) (runs : List (Owned Batch))
+        → IsReal of_batches (change word found m (with_part m.object p)) → IsHistory (positions_of m.object) runs
+        → IsEventOf (positions_of m.object) runs no_event (positions_of (with_part m.object p)) runs }
+    ensures shut { (head : ℕ) (m : Moment BatchState) (runs : List (Owned Batch))
+        → IsReal of_batches (change head_word head m (with_shut m.object)) → IsHistory (positions_of m.object) runs
+        → IsEventOf (positions_of m.object) runs (λ c. Ok (shut c)) (positions_of (with_shut m.object)) runs }
 {}
 
 /// No head, tail or free position that a call has found is below one that the end had seen: a number that an entry

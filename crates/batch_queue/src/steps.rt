@@ -1,21 +1,15 @@
 //! The atomic steps: the loads, the three exchanges, and the store that publishes a run or gives a taking back.
 ghost use Rattle.std.specs.Prelude.{◌≡◌, ◌≢◌, ◌+◌, ◌/◌, ◌<◌, ◌≤◌, ℕ, List, [], length};
-ghost use Rattle.table_theory.specs.Ledgers.{CountedUp, CountedDown, rest_of, newborn, both, emptied};
 ghost use Rattle.table_theory.specs.Seating.{IsSame};
 ghost use Rattle.batch_queue.specs.declared.layout.TheConstants.{FIRST_MARK, POSITIONS};
-ghost use Rattle.batch_queue.specs.Layout.{head_word, tail_word, free_word, ends_word, mark_word};
-ghost use Rattle.batch_queue.specs.Own.{nothing_did, did_both};
-ghost use Rattle.batch_queue.specs.Rules.{IsRuled};
+ghost use Rattle.batch_queue.specs.Layout.{head_word, tail_word, free_word, mark_word};
 ghost use Rattle.batch_queue.specs.Slots.{slots_of};
 ghost use Rattle.batch_queue.specs.Steps.{IsSeated, Stays, Found, Claimed, Released, HoldsRange, IsClaim};
 ghost use Rattle.batch_queue.specs.Steps.{HasStop, HasBack, Took, Freed, Parted, Shut};
 ghost use Rattle.batch_queue.specs.Object.{IsWithin};
 
-use crate::layout::{ENDS, FREE, HEAD, SHUT, TAIL, mark_word};
-use crate::plays::{
-    ClaimItems, Claims, CountsDown, CountsUp, Finds, Frees, Gives, Joins, PartPosition, Parts,
-    Releases, Shuts, Spent, Takes,
-};
+use crate::layout::{FREE, HEAD, SHUT, TAIL, mark_word};
+use crate::plays::{ClaimItems, Claims, Finds, Frees, PartPosition, Parts, Releases, Shuts, Takes};
 use crate::rule::{BatchRule, Shape, View};
 use atomic_table::{Seat, Shared};
 
@@ -151,47 +145,4 @@ pub(crate) fn or_head(words: &Words, seat: &mut Seat<u64, View>) -> u64
     ensures shut { Shut seat.old.me.0 result seat.new.me.0 }
 {
     words.fetch_or::<Shuts>(seat, HEAD, SHUT)
-}
-
-pub(crate) fn count_up(words: &Words, seat: &mut Seat<u64, View>) -> u64
-    requires queue { (seat.old.table_id ≡ words.now.table_id) × (FIRST_MARK ≤ words.now.table_id.words) }
-    requires parts { seat.old.me.0.member.ends + 1 ≤ seat.old.me.0.member.share }
-    ensures queue { IsSame seat.old seat.new × (seat.new.me.1 ≡ seat.old.me.1) }
-    ensures ruled { IsRuled seat.new.me.0 }
-    ensures counted { CountedUp ends_word seat.old.me.0 seat.new.me.0 }
-{
-    words.fetch_add::<CountsUp>(seat, ENDS, 1)
-}
-
-pub(crate) fn count_down(words: &Words, seat: &mut Seat<u64, View>) -> u64
-    requires queue { (seat.old.table_id ≡ words.now.table_id) × (FIRST_MARK ≤ words.now.table_id.words) }
-    requires live { 2 ≤ seat.old.me.0.member.ends }
-    ensures queue { IsSame seat.old seat.new × (seat.new.me.1 ≡ seat.old.me.1) }
-    ensures ruled { IsRuled seat.new.me.0 }
-    ensures counted { CountedDown ends_word seat.old.me.0 seat.new.me.0 }
-{
-    words.fetch_sub::<CountsDown>(seat, ENDS, 1)
-}
-
-pub(crate) fn split_off(words: &Words, seat: &mut Seat<u64, View>) -> Seat<u64, View>
-    requires queue { (seat.old.table_id ≡ words.now.table_id) × (FIRST_MARK ≤ words.now.table_id.words) }
-    requires live { seat.old.me.0.member.ends ≡ 2 }
-    ensures queue { IsSame seat.old seat.new × (result.table_id ≡ seat.old.table_id) }
-    ensures split { (seat.new.me ≡ (rest_of seat.old.me.0, seat.old.me.1))
-        × (result.me ≡ (newborn nothing_did seat.old.me.0, [])) }
-{
-    words.split_seat::<Gives>(seat)
-}
-
-/// Condition: neither end holds a slot.
-pub(crate) fn take_in<J: Spent>(words: &Words, seat: &mut Seat<u64, View>, other: Seat<u64, View>)
-    requires queue { (seat.old.table_id ≡ words.now.table_id) × (other.table_id ≡ words.now.table_id)
-        × (other.me.1 ≡ []) × (FIRST_MARK ≤ words.now.table_id.words) }
-    requires live { (1 ≤ seat.old.me.0.member.ends) × (1 ≤ other.me.0.member.ends) }
-    requires bare { (seat.old.me.0.own.held.count ≡ 0) × (other.me.0.own.held.count ≡ 0) }
-    requires spent { J.view ≡ emptied nothing_did seat.old.me.0 }
-    ensures queue { IsSame seat.old seat.new }
-    ensures joined { seat.new.me ≡ (both did_both seat.old.me.0 other.me.0, seat.old.me.1) }
-{
-    words.join_seat::<Joins<J>>(seat, other);
 }

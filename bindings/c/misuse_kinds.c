@@ -5,16 +5,17 @@
 #include "rows.h"
 #include "synthesis.h"
 
-enum { PLACES = 64, KINDS = 5 };
+enum { PLACES = 64, KINDS = 6 };
 
 static struct synth_queue queue, no_queue;
+static struct synth_chain chain, no_chain;
 static struct synth_seat seat, no_seat;
 static struct synth_hand hand, no_hand;
 static struct synth_line_in input, no_input;
 static struct synth_line_out output, no_output;
 
 /* One of each kind. */
-static void *handles[KINDS] = {&queue, &seat, &hand, &input, &output};
+static void *handles[KINDS] = {&queue, &chain, &seat, &hand, &input, &output};
 
 static void to_queue_calls(struct synth_queue *other)
 {
@@ -35,6 +36,22 @@ static void to_queue_calls(struct synth_queue *other)
     ROW(synth_queue_close(other, items, PLACES, &closed), SYNTH_EMPTY_HANDLE);
     ROW(synth_queue_free(other), SYNTH_EMPTY_HANDLE);
     ROW(count == 9 && !was_open && other->full, true);
+}
+
+static void to_chain_calls(struct synth_chain *other)
+{
+    struct synth_chained closed;
+    uint16_t note = 9;
+    ROW(synth_chain_new(0, other), SYNTH_FULL_HANDLE);
+    ROW(synth_chain_split(other, &no_chain), SYNTH_EMPTY_HANDLE);
+    ROW(synth_chain_split(&chain, other), SYNTH_FULL_HANDLE);
+    ROW(synth_chain_join(&chain, other), SYNTH_EMPTY_HANDLE);
+    ROW(synth_chain_join(other, &chain), SYNTH_EMPTY_HANDLE);
+    ROW(synth_chain_try_chain(other, 1).code, SYNTH_EMPTY_HANDLE);
+    ROW(synth_chain_next(other, &note), SYNTH_EMPTY_HANDLE);
+    ROW(synth_chain_close(other, &closed), SYNTH_EMPTY_HANDLE);
+    ROW(synth_chain_free(other), SYNTH_EMPTY_HANDLE);
+    ROW(note == 9 && other->full, true);
 }
 
 static void to_seat_calls(struct synth_seat *other)
@@ -109,24 +126,30 @@ static void all_close(void)
     static struct synth_places places;
     uint64_t left[PLACES];
     struct synth_closed closed;
+    struct synth_chained chained;
     struct synth_metered metered;
     struct synth_line_totals totals;
     ROW(synth_queue_close(&queue, left, PLACES, &closed), SYNTH_DONE);
+    ROW(synth_chain_close(&chain, &chained), SYNTH_DONE);
     ROW(synth_seat_close(&seat, &metered), SYNTH_DONE);
     ROW(synth_hand_close(&hand, &places), SYNTH_DONE);
     ROW(synth_line_finish(&input, &output, &totals), SYNTH_DONE);
-    ROW(no_queue.full || no_seat.full || no_hand.full || no_input.full || no_output.full, false);
+    ROW(no_queue.full || no_chain.full || no_seat.full || no_hand.full || no_input.full || no_output.full, false);
 }
 
 int main(void)
 {
     ROW(synth_queue_new(PLACES, 0, &queue), SYNTH_DONE);
+    ROW(synth_chain_new(0, &chain), SYNTH_DONE);
     ROW(synth_seat_new(0, &seat), SYNTH_DONE);
     ROW(synth_hand_new(0, &hand), SYNTH_DONE);
     ROW(synth_line_new(4, &input, &output), SYNTH_DONE);
     for (int i = 0; i < KINDS; i++) {
         if (handles[i] != &queue) {
             to_queue_calls((struct synth_queue *)handles[i]);
+        }
+        if (handles[i] != &chain) {
+            to_chain_calls((struct synth_chain *)handles[i]);
         }
         if (handles[i] != &seat) {
             to_seat_calls((struct synth_seat *)handles[i]);

@@ -5,3 +5,4 @@ mod QueueClosed
 mod QueueEnds
 mod SeatSetting
 mod Telling
+mod Handing

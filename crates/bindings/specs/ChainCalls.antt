@@ -53,7 +53,7 @@ IsToldPulled pulled.Done old new code = (code ≡ Done) × (new ≡ old)
 pub data PullTold (x : HeldChain) (old_note note : ℕ) (new : Option HeldChain) (code : ℤ) : Type 0 where
   runs_none : has_turn x ≡ false → code ≡ NotRunning → note ≡ old_note → new ≡ Some x
       → PullTold x old_note note new code
-  pulled : has_turn x ≡ true → (y : HeldChain) (answer : Pulled) → new ≡ Some y → WasPulled answer x y
+  runs_notes : has_turn x ≡ true → (y : HeldChain) (answer : Pulled) → new ≡ Some y → WasPulled answer x y
       → IsToldPulled answer old_note note code → PullTold x old_note note new code
 
 -- what C is told of a chain that was to be closed
@@ -64,6 +64,6 @@ IsToldEnding (ended.Open y) new old told code = (code ≡ Open) × (new ≡ Some
 
 -- C is told what became of the chain; one whose end runs notes is as it was
 pub data WasClosed (x : HeldChain) (new : Option Payload) (old told : SynthChained) (code : ℤ) : Type 0 where
-  runs : has_turn x ≡ true → code ≡ Running → told ≡ old → new ≡ Some (Chain x) → WasClosed x new old told code
-  ended : has_turn x ≡ false → (outcome : Outcome) → Ended outcome x → IsToldEnding outcome new old told code
+  runs_notes : has_turn x ≡ true → code ≡ Running → told ≡ old → new ≡ Some (Chain x) → WasClosed x new old told code
+  runs_none : has_turn x ≡ false → (outcome : Outcome) → Ended outcome x → IsToldEnding outcome new old told code
       → WasClosed x new old told code

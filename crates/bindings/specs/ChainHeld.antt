@@ -9,7 +9,7 @@ use Rattle.proc_chain.specs.declared.running.Turn.{Turn}
 use Rattle.proc_chain.specs.Answers.{ChainedNow, NotChained}
 use Rattle.proc_chain.specs.Closings as closings
 use Rattle.proc_chain.specs.Endings as endings
-use Rattle.proc_chain.specs.Handles.{IsEndOf, IsSameEnd, me_of, view_of}
+use Rattle.proc_chain.specs.Handles.{IsSameEnd, me_of, view_of}
 use Rattle.proc_chain.specs.Handles as chains
 use Rattle.proc_chain.specs.Notes.{PutNote, SameNotes}
 use Rattle.proc_chain.specs.Rules.{suits, makes, view_from}
@@ -39,7 +39,7 @@ IsKept x y = IsSameHeld x y × (y.parts ≡ x.parts)
 
 -- both are ends of the same chain
 abbrev pub AreOfOneChain : HeldChain → HeldChain → Type 0
-AreOfOneChain x y = IsEndOf (arc_value x.chain) y.end
+AreOfOneChain x y = y.end.seat.table_id ≡ x.end.seat.table_id
 
 -- the chains have one mark
 abbrev pub HaveOneMark : HeldChain → HeldChain → Type 0

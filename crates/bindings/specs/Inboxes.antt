@@ -1,5 +1,11 @@
 -- What the chain for C runs: it has the note that was pulled last.
-use Rattle.std.specs.Prelude.{◌≡◌, ℕ, List, [], ◌∷◌}
+use Rattle.std.specs.Prelude.{◌≡◌, ℕ, true, false, List, [], ◌∷◌}
+use Rattle.proc_chain.specs.declared.ends.ChainEnd.{ChainEnd}
+use Rattle.proc_chain.specs.declared.ends.ProcChain.{ProcChain}
+use Rattle.proc_chain.specs.declared.quaject.Quaject.{Ghosts}
+use Rattle.proc_chain.specs.Handles.{me_of, opening_of, turn_of, view_of}
+use Rattle.proc_chain.specs.Own.{queue_of}
+use Rattle.proc_chain.specs.Shown.{notes_of}
 use Rattle.bindings.specs.declared.chain.inbox.Inbox.{Inbox}
 
 -- the last number of the list, or else this one
@@ -14,3 +20,15 @@ HasLast first inbox notes = inbox.note ≡ last_or first.note notes
 -- it fits any world
 abbrev pub FitsAny : Unit {0} → Inbox → Type 0
 FitsAny world inbox = Unit {0}
+
+-- an inbox that has no note yet
+abbrev pub no_note : Inbox
+no_note = record { note = 0 }
+
+-- It is an end of this chain, which began without a note. If it runs notes, it holds the inbox, with the last of the
+-- notes taken; else it holds nothing
+abbrev pub IsHeldEnd : {g : Ghosts Inbox (Unit {0})} → ProcChain Inbox (Unit {0}) → ChainEnd Inbox (Unit {0}) g → Type 0
+IsHeldEnd chain end = (end.seat.table_id ≡ chain.table.shared.table_id) × (opening_of chain ≡ no_note)
+    × (turn_of end ≡ true
+    → (me_of end).1 ≡ (0, record { note = last_or 0 (notes_of (queue_of (view_of end))) }) ∷ [])
+    × (turn_of end ≡ false → (me_of end).1 ≡ [])

@@ -1,6 +1,6 @@
 //! The chain for C: each call is one of the library's, on the end that a handle holds. Notes are pulled: the caller does
 //! what a note is for between one call and the next.
-ghost use Rattle.std.specs.Prelude.{◌≡◌};
+ghost use Rattle.std.specs.Prelude.{◌≡◌, ◌≤◌};
 ghost use Rattle.std.specs.Option.{MatchOption};
 ghost use Rattle.bindings.specs.ChainCalls.{MadeChain, ChainTold, IsToldNoted, PullTold, WasClosed};
 ghost use Rattle.bindings.specs.ChainHeld.{Divided, Joined, HaveOneMark, AreOfOneChain, MayJoin, MayNotJoin};

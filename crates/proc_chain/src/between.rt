@@ -8,8 +8,8 @@ ghost use Rattle.proc_chain.specs.Own.{View};
 ghost use Rattle.proc_chain.specs.Between.{ShowsChain, ShowsEnds};
 ghost use Rattle.proc_chain.specs.Rules.{suits, makes};
 
-use crate::quaject::Quaject;
 use crate::ends::ProcChain;
+use crate::quaject::Quaject;
 use crate::rule::{ChainRule, Pact, Shape, View};
 use atomic_table::{Shared, TableRule};
 

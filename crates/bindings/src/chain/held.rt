@@ -2,7 +2,8 @@
 ghost use Rattle.std.specs.Prelude.{◌≡◌, ◌≤◌, ◌<◌, true, false, MatchBool};
 ghost use Rattle.std.specs.Option.{MatchOption};
 ghost use Rattle.std.specs.Arc.{arc_value};
-ghost use Rattle.proc_chain.specs.Handles.{IsEndOf, view_of};
+ghost use Rattle.proc_chain.specs.Handles.{view_of};
+ghost use Rattle.bindings.specs.Inboxes.{IsHeldEnd};
 
 use super::inbox::Inbox;
 use proc_chain::{ChainEnd, ChainRefusal, Chained, ProcChain, ServedKept};
@@ -18,7 +19,7 @@ pub struct HeldChain {
     pub(super) end: ChainEnd<Inbox>,
     pub(super) parts: u64,
     pub(super) mark: u64,
-    ghost own: { IsEndOf (arc_value chain) end },
+    ghost own: { IsHeldEnd (arc_value chain) end },
     ghost known: { parts ≡ (view_of end).member.share },
 }
 

@@ -1,5 +1,5 @@
 -- The notes that are handed out, and the inbox of the end that runs them.
-use Rattle.std.proofs.Common.{◌≡◌, ◌<◌, ℕ, zero, suc, pred, List, [], ◌∷◌, ◌++◌, length, refl, sym, ap, subst, ◌∙◌}
+use Rattle.std.proofs.Common.{◌≡◌, ◌<◌, ℕ, pred, List, [], ◌∷◌, ◌++◌, length, refl, sym, ap}
 use Rattle.std.proofs.Math.Arith.{lt-one}
 use Rattle.std.proofs.Math.Nat.{suc-ne-zero}
 use Rattle.proc_chain.specs.Servings.{Use, took, failed, notes_run}

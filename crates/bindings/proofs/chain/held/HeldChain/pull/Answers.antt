@@ -1,4 +1,4 @@
-use Rattle.std.proofs.Common.{rules, ◌≡◌, refl, sym, ap, subst, ◌∙◌, ℕ, List, [], ◌∷◌, length}
+use Rattle.std.proofs.Common.{rules, sym, ap, subst, ◌∙◌, ℕ, List, [], ◌∷◌, length}
 use Rattle.std.specs.declared.option.Option.TheVariants.{None, Some}
 use Rattle.proc_chain.specs.Handles.{me_of, view_of}
 use Rattle.proc_chain.specs.Own.{queue_of}

@@ -1,9 +1,9 @@
 /*
- * Threads that use synthesis.hpp: three producers and three takers pass boxes by their addresses through one queue, and
- * sleep; workers pass elements, which have words of their own; a thread sends bytes, each of which says that a word is
- * written. `wrapped_threads [ITEMS]`, 100,000 where no number is given. What an item, an element or a byte leads to is
- * read and written by plain code, at which ThreadSanitizer looks. Prints one line. Status 1: something was lost or came
- * twice.
+ * Threads that use synthesis.hpp: `wrapped_threads [ITEMS]`, 100,000 if no number is given. Three producers and three
+ * takers pass boxes by their addresses through one queue, first without a sleep and then with sleeps. Takers pass one
+ * wake on. Workers pass elements, each of which has a word. A thread sends bytes, each of which says that a word is
+ * written. What an item, an element or a byte leads to is read and written by plain code, at which ThreadSanitizer
+ * looks. Prints one line. Status 1: something was lost or came twice. A wake that is lost hangs it.
  */
 #include "synthesis.hpp"
 #include <atomic>
@@ -30,6 +30,16 @@ synthesis::QueueEvents events;
 std::vector<Box> boxes;
 std::atomic<std::uint64_t> faults;
 
+/* Whether producers and takers sleep. If they don't, nothing orders them but the queue. */
+bool sleeps;
+
+void notify(synthesis::Event &event)
+{
+    if (sleeps) {
+        event.notify_one();
+    }
+}
+
 void must(Code code, const char *what)
 {
     if (code != Code::Done) {
@@ -50,28 +60,40 @@ bool has_put_two(Boxes &end, std::size_t i)
     const std::array<Box *, 2> two = {&boxes[i], &boxes[i + PRODUCERS]};
     const auto put = synthesis::repeat([&] { return end.try_put(two); });
     if (put) {
-        events.items.notify_one();
+        notify(events.items);
     }
     return put && !put.full && !put.lost;
 }
 
-/* Each third box, beginning with one. The second producer puts two at once, where there is room. */
+/* Puts a box, and sleeps while there is no room, or yields. */
+void put_box(Boxes &end, Box *box, std::size_t number)
+{
+    for (;;) {
+        const auto put = sleeps ? end.put_wait(box, events, limit_of(number)) : end.try_put(box);
+        if (put) {
+            return;
+        }
+        if (put.code != Code::Full && put.code != Code::Lost) {
+            must(put.code, "put");
+        }
+        std::this_thread::yield();
+    }
+}
+
+/* Each third box, beginning with one. The second producer puts two at once, if there is room. */
 void put_boxes(Boxes &end, std::size_t first)
 {
     for (std::size_t i = first; i < boxes.size(); i += PRODUCERS) {
         boxes[i].number = i + 1;
-    }
-    for (std::size_t i = first; i < boxes.size();) {
-        if (first == 1 && i + PRODUCERS < boxes.size() && has_put_two(end, i)) {
-            i += 2 * PRODUCERS;
-            continue;
+        if (first == 1 && i + PRODUCERS < boxes.size()) {
+            boxes[i + PRODUCERS].number = i + PRODUCERS + 1;
+            if (has_put_two(end, i)) {
+                i += PRODUCERS;
+                continue;
+            }
+            boxes[i + PRODUCERS].number = 0;
         }
-        const auto put = end.put_wait(&boxes[i], events, limit_of(first));
-        if (put) {
-            i += PRODUCERS;
-        } else if (put.code != Code::Full) {
-            must(put.code, "put");
-        }
+        put_box(end, &boxes[i], first);
     }
 }
 
@@ -91,21 +113,24 @@ std::uint64_t take_more(Boxes &end)
         sum += empty_box(box);
     }
     if (run) {
-        events.places.notify_one();
+        notify(events.places);
     }
     return sum;
 }
 
+/* Takes boxes until none will ever come. The second taker takes what is there. */
 void take_boxes(Boxes &end, std::size_t number, std::uint64_t &sum)
 {
     for (;;) {
-        const auto taken = end.take_wait(events, limit_of(number));
+        const auto taken = sleeps ? end.take_wait(events, limit_of(number)) : end.try_take();
         if (taken) {
             sum += empty_box(*taken.item);
         } else if (taken.code == Code::Closed) {
             return;
-        } else if (taken.code != Code::Empty) {
+        } else if (taken.code != Code::Empty && taken.code != Code::Lost) {
             must(taken.code, "take");
+        } else {
+            std::this_thread::yield();
         }
         sum += number == 1 ? take_more(end) : 0;
     }
@@ -146,6 +171,29 @@ void pass_boxes(std::uint64_t items)
     }
     faults += (closed->put != items) + (closed->taken != items) + closed->left.size();
     faults += events.items.raw()->waiters + events.places.raw()->waiters;
+}
+
+/* Takers wait, and one notify follows a run of items for all: each taker wakes the next one. */
+void pass_wake_on()
+{
+    synthesis::QueueEnd last = synthesis::QueueEnd::make(64).value();
+    std::array<synthesis::QueueEnd, TAKERS> ends;
+    std::array<std::thread, TAKERS> threads;
+    for (std::size_t i = 0; i < TAKERS; i++) {
+        ends[i] = last.split().value();
+        threads[i] = std::thread([&ends, i] { must(ends[i].take_wait(events).code, "take"); });
+    }
+    for (int yields = 0; yields < 1000 || events.items.raw()->waiters < TAKERS; yields++) {
+        std::this_thread::yield();
+    }
+    must(last.try_put({1, 2, 3}).code, "put");
+    events.items.notify_one();
+    for (std::size_t i = 0; i < TAKERS; i++) {
+        threads[i].join();
+        must(last.join(std::move(ends[i])), "join");
+    }
+    const auto closed = last.close();
+    faults += !closed || !closed->left.empty();
 }
 
 /* Whoever holds an element has its word. */
@@ -227,6 +275,11 @@ int main(int count, char **words_given)
 {
     const std::uint64_t items = count > 1 ? std::strtoull(words_given[1], nullptr, 10) : 100000;
     pass_boxes(items);
+    sleeps = true;
+    pass_boxes(items);
+    for (int times = 0; times < 20; times++) {
+        pass_wake_on();
+    }
     pass_elements(items / 10);
     pass_bytes(items / 10);
     std::printf("wrapped_threads: %llu items, %llu faults\n", static_cast<unsigned long long>(items),

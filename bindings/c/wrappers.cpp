@@ -26,8 +26,8 @@ using synthesis::View;
 namespace {
 
 /*
- * What doesn't compile: a copy of an end; a truth that is taken for success; a buffer over what is constant, or of other
- * elements. And with -Werror an answer that is dropped, such as `end.try_put(1);`, `end.join(std::move(other));`.
+ * What doesn't compile: a copy of an end; a truth that is taken for success; a buffer over constant or other elements.
+ * With -Werror also an answer that is dropped, such as `end.try_put(1);` or `end.join(std::move(other));`.
  */
 template <class End>
 constexpr bool moves_only = !std::is_copy_constructible_v<End> && !std::is_copy_assignable_v<End> &&
@@ -48,8 +48,8 @@ static_assert(std::is_convertible_v<View<std::uint64_t>, View<const std::uint64_
 static_assert(!std::is_convertible_v<View<const std::uint64_t>, View<std::uint64_t>>);
 static_assert(sizeof(QueueEnd) == sizeof(synth_queue) && sizeof(Hand) == sizeof(synth_hand));
 
-/* A number of an answer, which is there. */
-template <class T> long long told(const std::optional<T> &number)
+/* The number in a field of an answer; -1 if it is empty. */
+template <class T> long long number_in(const std::optional<T> &number)
 {
     return number ? static_cast<long long>(*number) : -1;
 }
@@ -168,13 +168,13 @@ void queue_puts()
     ROW(end.try_put(std::vector<std::uint64_t>(65)).code, Code::TooLong);
     auto put = end.try_put({1, 10, 3});
     ROW(put && !put.full && !put.lost, true);
-    ROW(told(put.position), 5);
+    ROW(number_in(put.position), 5);
     auto full = end.try_put(run);
     ROW(full.code, Code::Full);
     ROW(!full && !full.position && !full.lost && full.full, true);
     ROW(full.full->head == 8 && full.full->tail == 5, true);
-    ROW(told(end.try_put(4).position), 8);
-    ROW(told(end.try_put(true).position), 9);
+    ROW(number_in(end.try_put(4).position), 8);
+    ROW(number_in(end.try_put(true).position), 9);
     ROW(end.shut().value(), true);
     ROW(end.shut().value(), false);
     ROW(end.try_put(1).code, Code::Closed);
@@ -202,14 +202,14 @@ void queue_takings()
     ROW(end.try_take_line(View<std::uint64_t>(room.data(), 255)).code, Code::ShortBuffer);
     ROW(end.try_put({1, 2, 10, 4, 5, 6}).code, Code::Done);
     auto one = other.try_take();
-    ROW(one && !one.empty && told(one.item) == 1, true);
+    ROW(one && !one.empty && number_in(one.item) == 1, true);
     auto line = other.try_take_line(room);
     ROW(line && line.count == 2 && room[0] == 2 && room[1] == 10, true);
     ROW(other.try_take_line(room).code, Code::Empty);
     auto whole = end.take_up_to(View<std::uint64_t>(room).first(1));
     ROW(whole && whole.count == 1 && room[0] == 4 && !whole.stopped_at, true);
     auto part = end.take_up_to(room);
-    ROW(part && part.count == 2 && room[1] == 6 && told(part.stopped_at) == 9, true);
+    ROW(part && part.count == 2 && room[1] == 6 && number_in(part.stopped_at) == 9, true);
     ROW(end.try_put(7).code, Code::Done);
     ROW(end.close().code(), Code::Open);
     ROW(end.join(std::move(other)), Code::Done);
@@ -233,7 +233,7 @@ void moves()
     ROW(moved.full() && !a.full(), true);
     b = std::move(moved);
     ROW(b.full() && !moved.full(), true);
-    ROW(told(b.try_take().item), 1);
+    ROW(number_in(b.try_take().item), 1);
     QueueEnd &same = b;
     b = std::move(same);
     ROW(b.full(), true);
@@ -274,6 +274,7 @@ void queue_of_values()
     ROW(other.try_put(three).code, Code::Done);
     ROW(other.try_put(View<const Pair>()).code, Code::NoItems);
     ROW(other.try_put(std::vector<Pair>(257)).code, Code::TooLong);
+    ROW(other.try_put(std::vector<Pair>(2000000)).code, Code::TooLong);
     ROW(other.try_put(std::vector<Pair>(254)).full->tail, 0);
     ROW(other.try_take().item->left, -1);
     std::array<Pair, 300> room = {};
@@ -292,6 +293,12 @@ void queue_of_values()
     ROW(pointers.try_put(&number).code, Code::Done);
     ROW(*pointers.try_take().item.value() == 7, true);
     ROW(pointers.take_up_to({}).code, Code::ShortBuffer);
+    auto words = QueueOf<std::uint64_t>::make(64).value();
+    ROW(words.try_put({}).code, Code::NoItems);
+    ROW(words.try_put({1, 2}).code, Code::Done);
+    ROW(words.try_put({3}).code, Code::Done);
+    ROW(number_in(words.try_take().item), 1);
+    ROW(number_in(words.end().try_take().item), 2);
 }
 
 void seats()
@@ -301,18 +308,18 @@ void seats()
     ROW(seat.tick(2, 5).value(), 0);
     ROW(other.tick(2, 1).value(), 5);
     ROW(seat.tick(8, 1).code(), Code::BadNumber);
-    ROW(told(seat.try_set(first).slot), 0);
-    ROW(told(seat.try_set(second).slot), 1);
+    ROW(number_in(seat.try_set(first).slot), 0);
+    ROW(number_in(seat.try_set(second).slot), 1);
     ROW(seat.try_set({0, 64, 0}).code, Code::BadNumber);
     auto due = seat.due();
     ROW(due && due->size() == 1 && (*due)[0].element == 63 && due->begin()->signal == 15, true);
     auto clock = seat.advance();
-    ROW(clock && told(clock.clock) == UINT32_MAX && !clock.found, true);
+    ROW(clock && number_in(clock.clock) == UINT32_MAX && !clock.found, true);
     ROW(seat.advance().code, Code::Spent);
     ROW(seat.cancel(0, first).value(), true);
     ROW(seat.cancel(0, first).value(), false);
     for (std::uint32_t i = 0; i < 16; i++) {
-        ROW(told(other.try_set(second).slot), i);
+        ROW(number_in(other.try_set(second).slot), i);
     }
     ROW(other.try_set(second).code, Code::NoRoom);
     ROW(seat.close().code(), Code::Open);
@@ -360,13 +367,13 @@ void hands()
     ROW(other.serves(3).value() && !other.serves(2).value(), true);
     ROW(hand.try_next().code, Code::Empty);
     for (std::uint32_t i = 0; i < 4; i++) {
-        ROW(told(hand.try_free().element), i);
+        ROW(number_in(hand.try_free().element), i);
     }
     ROW(hand.holds(0).value(), true);
     ROW(other.holds(0).value(), false);
     ROW(hand.try_ready(0).code, Code::Done);
     ROW(hand.try_ready(0).code, Code::NotHeld);
-    ROW(told(other.try_next().element), 0);
+    ROW(number_in(other.try_next().element), 0);
     ROW(other.on_processor(3).code(), Code::Vacant);
     ROW(other.on(3, 0), Code::Done);
     ROW(other.on(3, 1), Code::NotHeld);
@@ -378,6 +385,7 @@ void hands()
     auto off = other.off(3);
     ROW(off && *off == 0, true);
     ROW(other.try_retire(0).code, Code::Done);
+    ROW(hand.try_next().code, Code::Empty);
     ROW(other.split(1u << 3).value().on(3, 0), Code::NotHeld);
 }
 
@@ -386,38 +394,39 @@ void hands_wait()
 {
     Hand hand = Hand::make(100).value();
     for (std::uint32_t i = 0; i < 4; i++) {
-        ROW(told(hand.try_free().element), i);
+        ROW(number_in(hand.try_free().element), i);
     }
     const std::uint32_t ticket = hand.ticket(2).value();
     ROW(hand.try_wait_at(0, 2, ticket).code, Code::Done);
     ROW(hand.notify(2).value(), 101);
     auto moved = hand.try_wait_at(1, 2, ticket);
     ROW(moved.code, Code::Moved);
-    ROW(!moved && !moved.lost && told(moved.notifies) == 1, true);
+    ROW(!moved && !moved.lost && number_in(moved.notifies) == 1, true);
     ROW(hand.try_wait(1, 2).code, Code::Done);
-    ROW(told(hand.try_wake_before(2, 101).element), 0);
+    ROW(number_in(hand.try_wake_before(2, 101).element), 0);
     ROW(hand.try_wake_before(2, 101).code, Code::AllWoken);
-    ROW(told(hand.try_wake(2).element), 1);
+    ROW(number_in(hand.try_wake(2).element), 1);
     ROW(hand.try_wait(1, 16).code, Code::BadNumber);
     ROW(hand.signal(2, 5).value(), true);
     ROW(hand.signal(2, 5).value(), false);
-    ROW(told(hand.try_deliver(2).value), 1 << 5);
+    ROW(number_in(hand.try_deliver(2).value), 1 << 5);
     ROW(hand.try_start(2).value == synthesis::Started::NotStopped, true);
-    ROW(told(hand.try_park(2).value), false);
+    ROW(number_in(hand.try_park(2).value), false);
     ROW(hand.stop(2).value(), true);
-    ROW(told(hand.try_park(2).value), true);
+    ROW(number_in(hand.try_park(2).value), true);
     ROW(hand.try_deliver(2).code, Code::NotHeld);
     ROW(hand.try_start(2).value == synthesis::Started::Held, true);
+    ROW(hand.step_done(3).value(), 1);
     ROW(hand.stop(3).value() && hand.try_park(3).ok(), true);
     ROW(hand.signal(3, 15).value() && hand.on(7, 2) == Code::Done && hand.try_wait(0, 9).code == Code::Done, true);
     auto closed = hand.close();
-    ROW(closed && closed->places[0].kind == synthesis::PlaceKind::Wait && told(closed->places[0].wait) == 9, true);
+    ROW(closed && closed->places[0].kind == synthesis::PlaceKind::Wait && number_in(closed->places[0].wait) == 9, true);
     ROW(closed->places[0].processor || closed->places[1].wait, false);
     ROW(closed->places[1].kind, synthesis::PlaceKind::Held);
-    ROW(told(closed->places[2].processor), 7);
+    ROW(number_in(closed->places[2].processor), 7);
     ROW(closed->places[3].kind, synthesis::PlaceKind::Stopped);
     ROW(closed->places[63].kind, synthesis::PlaceKind::Free);
-    ROW(closed->stops == 1u << 3 && closed->pending[3] == 1u << 15 && closed->pc[0] == 0, true);
+    ROW(closed->stops == 1u << 3 && closed->pending[3] == 1u << 15 && closed->pc[3] == 1, true);
     ROW(hand.close().code(), Code::EmptyHandle);
 }
 
@@ -434,7 +443,7 @@ void waits_in_vain()
         ROW(end.put_wait(7, events).code, Code::Done);
     }
     ROW(end.put_wait(8, events, 1500us).code, Code::Full);
-    ROW(told(end.take_wait(events, 0s).item), 7);
+    ROW(number_in(end.take_wait(events, 0s).item), 7);
     ROW(end.shut().ok(), true);
     ROW(end.put_wait(8, events).code, Code::Closed);
     ROW(QueueEnd().take_wait(events).code, Code::EmptyHandle);
@@ -448,6 +457,28 @@ void waits_in_vain()
     auto moved = std::move(kept);
     ROW(event.raw()->waiters.load(), 1);
     moved.cancel();
+    ROW(event.raw()->waiters.load(), 0);
+    {
+        auto dropped = event.prepare();
+        ROW(event.raw()->waiters.load(), 1);
+    }
+    ROW(event.raw()->waiters.load(), 0);
+}
+
+/* What is tried again, and how often. */
+void repeated_tries()
+{
+    synthesis::Event event;
+    int tries = 0;
+    const auto lost_twice = [&tries] { return synthesis::SetAnswer{++tries < 3 ? Code::Lost : Code::NoRoom, {}, {}}; };
+    ROW(synthesis::repeat(lost_twice).code, Code::NoRoom);
+    ROW(tries, 3);
+    const auto refused = [&tries] { return synthesis::SetAnswer{++tries < 5 ? Code::NoRoom : Code::Done, {}, {}}; };
+    ROW(event.wait_while(Code::NoRoom, {}, refused).code, Code::Done);
+    ROW(tries, 5);
+    tries = 0;
+    ROW(event.wait_while(Code::NoRoom, 1ms, refused).code, Code::NoRoom);
+    ROW(tries, 3);
     ROW(event.raw()->waiters.load(), 0);
 }
 
@@ -472,5 +503,6 @@ int main()
     hands();
     hands_wait();
     waits_in_vain();
+    repeated_tries();
     return rows_end("wrappers");
 }

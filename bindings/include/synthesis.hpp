@@ -18,8 +18,8 @@
  *     auto closed = end.close();
  *     return closed.ok() && closed->put == 1000 && closed->taken == 1000 && closed->left.empty();
  *
- * ENDS. An end owns one handle, of 16 bytes, or is empty. It can be moved, and not copied. An end that was moved from is
- * empty, and each call on an empty end answers Code::EmptyHandle. The destructor frees a full end, and so does an
+ * ENDS. An end owns one handle, of 16 bytes, or is empty. It can be moved, and not copied. An end that was moved from
+ * is empty, and each call on an empty end answers Code::EmptyHandle. The destructor frees a full end, and so does an
  * assignment to it. An end that is freed is never joined, and its object is never closed. So join each end of a thread
  * to another one before it goes.
  *
@@ -33,9 +33,9 @@
  * a pointer. The same holds from a push to the pop of its byte, and from the move of an element to its taking. Under
  * ThreadSanitizer this header declares these orders, so what an item leads to is not reported as a race.
  *
- * ANSWERS. Each call answers a Code, alone, in an Expected or in a struct with named fields. A field that the code has
- * no number for is empty. No call throws; where the memory of a std::vector is refused, the code is NoMemory. After any
- * code but Done all is as it was.
+ * ANSWERS. Each call answers a Code: alone, in an Expected, or in a struct with named fields. A field is empty if the
+ * code has no such number. After any code but Done all is as it was. No call throws. If the memory of a std::vector is
+ * refused, the code is NoMemory; a program that is built without exceptions ends.
  *
  * The ranges of numbers, and the order of the codes of each call, are those of synthesis.h.
  */

@@ -114,7 +114,7 @@ private:
     std::optional<T> value_;
 };
 
-/// The position whose place was not raised.
+/// The tail that was found. The place of this position was not raised.
 struct Empty {
     std::uint32_t tail;
 };
@@ -123,9 +123,9 @@ struct LostTake {
     std::uint32_t tail;
 };
 
-/// Elements of somebody else, one behind the other: `View<const std::uint64_t>` to be read, `View<std::uint64_t>` to be
-/// written. It is made from a pointer and a number, or from what has data() and size(): an array, std::array,
-/// std::vector, std::span, another view. A std::span can be made from it. It is for the length of a call.
+/// Consecutive elements that somebody else owns: `View<const std::uint64_t>` to be read, `View<std::uint64_t>` to be
+/// written. It is made from a pointer and a number, from an array, or from what has data() and size(): std::array,
+/// std::vector, std::span, another view. A std::span can be made from it. Use it for the time of a call.
 template <class T> class View {
     template <class From>
     using Elements = std::remove_pointer_t<decltype(std::data(std::declval<From &>()))> (*)[];
@@ -157,11 +157,17 @@ private:
     std::size_t size_ = 0;
 };
 
-/// Repeats a try for as long as it is Lost: another end was first, so somebody gets on each time.
+/// The code of an answer, of this namespace or of synthesis.h.
+template <class Answer> [[nodiscard]] constexpr Code code_of(const Answer &answer) noexcept
+{
+    return static_cast<Code>(answer.code);
+}
+
+/// Repeats a try while it is Lost. Each time another end was first.
 template <class Attempt> auto repeat(Attempt attempt) noexcept(noexcept(attempt()))
 {
     auto answer = attempt();
-    while (answer.code == Code::Lost) {
+    while (code_of(answer) == Code::Lost) {
         answer = attempt();
     }
     return answer;

@@ -30,7 +30,7 @@ public:
 
 private:
     static constexpr std::int64_t longest = INT64_MAX;
-    std::int64_t nanoseconds_ = SYNTH_EVENT_NO_LIMIT;
+    std::int64_t nanoseconds_ = -1; // SYNTH_EVENT_NO_LIMIT
 };
 
 /// An event count: threads sleep on it until another one has put something. A notify that finds nobody waiting costs
@@ -94,28 +94,53 @@ public:
     auto wait_while(Code refusal, Limit limit, Attempt attempt) noexcept(noexcept(attempt()))
     {
         auto answer = attempt();
-        if (answer.code != refusal) {
-            return answer;
-        }
-        const std::int64_t deadline = synth_event_deadline(limit.nanoseconds());
-        bool has_slept = false;
-        for (bool in_time = true; in_time && answer.code == refusal;) {
-            Ticket ticket = prepare();
-            answer = attempt();
-            if (answer.code == refusal) {
-                in_time = ticket.wait_until(deadline);
-                has_slept = true;
-                answer = attempt();
-            }
-        }
-        if (has_slept && answer.code != refusal) {
-            notify_one();
+        if (code_of(answer) == refusal) {
+            answer = sleep_while(refusal, synth_event_deadline(limit.nanoseconds()), attempt);
         }
         return answer;
     }
 
 private:
+    /// The rest of wait_while, once an attempt was refused.
+    template <class Attempt>
+    auto sleep_while(Code refusal, std::int64_t deadline, Attempt attempt) noexcept(noexcept(attempt()))
+    {
+        bool has_slept = false;
+        for (;;) {
+            Ticket ticket = prepare();
+            auto answer = attempt();
+            bool in_time = false;
+            if (code_of(answer) == refusal) {
+                in_time = ticket.wait_until(deadline);
+                has_slept = true;
+                answer = attempt();
+            }
+            ticket.cancel();
+            if (code_of(answer) != refusal && has_slept) {
+                notify_one();
+            }
+            if (code_of(answer) != refusal || !in_time) {
+                return answer;
+            }
+        }
+    }
+
     synth_event event_ = SYNTH_EVENT_INIT;
+};
+
+/// The events of one queue: takers sleep on `items`, producers on `places`.
+///
+/// A put by another call than put_wait is followed by items.notify_one(), a taking by another call than take_wait by
+/// places.notify_one(), and a shut by notify_all().
+struct QueueEvents {
+    Event items;
+    Event places;
+
+    void notify_all() noexcept
+    {
+        items.notify_all();
+        places.notify_all();
+    }
 };
 
 } // namespace synthesis

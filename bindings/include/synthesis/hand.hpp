@@ -86,13 +86,13 @@ inline ElementAnswer element_answer(const synth_answer &answer, std::uint32_t el
     if (answer.code == SYNTH_DONE) {
         acquire(Carrier::Element, element);
     }
-    return {code_of(answer.code), only_if<std::uint32_t>(answer.code == SYNTH_DONE, element),
+    return {as_code(answer.code), only_if<std::uint32_t>(answer.code == SYNTH_DONE, element),
             only_if<LostTake>(answer.code == SYNTH_LOST, answer.tail)};
 }
 
 inline MoveAnswer move_answer(const synth_moved &answer) noexcept
 {
-    MoveAnswer moved = {code_of(answer.code), {}, {}};
+    MoveAnswer moved = {as_code(answer.code), {}, {}};
     if (answer.code == SYNTH_LOST) {
         moved.lost = LostMove{answer.head, answer.notifies};
     } else if (answer.code == SYNTH_MOVED) {
@@ -103,7 +103,7 @@ inline MoveAnswer move_answer(const synth_moved &answer) noexcept
 
 template <class T> StateAnswer<T> state_answer(const synth_state &answer, T value) noexcept
 {
-    StateAnswer<T> state = {code_of(answer.code), {}, {}};
+    StateAnswer<T> state = {as_code(answer.code), {}, {}};
     if (answer.code == SYNTH_DONE) {
         state.value = value;
     } else if (answer.code == SYNTH_LOST) {
@@ -176,7 +176,7 @@ public:
     /// Puts an element on a processor. EmptyHandle; BadNumber; NotHeld; NotServed; Busy.
     Code on(std::uint32_t processor, std::uint32_t element) noexcept
     {
-        return detail::code_of(synth_hand_on(raw(), processor, element));
+        return detail::as_code(synth_hand_on(raw(), processor, element));
     }
 
     /// Takes the element off a processor; it is held then. EmptyHandle; BadNumber; NotServed; Vacant.
@@ -260,7 +260,7 @@ public:
         return detail::move_answer(synth_hand_try_ready(raw(), element));
     }
 
-    /// The same, behind the free elements.
+    /// The same, after the free elements.
     MoveAnswer try_retire(std::uint32_t element) noexcept
     {
         detail::release(Carrier::Element, element);
@@ -337,7 +337,7 @@ public:
         Places places = {};
         const std::int32_t code = synth_hand_close(raw(), &closed);
         if (code != SYNTH_DONE) {
-            return detail::code_of(code);
+            return detail::as_code(code);
         }
         for (std::size_t i = 0; i < places.places.size(); i++) {
             places.places[i] = detail::place_of(closed.place[i]);

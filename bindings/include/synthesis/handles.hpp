@@ -22,20 +22,21 @@ namespace synthesis {
 
 namespace detail {
 
-constexpr Code code_of(std::int32_t code) noexcept { return static_cast<Code>(code); }
+constexpr Code as_code(std::int32_t code) noexcept { return static_cast<Code>(code); }
 
-/// Of a call that answers one value beside its code.
+/// What a call with one value answers.
 template <class T> Expected<T> value_of(std::int32_t code, T value) noexcept
 {
-    return code == SYNTH_DONE ? Expected<T>(std::move(value)) : Expected<T>(code_of(code));
+    return code == SYNTH_DONE ? Expected<T>(std::move(value)) : Expected<T>(as_code(code));
 }
 
-template <class T, class From> std::optional<T> only_if(bool told, From number) noexcept
+/// A number, if the code has it.
+template <class T, class From> std::optional<T> only_if(bool is_there, From number) noexcept
 {
-    return told ? std::optional<T>(T{number}) : std::nullopt;
+    return is_there ? std::optional<T>(T{number}) : std::nullopt;
 }
 
-/// Makes a list so long. False: there was no memory.
+/// Gives a list this size. False if there was no memory.
 template <class T> bool has_grown(std::vector<T> &list, std::size_t size) noexcept
 {
 #ifdef __cpp_exceptions
@@ -50,9 +51,10 @@ template <class T> bool has_grown(std::vector<T> &list, std::size_t size) noexce
     return true;
 }
 
-/// What the orders of memory are declared by: what a thread did before `release` is visible after an `acquire` of the
-/// same carrier.
-enum class Carrier : std::uint64_t { Item = 1, Shut, Byte, Element, Wait, Gauge, Clock };
+/// What carries an order of memory from one thread to another. All that a thread did before `release` of a carrier is
+/// visible after a later `acquire` of it. The library does that; here it is declared to ThreadSanitizer, which doesn't
+/// see the library's steps. Two carriers may share a word, so a race may be missed, but none is made up.
+enum class Carrier : std::uint64_t { Item, Shut, Byte, Element, Wait, Gauge, Clock, Alarm };
 
 #ifdef SYNTHESIS_WATCHED_
 inline std::uint64_t carriers[1024];
@@ -111,9 +113,6 @@ public:
     /// Gives the handle away, to be freed by its new owner. The end is empty then.
     [[nodiscard]] Raw release() noexcept { return std::exchange(raw_, Raw{nullptr, false}); }
 
-protected:
-    explicit Handle(Raw raw) noexcept : raw_(raw) {}
-
 private:
     Raw raw_ = {nullptr, false};
 };
@@ -134,7 +133,7 @@ public:
     /// handle. EmptyHandle: either one, or they are one end; OtherObject.
     Code join(Self &&other) noexcept
     {
-        return this->raw() == other.raw() ? Code::EmptyHandle : code_of(Join(this->raw(), other.raw()));
+        return this->raw() == other.raw() ? Code::EmptyHandle : as_code(Join(this->raw(), other.raw()));
     }
 
 protected:
@@ -142,7 +141,7 @@ protected:
     template <class Call> static Expected<Self> filled_by(Call call) noexcept
     {
         Self end;
-        const Code code = code_of(call(end.raw()));
+        const Code code = as_code(call(end.raw()));
         return code == Code::Done ? Expected<Self>(std::move(end)) : Expected<Self>(code);
     }
 };

@@ -14,11 +14,11 @@ class LineIn : public detail::Handle<synth_line_in, synth_line_free_in> {
 public:
     LineIn() noexcept = default;
 
-    /// Pushes one byte behind all others. EmptyHandle; Full.
+    /// Pushes one byte after all others. EmptyHandle; Full.
     Code push(std::uint8_t byte) noexcept
     {
         detail::release(detail::Carrier::Byte, 0);
-        return detail::code_of(synth_line_push(raw(), byte));
+        return detail::as_code(synth_line_push(raw(), byte));
     }
 };
 

@@ -57,8 +57,8 @@ struct Metered {
 /// A seat at meters: eight gauges, a clock, and sixteen slots for alarms, which any number of threads share.
 ///
 /// A seat is used by one thread at a time; `split` makes one for another thread. What a thread did before a tick of a
-/// gauge is visible to whoever ticks the gauge later, and what it did before it moved the clock on to whoever moves it
-/// on later.
+/// gauge is visible to whoever ticks the gauge later. What it did before it moved the clock on is visible to whoever
+/// moves it on or takes due alarms later, and what it did before it set an alarm to whoever takes the alarm out.
 class Seat : public detail::Joined<Seat, synth_seat, synth_seat_free, synth_seat_join> {
 public:
     Seat() noexcept = default;
@@ -92,7 +92,7 @@ public:
         detail::release(detail::Carrier::Clock, 0);
         const synth_answer answer = synth_seat_advance(raw(), &clock);
         detail::acquire(detail::Carrier::Clock, 0);
-        return {detail::code_of(answer.code), detail::only_if<std::uint32_t>(answer.code == SYNTH_DONE, clock),
+        return {detail::as_code(answer.code), detail::only_if<std::uint32_t>(answer.code == SYNTH_DONE, clock),
                 detail::only_if<std::uint32_t>(answer.code == SYNTH_LOST, answer.head)};
     }
 
@@ -100,8 +100,9 @@ public:
     SetAnswer try_set(const Alarm &alarm) noexcept
     {
         std::uint32_t slot = 0;
+        detail::release(detail::Carrier::Alarm, word_of(alarm));
         const synth_answer answer = synth_seat_try_set(raw(), &alarm, &slot);
-        return {detail::code_of(answer.code), detail::only_if<std::uint32_t>(answer.code == SYNTH_DONE, slot),
+        return {detail::as_code(answer.code), detail::only_if<std::uint32_t>(answer.code == SYNTH_DONE, slot),
                 detail::only_if<std::uint32_t>(answer.code == SYNTH_LOST, answer.head)};
     }
 
@@ -110,6 +111,7 @@ public:
     {
         bool cancelled = false;
         const std::int32_t code = synth_seat_cancel(raw(), slot, &alarm, &cancelled);
+        detail::acquire(detail::Carrier::Alarm, word_of(alarm));
         return detail::value_of(code, cancelled);
     }
 
@@ -118,6 +120,10 @@ public:
     {
         Alarms alarms;
         const std::int32_t code = synth_seat_due(raw(), alarms.alarms_.data(), Alarms::most, &alarms.size_);
+        detail::acquire(detail::Carrier::Clock, 0);
+        for (const Alarm &alarm : alarms) {
+            detail::acquire(detail::Carrier::Alarm, word_of(alarm));
+        }
         return detail::value_of(code, alarms);
     }
 
@@ -128,13 +134,19 @@ public:
         Metered metered = {};
         const std::int32_t code = synth_seat_close(raw(), &closed);
         if (code != SYNTH_DONE) {
-            return detail::code_of(code);
+            return detail::as_code(code);
         }
         std::memcpy(metered.gauges.data(), closed.gauges, sizeof closed.gauges);
         std::memcpy(metered.alarms.alarms_.data(), closed.alarm, sizeof closed.alarm);
         metered.alarms.size_ = closed.alarms;
         metered.clock = closed.clock;
         return metered;
+    }
+
+private:
+    static constexpr std::uint64_t word_of(const Alarm &alarm) noexcept
+    {
+        return (std::uint64_t{alarm.due} * 64 + alarm.element) * 16 + alarm.signal;
     }
 };
 

@@ -8,22 +8,7 @@
 
 namespace synthesis {
 
-/// The events of one queue: takers sleep on `items`, producers on `places`.
-///
-/// A put by another call than put_wait is followed by items.notify_one(), a taking by another call than take_wait by
-/// places.notify_one(), and a shut by notify_all().
-struct QueueEvents {
-    Event items;
-    Event places;
-
-    void notify_all() noexcept
-    {
-        items.notify_all();
-        places.notify_all();
-    }
-};
-
-/// The positions that a put found when there was no room: the items from `head` on had none behind `tail`.
+/// The head and the tail that a put found when there was no room for its items.
 struct Full {
     std::uint32_t head;
     std::uint32_t tail;
@@ -32,6 +17,7 @@ struct Full {
 struct LostPut {
     std::uint32_t head;
 };
+
 /// The answer of a put.
 struct [[nodiscard]] PutAnswer {
     Code code;
@@ -59,7 +45,7 @@ struct [[nodiscard]] RunAnswer {
     std::size_t count; ///< how many were taken: 0 after a refusal
     std::optional<Empty> empty;
     std::optional<LostTake> lost;
-    std::optional<std::uint32_t> stopped_at; ///< if it is Done: the tail that a refusal found behind what was taken
+    std::optional<std::uint32_t> stopped_at; ///< if it is Done: the tail that the next try found, which was refused
 
     explicit operator bool() const noexcept { return code == Code::Done; }
 };
@@ -85,7 +71,7 @@ namespace detail {
 
 inline PutAnswer put_answer(const synth_answer &answer) noexcept
 {
-    PutAnswer put = {code_of(answer.code), {}, {}, {}};
+    PutAnswer put = {as_code(answer.code), {}, {}, {}};
     if (answer.code == SYNTH_DONE) {
         put.position = answer.head;
     } else if (answer.code == SYNTH_FULL) {
@@ -100,7 +86,7 @@ inline PutAnswer put_answer(const synth_answer &answer) noexcept
 
 inline TakeAnswer take_answer(const synth_answer &answer, std::uint64_t item) noexcept
 {
-    TakeAnswer take = {code_of(answer.code), {}, {}, {}};
+    TakeAnswer take = {as_code(answer.code), {}, {}, {}};
     if (answer.code == SYNTH_DONE) {
         acquire(Carrier::Item, item);
         take.item = item;
@@ -133,11 +119,11 @@ inline RunAnswer run_answer(const synth_answer &answer, const std::uint64_t *ite
 /// answered Closed.
 ///
 /// The items of one put are one run, with no other end's item between them. A queue takes 4,294,967,295 items less its
-/// first position in its life, and is Spent then. A thread that sleeps within a put holds up the takers of what is
-/// behind its items.
+/// first position in its life, and is Spent then. A thread that sleeps within a put holds up the takers of all
+/// items after its own.
 class QueueEnd : public detail::Joined<QueueEnd, synth_queue, synth_queue_free, synth_queue_join> {
 public:
-    /// The room that try_take_line and close want, whatever the queue.
+    /// Room enough for try_take_line and close of any queue.
     static constexpr std::size_t most_places = 256;
 
     QueueEnd() noexcept = default;
@@ -165,7 +151,8 @@ public:
         return try_put(View<const std::uint64_t>(items.begin(), items.size()));
     }
     /// The same of one item, which is an integer.
-    template <class Item, std::enable_if_t<std::is_integral_v<Item>, int> = 0> PutAnswer try_put(Item item) noexcept
+    template <class Item, std::enable_if_t<std::is_integral_v<Item> && sizeof(Item) <= sizeof(std::uint64_t), int> = 0>
+    PutAnswer try_put(Item item) noexcept
     {
         const std::uint64_t word = static_cast<std::uint64_t>(item);
         return try_put(View<const std::uint64_t>(&word, 1));
@@ -197,7 +184,7 @@ public:
         return detail::run_answer(answer, buffer.data(), count);
     }
 
-    /// Shuts the queue for puts, for good. The value is whether it was open, which one call alone is answered.
+    /// Shuts the queue for puts, for good. The value is whether it was open: true for one call alone. EmptyHandle.
     Expected<bool> shut() noexcept
     {
         bool was_open = false;
@@ -214,8 +201,8 @@ public:
         const std::int32_t code = synth_queue_close(raw(), buffer.data(), buffer.size(), &closed);
         return detail::value_of(code, ClosedNumbers{closed.first, closed.put, closed.taken, closed.left});
     }
-    /// The same, with the items left in a list. EmptyHandle; Open; NoMemory: the list has none, and the end is full
-    /// still.
+    /// The same, with the items left in a list. NoMemory: none for the list, and the end is still full. EmptyHandle;
+    /// Open.
     Expected<Closed> close() noexcept
     {
         std::vector<std::uint64_t> left;
@@ -233,22 +220,42 @@ public:
     /// Puts an item, and sleeps while there is no room. Full: the time is over; else as try_put, and never Lost.
     PutAnswer put_wait(std::uint64_t item, QueueEvents &events, Limit limit = {}) noexcept
     {
-        const PutAnswer answer = events.places.wait_while(Code::Full, limit, [this, item]() noexcept {
-            return repeat([this, item]() noexcept { return try_put(item); });
-        });
-        if (answer) {
+        detail::release(detail::Carrier::Item, item);
+        const auto answer = events.places.wait_while(Code::Full, limit, [this, item]() noexcept { return put(item); });
+        if (answer.code == SYNTH_DONE) {
             events.items.notify_one();
         }
-        return answer;
+        return detail::put_answer(answer);
     }
 
     /// Takes an item, and sleeps while there is none. Empty: the time is over; else as try_take, and never Lost.
     TakeAnswer take_wait(QueueEvents &events, Limit limit = {}) noexcept
     {
-        const TakeAnswer answer = events.items.wait_while(
-            Code::Empty, limit, [this]() noexcept { return repeat([this]() noexcept { return try_take(); }); });
-        if (answer) {
+        std::uint64_t item = 0;
+        const auto answer = events.items.wait_while(Code::Empty, limit, [&]() noexcept { return take(item); });
+        if (answer.code == SYNTH_DONE) {
             events.places.notify_one();
+        }
+        return detail::take_answer(answer, item);
+    }
+
+private:
+    /// Tries to put an item until no other end was first.
+    synth_answer put(std::uint64_t item) noexcept
+    {
+        synth_answer answer = synth_queue_try_put(raw(), &item, 1);
+        while (answer.code == SYNTH_LOST) {
+            answer = synth_queue_try_put(raw(), &item, 1);
+        }
+        return answer;
+    }
+
+    /// Tries to take an item until no other end was first.
+    synth_answer take(std::uint64_t &item) noexcept
+    {
+        synth_answer answer = synth_queue_try_take(raw(), &item);
+        while (answer.code == SYNTH_LOST) {
+            answer = synth_queue_try_take(raw(), &item);
         }
         return answer;
     }

@@ -9,8 +9,10 @@
 namespace synthesis {
 
 /// An end of a claim queue whose items are values of T: a pointer, a number, an enum or a small struct. A value is
-/// copied by its bytes, of which it has at most 8. The rest is as of QueueEnd: which thread may use an end, and what a
-/// taker sees of what was done before a put, so also what a pointer leads to.
+/// copied by its bytes, of which it has at most 8.
+///
+/// The calls are those of QueueEnd, and an end is used by one thread at a time. What a thread did before a put is
+/// visible to whoever takes one of its items, so also what a pointer leads to.
 template <class T> class QueueOf {
     static_assert(std::is_trivially_copyable_v<T> && std::is_nothrow_default_constructible_v<T>,
                   "a value is copied by its bytes");
@@ -28,7 +30,7 @@ public:
     Expected<QueueOf> split() noexcept { return of(end_.split()); }
     Code join(QueueOf &&other) noexcept { return end_.join(std::move(other.end_)); }
     [[nodiscard]] bool full() const noexcept { return end_.full(); }
-    /// The end, whose items are the bytes of the values, with zeros behind them.
+    /// The end. Each of its items has the bytes of a value, and zeros after them.
     [[nodiscard]] QueueEnd &end() noexcept { return end_; }
 
     PutAnswer try_put(T value) noexcept { return end_.try_put(word_of(value)); }
@@ -43,6 +45,11 @@ public:
             words[i] = word_of(values[i]);
         }
         return end_.try_put(View<const std::uint64_t>(words.data(), values.size()));
+    }
+
+    PutAnswer try_put(std::initializer_list<T> values) noexcept
+    {
+        return try_put(View<const T>(values.begin(), values.size()));
     }
 
     TakeAnswerOf<T> try_take() noexcept { return of(end_.try_take()); }

@@ -71,21 +71,47 @@ bool passes_a_thousand(std::uint64_t &sum)
     return closed.ok() && closed->put == 1000 && closed->taken == 1000 && closed->left.empty();
 }
 
+/* The code of the C header that has this name here. The compiler refuses a switch that lacks a code. */
+std::string_view name_of(synth_code code)
+{
+    switch (code) {
+#define CODE(cxx, c)                                                                                                   \
+    case SYNTH_##c: static_assert(static_cast<int>(Code::cxx) == SYNTH_##c); return "SYNTH_" #c
+        CODE(Done, DONE);
+        CODE(NoItems, NO_ITEMS);
+        CODE(TooLong, TOO_LONG);
+        CODE(Closed, CLOSED);
+        CODE(Spent, SPENT);
+        CODE(Full, FULL);
+        CODE(Lost, LOST);
+        CODE(Empty, EMPTY);
+        CODE(Moved, MOVED);
+        CODE(Busy, BUSY);
+        CODE(Vacant, VACANT);
+        CODE(NoRoom, NO_ROOM);
+        CODE(Open, OPEN);
+        CODE(NotHeld, NOT_HELD);
+        CODE(NotServed, NOT_SERVED);
+        CODE(AllWoken, ALL_WOKEN);
+        CODE(NoMemory, NO_MEMORY);
+        CODE(EmptyHandle, EMPTY_HANDLE);
+        CODE(FullHandle, FULL_HANDLE);
+        CODE(OtherObject, OTHER_OBJECT);
+        CODE(NoShare, NO_SHARE);
+        CODE(ShortBuffer, SHORT_BUFFER);
+        CODE(BadNumber, BAD_NUMBER);
+#undef CODE
+    }
+    return "not a code";
+}
+
 void codes()
 {
-    static const std::pair<int, std::string_view> all[] = {
-#define CODE(word) {SYNTH_##word, "SYNTH_" #word}
-        CODE(DONE), CODE(NO_ITEMS), CODE(TOO_LONG), CODE(CLOSED), CODE(SPENT), CODE(FULL), CODE(LOST), CODE(EMPTY),
-        CODE(MOVED), CODE(BUSY), CODE(VACANT), CODE(NO_ROOM), CODE(OPEN), CODE(NOT_HELD), CODE(NOT_SERVED),
-        CODE(ALL_WOKEN), CODE(NO_MEMORY), CODE(EMPTY_HANDLE), CODE(FULL_HANDLE), CODE(OTHER_OBJECT), CODE(NO_SHARE),
-        CODE(SHORT_BUFFER), CODE(BAD_NUMBER),
-#undef CODE
-    };
-    for (const auto &[code, word] : all) {
-        ROW(name(static_cast<Code>(code)) == word, true);
+    for (int code = SYNTH_BAD_NUMBER; code <= SYNTH_ALL_WOKEN; code++) {
+        ROW(name(static_cast<Code>(code)) == name_of(static_cast<synth_code>(code)), true);
     }
+    ROW(name(static_cast<Code>(SYNTH_BAD_NUMBER - 1)) == std::string_view("not a code"), true);
     ROW(name(static_cast<Code>(99)) == std::string_view("not a code"), true);
-    ROW(name(static_cast<Code>(-8)) == std::string_view("not a code"), true);
 }
 
 void views()

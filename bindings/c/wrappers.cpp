@@ -34,6 +34,7 @@ constexpr bool moves_only = !std::is_copy_constructible_v<End> && !std::is_copy_
                             std::is_nothrow_move_constructible_v<End> && std::is_nothrow_move_assignable_v<End> &&
                             std::is_nothrow_default_constructible_v<End>;
 static_assert(moves_only<QueueEnd> && moves_only<QueueOf<int>> && moves_only<Seat> && moves_only<Hand>);
+static_assert(moves_only<synthesis::ChainEnd>);
 static_assert(moves_only<synthesis::LineIn> && moves_only<synthesis::LineOut>);
 static_assert(!std::is_copy_constructible_v<synthesis::Event> && !std::is_move_constructible_v<synthesis::Event>);
 static_assert(!std::is_copy_constructible_v<synthesis::Event::Ticket>);
@@ -93,6 +94,12 @@ std::string_view name_of(synth_code code)
         CODE(NotHeld, NOT_HELD);
         CODE(NotServed, NOT_SERVED);
         CODE(AllWoken, ALL_WOKEN);
+        CODE(Run, RUN);
+        CODE(Left, LEFT);
+        CODE(Note, NOTE);
+        CODE(Again, AGAIN);
+        CODE(Running, RUNNING);
+        CODE(NotRunning, NOT_RUNNING);
         CODE(NoMemory, NO_MEMORY);
         CODE(EmptyHandle, EMPTY_HANDLE);
         CODE(FullHandle, FULL_HANDLE);
@@ -107,7 +114,7 @@ std::string_view name_of(synth_code code)
 
 void codes()
 {
-    for (int code = SYNTH_BAD_NUMBER; code <= SYNTH_ALL_WOKEN; code++) {
+    for (int code = SYNTH_BAD_NUMBER; code <= SYNTH_NOT_RUNNING; code++) {
         ROW(name(static_cast<Code>(code)) == name_of(static_cast<synth_code>(code)), true);
     }
     ROW(name(static_cast<Code>(SYNTH_BAD_NUMBER - 1)) == std::string_view("not a code"), true);
@@ -362,6 +369,29 @@ void seats()
     ROW(seat.close().code(), Code::EmptyHandle);
 }
 
+void chains()
+{
+    using synthesis::ChainEnd;
+    ChainEnd end = ChainEnd::make(7).value(), other = end.split().value();
+    std::vector<std::uint16_t> served;
+    const auto serve = [&served](std::uint16_t note) { served.push_back(note); };
+    std::uint16_t note = 0;
+    ROW(end.next(note), Code::NotRunning);
+    ROW(end.try_chain(1).is_runner(), true);
+    const auto left = other.try_chain(2);
+    ROW(left && !left.is_runner() && !left.full && !left.lost, true);
+    ROW(other.serve(serve), Code::NotRunning);
+    ROW(end.close().code(), Code::Running);
+    ROW(end.serve(serve), Code::Done);
+    ROW(served == std::vector<std::uint16_t>({1, 2}), true);
+    ROW(end.close().code(), Code::Open);
+    ROW(end.join(std::move(other)), Code::Done);
+    const auto closed = end.close();
+    ROW(closed && closed->put == 2 && closed->run == 2, true);
+    ROW(end.try_chain(1).code, Code::EmptyHandle);
+    ROW(end.next(note), Code::EmptyHandle);
+}
+
 void lines()
 {
     ROW(synthesis::make_line(0).code(), Code::BadNumber);
@@ -525,6 +555,7 @@ int main()
     moves();
     queue_of_values();
     seats();
+    chains();
     lines();
     hands();
     hands_wait();

@@ -1,8 +1,7 @@
 /*
- * The lock-free tables of synthesis for C11 and C++17: claim queues, meters, device lines and thread elements. What
+ * The lock-free tables of synthesis for C11 and C++17: claim queues, chains, meters, device lines, thread elements. What
  * each call does to its table is proved, on the library's side of the call; docs/PROMISES.md says what of its answer
- * isn't. docs/GUIDE.md, "From C and Rust", shows two programs line by line. The chain is not here: what it runs, its
- * quajects, is Rattle code.
+ * isn't. docs/GUIDE.md, "From C and Rust", shows two programs line by line.
  *
  * ONE PROCESS, ONE COPY OF THE LIBRARY. Two copies give their objects the same marks, by which a join knows whether
  * two handles are of one object: NEVER GIVE A HANDLE OF ONE COPY TO ANOTHER.
@@ -31,7 +30,8 @@
  * an object. `at` of a handle is the library's own: never follow it, and never write to either field.
  *
  * CODES. Every other mistake is answered by a code: an empty handle, a full one where an empty one is wanted, a
- * handle of another object, a number out of range, a short buffer, an element that isn't held. Each call lists its
+ * handle of another object, a number out of range, a short buffer, an element that isn't held. A handle that holds
+ * another kind of end than the call is for, by a cast, counts as an empty one, and stays as it is. Each call lists its
  * codes in the order in which they are looked at: where more than one fits, the first one is told. After any code but
  * SYNTH_DONE all is as it was, the caller's variables and buffers too, but where a call says otherwise. A try
  * (`.._try_..`) makes one, and always returns.
@@ -66,6 +66,12 @@ enum synth_code {
     SYNTH_NOT_HELD = 13,   /* the hand doesn't hold the element */
     SYNTH_NOT_SERVED = 14, /* the hand doesn't serve the processor */
     SYNTH_ALL_WOKEN = 15,  /* each place that was claimed before the notify is taken */
+    SYNTH_RUN = 20,         /* this handle runs notes from now on */
+    SYNTH_LEFT = 21,        /* the handle that runs notes is given the note */
+    SYNTH_NOTE = 22,        /* the next note */
+    SYNTH_AGAIN = 23,       /* no note was found, but one may have come: call again */
+    SYNTH_RUNNING = 24,     /* the handle runs notes: go on until none is left */
+    SYNTH_NOT_RUNNING = 25, /* the handle runs no notes */
     /* Mistakes of a caller, and want of memory. */
     SYNTH_NO_MEMORY = -1,    /* `malloc` gave null */
     SYNTH_EMPTY_HANDLE = -2, /* a handle is empty where a full one is wanted */
@@ -277,6 +283,89 @@ int32_t synth_seat_close(struct synth_seat *seat, struct synth_metered *metered)
  * SYNTH_EMPTY_HANDLE.
  */
 int32_t synth_seat_free(struct synth_seat *seat);
+
+/*
+ * CHAINS of deferred procedures. A note, a number of 16 bits, stands for a procedure and what it is to work on; which
+ * one is the program's. Any handle may chain notes, also one of an interrupt or of a time-critical thread: it never
+ * waits. One handle at a time runs notes, in the order in which they were chained: the one whose note found nobody
+ * running. So what the procedures work on needs no lock (Massalin and Pu, 1991).
+ *
+ *     struct synth_answer told = synth_chain_try_chain(&end, note);
+ *     if (told.code == SYNTH_RUN) {
+ *         uint16_t next;
+ *         int32_t code;
+ *         while ((code = synth_chain_next(&end, &next)) != SYNTH_DONE)
+ *             if (code == SYNTH_NOTE)
+ *                 procedure(next);
+ *     }
+ *
+ * Each note is handed out once. The procedure runs after synth_chain_next returns it, and before this handle calls it
+ * again, so no two procedures of one chain run at once, and each sees all that the ones before it wrote. After
+ * SYNTH_LEFT the handle that runs notes is given this one too, in this or in a later call. A chain has 32 places, and
+ * takes 4,294,967,295 notes less its first position; it is then SPENT.
+ */
+
+/* An end of a chain. */
+struct synth_chain {
+    void *at;
+    bool full;
+};
+
+/* What a chain had at its end. */
+struct synth_chained {
+    uint32_t put; /* how many notes were chained */
+    uint32_t run; /* how many were handed out: all of them */
+};
+
+/*
+ * Makes an empty chain whose first position is `first`, and fills `chain`, its only handle, which runs no notes.
+ * SYNTH_FULL_HANDLE; SYNTH_NO_MEMORY.
+ */
+int32_t synth_chain_new(uint32_t first, struct synth_chain *chain);
+
+/*
+ * Fills `other`, one more handle of the chain, for another thread, which runs no notes. What is said of splitting a
+ * queue's handle holds here.
+ * SYNTH_EMPTY_HANDLE: `chain`; SYNTH_FULL_HANDLE: `other`; SYNTH_NO_SHARE; SYNTH_NO_MEMORY.
+ */
+int32_t synth_chain_split(struct synth_chain *chain, struct synth_chain *other);
+
+/*
+ * Joins `other`, a handle of the same chain, to `chain`, and empties it. Both are the calling thread's. If `other` ran
+ * notes, `chain` runs them from now on.
+ * SYNTH_EMPTY_HANDLE: either one; SYNTH_OTHER_OBJECT: as of a queue.
+ */
+int32_t synth_chain_join(struct synth_chain *chain, struct synth_chain *other);
+
+/*
+ * One try to chain a note. SYNTH_RUN: this handle runs notes from now on, and has to call synth_chain_next until it
+ * answers SYNTH_DONE. SYNTH_LEFT: the handle that runs notes is given the note, which may be this one.
+ * SYNTH_EMPTY_HANDLE; SYNTH_SPENT; SYNTH_FULL: the note at `head` had no room behind `tail`; SYNTH_LOST: another handle
+ * chained first, and the head found is `head`.
+ */
+struct synth_answer synth_chain_try_chain(struct synth_chain *chain, uint16_t note);
+
+/*
+ * The next note, of a handle that runs notes. SYNTH_NOTE: `note` is the next one, and the handle still runs notes.
+ * SYNTH_AGAIN: a handle has chained meanwhile: call again. SYNTH_DONE: no note is left, and the handle runs none from
+ * now on.
+ * SYNTH_EMPTY_HANDLE; SYNTH_NOT_RUNNING.
+ */
+int32_t synth_chain_next(struct synth_chain *chain, uint16_t *note);
+
+/*
+ * Closes the chain by a handle to which all others were joined, and empties it. No note is left then.
+ * SYNTH_EMPTY_HANDLE; SYNTH_RUNNING: it runs notes, and has to go on until SYNTH_DONE; SYNTH_OPEN: always if others
+ * were freed.
+ */
+int32_t synth_chain_close(struct synth_chain *chain, struct synth_chained *closed);
+
+/*
+ * Empties the handle, which is then never joined, so the chain is never closed. If it runs notes, nobody runs those
+ * that are left. The last handle that is freed takes the chain with it.
+ * SYNTH_EMPTY_HANDLE.
+ */
+int32_t synth_chain_free(struct synth_chain *chain);
 
 /*
  * LINES of bytes from one thread to another, such as a device's. A line has two halves, each a handle of a type of

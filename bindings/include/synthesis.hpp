@@ -43,6 +43,7 @@
 #define SYNTHESIS_HPP
 
 #include "synthesis/answers.hpp"
+#include "synthesis/chain.hpp"
 #include "synthesis/event.hpp"
 #include "synthesis/hand.hpp"
 #include "synthesis/line.hpp"

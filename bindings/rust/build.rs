@@ -9,11 +9,13 @@ fn main() {
         .join("../out/libsynthesis.a");
     let archive = env::var_os("SYNTHESIS_ARCHIVE").map_or(beside, PathBuf::from);
     println!("cargo:rerun-if-changed={}", archive.display());
+    // What links nothing, such as `cargo check`, `cargo doc` and an editor, needs no library.
     let Ok(archive) = archive.canonicalize() else {
-        panic!(
-            "{} isn't there: `make library` in bindings builds it, or let SYNTHESIS_ARCHIVE name another",
+        println!(
+            "cargo:warning={} isn't there: `make library` in bindings builds it, or let SYNTHESIS_ARCHIVE name another",
             archive.display()
         );
+        return;
     };
     let name = archive.file_name().and_then(|name| name.to_str()).unwrap_or_default();
     let Some(name) = name.strip_prefix("lib").and_then(|name| name.strip_suffix(".a")) else {

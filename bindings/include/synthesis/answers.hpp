@@ -31,6 +31,12 @@ enum class [[nodiscard]] Code : std::int32_t {
     NotHeld = SYNTH_NOT_HELD,
     NotServed = SYNTH_NOT_SERVED,
     AllWoken = SYNTH_ALL_WOKEN,
+    Run = SYNTH_RUN,
+    Left = SYNTH_LEFT,
+    Note = SYNTH_NOTE,
+    Again = SYNTH_AGAIN,
+    Running = SYNTH_RUNNING,
+    NotRunning = SYNTH_NOT_RUNNING,
     NoMemory = SYNTH_NO_MEMORY,
     EmptyHandle = SYNTH_EMPTY_HANDLE,
     FullHandle = SYNTH_FULL_HANDLE,
@@ -60,6 +66,12 @@ enum class [[nodiscard]] Code : std::int32_t {
     case Code::NotHeld: return "SYNTH_NOT_HELD";
     case Code::NotServed: return "SYNTH_NOT_SERVED";
     case Code::AllWoken: return "SYNTH_ALL_WOKEN";
+    case Code::Run: return "SYNTH_RUN";
+    case Code::Left: return "SYNTH_LEFT";
+    case Code::Note: return "SYNTH_NOTE";
+    case Code::Again: return "SYNTH_AGAIN";
+    case Code::Running: return "SYNTH_RUNNING";
+    case Code::NotRunning: return "SYNTH_NOT_RUNNING";
     case Code::NoMemory: return "SYNTH_NO_MEMORY";
     case Code::EmptyHandle: return "SYNTH_EMPTY_HANDLE";
     case Code::FullHandle: return "SYNTH_FULL_HANDLE";
@@ -114,6 +126,15 @@ private:
     std::optional<T> value_;
 };
 
+/// The head and the tail that a put found when there was no room for its items.
+struct Full {
+    std::uint32_t head;
+    std::uint32_t tail;
+};
+/// The head that was found, since another end put first.
+struct LostPut {
+    std::uint32_t head;
+};
 /// The tail that was found. The place of this position was not raised.
 struct Empty {
     std::uint32_t tail;

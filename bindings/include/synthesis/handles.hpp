@@ -54,14 +54,14 @@ template <class T> bool has_grown(std::vector<T> &list, std::size_t size) noexce
 /// What carries an order of memory from one thread to another. All that a thread did before `release` of a carrier is
 /// visible after a later `acquire` of it. The library does that; here it is declared to ThreadSanitizer, which doesn't
 /// see the library's steps. Two carriers may share a word, so a race may be missed, but none is made up.
-enum class Carrier : std::uint64_t { Item, Shut, Byte, Element, Wait, Gauge, Clock, Alarm };
+enum class Carrier : std::uint64_t { Item, Shut, Byte, Element, Wait, Gauge, Clock, Alarm, Note, Turn };
 
 #ifdef SYNTHESIS_WATCHED_
 inline std::uint64_t carriers[1024];
 
 inline void *carrier(Carrier kind, std::uint64_t number) noexcept
 {
-    return &carriers[(number * 8 + static_cast<std::uint64_t>(kind)) * 0x9e3779b97f4a7c15u >> 54];
+    return &carriers[(number * 16 + static_cast<std::uint64_t>(kind)) * 0x9e3779b97f4a7c15u >> 54];
 }
 inline void release(Carrier kind, std::uint64_t number) noexcept { __tsan_release(carrier(kind, number)); }
 inline void acquire(Carrier kind, std::uint64_t number) noexcept { __tsan_acquire(carrier(kind, number)); }

@@ -8,16 +8,6 @@
 
 namespace synthesis {
 
-/// The head and the tail that a put found when there was no room for its items.
-struct Full {
-    std::uint32_t head;
-    std::uint32_t tail;
-};
-/// The head that was found, since another end put first.
-struct LostPut {
-    std::uint32_t head;
-};
-
 /// The answer of a put.
 struct [[nodiscard]] PutAnswer {
     Code code;

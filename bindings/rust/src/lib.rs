@@ -1,6 +1,6 @@
 //! Lock-free tables whose calls are proved, for Rust.
 //!
-//! Each object is shared by its ends: the ends of a queue, the seats of meters, the hands of thread elements, the two
+//! Each object is shared by its ends: the ends of a queue or of a chain, the seats of meters, the hands of thread elements, the two
 //! ends of a line. An end owns its handle. It may go to another thread, and is used by one at a time, so each call
 //! takes `&mut`. `split` makes one more end, `join` takes one in again, and `close` by the last one tells what became
 //! of everything. What each call does to its object is proved on the library's side of the call; this crate is not,
@@ -37,12 +37,13 @@
 //! No call of an object takes a lock of its own, sleeps or waits, except `put_wait` and `take_wait` of a queue, which
 //! sleep on an [`Event`]. None but `new` and `split` takes memory, but for the lists that `close` gives. Refusals are
 //! values, and a refusal changes nothing. An object of which an end was dropped is never closed, and ends with its last
-//! end. The chain is not here: what it runs, its quajects, is Rattle code.
+//! end.
 //!
 //! A program has one version of this crate, and Cargo refuses two: a join knows the ends of an object by marks that
 //! one copy of the library gives.
 #![warn(missing_docs)]
 
+mod chain;
 mod ends;
 mod event;
 mod hand;
@@ -53,6 +54,7 @@ mod queue;
 mod raw;
 mod words;
 
+pub use chain::{ChainEnd, ChainNotClosed, ChainRefusal, Chained, Turn};
 pub use ends::{OtherObject, OutOfMemory, SplitRefusal, StillOpen};
 pub use event::{Event, EventTicket};
 pub use hand::{

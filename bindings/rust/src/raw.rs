@@ -32,6 +32,8 @@ macro_rules! handles {
 handles! {
     /// An end of a queue.
     Queue,
+    /// An end of a chain.
+    Chain,
     /// An end of meters.
     Seat,
     /// The half of a line that pushes.
@@ -56,6 +58,13 @@ pub(crate) struct Closed {
     pub put: u32,
     pub taken: u32,
     pub left: usize,
+}
+
+#[repr(C)]
+#[derive(Default)]
+pub(crate) struct Chained {
+    pub put: u32,
+    pub run: u32,
 }
 
 #[repr(C)]
@@ -144,6 +153,11 @@ pub(crate) const OPEN: i32 = 12;
 pub(crate) const NOT_HELD: i32 = 13;
 pub(crate) const NOT_SERVED: i32 = 14;
 pub(crate) const ALL_WOKEN: i32 = 15;
+pub(crate) const RUN: i32 = 20;
+pub(crate) const LEFT: i32 = 21;
+pub(crate) const NOTE: i32 = 22;
+pub(crate) const AGAIN: i32 = 23;
+pub(crate) const RUNNING: i32 = 24;
 pub(crate) const NO_MEMORY: i32 = -1;
 pub(crate) const OTHER_OBJECT: i32 = -4;
 pub(crate) const NO_SHARE: i32 = -5;
@@ -178,6 +192,14 @@ unsafe extern "C" {
     pub(crate) safe fn synth_queue_shut(queue: &mut Queue, was_open: &mut bool) -> i32;
     pub(crate) unsafe fn synth_queue_close(queue: &mut Queue, left: *mut u64, room: usize, closed: &mut Closed) -> i32;
     pub(crate) safe fn synth_queue_free(queue: &mut Queue) -> i32;
+
+    pub(crate) safe fn synth_chain_new(first: u32, chain: &mut Chain) -> i32;
+    pub(crate) safe fn synth_chain_split(chain: &mut Chain, other: &mut Chain) -> i32;
+    pub(crate) safe fn synth_chain_join(chain: &mut Chain, other: &mut Chain) -> i32;
+    pub(crate) safe fn synth_chain_try_chain(chain: &mut Chain, note: u16) -> Answer;
+    pub(crate) safe fn synth_chain_next(chain: &mut Chain, note: &mut u16) -> i32;
+    pub(crate) safe fn synth_chain_close(chain: &mut Chain, closed: &mut Chained) -> i32;
+    pub(crate) safe fn synth_chain_free(chain: &mut Chain) -> i32;
 
     pub(crate) safe fn synth_seat_new(clock: u32, seat: &mut Seat) -> i32;
     pub(crate) safe fn synth_seat_split(seat: &mut Seat, other: &mut Seat) -> i32;

@@ -5,6 +5,7 @@ use Rattle.std.proofs.Math.Bridge.{le_prop}
 use Rattle.std.proofs.Math.Logic.{∥∥₁_elim, ∥∥₁_map}
 use Rattle.std.proofs.Math.Nat.{ℕ_set}
 use Rattle.table_theory.specs.Ledgers.{Adds}
+use Rattle.table_theory.proofs.Certainty as surely
 use Rattle.table_theory.proofs.Reaching.{reaches_since}
 use Rattle.batch_queue.specs.declared.ends.BatchEnd.{BatchEnd}
 use Rattle.batch_queue.specs.declared.ends.BatchQueue.{BatchQueue}
@@ -18,7 +19,7 @@ honest_end end = ∥∥₁_map end.ruled (λ r. honest (view_of end) r)
 
 -- what both ends' lists make certain
 pub by_both : {X : Type 0} (old new : BatchEnd) → IsProp X → (IsHonest of_batches (view_of old) → IsHonest of_batches (view_of new) → X) → X
-by_both old new prop f = ∥∥₁_elim (honest_end old) prop (λ x. ∥∥₁_elim (honest_end new) prop (λ y. f x y))
+by_both old new prop f = surely.by_both of_batches (view_of old) (view_of new) (honest_end old) (honest_end new) prop f
 
 -- the queue grows from what the end had seen to what it sees
 grows_since : (v w : View) (entries : List (Step BatchState)) → Adds v entries w → IsHonest of_batches v → IsHonest of_batches w → Grows v.seen.object w.seen.object

@@ -1,15 +1,17 @@
 -- The table as it is made, and the steps that count, make and join ends.
-use Rattle.batch_queue.proofs.Common.{parts_of, inl, Allows, Apart, Batch, BatchState, Bool, EndRecord, FIRST_MARK, Grows, Holds, IsEdge, IsRuled, IsUsed, Joins, List, Me, OwnShows, Positions, QueueView, Rule, Shape, Splits, View, ViewsShow, [], all_alike, ap, arith, at_below, at_joined, at_last, at_longer, at_map, at_snoc, both, by_ends, did_both, emptied, empty, ends_word, false, free_word, get_elem?, get_or, get_or-replicate, get_or-set_other, get_or-set_same, head_word, if◌then◌else◌, length, length-replicate, length-set, listed_first, listed_join, listed_look, listed_new, map, map-append, map-set, mark_word, mod-lt, nat_lt, newborn, newcomer, no_slots, none, nothing_did, of_batches, opened, opening, part_of, positions_of, refl, replicate, rest_of, set, set_else, set_here, shuts_of, some, some-injective, some-ne-none, some_there, step, subst, suc, sym, tail_word, total, total_kept, total_push, total_set, true, unused_kept, width, zero, ℕ, ⊎_elim, ◌%◌, ◌++◌, ◌+◌, ◌-◌, ◌<◌, ◌∙◌, ◌∷◌, ◌≡◌, ◌≢◌, ◌≤◌}
-use Rattle.table_theory.specs.Plays.{counts, counts_down, counts_up}
+use Rattle.batch_queue.proofs.Common.{parts_of, inl, Allows, Apart, Batch, BatchState, Bool, EndRecord, FIRST_MARK, Grows, Holds, IsEdge, IsRuled, IsUsed, Joins, List, Me, OwnShows, Positions, Rule, Shape, Splits, View, [], all_alike, ap, arith, at_joined, at_longer, at_map, at_snoc, both, by_ends, did_both, emptied, empty, ends_word, false, free_word, get_elem?, get_or, get_or-replicate, get_or-set_other, get_or-set_same, head_word, if◌then◌else◌, length, length-replicate, length-set, listed_first, mark_word, mod-lt, nat_lt, newborn, newcomer, no_slots, none, nothing_did, of_batches, opened, opening, part_of, positions_of, refl, replicate, rest_of, set, set_else, shuts_of, some, some-injective, some-ne-none, some_there, step, subst, suc, sym, tail_word, true, unused_kept, width, zero, ℕ, ⊎_elim, ◌%◌, ◌++◌, ◌+◌, ◌-◌, ◌<◌, ◌∙◌, ◌∷◌, ◌≡◌, ◌≢◌, ◌≤◌}
+use Rattle.table_theory.specs.Plays.{HasTallied, counts, counts_down, counts_up}
 use Rattle.table_theory.specs.Positioned as pos
 use Rattle.table_theory.proofs.Positioned as positioned
+use Rattle.table_theory.proofs.Listing.{split_in, join_in}
 use Rattle.table_theory.proofs.Ruling as ruling
 use Rattle.table_theory.proofs.Stepping as ends
 use Rattle.table_theory.proofs.Tables as tables
-use Rattle.batch_queue.specs.Rules.{HasTallied, now_of}
+use Rattle.table_theory.proofs.Totals.{total_split, total_join}
+use Rattle.batch_queue.specs.Rules.{now_of}
 use Rattle.batch_queue.proofs.Growing.{grows_refl}
 use Rattle.batch_queue.proofs.Owning.{own_bare}
-use Rattle.batch_queue.proofs.Stepping.{apart_set, found, held_by, held_now, ruled_now, table, views_set}
+use Rattle.batch_queue.proofs.Stepping.{apart_set, held_by, held_now, ruled_now, table, views_set}
 
 first_edge : IsEdge [] 0
 first_edge = record { before = []; rest = []; all = refl; at = refl }
@@ -70,8 +72,8 @@ module _ (key : Shape) (n id : ℕ) (me : Me ℕ View) where
   downs two = tables.downs (table key) n id me (counts_down IsRuled (step n ends_word 1 0 none) me) two (λ s k at r. ((refl, ruled_now key _ s.homes s id me.0 _ at r), ends.counted_down k.stands id me.0 at))
 
   -- the count is found
-  pub tallies : me.0.member.ends ≡ 1 → Allows (Rule key) n id me ends_word (λ x. x) (counts HasTallied (step n ends_word 0 0 none) me)
-  tallies one = tables.looks (table key) n id me (counts HasTallied (step n ends_word 0 0 none) me) ends_word (omega arith) (λ s k at r. (refl, (ruled_now key _ s.homes s id me.0 _ at r, ends.tallied_now k.stands id me.0 at one)))
+  pub tallies : me.0.member.ends ≡ 1 → Allows (Rule key) n id me ends_word (λ x. x) (counts (HasTallied IsRuled ends_word) (step n ends_word 0 0 none) me)
+  tallies one = tables.looks (table key) n id me (counts (HasTallied IsRuled ends_word) (step n ends_word 0 0 none) me) ends_word (omega arith) (λ s k at r. (refl, (ruled_now key _ s.homes s id me.0 _ at r, ends.tallied_now k.stands id me.0 at one)))
 
 owns_in : (o : BatchState) (views : List View) → ((j : ℕ) (v : View) → get_elem? views j ≡ some v → OwnShows o v.own) → (w : View) → OwnShows o w.own → (j : ℕ) (v : View) → get_elem? (views ++ w ∷ []) j ≡ some v → OwnShows o v.own
 owns_in o views h w mine j v e = ⊎_elim (λ t. h j v t) (λ t. subst (λ (z : View). OwnShows o z.own) t mine) (at_snoc views w v j e)
@@ -87,13 +89,12 @@ splits key id v two s k at = let o : BatchState = k.now.object in let q : Positi
   now = k.now;
   room = k.room;
   stands = ends.stands_split k.stands id v at two;
-  listed = subst (ViewsShow q) (sym (map-append part_of (set s.views id left) (right ∷ []) ∙ ap (λ (z : List QueueView). z ++ part_of right ∷ []) (map-set part_of s.views id left)))
-      (listed_new q (set (map part_of s.views) id (part_of left)) (part_of right) (listed_look q (map part_of s.views) id (part_of v) (part_of left) k.listed (at_map part_of s.views id v at) refl refl later) refl refl later);
+  listed = split_in part_of q s.views id v left right k.listed at refl refl later refl refl later;
   seen = λ j u e. ⊎_elim (λ t. views_set (λ (z : View). Grows z.seen.object o) s.views id left (k.seen id v at) (λ i z h ne. k.seen i z h) j u t) (λ t. subst (λ (z : View). Grows z.seen.object o) t (k.seen id v at)) (at_snoc (set s.views id left) right u j e);
   homes = k.homes;
   owns = owns_in o (set s.views id left) (views_set (λ (z : View). OwnShows o z.own) s.views id left (k.owns id v at) (λ i z h ne. k.owns i z h)) right (own_nothing o);
-  shut_once = (let t = total_kept shuts_of s.views id v left at refl in let p = total_push shuts_of (set s.views id left) right in let e : total shuts_of (set s.views id left ++ right ∷ []) ≡ total shuts_of s.views = omega arith in e) ∙ k.shut_once;
-  parted_once = (let t = total_kept parts_of s.views id v left at refl in let p = total_push parts_of (set s.views id left) right in let e : total parts_of (set s.views id left ++ right ∷ []) ≡ total parts_of s.views = omega arith in e) ∙ k.parted_once;
+  shut_once = total_split shuts_of s.views id v left right at refl refl ∙ k.shut_once;
+  parted_once = total_split parts_of s.views id v left right at refl refl ∙ k.parted_once;
   apart = apart_more (set s.views id left) right refl (apart_set s.views id left k.apart (λ j u e ne i a b. k.apart j id u v e at ne i a b));
   owned = λ i below out. let h = held_now s.views id i v left at (held_by s.views id i v at (k.owned i below out)) in record { number = h.number; view = h.view; here = at_longer (set s.views id left) (right ∷ []) h.number h.view h.here; in_held = h.in_held };
 }
@@ -113,13 +114,12 @@ joins key id other v w live bare bare' s k at ne has = let one : View = both did
       now = k.now;
       room = k.room;
       stands = ends.stands_join k.stands id v at did_both other w at' ne live;
-      listed = subst (ViewsShow q) (sym (map-set part_of (set s.views id one) other spent ∙ ap (λ (z : List QueueView). set z other (part_of spent)) (map-set part_of s.views id one)))
-          (listed_join q (map part_of s.views) id other (part_of v) (part_of w) (part_of one) (part_of spent) k.listed (at_map part_of s.views id v at) (at_map part_of s.views other w at') ne refl refl refl refl one_part gv);
+      listed = join_in part_of q s.views id other v w one spent k.listed at at' ne refl refl refl refl one_part gv;
       seen = views_set (λ (z : View). Grows z.seen.object o) (set s.views id one) other spent (k.seen id v at) (λ j u e nj. views_set (λ (z : View). Grows z.seen.object o) s.views id one one_seen (λ i z h ni. k.seen i z h) j u e);
       homes = k.homes;
       owns = views_set (λ (z : View). OwnShows o z.own) (set s.views id one) other spent (own_nothing o) (λ j u e nj. views_set (λ (z : View). OwnShows o z.own) s.views id one (own_both o v.own w.own (k.owns id v at) (k.owns other w at')) (λ i z h ni. k.owns i z h) j u e);
-      shut_once = (let t = total_set shuts_of s.views id v one at in let t' = total_set shuts_of (set s.views id one) other w spent has in let e : total shuts_of (set (set s.views id one) other spent) ≡ total shuts_of s.views = omega arith in e) ∙ k.shut_once;
-      parted_once = (let t = total_set parts_of s.views id v one at in let t' = total_set parts_of (set s.views id one) other w spent has in let e : total parts_of (set (set s.views id one) other spent) ≡ total parts_of s.views = omega arith in e) ∙ k.parted_once;
+      shut_once = total_join shuts_of s.views id other v w one spent at has refl refl ∙ k.shut_once;
+      parted_once = total_join parts_of s.views id other v w one spent at has refl refl ∙ k.parted_once;
       apart = apart_set (set s.views id one) other spent (apart_set s.views id one k.apart (λ j u e nj i a b. one_empty i b)) (λ j u e nj i a b. let l = b.0 in let r = b.1 in omega arith);
       owned = λ i below out. let h = k.owned i below out in
           let not_id : h.number ≢ id = λ e. let same = some-injective h.view v (sym h.here ∙ (ap (get_elem? s.views) e ∙ at)) in let m = subst (λ (z : View). Holds z.own.held i) same h.in_held in let l = m.0 in let r = m.1 in omega arith in

@@ -9,7 +9,7 @@ use Rattle.table_theory.specs.QueueOf.{IsEvent, no_event, queue_of}
 use Rattle.table_theory.proofs.QueueEvents.{claim_event, shut_event, take_event}
 use Rattle.table_theory.proofs.Saying.{real_change}
 use Rattle.table_theory.proofs.Listing.{run_stands}
-use Rattle.batch_queue.specs.Raises.{raise_all}
+use Rattle.table_theory.specs.Raises.{raise_all}
 use Rattle.batch_queue.proofs.Growing.{batch_below, batch_items, below_head, freed_taken, real_lawful}
 use Rattle.batch_queue.proofs.Placing as placing
 use Rattle.batch_queue.proofs.Raising.{published, view_after}
@@ -33,15 +33,10 @@ claim_open o r items is (inr (was_shut e)) = absurd (one_more o.batches items (a
 claim_open o r items is (inr (was_parted p end within e)) = absurd (one_more o.batches items (ap (λ (z : BatchState). z.batches) (sym is ∙ e)))
 
 -- what was taken was published, and up to where a batch ends or was parted
-pub Taken : BatchState → ℕ → Type 0
+abbrev pub Taken : BatchState → ℕ → Type 0
 Taken o new = (new ≤ length (items_of o)) × IsStop o new × AreIn o 1 o.taken new
 
-pub taken_parts : (o : BatchState) (new : ℕ) → Taken o new → (new ≤ length (items_of o)) × IsStop o new × AreIn o 1 o.taken new
-unfolding Taken
-taken_parts o new t = t
-
 pub take_whole : (o r : BatchState) (new : ℕ) → o.taken < new → r ≡ with_taken o new → Change o r → Taken o new
-unfolding Taken
 take_whole o r new less is (inl same) = absurd (let e = ap (λ (z : BatchState). z.taken) (sym is ∙ same) in omega arith)
 take_whole o r new less is (inr (was_claimed claim some_item is_open fits e)) = absurd (let t = ap (λ (z : BatchState). z.taken) (sym is ∙ e) in omega arith)
 take_whole o r new less is (inr (was_published a b less' batch was e)) = absurd (let t = ap (λ (z : BatchState). z.taken) (sym is ∙ e) in omega arith)
@@ -104,7 +99,6 @@ module _ (m : Moment BatchState) (views : List QueueView) (seat : ℕ) (v w : Qu
 
   pub take_is : (tail new : ℕ) → IsReal of_batches (change tail_word tail m (with_taken o new)) → o.taken < new → w.takes ≡ v.takes ++ taking q (new - o.taken) ∷ [] → w.runs ≡ v.runs → positions.Grows w.queue (positions_of (with_taken o new))
       → (tail ≡ o.taken) × IsStop o new × IsEvent q (positions_of (with_taken o new)) seat v w (take_first o.room (new - o.taken))
-  unfolding Taken
   take_is tail new r less takes runs later = let e : Step BatchState = change tail_word tail m (with_taken o new) in let t = take_whole o (with_taken o new) new less refl (real_change of_batches e r) in let le = t.0 in let n : ℕ = new - o.taken in let c = placing.cells_length (items_of o) o.phases in
       let same : positions_of (with_taken o new) ≡ with_take q n = placing.taken o new r.lawful (omega arith) le t.2 ∙ (let z : new ≡ o.taken + n = omega arith in λ i. record q { taken = z i }) in (
         tail_says e refl r,

@@ -32,6 +32,7 @@ mod Getting
 mod Certain
 mod Reporting
 mod Eventful
+mod Historic
 mod Rising
 mod Filling
 mod Portions
@@ -39,4 +40,3 @@ mod Trying
 mod Unrivalled
 mod SoleTaking
 mod Peeking
-mod Historic

@@ -9,11 +9,11 @@ use Rattle.batch_queue.specs.Walks.{Followed, LeadsOn, Passed, at_mark}
 use Rattle.batch_queue.specs.declared.look.QueueLook.{QueueLook}
 
 -- the mark of the tail did not lead on, or it led too far
-pub found_none : (room : ℕ) (v u b : View) (tail mark : ℕ) → Found v tail_word tail u → Found u (mark_word room tail) mark b → (LeadsOn 0 tail mark → mark / 2 ≤ tail + room → ⊥) → FoundUp room tail tail v b
-found_none room v u b tail mark x y none = let loads : List (Step BatchState) = load (mark_word room tail) mark b.seen ∷ [] in record {
+pub found_none : (room : ℕ) (v u b : View) (tail mark : ℕ) → 0 < room → Found v tail_word tail u → Found u (mark_word room tail) mark b → (LeadsOn 0 tail mark → mark / 2 ≤ tail + room → ⊥) → FoundUp room tail tail v b
+found_none room v u b tail mark some_room x y none = let loads : List (Step BatchState) = load (mark_word room tail) mark b.seen ∷ [] in record {
   at_tail = u.seen;
   loads = loads;
-  followed = record { walk = []; leads = tt; end = refl; stop = loads; stops = at_mark mark b.seen none refl; loads_are = refl };
+  followed = record { walk = []; leads = tt; end = refl; stop = loads; stops = at_mark (omega arith) mark b.seen none refl; loads_are = refl };
   made = made_then v u b (load tail_word tail u.seen ∷ []) loads v.own (λ d. d) x.made y.made;
 }
 

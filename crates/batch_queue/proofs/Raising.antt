@@ -9,7 +9,7 @@ use Rattle.table_theory.specs.Positioned.{Lawful}
 use Rattle.table_theory.proofs.Positioned.{grows_refl}
 use Rattle.table_theory.proofs.QueueEvents.{raised_is, raise_goes, run_number, run_is}
 use Rattle.table_theory.proofs.Listing.{listed_write}
-use Rattle.batch_queue.specs.Raises.{raise_all}
+use Rattle.table_theory.specs.Raises.{raise_all}
 
 -- what the end knows once its run is published
 abbrev pub view_after : Positions → ℕ → QueueView → ℕ → Batch → QueueView

@@ -1,5 +1,6 @@
 -- What every step keeps and tells, by the theory of tables.
-use Rattle.batch_queue.proofs.Common.{parts_of, Act, Allows, Apart, BatchState, Becomes, EndRecord, Grows, Holds, HomeShows, IsHeld, IsHonest, IsReal, IsRuled, IsTable, IsUsed, List, MarkSays, Me, Moment, Option, OwnShows, Rule, Shape, Stands, State, Stays, Step, Stepped, Valid, View, ViewsShow, WordsShow, [], ap, arith, at_below, at_map, at_set, by_ends, carried_after, change, dec_le, dite, empty, ends_word, entries_real, finds, free_word, get_elem?, get_or, get_or-set_other, head_word, homes_after, inl, inr, items_of, length, length-set, listed_look, map, map-set, mark_word, none, nothing_did, of_batches, one_turn, part_of, phase_at, positions_of, refl, set, set_else, set_here, shuts, shuts_of, some, some-injective, step, subst, sym, tail_word, times_shut, total_kept, total_set, unused_kept, ℕ, ℕ_discrete, ⊎_elim, ◌%◌, ◌+◌, ◌<◌, ◌∙◌, ◌∷◌, ◌≡◌, ◌≢◌, ◌≤◌, ◌⊎◌}
+use Rattle.batch_queue.proofs.Common.{parts_of, Act, Allows, Apart, BatchState, Becomes, EndRecord, Grows, Holds, HomeShows, IsHeld, IsHonest, IsReal, IsRuled, IsTable, IsUsed, List, MarkSays, Me, Moment, Option, OwnShows, Rule, Shape, Stands, State, Stays, Step, Stepped, Valid, View, ViewsShow, WordsShow, ap, arith, at_below, at_set, by_ends, carried_after, change, dec_le, dite, empty, ends_word, finds, free_word, get_elem?, get_or, get_or-set_other, head_word, homes_after, inl, inr, items_of, length, length-set, map, map-set, mark_word, none, nothing_did, of_batches, one_turn, part_of, phase_at, positions_of, refl, set, set_else, set_here, shuts, shuts_of, some, some-injective, step, subst, sym, tail_word, times_shut, total_kept, total_set, unused_kept, ℕ, ℕ_discrete, ⊎_elim, ◌%◌, ◌+◌, ◌<◌, ◌∙◌, ◌≡◌, ◌≢◌, ◌≤◌, ◌⊎◌}
+use Rattle.table_theory.proofs.Listing.{look_in}
 use Rattle.table_theory.proofs.Ruling as ruling
 use Rattle.table_theory.proofs.Stepping as ends
 use Rattle.batch_queue.specs.Rules.{now_of}
@@ -64,8 +65,7 @@ kept key s k words id number v w at own seen stands = (
     now = record k.now { ends = number };
     room = k.room;
     stands = stands;
-    listed = subst (ViewsShow (positions_of k.now.object)) (sym (map-set part_of s.views id w))
-        (listed_look (positions_of k.now.object) (map part_of s.views) id (part_of v) (part_of w) k.listed (at_map part_of s.views id v at) (λ i. (own i).runs) (λ i. (own i).takes) (subst (λ (z : Moment BatchState). pos.Grows (positions_of z.object) (positions_of k.now.object)) (sym seen) (positioned.grows_refl (positions_of k.now.object))));
+    listed = look_in part_of (positions_of k.now.object) s.views id v w k.listed at (λ i. (own i).runs) (λ i. (own i).takes) (subst (λ (z : Moment BatchState). pos.Grows (positions_of z.object) (positions_of k.now.object)) (sym seen) (positioned.grows_refl (positions_of k.now.object)));
     seen = views_set (λ u. Grows u.seen.object k.now.object) s.views id w (subst (λ (z : Moment BatchState). Grows z.object k.now.object) (sym seen) (grows_refl k.now.object)) (λ j u e ne. k.seen j u e);
     homes = k.homes;
     owns = views_set (λ u. OwnShows k.now.object u.own) s.views id w (subst (λ (z : EndRecord). OwnShows k.now.object z) (sym own) (k.owns id v at)) (λ j u e ne. k.owns j u e);

@@ -2,12 +2,13 @@
 use Rattle.batch_queue.proofs.Common.{BatchState, Bool, IsHonest, IsReal, IsWhole, List, Made, Moment, SHUT, Step, View, [], ap, append_assoc, arith, free_word, head_word, items_of, length, load, of_batches, refl, subst, sym, tail_word, true, with_freed, ℕ, ⊎_elim, ◌++◌, ◌+◌, ◌/◌, ◌<◌, ◌∙◌, ◌∷◌, ◌≡◌}
 use Rattle.std.proofs.Common.{true≢false}
 use Rattle.std.specs.List.{AllByRecursion}
+use Rattle.std.specs.Prelude.{min}
 use Rattle.table_theory.specs.Courses.{Continues}
 use Rattle.table_theory.proofs.Reaching.{all_behind, alone_since}
 use Rattle.batch_queue.specs.declared.refusals.PutRefusal.TheVariants as not_put
 use Rattle.batch_queue.specs.declared.refusals.TakeRefusal.TheVariants as not_taken
 use Rattle.batch_queue.specs.Own.{Looks}
-use Rattle.batch_queue.specs.Puts.{FoundOther, LackedRoom, RefusedPut}
+use Rattle.batch_queue.specs.Puts.{FoundOther, LackedRoom, RefusedPut, RefusedSome}
 use Rattle.batch_queue.specs.Takings.{PassedEmpty, PassedFound, PassedLong, RefusedTake}
 use Rattle.batch_queue.specs.Walks.{FollowedBy, FreeBy, IsHelp, IsStop, Walk, at_mark, at_most, at_once, by_help, exchanged, overtaken, still, walked}
 use Rattle.batch_queue.proofs.Heading.{open_head}
@@ -23,7 +24,7 @@ walked_stays room p (f ∷ walk) ys a b c = subst (λ (z : Moment BatchState). C
 
 stop_stays : (parity most room p : ℕ) (loads ys : Steps) (a b : Moment BatchState) → IsStop parity most room p loads → Continues a (loads ++ ys) b → Continues a ys b
 stop_stays parity most room p loads ys a b (at_most is no_load) c = subst (λ (z : Steps). Continues a (z ++ ys) b) no_load c
-stop_stays parity most room p loads ys a b (at_mark number m no_lead is) c = let d = subst (λ (z : Steps). Continues a (z ++ ys) b) is c in subst (λ (z : Moment BatchState). Continues z ys b) (sym d.0) d.1
+stop_stays parity most room p loads ys a b (at_mark low number m no_lead is) c = let d = subst (λ (z : Steps). Continues a (z ++ ys) b) is c in subst (λ (z : Moment BatchState). Continues z ys b) (sym d.0) d.1
 
 pub followed_stays : (parity most room from to : ℕ) (loads ys : Steps) (a b : Moment BatchState) → FollowedBy parity most room from to loads → Continues a (loads ++ ys) b → Continues a ys b
 followed_stays parity most room from to loads ys a b f c = stop_stays parity most room to f.stop ys a b f.stops
@@ -75,6 +76,9 @@ module _ (v w : View) (x : IsHonest of_batches v) (y : IsHonest of_batches w) (w
 
   pub put_not_lost : (room count head : ℕ) → RefusedPut room v count (not_put.Lost head) w → ⊥
   put_not_lost room count now (fits, h) = ⊎_elim (λ t. lacked room count count now t.0 t.1) (λ t. other room count count t.0 now t.1 t.2 t.3) h
+
+  pub put_some_not_lost : (room count head : ℕ) → RefusedSome room v count (not_put.Lost head) w → ⊥
+  put_some_not_lost room count now (some_item, h) = ⊎_elim (λ t. lacked room (min count room) 1 now t.0 t.1) (λ t. other room (min count room) 1 t.0 now t.1 t.2 t.3) h
 
   pub passed_empty : (room now : ℕ) → PassedEmpty (λ entries. Made v entries v.own w) room now → ⊥
   passed_empty room now p = let g = p.glance in let s = alone_since of_batches v w _ whole x y p.added.adds in let t = tail_says (load tail_word g.tail g.at_tail) refl s.1.0 in let t' = tail_says (load tail_word now p.again) refl s.1.1.1.1.0 in

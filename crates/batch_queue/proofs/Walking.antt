@@ -155,10 +155,10 @@ followed_all parity most room from to v w h far = record {
 }
 
 -- the last mark that was found does not lead on, or too far
-pub followed_stop : (parity most room from to mark : ℕ) (v u w : View) → Follows parity most room from to v u → Found u (mark_word room to) mark w → (LeadsOn parity to mark → mark / 2 ≤ most → ⊥) → Followed parity most room from to v w
-followed_stop parity most room from to mark v u w h f short = let one : List (Step BatchState) = load (mark_word room to) mark w.seen ∷ [] in record {
+pub followed_stop : (parity most room from to mark : ℕ) (v u w : View) → Follows parity most room from to v u → Found u (mark_word room to) mark w → to < most → (LeadsOn parity to mark → mark / 2 ≤ most → ⊥) → Followed parity most room from to v w
+followed_stop parity most room from to mark v u w h f low short = let one : List (Step BatchState) = load (mark_word room to) mark w.seen ∷ [] in record {
   loads = walked room from h.walk ++ one;
-  by = record { walk = h.walk; leads = h.leads; end = h.end; stop = one; stops = at_mark mark w.seen short refl; loads_are = refl };
+  by = record { walk = h.walk; leads = h.leads; end = h.end; stop = one; stops = at_mark low mark w.seen short refl; loads_are = refl };
   made = made_then v u w (walked room from h.walk) one v.own (λ d. d) h.made f.made;
 }
 

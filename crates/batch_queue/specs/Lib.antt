@@ -17,7 +17,5 @@ pub mod Moments
 pub mod Answers
 pub mod Puts
 pub mod Takings
-pub mod Raises
 pub mod Hints
-pub mod Histories
 pub mod Parts

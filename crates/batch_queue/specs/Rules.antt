@@ -7,7 +7,7 @@ use Rattle.atomic_table.specs.Table.{State}
 use Rattle.table_theory.specs.declared.queues.Batch.{Batch}
 use Rattle.table_theory.specs.declared.views.Moment.{Moment}
 use Rattle.table_theory.specs.Listing.{ViewsShow}
-use Rattle.table_theory.specs.Ledgers.{Stands, Tallied, first_of}
+use Rattle.table_theory.specs.Ledgers.{Stands, first_of}
 use Rattle.table_theory.specs.Ruled as ruled
 use Rattle.table_theory.specs.Sharing.{total}
 use Rattle.batch_queue.specs.declared.rule.BatchState.{BatchState}
@@ -85,7 +85,3 @@ now_of key s k = k.now
 -- at the end's last step the rule held, and the end saw the queue as it was
 abbrev pub IsRuled : View → Type 0
 IsRuled v = ruled.IsRuled Rule now_of v
-
--- what an end knows that found the number of ends
-abbrev pub HasTallied : View → ℕ → View → Type 0
-HasTallied v number w = IsRuled w × Tallied ends_word v number w

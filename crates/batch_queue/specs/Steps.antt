@@ -11,7 +11,7 @@ use Rattle.table_theory.specs.Ledgers as ends
 use Rattle.batch_queue.specs.declared.layout.TheConstants.{MOST_PLACES, POSITIONS, SHUT}
 use Rattle.batch_queue.specs.declared.rule.BatchState.{BatchState}
 use Rattle.batch_queue.specs.declared.rule.EndRecord.{EndRecord}
-use Rattle.batch_queue.specs.Layout.{head_word, tail_word, free_word, ends_word, width, IsPowerOfTwo}
+use Rattle.batch_queue.specs.Layout.{head_word, tail_word, free_word, width, IsPowerOfTwo}
 use Rattle.batch_queue.specs.Object.{items_of, phase_at, IsEdge, IsStop, with_batch, with_up, with_back, with_taken}
 use Rattle.batch_queue.specs.Object.{with_freed, with_shut, with_part, Grows}
 use Rattle.batch_queue.specs.Own.{View, HasRun, with_run, with_taking, with_published, with_no_slots}

@@ -39,7 +39,8 @@ IsWalk parity most position (found ∷ walk) = LeadsOn parity position found.0 �
 -- on, or leads too far. `loads` has the load of that mark
 pub data IsStop (parity most room position : ℕ) (loads : List (Step BatchState)) : Type 0 where
   at_most : position ≡ most → loads ≡ [] → IsStop parity most room position loads
-  at_mark : (mark : ℕ) (m : Moment BatchState) → (LeadsOn parity position mark → mark / 2 ≤ most → ⊥)
+  at_mark : position < most → (mark : ℕ) (m : Moment BatchState)
+      → (LeadsOn parity position mark → mark / 2 ≤ most → ⊥)
       → loads ≡ load (mark_word room position) mark m ∷ [] → IsStop parity most room position loads
 
 -- from this position marks were followed as far as they lead, by these loads

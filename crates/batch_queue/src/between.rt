@@ -1,13 +1,14 @@
 //! What holds between any two steps of any threads.
 
-ghost use Rattle.std.specs.Prelude.{ℕ};
+ghost use Rattle.std.specs.Prelude.{◌≡◌, ℕ};
 ghost use Rattle.atomic_table.specs.Table.{State};
 ghost use Rattle.batch_queue.specs.declared.rule.Shape.{Shape};
 ghost use Rattle.batch_queue.specs.Own.{View};
 ghost use Rattle.batch_queue.specs.Between.{ShowsQueue, ShowsEnds};
 
+use crate::ends::BatchQueue;
 use crate::rule::{BatchRule, Shape, View};
-use atomic_table::TableRule;
+use atomic_table::{Shared, TableRule};
 
 /// Whatever the rule holds of is a lawful queue of the core, shown by the words, the slots and what the ends list. Of
 /// each batch all items are raised or none, and no two batches overlap.
@@ -24,3 +25,12 @@ pub fn ends_between_steps()
     ensures { (key : Shape) (state : State ℕ View)
         → ⟦<BatchRule as TableRule<u64, View, Shape>>⟧.holds key state → ShowsEnds key state }
 {}
+
+impl BatchQueue {
+    /// The table of the queue. By its type it is under the rule that `between_steps` speaks of.
+    pub fn table(&self) -> &Shared<u64, View, Shape, BatchRule>
+        ensures { result.now ≡ self.now.table.shared }
+    {
+        &self.table.shared
+    }
+}

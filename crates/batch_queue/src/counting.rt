@@ -4,9 +4,11 @@ use table_theory::end_steps::EndsRule;
 use table_theory::last_end::CountRule;
 
 impl CountRule<u64, View, Shape> for BatchRule {
-    ghost use Rattle.batch_queue.specs.Rules.{HasTallied};
+    ghost use Rattle.table_theory.specs.Plays.{HasTallied};
+    ghost use Rattle.batch_queue.specs.Layout.{ends_word};
+    ghost use Rattle.batch_queue.specs.Rules.{IsRuled};
 
-    ghost tallied = { λ id. HasTallied };
+    ghost tallied = { λ id. HasTallied IsRuled ends_word };
 }
 
 impl EndsRule<u64, EndRecord, BatchState, Shape> for BatchRule {

@@ -15,7 +15,8 @@ ghost use Rattle.table_theory.specs.Apart.{AreApart};
 ghost use Rattle.table_theory.specs.Filing.{Owned};
 ghost use Rattle.table_theory.specs.Listing.{ViewsShow};
 ghost use Rattle.table_theory.specs.Positioned as positions;
-ghost use Rattle.table_theory.specs.QueueOf.{IsEvent, IsEventOf, no_event};
+ghost use Rattle.table_theory.specs.QueueOf.{IsEvent, IsEventOf, IsHistory, no_event};
+ghost use Rattle.table_theory.specs.Raises.{AreAt, Spot, raise_all, raise_each};
 ghost use Rattle.batch_queue.specs.declared.ends.BatchEnd.{BatchEnd};
 ghost use Rattle.batch_queue.specs.declared.ends.BatchQueue.{BatchQueue};
 ghost use Rattle.batch_queue.specs.declared.layout.TheConstants.{MOST_PLACES, POSITIONS, SHUT};
@@ -24,7 +25,6 @@ ghost use Rattle.batch_queue.specs.declared.refusals.TakeRefusal.TheVariants as 
 ghost use Rattle.batch_queue.specs.declared.rule.BatchState.{BatchState};
 ghost use Rattle.batch_queue.specs.Endings.{TookIn};
 ghost use Rattle.batch_queue.specs.Handles.{view_of, room_of, IsEndOf, IsOnlyEnd};
-ghost use Rattle.batch_queue.specs.Histories.{IsBatchHistory};
 ghost use Rattle.batch_queue.specs.Layout.{head_word, tail_word, free_word, ends_word, mark_word, width, mark};
 ghost use Rattle.batch_queue.specs.Object.{items_of, mark_of, phase_at, IsEdge, IsBatch, IsParted, IsRest, IsStop, AreIn};
 ghost use Rattle.batch_queue.specs.Object.{Becomes, Grows, with_batch, with_up, with_back, with_taken, with_freed, with_shut};
@@ -32,8 +32,7 @@ ghost use Rattle.batch_queue.specs.Object.{Lawful, with_part};
 ghost use Rattle.batch_queue.specs.Own.{View, of_batches, part_of, run, taking};
 ghost use Rattle.batch_queue.specs.Parts.{RefusedTakeSome};
 ghost use Rattle.batch_queue.specs.Placed.{positions_of, raised_run};
-ghost use Rattle.batch_queue.specs.Puts.{RefusedPut};
-ghost use Rattle.batch_queue.specs.Raises.{raise_all};
+ghost use Rattle.batch_queue.specs.Puts.{RefusedPut, RefusedSome};
 ghost use Rattle.batch_queue.specs.Takings.{RefusedTake};
 
 /// What an end lists is true: each entry that a call adds is a real step. It found a lawful queue that the words
@@ -167,43 +166,48 @@ pub fn changes_are_events()
         → IsEvent (positions_of m.object) (positions_of (with_shut m.object)) seat v w (λ c. Ok (shut c)) }
 {}
 
-/// The same for each history of the queue as the step found it, whoever made its runs: the runs are the batches. There is
-/// such a history.
+/// Each change that an answer lists is the event of the core that its name says, whoever made the runs that the queue
+/// had then: for each history of the queue as the step found it, and there is one. The event leaves a history of the
+/// queue as the step left it. A publication raises each item of the batch, in their order, at one step, wherever the
+/// history has their places; if the batch is a run of the history, it is a raise of all of that run.
 pub fn changes_are_events_of_histories()
     ensures history { (e : Step BatchState) → IsReal of_batches e
-        → (runs : List (Owned Batch)) × IsBatchHistory e.then.object runs }
+        → (runs : List (Owned Batch)) × IsHistory (positions_of e.then.object) runs }
     ensures claimed { (head call number : ℕ) (items : List ℕ) (m : Moment BatchState) (runs : List (Owned Batch))
         → IsReal of_batches (change head_word head m (with_batch m.object items)) → 0 < length items
-        → IsBatchHistory m.object runs → (m.object.shut ≡ false) × (head ≡ length (items_of m.object))
+        → IsHistory (positions_of m.object) runs → (m.object.shut ≡ false) × (head ≡ length (items_of m.object))
         × IsEventOf (positions_of m.object) runs (claim m.object.room call items)
-        (positions_of (with_batch m.object items)) (runs ++ (call, number, run head items) ∷ [])
-        × IsBatchHistory (with_batch m.object items) (runs ++ (call, number, run head items) ∷ []) }
+        (positions_of (with_batch m.object items)) (runs ++ (call, number, run head items) ∷ []) }
     ensures published { (word found a b : ℕ) (m : Moment BatchState) (runs : List (Owned Batch))
-        → IsReal of_batches (change word found m (with_up m.object a b)) → IsBatch m.object.batches a b
-        → AreIn m.object 0 a b → IsBatchHistory m.object runs
-        → (k : ℕ) × (run : Owned Batch) × (get_elem? runs k ≡ some run) × (run.2.start ≡ a)
-        × (a + length run.2.places ≡ b)
-        × IsEventOf (positions_of m.object) runs (raise_all run.0 k 0 (length run.2.places))
+        → IsReal of_batches (change word found m (with_up m.object a b))
+        → IsBatch m.object.batches a b → AreIn m.object 0 a b → IsHistory (positions_of m.object) runs
+        → (spots : List Spot) × AreAt runs a spots b × (left : List (Owned Batch))
+        × IsEventOf (positions_of m.object) runs (raise_each spots) (positions_of (with_up m.object a b)) left }
+    ensures published_run { (word found a b k : ℕ) (m : Moment BatchState) (runs : List (Owned Batch))
+        (e : Owned Batch) → IsReal of_batches (change word found m (with_up m.object a b))
+        → IsBatch m.object.batches a b → AreIn m.object 0 a b → IsHistory (positions_of m.object) runs
+        → get_elem? runs k ≡ some e → e.2.start ≡ a → a + length e.2.places ≡ b
+        → IsEventOf (positions_of m.object) runs (raise_all e.0 k 0 (length e.2.places))
         (positions_of (with_up m.object a b))
-        (slice_set runs k (run.0, run.1, raised_run run.2 0 (length run.2.places))) }
+        (slice_set runs k (e.0, e.1, raised_run e.2 0 (length e.2.places))) }
     ensures taken { (tail new : ℕ) (m : Moment BatchState) (runs : List (Owned Batch))
         → IsReal of_batches (change tail_word tail m (with_taken m.object new)) → m.object.taken < new
-        → IsBatchHistory m.object runs → (tail ≡ m.object.taken)
+        → IsHistory (positions_of m.object) runs → (tail ≡ m.object.taken) × IsStop m.object new
         × IsEventOf (positions_of m.object) runs (take_first m.object.room (new - m.object.taken))
         (positions_of (with_taken m.object new)) runs }
     ensures given { (word found a b : ℕ) (m : Moment BatchState) (runs : List (Owned Batch))
         → IsReal of_batches (change word found m (with_back m.object a b)) → AreIn m.object 2 a b → a < b
-        → IsBatchHistory m.object runs
+        → IsHistory (positions_of m.object) runs
         → IsEventOf (positions_of m.object) runs no_event (positions_of (with_back m.object a b)) runs }
     ensures freed { (free new : ℕ) (m : Moment BatchState) (runs : List (Owned Batch))
-        → IsReal of_batches (change free_word free m (with_freed m.object new)) → IsBatchHistory m.object runs
+        → IsReal of_batches (change free_word free m (with_freed m.object new)) → IsHistory (positions_of m.object) runs
         → (free ≡ m.object.freed)
         × IsEventOf (positions_of m.object) runs no_event (positions_of (with_freed m.object new)) runs }
     ensures parted { (word found p end : ℕ) (m : Moment BatchState) (runs : List (Owned Batch))
-        → IsReal of_batches (change word found m (with_part m.object p end)) → IsBatchHistory m.object runs
+        → IsReal of_batches (change word found m (with_part m.object p end)) → IsHistory (positions_of m.object) runs
         → IsEventOf (positions_of m.object) runs no_event (positions_of (with_part m.object p end)) runs }
     ensures shut { (head : ℕ) (m : Moment BatchState) (runs : List (Owned Batch))
-        → IsReal of_batches (change head_word head m (with_shut m.object)) → IsBatchHistory m.object runs
+        → IsReal of_batches (change head_word head m (with_shut m.object)) → IsHistory (positions_of m.object) runs
         → IsEventOf (positions_of m.object) runs (λ c. Ok (shut c)) (positions_of (with_shut m.object)) runs }
 {}
 
@@ -245,6 +249,8 @@ pub fn joins_are_apart()
 pub fn only_ends_are_never_lost()
     ensures put { (old new : BatchEnd) (room count head : ℕ) → IsOnlyEnd old
         → RefusedPut room (view_of old) count (not_put.Lost head) (view_of new) → ⊥ }
+    ensures put_some { (old new : BatchEnd) (room count head : ℕ) → IsOnlyEnd old
+        → RefusedSome room (view_of old) count (not_put.Lost head) (view_of new) → ⊥ }
     ensures take { (old new : BatchEnd) (room most tail : ℕ) → IsOnlyEnd old
         → RefusedTake room (view_of old) most (not_taken.Lost tail) (view_of new) → ⊥ }
     ensures take_some { (queue : BatchQueue) (old new : BatchEnd) (most tail : ℕ) → IsEndOf queue old → IsOnlyEnd old

@@ -224,6 +224,27 @@ const TAKE_WORDS: &[(TakeRefusal, &str)] = &[
     (TakeRefusal::Closed, "the queue is shut and empty"),
 ];
 
+/// Two refusals are equal exactly if they are the same, with the same numbers.
+#[test]
+fn refusals_are_compared(rt: HostRuntime) {
+    for (at, (one, _)) in PUT_WORDS.iter().enumerate() {
+        for (place, (other, _)) in PUT_WORDS.iter().enumerate() {
+            assert!(rt; (one == other) == (at == place));
+        }
+    }
+    for (at, (one, _)) in TAKE_WORDS.iter().enumerate() {
+        for (place, (other, _)) in TAKE_WORDS.iter().enumerate() {
+            assert!(rt; (one == other) == (at == place));
+        }
+    }
+    assert!(rt; PutRefusal::Full { head: 9, free: 5 } != PutRefusal::Full { head: 9, free: 6 });
+    assert!(rt; PutRefusal::Lost { head: 8 } != PutRefusal::Lost { head: 9 });
+    assert!(rt; TakeRefusal::Empty { at: 6 } != TakeRefusal::Empty { at: 7 });
+    assert!(rt;
+        TakeRefusal::ShortBuffer { at: 3, count: 4 } != TakeRefusal::ShortBuffer { at: 3, count: 5 }
+    );
+}
+
 /// Each refusal is printed in its words, with its numbers.
 #[test]
 fn refusals_are_printed(rt: HostRuntime) {

@@ -5,6 +5,8 @@ use Rattle.std.specs.declared.option.Option.TheVariants.{None, Some}
 use Rattle.claim_queue.specs.declared.claim.ClaimRefusal.{ClaimRefusal}
 use Rattle.claim_queue.specs.declared.claim.ClaimRefusal.TheVariants as claim
 use Rattle.claim_queue.specs.declared.take.TakeRefusal.{TakeRefusal}
+use Rattle.proc_chain.specs.declared.chaining.ChainRefusal.{ChainRefusal}
+use Rattle.proc_chain.specs.declared.chaining.ChainRefusal.TheVariants as chain
 use Rattle.claim_queue.specs.declared.take.TakeRefusal.TheVariants as take
 
 -- the call did what it is for
@@ -60,6 +62,44 @@ NotServed = pos 14
 -- each place that was claimed before the position is taken
 abbrev pub AllWoken : ℤ
 AllWoken = pos 15
+
+-- the end runs notes from now on
+abbrev pub Run : ℤ
+Run = pos 20
+
+-- the end that runs notes gets the note
+abbrev pub Left : ℤ
+Left = pos 21
+
+-- the next note
+abbrev pub Note : ℤ
+Note = pos 22
+
+-- no note was found, and the end still runs notes
+abbrev pub Again : ℤ
+Again = pos 23
+
+-- the end runs notes, and has to go on
+abbrev pub Running : ℤ
+Running = pos 24
+
+-- the end runs no notes
+abbrev pub NotRunning : ℤ
+NotRunning = pos 25
+
+abbrev pub code_of_chain : ChainRefusal → ℤ
+code_of_chain chain.Spent = pos 4
+code_of_chain (chain.Full head tail) = pos 5
+code_of_chain (chain.Lost head) = pos 6
+
+abbrev pub head_of_chain : ChainRefusal → ℕ
+head_of_chain chain.Spent = 0
+head_of_chain (chain.Full head tail) = head
+head_of_chain (chain.Lost head) = head
+
+abbrev pub tail_of_chain : ChainRefusal → ℕ
+tail_of_chain (chain.Full head tail) = tail
+tail_of_chain _ = 0
 
 abbrev pub code_of_claim : Result ℕ ClaimRefusal → ℤ
 code_of_claim (Ok start) = pos 0

@@ -1,3 +1,5 @@
+pub mod ChainCalls
+pub mod ChainHeld
 pub mod Codes
 pub mod HandCalls
 pub mod HandClosing
@@ -6,7 +8,11 @@ pub mod HandMoves
 pub mod HandStates
 pub mod HandTakings
 pub mod HandWakes
+pub mod Handles
 pub mod Hiding
+pub mod Inboxes
+pub mod Kinds
+pub mod Lending
 pub mod LineCalls
 pub mod QueueCalls
 pub mod QueueClosing

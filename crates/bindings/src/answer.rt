@@ -39,6 +39,18 @@ pub const NOT_SERVED: i32 = 14;
 
 pub const ALL_WOKEN: i32 = 15;
 
+pub const RUN: i32 = 20;
+
+pub const LEFT: i32 = 21;
+
+pub const NOTE: i32 = 22;
+
+pub const AGAIN: i32 = 23;
+
+pub const RUNNING: i32 = 24;
+
+pub const NOT_RUNNING: i32 = 25;
+
 pub const NO_MEMORY: i32 = -1;
 
 pub const EMPTY_HANDLE: i32 = -2;

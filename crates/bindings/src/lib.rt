@@ -2,7 +2,11 @@
 #![tactic(auto)]
 
 mod answer;
+mod chain;
 mod hand;
+mod handle;
+mod hidden;
 mod line;
+mod payload;
 mod queue;
 mod seat;

@@ -1,5 +1,6 @@
 -- What is certain where an end's list is true: the proof of it is cut off, and what can be decided needs none.
 use Rattle.claim_queue.proofs.Common.{◌≡◌, ℕ, ◌≤◌, ◌<◌, ap, true, List, ◌∙◌, arith, ∥∥₁_elim, ∥∥₁_map, Bool-set, le_prop, ℕ_set, Positions, Moment, Step, Adds, IsHonest, Grows, tail_of, reaches_since, QueueEnd, view_of, View, of_queues, Distinct}
+use Rattle.table_theory.proofs.Certainty as surely
 use Rattle.claim_queue.proofs.Growing.{reaches_grow}
 use Rattle.claim_queue.proofs.Reading.{room_of, distinct_runs}
 use Rattle.claim_queue.proofs.Stepping.{honest}
@@ -9,7 +10,7 @@ honest_end end = ∥∥₁_map end.ruled (λ r. honest (view_of end) r)
 
 -- what both ends' lists make certain
 pub by_both : {n : ℕ} {X : Type 0} (old new : QueueEnd n) → IsProp X → (IsHonest of_queues (view_of old) → IsHonest of_queues (view_of new) → X) → X
-by_both old new prop f = ∥∥₁_elim (honest_end old) prop (λ x. ∥∥₁_elim (honest_end new) prop (λ y. f x y))
+by_both old new prop f = surely.by_both of_queues (view_of old) (view_of new) (honest_end old) (honest_end new) prop f
 
 -- the queue grows from what the end had seen to what it sees
 grows_since : (v w : View) (entries : List (Step Positions)) → Adds v entries w → IsHonest of_queues v → IsHonest of_queues w → Grows v.seen.object w.seen.object

@@ -1,34 +1,18 @@
 -- The step that shuts the queue keeps the rule.
-use Rattle.claim_queue.proofs.Common.{◌≡◌, ℕ, ◌+◌, ◌<◌, ◌≤◌, Bool, true, false, map, get_or, refl, ap, ◌∙◌, arith, length-set, get_or-set_same, get_or-set_other, if◌then◌else◌, lt-ltb, le-ltb, none, Me, step, Allows, Positions, with_shut, head_of, at_map, grows_refl, Did, Shape, was_shut, head_word, tail_word, mark, data_in, flag_in, View, part_of, times_shut, Rule, IsUsed, by_head, unused_kept}
-use Rattle.std.proofs.Common.{◌*◌, ◌^◌}
+use Rattle.claim_queue.proofs.Common.{◌≡◌, ℕ, ◌+◌, ◌≤◌, map, get_or, refl, ap, ◌∙◌, arith, length-set, get_or-set_same, get_or-set_other, none, Me, step, Allows, Positions, with_shut, head_of, at_map, grows_refl, Did, Shape, was_shut, head_word, tail_word, mark, data_in, flag_in, View, part_of, times_shut, Rule, IsUsed, by_head, unused_kept}
 use Rattle.std.specs.Prelude.{nat_lt}
-use Rattle.std.proofs.lemmas.Nat.{or_block, or_comm}
 use Rattle.std.specs.Int.Bits.{bit_or}
 use Rattle.table_theory.proofs.Listing.{listed_shut}
+use Rattle.table_theory.proofs.Marking as marking
 use Rattle.table_theory.proofs.Rests.{rests_shut}
 use Rattle.table_theory.proofs.Windows.{window_shut}
 use Rattle.claim_queue.specs.Own.{with_shutting}
 use Rattle.claim_queue.specs.Steps.{shuts}
 use Rattle.claim_queue.proofs.Stepping.{window_kept, rests_kept, acts}
 
-or_nothing : (h : ℕ) → bit_or h 0 ≡ h
-or_nothing h = or_comm h 0
-
-marked : (h : ℕ) (b : Bool) → h < 4294967296 → bit_or (h + mark b) 4294967296 ≡ h + 4294967296
-marked h true fits = let a : h + 4294967296 ≡ 1 * 2 ^ 32 + h = omega arith in let b : 4294967296 ≡ 1 * 2 ^ 32 + 0 = omega arith in let z = or_nothing h in (λ k. bit_or (a k) (b k)) ∙ or_block 32 1 1 h 0 fits (omega arith) ∙ (omega arith)
-marked h false fits = let a : h + 0 ≡ 0 * 2 ^ 32 + h = omega arith in let b : 4294967296 ≡ 1 * 2 ^ 32 + 0 = omega arith in let z = or_nothing h in (λ k. bit_or (a k) (b k)) ∙ or_block 32 0 1 h 0 fits (omega arith) ∙ (omega arith)
-
--- it is shut once then, whether this end has shut it or another before
-shut_more : (q : Positions) (y : ℕ) → y ≡ head_of q + mark q.shut → head_of q < 4294967296 → times_shut q + (if nat_lt y 4294967296 then 1 else 0) ≡ 1
-shut_more q y is bounded = once q.shut is
-  where
-    once : (b : Bool) → y ≡ head_of q + mark b → (if b then 1 else 0) + (if nat_lt y 4294967296 then 1 else 0) ≡ 1
-    once true e = ap (λ (z : Bool). 1 + (if z then 1 else 0)) (le-ltb y 4294967296 (omega arith))
-    once false e = ap (λ (z : Bool). 0 + (if z then 1 else 0)) (lt-ltb y 4294967296 (omega arith))
-
 pub shuts_head : (key : Shape) (n id : ℕ) (me : Me Unit View) → 1 ≤ me.0.member.ends → Allows (Rule key) n id me head_word (λ x. bit_or x 4294967296) (shuts (step n head_word 4294967296 0 none) me)
 shuts_head key n id me live s k _ at _ = let v : View = me.0 in let q : Positions = k.now.object in let h = k.stands.shows in let y : ℕ = get_or s.words head_word 0 in let new : ℕ = bit_or y 4294967296 in let own : Did = with_shutting v.own (nat_lt y 4294967296) in
-    let is : new ≡ head_of q + 4294967296 = ap (λ (z : ℕ). bit_or z 4294967296) h.head ∙ marked (head_of q) q.shut h.bounded in let wide = h.wide in
+    let is : new ≡ head_of q + 4294967296 = ap (λ (z : ℕ). bit_or z 4294967296) h.head ∙ marking.marked 32 mark refl refl (head_of q) q.shut h.bounded in let wide = h.wide in
     acts key n id me s k at head_word y new own (with_shut q) (shuts (step n head_word 4294967296 0 none) me y) live (λ e. absurd (omega arith)) refl (was_shut refl)
     record {
       wide = length-set s.words head_word new ∙ h.wide;
@@ -40,4 +24,4 @@ shuts_head key n id me live s k _ at _ = let v : View = me.0 in let q : Position
       unused = unused_kept (IsUsed q.room) s.words head_word new (by_head refl) h.unused;
     }
     (listed_shut q (map part_of s.views) id (part_of v) (record { queue = with_shut q; runs = v.own.runs; takes = v.own.takes }) k.listed (at_map part_of s.views id v at) refl refl (grows_refl (with_shut q)))
-    (let m = shut_more q y h.head h.bounded in let e : times_shut q + own.shuts ≡ 1 + v.own.shuts = omega arith in e) (λ w stays step. (stays, (k.now, step)))
+    (let m = marking.marked_once 32 mark refl refl q.shut (head_of q) y h.head h.bounded in let e : times_shut q + own.shuts ≡ 1 + v.own.shuts = omega arith in e) (λ w stays step. (stays, (k.now, step)))

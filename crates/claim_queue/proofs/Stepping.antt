@@ -1,8 +1,9 @@
 -- What every step keeps and tells: the rule after an event and after a look.
-use Rattle.claim_queue.proofs.Common.{◌≡◌, ◌≢◌, ◌≤◌, ◌<◌, ◌+◌, ◌*◌, ℕ, List, map, get_or, get_or-set_other, set, length-set, sym, refl, ap, ◌∙◌, subst, arith, map-set, some, none, get_elem?, Me, step, Allows, at_map, Positions, Moment, Step, change, IsReal, IsHonest, ViewsShow, Grows, listed_look, grows_refl, Goes, total_set, total_kept, Did, Shape, Becomes, empty, FIRST_PLACE, head_word, tail_word, ends_word, data_in, flag_in, View, of_queues, nothing_did, part_of, shuts_of, times_shut, Rule, IsRuled, WordsShow, Stepped, IsUsed, by_ends, unused_kept}
+use Rattle.claim_queue.proofs.Common.{◌≡◌, ◌≢◌, ◌≤◌, ◌<◌, ◌+◌, ◌*◌, ℕ, List, map, get_or, get_or-set_other, set, length-set, sym, refl, ap, ◌∙◌, subst, arith, map-set, some, none, get_elem?, Me, step, Allows, at_map, Positions, Moment, Step, change, IsReal, IsHonest, ViewsShow, Grows, grows_refl, Goes, total_set, total_kept, Did, Shape, Becomes, empty, FIRST_PLACE, head_word, tail_word, ends_word, data_in, flag_in, View, of_queues, nothing_did, part_of, shuts_of, times_shut, Rule, IsRuled, WordsShow, Stepped, IsUsed, by_ends, unused_kept}
 use Rattle.atomic_table.specs.Table.{State, keeps}
 use Rattle.table_theory.specs.Ledgers.{Stands}
 use Rattle.table_theory.specs.Windows.{PlacesShow}
+use Rattle.table_theory.proofs.Listing.{look_in}
 use Rattle.table_theory.proofs.Ruling as ruling
 use Rattle.table_theory.proofs.Stepping as ends
 use Rattle.table_theory.proofs.Tables.{IsTable}
@@ -55,8 +56,7 @@ kept key s k words id number v w at own seen stands = let q : Positions = k.now.
     first = k.first;
     room = k.room;
     stands = stands;
-    listed = subst (ViewsShow q) (sym (map-set part_of s.views id w))
-        (listed_look q (map part_of s.views) id (part_of v) (part_of w) k.listed (at_map part_of s.views id v at) (λ i. (own i).runs) (λ i. (own i).takes) (subst (λ (z : Moment Positions). Grows z.object q) (sym seen) (grows_refl q)));
+    listed = look_in part_of q s.views id v w k.listed at (λ i. (own i).runs) (λ i. (own i).takes) (subst (λ (z : Moment Positions). Grows z.object q) (sym seen) (grows_refl q));
     shut_once = total_kept shuts_of s.views id v w at (λ i. (own i).shuts) ∙ k.shut_once;
   },
   seen,

@@ -1,20 +1,19 @@
 -- The steps that make, split, join and count ends keep the rule.
-use Rattle.claim_queue.proofs.Common.{◌≡◌, ℕ, ◌+◌, ◌-◌, ◌%◌, ◌<◌, ◌≤◌, List, [], ◌∷◌, ◌++◌, map, length, get_or, set, sym, refl, ap, ◌∙◌, subst, arith, mod-lt, length-set, get_or-set_same, get_or-set_other, map-set, map-append, some, none, get_elem?, Me, step, Allows, at_map, set_else, set_here, Positions, QueueView, both, emptied, ViewsShow, spot, listed_look, at_below, grows_refl, total_kept, total_set, head_word, tail_word, ends_word, flag_word, Shape, empty, View, of_queues, nothing_did, did_both, part_of, shuts_of, Rule, newcomer, IsRuled, ◌*◌, data_in, flag_in, IsUsed, by_ends, by_head, by_tail, unused_kept}
+use Rattle.claim_queue.proofs.Common.{◌≡◌, ℕ, ◌+◌, ◌-◌, ◌%◌, ◌<◌, ◌≤◌, List, [], length, get_or, set, sym, refl, ap, ◌∙◌, arith, mod-lt, length-set, get_or-set_same, get_or-set_other, some, none, get_elem?, Me, step, Allows, set_else, set_here, Positions, both, emptied, spot, at_below, grows_refl, head_word, tail_word, ends_word, flag_word, Shape, empty, View, of_queues, nothing_did, did_both, part_of, shuts_of, Rule, newcomer, IsRuled, ◌*◌, data_in, flag_in, IsUsed, by_ends, by_head, by_tail, unused_kept}
 use Rattle.table_theory.proofs.Rests.{rests_first}
 use Rattle.table_theory.proofs.Unused.{all_alike}
 use Rattle.std.proofs.Common.{replicate}
 use Rattle.std.proofs.lemmas.List.{length-replicate, get_or-replicate}
 use Rattle.atomic_table.specs.Table.{Splits, Joins, opening}
 use Rattle.table_theory.specs.Ledgers.{opened, rest_of, newborn}
-use Rattle.table_theory.specs.Plays.{counts_up, counts_down, counts}
-use Rattle.table_theory.specs.Sharing.{total}
-use Rattle.table_theory.proofs.Listing.{listed_new, listed_join, listed_first}
+use Rattle.table_theory.specs.Plays.{HasTallied, counts, counts_down, counts_up}
+use Rattle.table_theory.proofs.Listing.{listed_first, split_in, join_in}
 use Rattle.table_theory.proofs.Ruling as ruling
 use Rattle.table_theory.proofs.Stepping as ends
 use Rattle.table_theory.proofs.Tables as tables
-use Rattle.table_theory.proofs.Totals.{total_push}
+use Rattle.table_theory.proofs.Totals.{total_split, total_join}
 use Rattle.claim_queue.specs.Layout.{width}
-use Rattle.claim_queue.specs.Rules.{now_of, HasTallied}
+use Rattle.claim_queue.specs.Rules.{now_of}
 use Rattle.claim_queue.proofs.Growing.{reaches_grow}
 use Rattle.claim_queue.proofs.Stepping.{table, seen_grows, ruled_now}
 
@@ -27,8 +26,8 @@ module _ (key : Shape) (n id : ℕ) (me : Me Unit View) where
   downs two = tables.downs (table key) n id me (counts_down IsRuled (step n ends_word 1 0 none) me) two (λ s k at r. ((refl, ruled_now key _ s id me.0 _ at r), ends.counted_down k.stands id me.0 at))
 
   -- the count is found
-  pub tallies : me.0.member.ends ≡ 1 → Allows (Rule key) n id me ends_word (λ x. x) (counts HasTallied (step n ends_word 0 0 none) me)
-  tallies one = tables.looks (table key) n id me (counts HasTallied (step n ends_word 0 0 none) me) ends_word (omega arith) (λ s k at r. (refl, (ruled_now key _ s id me.0 _ at r, ends.tallied_now k.stands id me.0 at one)))
+  pub tallies : me.0.member.ends ≡ 1 → Allows (Rule key) n id me ends_word (λ x. x) (counts (HasTallied IsRuled ends_word) (step n ends_word 0 0 none) me)
+  tallies one = tables.looks (table key) n id me (counts (HasTallied IsRuled ends_word) (step n ends_word 0 0 none) me) ends_word (omega arith) (λ s k at r. (refl, (ruled_now key _ s id me.0 _ at r, ends.tallied_now k.stands id me.0 at one)))
 
 pub splits : (key : Shape) (id : ℕ) (v : View) → v.member.ends ≡ 2 → Splits (Rule key) id v (rest_of v) (newborn nothing_did v)
 splits key id v two s k at = let q : Positions = k.now.object in let later = seen_grows key s k id v at in let left : View = rest_of v in let right : View = newborn nothing_did v in record {
@@ -36,9 +35,8 @@ splits key id v two s k at = let q : Positions = k.now.object in let later = see
   first = k.first;
   room = k.room;
   stands = ends.stands_split k.stands id v at two;
-  listed = subst (ViewsShow q) (sym (map-append part_of (set s.views id left) (right ∷ []) ∙ ap (λ (z : List QueueView). z ++ part_of right ∷ []) (map-set part_of s.views id left)))
-      (listed_new q (set (map part_of s.views) id (part_of left)) (part_of right) (listed_look q (map part_of s.views) id (part_of v) (part_of left) k.listed (at_map part_of s.views id v at) refl refl later) refl refl later);
-  shut_once = (let t = total_kept shuts_of s.views id v left at refl in let p = total_push shuts_of (set s.views id left) right in let e : total shuts_of (set s.views id left ++ right ∷ []) ≡ total shuts_of s.views = omega arith in e) ∙ k.shut_once;
+  listed = split_in part_of q s.views id v left right k.listed at refl refl later refl refl later;
+  shut_once = total_split shuts_of s.views id v left right at refl refl ∙ k.shut_once;
 }
 
 -- both ends of a split stand under the rule
@@ -58,9 +56,8 @@ joins key id other v w live s k at ne has = let one : View = both did_both v w i
       first = k.first;
       room = k.room;
       stands = stands;
-      listed = subst (ViewsShow q) (sym (map-set part_of (set s.views id one) other spent ∙ ap (λ (z : List QueueView). set z other (part_of spent)) (map-set part_of s.views id one)))
-          (listed_join q (map part_of s.views) id other (part_of v) (part_of w) (part_of one) (part_of spent) k.listed (at_map part_of s.views id v at) (at_map part_of s.views other w at') ne refl refl refl refl (reaches_grow one.seen k.now (ends.leads stands id one here)) (seen_grows key s k id v at));
-      shut_once = (let t = total_set shuts_of s.views id v one at in let t' = total_set shuts_of (set s.views id one) other w spent has in let e : total shuts_of (set (set s.views id one) other spent) ≡ total shuts_of s.views = omega arith in e) ∙ k.shut_once;
+      listed = join_in part_of q s.views id other v w one spent k.listed at at' ne refl refl refl refl (reaches_grow one.seen k.now (ends.leads stands id one here)) (seen_grows key s k id v at);
+      shut_once = total_join shuts_of s.views id other v w one spent at has refl refl ∙ k.shut_once;
     }
 
 -- the table as it is made

@@ -2,14 +2,13 @@
 use Rattle.std.specs.Prelude.{◌≡◌, ℕ, map, if◌then◌else◌}
 use Rattle.table_theory.specs.declared.queues.Positions.{Positions}
 use Rattle.table_theory.specs.declared.views.Moment.{Moment}
-use Rattle.table_theory.specs.Ledgers.{first_of, Stands, Tallied}
+use Rattle.table_theory.specs.Ledgers.{first_of, Stands}
 use Rattle.table_theory.specs.Listing.{ViewsShow}
 use Rattle.table_theory.specs.Ruled as ruled
 use Rattle.table_theory.specs.Sharing.{total}
 use Rattle.atomic_table.specs.Table.{State}
 use Rattle.claim_queue.specs.declared.rule.Shape.{Shape}
 use Rattle.claim_queue.specs.Changes.{empty}
-use Rattle.claim_queue.specs.Layout.{ends_word}
 use Rattle.claim_queue.specs.Own.{View, nothing_did, of_queues, part_of}
 
 abbrev pub shuts_of : View → ℕ
@@ -38,7 +37,3 @@ now_of key s k = k.now
 -- at the end's last step the rule held, and the end saw the queue as it was
 abbrev pub IsRuled : View → Type 0
 IsRuled v = ruled.IsRuled Rule now_of v
-
--- what an end knows that found the number of ends
-abbrev pub HasTallied : View → ℕ → View → Type 0
-HasTallied v number w = IsRuled w × Tallied ends_word v number w

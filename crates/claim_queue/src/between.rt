@@ -1,12 +1,14 @@
 //! What holds between any two steps of any threads.
 
+ghost use Rattle.std.specs.Prelude.{◌≡◌};
 ghost use Rattle.atomic_table.specs.Table.{State};
 ghost use Rattle.claim_queue.specs.declared.rule.Shape.{Shape};
 ghost use Rattle.claim_queue.specs.Own.{View};
 ghost use Rattle.claim_queue.specs.Between.{ShowsQueue, ShowsEnds};
 
+use crate::ends::ClaimQueue;
 use crate::rule::{ClaimRule, Shape, View};
-use atomic_table::TableRule;
+use atomic_table::{Shared, TableRule};
 
 /// Whatever the rule holds of is a lawful queue of the core, shown by the words and by what the ends list.
 ///
@@ -22,3 +24,12 @@ pub fn ends_between_steps()
     ensures { (key : Shape) (state : State Unit View)
         → ⟦<ClaimRule as TableRule<(), View, Shape>>⟧.holds key state → ShowsEnds key state }
 {}
+
+impl<const N: usize> ClaimQueue<N> {
+    /// The table of the queue. By its type it is under the rule that `between_steps` speaks of.
+    pub fn table(&self) -> &Shared<(), View, Shape, ClaimRule>
+        ensures { result.now ≡ self.now.table.shared }
+    {
+        &self.table.shared
+    }
+}

@@ -5,9 +5,11 @@ use table_theory::last_end::CountRule;
 use table_theory::queues::Positions;
 
 impl CountRule<(), View, Shape> for ClaimRule {
-    ghost use Rattle.claim_queue.specs.Rules.{HasTallied};
+    ghost use Rattle.table_theory.specs.Plays.{HasTallied};
+    ghost use Rattle.claim_queue.specs.Layout.{ends_word};
+    ghost use Rattle.claim_queue.specs.Rules.{IsRuled};
 
-    ghost tallied = { λ id. HasTallied };
+    ghost tallied = { λ id. HasTallied IsRuled ends_word };
 }
 
 impl EndsRule<(), Did, Positions, Shape> for ClaimRule {

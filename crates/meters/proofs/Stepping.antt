@@ -3,12 +3,12 @@ use Rattle.meters.proofs.Common.{◌≡◌, ℕ, ◌+◌, ◌-◌, ◌%◌, ◌<
 use mathlib.Core.Option.{none}
 use prog.Atomic.{either}
 use Rattle.atomic_table.specs.Table.{Me, step, keeps, Allows, Splits, Joins}
-use Rattle.table_theory.specs.Plays.{finds, counts_up, counts_down, counts}
+use Rattle.table_theory.specs.Plays.{HasTallied, finds, counts_up, counts_down, counts}
 use Rattle.table_theory.proofs.Stepping.{leads, made_now, acted, upped, downed, honest_event, stands_event, honest_look, found_now, counted_up, honest_up, counted_down, honest_down, tallied_now, stands_split, stands_join}
 use Rattle.table_theory.proofs.Tables.{IsTable, Goes}
 use Rattle.table_theory.proofs.Tables as tables
 use Rattle.meters.specs.declared.rule.Tick.{Tick}
-use Rattle.meters.specs.Rules.{HasTallied, IsSound}
+use Rattle.meters.specs.Rules.{IsSound}
 use Rattle.meters.specs.Steps.{exchanges, WasTicked, ticks, advances, IsWordOf, sets, fires, WasCancelled, cancels}
 use Rattle.meters.proofs.Clocks.{clock_leads}
 use Rattle.meters.proofs.Codes.{same_alarm, no_word, one_word}
@@ -40,8 +40,8 @@ module _ (key : Shape) (n id : ℕ) (me : Me Unit SeatView) where
   downs two = tables.downs (table key) n id me (counts_down IsSound (step n 0 1 0 none) me) two
       (λ s k at _. ((refl, (honest_down k.stands id v at two, is_part key.clock k.now.object s.views id v (downed k.stands id v at) k.listed at refl refl)), counted_down k.stands id v at))
 
-  pub tallies : v.member.ends ≡ 1 → Allows (Rule key) n id me 0 (λ x. x) (counts HasTallied (step n 0 0 0 none) me)
-  tallies one = tables.looks (table key) n id me (counts HasTallied (step n 0 0 0 none) me) 0 (omega arith) (λ s k at _. (refl, (honest_look k.stands id v at 0, tallied_now k.stands id v at one)))
+  pub tallies : v.member.ends ≡ 1 → Allows (Rule key) n id me 0 (λ x. x) (counts (HasTallied (IsHonest of_meters) 0) (step n 0 0 0 none) me)
+  tallies one = tables.looks (table key) n id me (counts (HasTallied (IsHonest of_meters) 0) (step n 0 0 0 none) me) 0 (omega arith) (λ s k at _. (refl, (honest_look k.stands id v at 0, tallied_now k.stands id v at one)))
 
   module _ (live : 1 ≤ v.member.ends) where
     pub looks : (i : ℕ) → Allows (Rule key) n id me i (λ x. x) (finds (IsHonest of_meters) (step n i 0 0 none) me)

@@ -20,6 +20,10 @@ abbrev pub Ticked : SeatView → ℕ → ℕ → ℕ → SeatView → Type 0
 Ticked v gauge amount found w =
     (m : Moment Reading) × Adds v (change (gauge_word gauge) found m (with_tick m.object gauge amount) ∷ []) w
 
+-- the word was loaded, and this number found
+abbrev pub Loaded : SeatView → ℕ → ℕ → SeatView → Type 0
+Loaded v word found w = (m : Moment Reading) × Adds v (load word found m ∷ []) w
+
 -- the clock was loaded, and moved on from the tick that was found, to the next
 abbrev pub AdvancedNow : SeatView → ℕ → SeatView → Type 0
 AdvancedNow v clock w = (was : ℕ) × (m n : Moment Reading) × (clock ≡ was + 1)

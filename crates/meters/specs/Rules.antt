@@ -1,12 +1,10 @@
 -- The rule: there are lawful meters that the words and the views show.
-use Rattle.std.specs.Prelude.{ℕ}
 use Rattle.table_theory.specs.declared.views.Moment.{Moment}
-use Rattle.table_theory.specs.Ledgers.{first_of, IsHonest, Stands, Tallied}
+use Rattle.table_theory.specs.Ledgers.{first_of, IsHonest, Stands}
 use Rattle.atomic_table.specs.Table.{State}
 use Rattle.meters.specs.declared.rule.Reading.{Reading}
 use Rattle.meters.specs.declared.rule.Shape.{Shape}
 use Rattle.meters.specs.Changes.{first_reading}
-use Rattle.meters.specs.Layout.{ends_word}
 use Rattle.meters.specs.Own.{SeatView, of_meters, nothing_did}
 use Rattle.meters.specs.Views.{IsPart, ViewsShow}
 
@@ -22,7 +20,3 @@ newcomer key = first_of nothing_did (first_reading key.clock)
 -- the end's list is true, and no alarm that was set or taken out is had by two ends
 abbrev pub IsSound : SeatView → Type 0
 IsSound v = IsHonest of_meters v × IsPart v
-
--- what an end knows that found the number of ends
-abbrev pub HasTallied : SeatView → ℕ → SeatView → Type 0
-HasTallied v number w = IsHonest of_meters w × Tallied ends_word v number w

@@ -3,14 +3,15 @@
 ghost use Rattle.atomic_table.specs.Table.{State};
 ghost use Rattle.meters.specs.declared.rule.Shape.{Shape};
 ghost use Rattle.meters.specs.declared.rule.Reading.{Reading};
-ghost use Rattle.std.specs.Prelude.{◌≤◌};
+ghost use Rattle.std.specs.Prelude.{◌≡◌, ◌≤◌};
 ghost use Rattle.table_theory.specs.declared.views.Moment.{Moment};
 ghost use Rattle.table_theory.specs.Ledgers.{Reaches};
 ghost use Rattle.meters.specs.Own.{SeatView, of_meters};
 ghost use Rattle.meters.specs.Between.{ShowsMeters};
 
+use crate::ends::Meters;
 use crate::rule::{MeterRule, Shape, View};
-use atomic_table::TableRule;
+use atomic_table::{Shared, TableRule};
 
 /// Whatever the rule holds of are lawful meters of the core, shown by the words and by what the ends list.
 ///
@@ -21,3 +22,12 @@ pub fn between_steps()
         → ⟦<MeterRule as TableRule<(), View, Shape>>⟧.holds key state → ShowsMeters key state }
     ensures clock { (m n : Moment Reading) → Reaches of_meters m n → m.object.clock ≤ n.object.clock }
 {}
+
+impl Meters {
+    /// The table of the meters. By its type it is under the rule that `between_steps` speaks of.
+    pub fn table(&self) -> &Shared<(), View, Shape, MeterRule>
+        ensures { result.now ≡ self.now.table.shared }
+    {
+        &self.table.shared
+    }
+}

@@ -4,9 +4,12 @@ use table_theory::end_steps::EndsRule;
 use table_theory::last_end::CountRule;
 
 impl CountRule<(), View, Shape> for MeterRule {
-    ghost use Rattle.meters.specs.Rules.{HasTallied};
+    ghost use Rattle.table_theory.specs.Ledgers.{IsHonest};
+    ghost use Rattle.table_theory.specs.Plays.{HasTallied};
+    ghost use Rattle.meters.specs.Layout.{ends_word};
+    ghost use Rattle.meters.specs.Own.{of_meters};
 
-    ghost tallied = { λ id. HasTallied };
+    ghost tallied = { λ id. HasTallied (IsHonest of_meters) ends_word };
 }
 
 impl EndsRule<(), Did, Reading, Shape> for MeterRule {

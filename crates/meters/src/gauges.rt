@@ -1,13 +1,14 @@
 //! Gauges and the clock.
 ghost use Rattle.std.specs.Prelude.{◌≡◌, ◌<◌, MatchResult};
 ghost use Rattle.meters.specs.declared.layout.TheConstants.{GAUGES};
+ghost use Rattle.meters.specs.Layout.{gauge_word, clock_word};
 ghost use Rattle.meters.specs.Handles.{view_of, IsSeatOf, IsSameSeat};
-ghost use Rattle.meters.specs.Answers.{Ticked, AdvancedNow, NotAdvanced};
+ghost use Rattle.meters.specs.Answers.{Ticked, Loaded, AdvancedNow, NotAdvanced};
 ghost use Rattle.meters.specs.Own.{DidNothing, DidTick, DidAdvance};
 
 use crate::ends::{MeterSeat, Meters};
 use crate::layout::LAST_TICK;
-use crate::steps::{add_to_gauge, exchange_clock, load_clock};
+use crate::steps::{add_to_gauge, exchange_clock, load_clock, load_gauge};
 use thiserror::Error;
 
 /// Why the clock was not moved on. The refusals stand in the order in which they are checked.
@@ -30,6 +31,26 @@ impl Meters {
         ensures same { IsSameSeat seat.old seat.new }
     {
         add_to_gauge(&self.table.shared, &mut seat.seat, gauge, amount)
+    }
+
+    /// The value of the gauge 0 to 7, by one load.
+    pub fn gauge(&self, seat: &mut MeterSeat, gauge: usize) -> u64
+        requires { IsSeatOf self.now seat.old × (gauge < GAUGES) }
+        ensures own { DidNothing (view_of seat.old) (view_of seat.new) }
+        ensures steps { Loaded (view_of seat.old) (gauge_word gauge) result (view_of seat.new) }
+        ensures same { IsSameSeat seat.old seat.new }
+    {
+        load_gauge(&self.table.shared, &mut seat.seat, gauge)
+    }
+
+    /// The clock, by one load.
+    pub fn clock(&self, seat: &mut MeterSeat) -> u32
+        requires { IsSeatOf self.now seat.old }
+        ensures own { DidNothing (view_of seat.old) (view_of seat.new) }
+        ensures steps { Loaded (view_of seat.old) clock_word result (view_of seat.new) }
+        ensures same { IsSameSeat seat.old seat.new }
+    {
+        load_clock(&self.table.shared, &mut seat.seat) as u32
     }
 
     /// One try to move the clock on by one tick: it loads the clock and exchanges it for the next. Gives the clock

@@ -1,7 +1,7 @@
 //! The atomic steps, one function for each kind.
 ghost use Rattle.std.specs.Prelude.{◌≡◌, ◌≢◌, ◌+◌, ◌<◌, ◌≤◌, IsTrue, IsFalse, Option, Some, None};
 ghost use Rattle.table_theory.specs.Ledgers.{Looked};
-ghost use Rattle.meters.specs.Layout.{clock_word, word_of};
+ghost use Rattle.meters.specs.Layout.{clock_word, gauge_word, word_of};
 ghost use Rattle.meters.specs.declared.layout.TheConstants.{GAUGES, SLOTS, TICKS, LAST_TICK};
 ghost use Rattle.meters.specs.Steps.{CanStep, HasStepped};
 ghost use Rattle.meters.specs.Steps.{WasTicked, WasAdvanced, WasSet, WasFired, WasCancelled, FoundIn, FoundOther};
@@ -32,6 +32,14 @@ pub(crate) fn load_clock(words: &Words, seat: &mut Seat<(), View>) -> u64
     ensures bounded { result < TICKS }
 {
     load(words, seat, CLOCK)
+}
+
+pub(crate) fn load_gauge(words: &Words, seat: &mut Seat<(), View>, gauge: usize) -> u64
+    requires seat { CanStep words.now.table_id seat.old × (gauge < GAUGES) }
+    ensures seat { HasStepped seat.old seat.new }
+    ensures found { Looked seat.old.me.0 (gauge_word gauge) result seat.new.me.0 }
+{
+    load(words, seat, FIRST_GAUGE + gauge)
 }
 
 pub(crate) fn load_slot(words: &Words, seat: &mut Seat<(), View>, slot: usize) -> AlarmWord

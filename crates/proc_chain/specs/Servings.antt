@@ -10,6 +10,9 @@ use Rattle.proc_chain.specs.declared.rule.Did.{Did}
 use Rattle.proc_chain.specs.declared.rule.GatedQueue.{GatedQueue}
 use Rattle.proc_chain.specs.declared.layout.TheConstants.{IDLE, RUNNING, MORE, NOTES}
 use Rattle.proc_chain.specs.declared.serve.TheConstants.{MOST_RUN}
+use Rattle.proc_chain.specs.declared.held.ServedKept.{ServedKept}
+use Rattle.proc_chain.specs.declared.held.ServedKept.TheVariants as kept
+use Rattle.proc_chain.specs.declared.running.Turn.{Turn}
 use Rattle.proc_chain.specs.declared.serve.Served.{Served}
 use Rattle.proc_chain.specs.declared.serve.Served.TheVariants.{Done, More}
 use Rattle.proc_chain.specs.Layout.{tail_word, gate_word, place_word, raised_word, mark_of}
@@ -105,6 +108,16 @@ ServedNow me limit (Done ran) me' = (s : Serving) × (l : Leaving) × (length s.
 ServedNow me zero (More turn ran) me' = (ran ≡ 0) × (me' ≡ me)
 ServedNow me (suc n) (More turn ran) me' = (s : Serving) × (length s.uses ≡ suc n)
     × HasRun me.0 (s ∷ []) None ran me'.0
+
+-- the same, of an end that keeps its turn
+abbrev pub KeptNow : {Q : Type 0} → Me Q View → ℕ → ServedKept → Me Q View → Type 0
+KeptNow me limit (kept.Done ran) me' = ServedNow me limit (Done ran) me'
+KeptNow me limit (kept.More ran) me' = (turn : Turn) × ServedNow me limit (More turn ran) me'
+
+-- the end still has its turn after it
+abbrev pub goes_on_after : ServedKept → Bool
+goes_on_after (kept.Done ran) = false
+goes_on_after (kept.More ran) = true
 
 -- the end still has the turn
 abbrev pub is_more : Served → Bool

@@ -1,5 +1,6 @@
 //! What holds between any two steps of any threads.
 
+ghost use Rattle.std.specs.Prelude.{◌≡◌};
 ghost use Rattle.atomic_table.specs.Table.{State};
 ghost use Rattle.proc_chain.specs.declared.rule.Pact.{Pact};
 ghost use Rattle.proc_chain.specs.declared.rule.Shape.{Shape};
@@ -8,8 +9,9 @@ ghost use Rattle.proc_chain.specs.Between.{ShowsChain, ShowsEnds};
 ghost use Rattle.proc_chain.specs.Rules.{suits, makes};
 
 use crate::quaject::Quaject;
+use crate::ends::ProcChain;
 use crate::rule::{ChainRule, Pact, Shape, View};
-use atomic_table::TableRule;
+use atomic_table::{Shared, TableRule};
 
 /// Whatever the rule holds of is a lawful chain of the core, shown by the words and by what the ends list; and where
 /// its gate is Idle, the quaject is at home, made by the notes taken.
@@ -27,3 +29,12 @@ pub fn ends_between_steps<Q: Quaject>()
         → ⟦<ChainRule as TableRule<Q, View, Shape<Pact<Q::World, Q>>>>⟧.holds key state
         → (shown : ShowsChain (makes Q.made_by) (suits Q.fits) key state) × ShowsEnds key state shown.now }
 {}
+
+impl<Q: Quaject> ProcChain<Q> {
+    /// The table of the chain. By its type it is under the rule that `between_steps` speaks of.
+    pub fn table(&self) -> &Shared<Q, View, Shape<Pact<Q::World, Q>>, ChainRule>
+        ensures { result.now ≡ self.now.table.shared }
+    {
+        &self.table.shared
+    }
+}

@@ -1,6 +1,7 @@
 //! The Turn of an end, and what it gives the right to: to take a note, to run it, and to leave.
 //!
-//! The types keep an order. The swap that finds the gate Idle alone makes a `Turn`. Taking a note spends the Turn and
+//! The types keep an order. The swap that finds the gate Idle alone makes a `Turn`, and an end that has one can set it
+//! aside and serve without it. Taking a note spends the Turn and
 //! gives a `Taken`, which has the note; running it spends the `Taken` and gives the Turn back. Neither can be copied or
 //! let go. So each note is run behind its taking, and before the end takes the next one, begins a round or leaves.
 ghost use Rattle.std.specs.Prelude.{◌≡◌, ◌<◌, ◌≤◌, ℕ, List, true, [], ◌∷◌, ◌++◌, MatchOption};
@@ -29,6 +30,20 @@ pub(crate) struct Taken<Q> {
     note: u16,
     end: Snapshot<Seat<Q, View>>,
     turn: Turn,
+}
+
+/// Sets a Turn aside: the end alone knows then that it has it.
+pub(crate) fn set_aside<Q: Quaject>(seat: &Seat<Q, View>, turn: Turn)
+    requires { seat.now.me.0.own.runner ≡ true }
+{
+    let Turn(()) = turn;
+}
+
+/// The Turn of an end, from the end that has it.
+pub(crate) fn turn_of_runner<Q: Quaject>(seat: &Seat<Q, View>) -> Turn
+    requires { seat.now.me.0.own.runner ≡ true }
+{
+    Turn(())
 }
 
 /// The notify. The Turn comes where the gate was found Idle.

@@ -1,6 +1,7 @@
 pub mod Alone
 pub mod Apart
 pub mod Batches
+pub mod Certainty
 pub mod Counting
 pub mod Courses
 pub mod Cutting
@@ -13,6 +14,7 @@ pub mod Ledgers
 pub mod Listing
 pub mod Logs
 pub mod Looking
+pub mod Marking
 pub mod Ordering
 pub mod Moving
 pub mod Orders

@@ -211,3 +211,17 @@ listed_sole q parts j v l at others = record {
   runs_are = log_sole q.first q.places l.runs (map runs_of parts) l.runs_are j v.runs (at_map runs_of parts j v at) (λ d k has ne. let b = at_map_back runs_of parts d k has in sym b.2 ∙ (others d b.0 b.1 ne).0);
   takes_are = log_sole q.first (take q.taken q.places) l.takes (map takes_of parts) l.takes_are j v.takes (at_map takes_of parts j v at) (λ d k has ne. let b = at_map_back takes_of parts d k has in sym b.2 ∙ (others d b.0 b.1 ne).1);
 }
+
+-- the same lemmas where a table's views have the queue's views in them
+module _ {V : Type 0} (part : V → QueueView) (q : Positions) (vs : List V) where
+  pub look_in : (j : ℕ) (v w : V) → ViewsShow q (map part vs) → get_elem? vs j ≡ some v → (part w).runs ≡ (part v).runs → (part w).takes ≡ (part v).takes → Grows (part w).queue q → ViewsShow q (map part (set vs j w))
+  look_in j v w l at runs takes grown = subst (ViewsShow q) (sym (map-set part vs j w)) (listed_look q (map part vs) j (part v) (part w) l (at_map part vs j v at) runs takes grown)
+
+  pub split_in : (j : ℕ) (v left right : V) → ViewsShow q (map part vs) → get_elem? vs j ≡ some v → (part left).runs ≡ (part v).runs → (part left).takes ≡ (part v).takes → Grows (part left).queue q → (part right).runs ≡ [] → (part right).takes ≡ [] → Grows (part right).queue q
+      → ViewsShow q (map part (set vs j left ++ right ∷ []))
+  split_in j v left right l at runs takes grown no_runs no_takes grown' = subst (ViewsShow q) (sym (map-append part (set vs j left) (right ∷ []))) (listed_new q (map part (set vs j left)) (part right) (look_in j v left l at runs takes grown) no_runs no_takes grown')
+
+  pub join_in : (j k : ℕ) (v u both spent : V) → ViewsShow q (map part vs) → get_elem? vs j ≡ some v → get_elem? vs k ≡ some u → k ≢ j → (part both).runs ≡ (part v).runs ++ (part u).runs → (part both).takes ≡ (part v).takes ++ (part u).takes → (part spent).runs ≡ [] → (part spent).takes ≡ []
+      → Grows (part both).queue q → Grows (part spent).queue q → ViewsShow q (map part (set (set vs j both) k spent))
+  join_in j k v u both spent l at at' ne runs takes no_runs no_takes grown grown' = subst (ViewsShow q) (sym (map-set part (set vs j both) k spent ∙ ap (λ (z : List QueueView). set z k (part spent)) (map-set part vs j both)))
+      (listed_join q (map part vs) j k (part v) (part u) (part both) (part spent) l (at_map part vs j v at) (at_map part vs k u at') ne runs takes no_runs no_takes grown grown')

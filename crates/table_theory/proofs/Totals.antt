@@ -15,6 +15,14 @@ module _ {V : Type 0} (f : V → ℕ) where
   total_push [] w = omega arith
   total_push (x ∷ xs) w = let h = total_push xs w in omega arith
 
+  -- one becomes two, of which one counts nothing
+  pub total_split : (vs : List V) (j : ℕ) (v left right : V) → get_elem? vs j ≡ some v → f left ≡ f v → f right ≡ 0 → total f (set vs j left ++ right ∷ []) ≡ total f vs
+  total_split vs j v left right at same none = let t = total_kept vs j v left at same in let p = total_push (set vs j left) right in omega arith
+
+  -- one becomes two together, and the other counts nothing
+  pub total_join : (vs : List V) (j k : ℕ) (v u both spent : V) → get_elem? vs j ≡ some v → get_elem? (set vs j both) k ≡ some u → f both ≡ f v + f u → f spent ≡ 0 → total f (set (set vs j both) k spent) ≡ total f vs
+  total_join vs j k v u both spent at has sum none = let t = total_set vs j v both at in let t' = total_set (set vs j both) k u spent has in omega arith
+
   pub one_of : (vs : List V) (j : ℕ) (v : V) → get_elem? vs j ≡ some v → f v ≤ total f vs
   one_of [] j v e = absurd (some-ne-none v (sym e))
   one_of (x ∷ xs) zero v e = let h : f x ≡ f v = ap f (some-injective x v e) in omega arith

@@ -11,6 +11,7 @@ pub mod Orders
 pub mod Plays
 pub mod Positioned
 pub mod QueueOf
+pub mod Raises
 pub mod Reads
 pub mod Rests
 pub mod Ruled

@@ -4,12 +4,16 @@ use Rattle.std.specs.Prelude.{◌≡◌, ℕ}
 use mathlib.Core.Option.{Option, none, some}
 use Rattle.atomic_table.specs.Table.{Me, Step}
 use Rattle.table_theory.specs.declared.views.Ledger.{Ledger}
-use Rattle.table_theory.specs.Ledgers.{Looked, CountedUp, CountedDown}
+use Rattle.table_theory.specs.Ledgers.{Looked, CountedUp, CountedDown, Tallied}
 
 -- the view that was picked, or one where none was
 abbrev pub the_view : {V : Type 0} → Option V → V → V
 the_view none other = other
 the_view (some view) other = view
+
+-- what an end knows that found the number of ends in this word, where it then suits the table
+abbrev pub HasTallied : {K O : Type 0} → (Ledger K O → Type 0) → ℕ → Ledger K O → ℕ → Ledger K O → Type 0
+HasTallied Suits word v number w = Suits w × Tallied word v number w
 
 -- what a look at the number of ends tells, in a table whose ends know this by it
 abbrev pub counts : {S V : Type 0} → (V → ℕ → V → Type 0) → Step S → Me S V → ℕ → Me S V → Type 0

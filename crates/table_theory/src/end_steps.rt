@@ -11,8 +11,8 @@ use crate::views::Ledger;
 use atomic_table::{Join, Play, Seat, Shared, Split, TableRule};
 use std::marker::{Brand, PhantomData};
 
-/// The rule of a table whose ends are split and joined. S is what a slot holds, K what an end did, O the object, and Key
-/// what the table is told when it is made.
+/// The rule of a table whose ends are split and joined. S is what a slot holds, K what an end did, O the object, and
+/// Key what the table is told when it is made.
 pub trait EndsRule<S, K, O, Key>: TableRule<S, Ledger<K, O>, Key> {
     // What is so of an end when it has counted one more or one less.
     ghost suits: { Ledger K O → Type 0 };
@@ -28,8 +28,9 @@ pub trait EndsRule<S, K, O, Key>: TableRule<S, Ledger<K, O>, Key> {
 }
 
 /// One end more is counted.
-pub struct CountsUp<Key, P> {
-    marker: PhantomData<(Key, P)>,
+struct CountsUp<Key, P> {
+    key: PhantomData<Key>,
+    rule: PhantomData<P>,
 }
 
 impl<S, K, O, Key, P: EndsRule<S, K, O, Key>> Play<S, Ledger<K, O>> for CountsUp<Key, P> {
@@ -37,8 +38,9 @@ impl<S, K, O, Key, P: EndsRule<S, K, O, Key>> Play<S, Ledger<K, O>> for CountsUp
 }
 
 /// One end less is counted.
-pub struct CountsDown<Key, P> {
-    marker: PhantomData<(Key, P)>,
+struct CountsDown<Key, P> {
+    key: PhantomData<Key>,
+    rule: PhantomData<P>,
 }
 
 impl<S, K, O, Key, P: EndsRule<S, K, O, Key>> Play<S, Ledger<K, O>> for CountsDown<Key, P> {
@@ -46,8 +48,10 @@ impl<S, K, O, Key, P: EndsRule<S, K, O, Key>> Play<S, Ledger<K, O>> for CountsDo
 }
 
 /// A part of an end's share goes to a new end.
-pub struct Gives<S, Key, P> {
-    marker: PhantomData<(S, Key, P)>,
+struct Gives<S, Key, P> {
+    slot: PhantomData<S>,
+    key: PhantomData<Key>,
+    rule: PhantomData<P>,
 }
 
 impl<S, K, O, Key, P: EndsRule<S, K, O, Key>> Split<Ledger<K, O>> for Gives<S, Key, P> {
@@ -66,8 +70,11 @@ impl<V> Spent<V> for Brand {
 }
 
 /// An end takes in another.
-pub struct Joined<S, Key, P, J> {
-    marker: PhantomData<(S, Key, P, J)>,
+struct Joined<S, Key, P, J> {
+    slot: PhantomData<S>,
+    key: PhantomData<Key>,
+    rule: PhantomData<P>,
+    spent: PhantomData<J>,
 }
 
 impl<S, K, O, Key, P: EndsRule<S, K, O, Key>, J: Spent<Ledger<K, O>>> Join<Ledger<K, O>>

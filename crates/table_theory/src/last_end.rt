@@ -35,8 +35,10 @@ impl Caller for Brand {
 }
 
 /// The number of ends is found.
-pub struct Counts<Key, P, J> {
-    marker: PhantomData<(Key, P, J)>,
+struct Counts<Key, P, J> {
+    key: PhantomData<Key>,
+    rule: PhantomData<P>,
+    caller: PhantomData<J>,
 }
 
 impl<S, V, Key, P: CountRule<S, V, Key>, J: Caller> Play<S, V> for Counts<Key, P, J> {

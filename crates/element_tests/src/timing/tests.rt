@@ -41,6 +41,19 @@ fn moves_on(alloc: Global) -> Result<u32, OutOfMemory>
     }
 }
 
+/// A gauge and the clock are read, each alone.
+#[test]
+fn a_gauge_and_the_clock_are_read(rt: HostRuntime) {
+    let Ok((meters, mut seat)) = Meters::new(rt.alloc(), 9) else {
+        panic!(rt; "no memory")
+    };
+    meters.tick(&mut seat, 3, 5);
+    assert!(rt; (meters.gauge(&mut seat, 3), meters.gauge(&mut seat, 4)) == (5, 0));
+    assert!(rt; meters.clock(&mut seat) == 9);
+    assert!(rt; meters.advance(&mut seat) == Ok(10));
+    assert!(rt; meters.clock(&mut seat) == 10);
+}
+
 #[test]
 fn the_only_end(rt: HostRuntime) -> Result<(), Fail> {
     let metered = alone(rt.alloc(), 9)?;

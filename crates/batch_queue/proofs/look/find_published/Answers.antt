@@ -5,11 +5,11 @@ use Rattle.batch_queue.proofs.look.find_published.Goals as goal
 
 -- nothing is published at the tail
 pub returns-then-not-leads_on-clause-trace : goal.returns-then-not-leads_on-clause-trace
-returns-then-not-leads_on-clause-trace c = found_none c.args.room _ _ _ _ _ c.load_tail-tail.ensures.found c.load_mark-first.ensures.found (λ on far. c.if-not-leads_on.ensures on)
+returns-then-not-leads_on-clause-trace c = found_none c.args.room _ _ _ _ _ c.requires.queue.some_room c.load_tail-tail.ensures.found c.load_mark-first.ensures.found (λ on far. c.if-not-leads_on.ensures on)
 
 -- the mark is one of a later lap
 pub returns-then-first-most-clause-trace : goal.returns-then-first-most-clause-trace
-returns-then-first-most-clause-trace c = found_none c.args.room _ _ _ _ _ c.load_tail-tail.ensures.found c.load_mark-first.ensures.found (λ on far. let past = c.if-first-most.true in omega arith)
+returns-then-first-most-clause-trace c = found_none c.args.room _ _ _ _ _ c.requires.queue.some_room c.load_tail-tail.ensures.found c.load_mark-first.ensures.found (λ on far. let past = c.if-first-most.true in omega arith)
 
 -- the walk
 pub walk-to-requires-clause-passed : goal.walk-to-requires-clause-passed

@@ -13,7 +13,7 @@ returns-then-not-leads_on-clause-passed c = let l = c.loop-at.invariant in passe
 
 pub returns-then-not-leads_on-clause-trace : goal.returns-then-not-leads_on-clause-trace
 returns-then-not-leads_on-clause-trace c = let l = c.loop-at.invariant in
-    followed_stop _ _ _ _ _ _ _ _ _ l.follows c.load_mark-mark.ensures.found (elim c.then-not-leads_on.branch [ then-not-leads_on-via-then-not-leads_on w ↦ (let n : (LeadsOn c.args.parity c.loop-at.at c.load_mark-mark.result → ⊥) = search rules in λ on far. n on) | then-not-leads_on-via-else-not-leads_on+then-mark-most w ↦ (let m = w.if-mark-most.true in λ on far. omega arith) ])
+    followed_stop _ _ _ _ _ _ _ _ _ l.follows c.load_mark-mark.ensures.found c.loop-at-test.true (elim c.then-not-leads_on.branch [ then-not-leads_on-via-then-not-leads_on w ↦ (let n : (LeadsOn c.args.parity c.loop-at.at c.load_mark-mark.result → ⊥) = search rules in λ on far. n on) | then-not-leads_on-via-else-not-leads_on+then-mark-most w ↦ (let m = w.if-mark-most.true in λ on far. omega arith) ])
 
 pub returns-clause-trace : goal.returns-clause-trace
 returns-clause-trace c = let l = c.loop-at.invariant in let f = c.loop-at-test.false in let m = l.most in followed_all _ _ _ _ _ _ _ l.follows (omega arith)

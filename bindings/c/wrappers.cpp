@@ -1,0 +1,565 @@
+/*
+ * The classes of synthesis.hpp: the example of its head; what each call answers, a row each; moves; waits whose time is
+ * over; and what doesn't compile. Status 1: a row differs.
+ */
+#include "synthesis.hpp"
+#include "rows.h"
+#include <atomic>
+#include <cstdio>
+#include <cstdlib>
+#include <string_view>
+#include <thread>
+#if defined(__has_include) && __cplusplus >= 202002L
+#if __has_include(<span>)
+#include <span>
+#endif
+#endif
+
+using namespace std::chrono_literals;
+using synthesis::Code;
+using synthesis::Hand;
+using synthesis::QueueEnd;
+using synthesis::QueueOf;
+using synthesis::Seat;
+using synthesis::View;
+
+namespace {
+
+/*
+ * What doesn't compile: a copy of an end; a truth that is taken for success; a buffer over constant or other elements.
+ * With -Werror also an answer that is dropped, such as `end.try_put(1);` or `end.join(std::move(other));`.
+ */
+template <class End>
+constexpr bool moves_only = !std::is_copy_constructible_v<End> && !std::is_copy_assignable_v<End> &&
+                            std::is_nothrow_move_constructible_v<End> && std::is_nothrow_move_assignable_v<End> &&
+                            std::is_nothrow_default_constructible_v<End>;
+static_assert(moves_only<QueueEnd> && moves_only<QueueOf<int>> && moves_only<Seat> && moves_only<Hand>);
+static_assert(moves_only<synthesis::ChainEnd>);
+static_assert(moves_only<synthesis::LineIn> && moves_only<synthesis::LineOut>);
+static_assert(!std::is_copy_constructible_v<synthesis::Event> && !std::is_move_constructible_v<synthesis::Event>);
+static_assert(!std::is_copy_constructible_v<synthesis::Event::Ticket>);
+static_assert(!std::is_constructible_v<bool, synthesis::Expected<bool>>);
+static_assert(std::is_constructible_v<bool, synthesis::Expected<std::uint8_t>>);
+static_assert(!std::is_convertible_v<synthesis::Expected<std::uint8_t>, bool>);
+static_assert(!std::is_constructible_v<bool, synthesis::StateAnswer<bool>>);
+static_assert(!std::is_constructible_v<View<std::uint64_t>, const std::vector<std::uint64_t> &>);
+static_assert(!std::is_constructible_v<View<const std::uint64_t>, std::vector<std::uint32_t> &>);
+static_assert(!std::is_constructible_v<View<const std::uint64_t>, int>);
+static_assert(std::is_convertible_v<View<std::uint64_t>, View<const std::uint64_t>>);
+static_assert(!std::is_convertible_v<View<const std::uint64_t>, View<std::uint64_t>>);
+static_assert(sizeof(QueueEnd) == sizeof(synth_queue) && sizeof(Hand) == sizeof(synth_hand));
+
+/* The number in a field of an answer; -1 if it is empty. */
+template <class T> long long number_in(const std::optional<T> &number)
+{
+    return number ? static_cast<long long>(*number) : -1;
+}
+
+/* The example at the head of synthesis.hpp. */
+bool passes_a_thousand(std::uint64_t &sum)
+{
+    synthesis::QueueEvents events;
+    synthesis::QueueEnd end = synthesis::QueueEnd::make(64).value();
+    synthesis::QueueEnd other = end.split().value();
+    std::thread putter([&other, &events] {
+        for (std::uint64_t item = 0; item < 1000 && other.put_wait(item, events); item++) {}
+        if (other.shut().ok()) events.notify_all();
+    });
+    while (auto taken = end.take_wait(events, std::chrono::seconds(9))) sum += *taken.item;
+    putter.join();
+    if (end.join(std::move(other)) != synthesis::Code::Done) return false;
+    auto closed = end.close();
+    return closed.ok() && closed->put == 1000 && closed->taken == 1000 && closed->left.empty();
+}
+
+/* The code of the C header that has this name here. The compiler refuses a switch that lacks a code. */
+std::string_view name_of(synth_code code)
+{
+    switch (code) {
+#define CODE(cxx, c)                                                                                                   \
+    case SYNTH_##c: static_assert(static_cast<int>(Code::cxx) == SYNTH_##c); return "SYNTH_" #c
+        CODE(Done, DONE);
+        CODE(NoItems, NO_ITEMS);
+        CODE(TooLong, TOO_LONG);
+        CODE(Closed, CLOSED);
+        CODE(Spent, SPENT);
+        CODE(Full, FULL);
+        CODE(Lost, LOST);
+        CODE(Empty, EMPTY);
+        CODE(Moved, MOVED);
+        CODE(Busy, BUSY);
+        CODE(Vacant, VACANT);
+        CODE(NoRoom, NO_ROOM);
+        CODE(Open, OPEN);
+        CODE(NotHeld, NOT_HELD);
+        CODE(NotServed, NOT_SERVED);
+        CODE(AllWoken, ALL_WOKEN);
+        CODE(Run, RUN);
+        CODE(Left, LEFT);
+        CODE(Note, NOTE);
+        CODE(Again, AGAIN);
+        CODE(Running, RUNNING);
+        CODE(NotRunning, NOT_RUNNING);
+        CODE(NoMemory, NO_MEMORY);
+        CODE(EmptyHandle, EMPTY_HANDLE);
+        CODE(FullHandle, FULL_HANDLE);
+        CODE(OtherObject, OTHER_OBJECT);
+        CODE(NoShare, NO_SHARE);
+        CODE(ShortBuffer, SHORT_BUFFER);
+        CODE(BadNumber, BAD_NUMBER);
+#undef CODE
+    }
+    return "not a code";
+}
+
+void codes()
+{
+    for (int code = SYNTH_BAD_NUMBER; code <= SYNTH_NOT_RUNNING; code++) {
+        ROW(name(static_cast<Code>(code)) == name_of(static_cast<synth_code>(code)), true);
+    }
+    ROW(name(static_cast<Code>(SYNTH_BAD_NUMBER - 1)) == std::string_view("not a code"), true);
+    ROW(name(static_cast<Code>(99)) == std::string_view("not a code"), true);
+}
+
+void views()
+{
+    std::uint64_t plain[3] = {1, 2, 3};
+    std::array<std::uint64_t, 2> array = {4, 5};
+    const std::vector<std::uint64_t> list = {6, 7, 8, 9};
+    ROW(View<std::uint64_t>(plain).size(), 3);
+    ROW(View<std::uint64_t>(array).size(), 2);
+    ROW(View<const std::uint64_t>(list)[3], 9);
+    ROW(View<const std::uint64_t>(plain, 2).size(), 2);
+    ROW(View<const std::uint64_t>().empty(), true);
+    View<std::uint64_t>{plain}[1] = 20;
+    std::uint64_t sum = 0;
+    for (std::uint64_t item : View<const std::uint64_t>(View<std::uint64_t>(plain))) {
+        sum += item;
+    }
+    ROW(sum, 24);
+    ROW(View<const std::uint64_t>(list).first(2).end() == list.data() + 2, true);
+#ifdef __cpp_lib_span
+    const std::span<const std::uint64_t> span(list);
+    ROW(View<const std::uint64_t>(span).data() == list.data(), true);
+    ROW((std::span<const std::uint64_t>(View<const std::uint64_t>(list)).size()), 4);
+#endif
+}
+
+void expected_values()
+{
+    synthesis::Expected<int> value(5), refusal(Code::NoMemory);
+    ROW(value.ok() && value && *value == 5 && value.value() == 5 && value.value_or(6) == 5, true);
+    ROW(value.code(), Code::Done);
+    ROW(refusal.ok() || refusal, false);
+    ROW(refusal.code(), Code::NoMemory);
+    ROW(refusal.value_or(6), 6);
+    synthesis::Expected<bool> no(false);
+    ROW(no.ok(), true);
+    ROW(no.value(), false);
+}
+
+void limits()
+{
+    static_assert(synthesis::Limit(3ms).nanoseconds() == 3000000);
+    static_assert(synthesis::Limit(-3h).nanoseconds() == 0);
+    static_assert(synthesis::Limit(std::chrono::hours::max()).nanoseconds() == INT64_MAX);
+    static_assert(synthesis::Limit(std::chrono::hours::min()).nanoseconds() == 0);
+    static_assert(synthesis::Limit().nanoseconds() == SYNTH_EVENT_NO_LIMIT);
+    ROW(synthesis::Limit(0.5s).nanoseconds(), 500000000);
+    ROW(synthesis::Limit(std::chrono::duration<float, std::nano>(7)).nanoseconds(), 7);
+}
+
+/* Each call on an end that is empty. */
+void empty_queue()
+{
+    QueueEnd none, full = QueueEnd::make(64).value();
+    std::uint64_t room[1] = {99};
+    ROW(none.full(), false);
+    ROW(none.split().code(), Code::EmptyHandle);
+    ROW(none.join(std::move(full)), Code::EmptyHandle);
+    ROW(full.join(std::move(none)), Code::EmptyHandle);
+    ROW(full.join(std::move(full)), Code::EmptyHandle);
+    ROW(full.full(), true);
+    ROW(none.try_put(1).code, Code::EmptyHandle);
+    ROW(none.try_take().code, Code::EmptyHandle);
+    ROW(none.take_up_to(room).code, Code::EmptyHandle);
+    ROW(none.try_take_line(room).code, Code::EmptyHandle);
+    ROW(none.shut().code(), Code::EmptyHandle);
+    ROW(none.close(room).code(), Code::EmptyHandle);
+    ROW(none.close().code(), Code::EmptyHandle);
+    none.free();
+    ROW(room[0], 99);
+}
+
+void queue_puts()
+{
+    ROW(QueueEnd::make(65).code(), Code::BadNumber);
+    QueueEnd end = QueueEnd::make(64, 5).value();
+    const std::vector<std::uint64_t> run(62);
+    ROW(end.try_put({}).code, Code::NoItems);
+    ROW(end.try_put(View<const std::uint64_t>()).code, Code::NoItems);
+    ROW(end.try_put(std::vector<std::uint64_t>(65)).code, Code::TooLong);
+    auto put = end.try_put({1, 10, 3});
+    ROW(put && !put.full && !put.lost, true);
+    ROW(number_in(put.position), 5);
+    auto full = end.try_put(run);
+    ROW(full.code, Code::Full);
+    ROW(!full && !full.position && !full.lost && full.full, true);
+    ROW(full.full->head == 8 && full.full->tail == 5, true);
+    ROW(number_in(end.try_put(4).position), 8);
+    ROW(number_in(end.try_put(true).position), 9);
+    ROW(end.shut().value(), true);
+    ROW(end.shut().value(), false);
+    ROW(end.try_put(1).code, Code::Closed);
+    std::uint64_t room[64];
+    ROW(end.close(View<std::uint64_t>(room, 63)).code(), Code::ShortBuffer);
+    auto closed = end.close(room);
+    ROW(closed && closed->first == 5 && closed->put == 5 && closed->taken == 0 && closed->left == 5, true);
+    ROW(room[0] == 1 && room[1] == 10 && room[2] == 3 && room[3] == 4 && room[4] == 1, true);
+    ROW(end.full(), false);
+    end = QueueEnd::make(64, UINT32_MAX - 1).value();
+    ROW(end.try_put({1, 2}).code, Code::Spent);
+}
+
+void queue_takings()
+{
+    QueueEnd end = QueueEnd::make(256, 3).value(), other = end.split().value();
+    std::array<std::uint64_t, 256> room = {};
+    auto none = end.try_take();
+    ROW(none.code, Code::Empty);
+    ROW(!none && !none.item && !none.lost && none.empty && none.empty->tail == 3, true);
+    auto no_run = end.take_up_to(room);
+    ROW(no_run.code, Code::Empty);
+    ROW(no_run.count == 0 && !no_run.stopped_at && no_run.empty && no_run.empty->tail == 3, true);
+    ROW(end.take_up_to({}).code, Code::ShortBuffer);
+    ROW(end.try_take_line(View<std::uint64_t>(room.data(), 255)).code, Code::ShortBuffer);
+    ROW(end.try_put({1, 2, 10, 4, 5, 6}).code, Code::Done);
+    auto one = other.try_take();
+    ROW(one && !one.empty && number_in(one.item) == 1, true);
+    auto line = other.try_take_line(room);
+    ROW(line && line.count == 2 && room[0] == 2 && room[1] == 10, true);
+    ROW(other.try_take_line(room).code, Code::Empty);
+    auto whole = end.take_up_to(View<std::uint64_t>(room).first(1));
+    ROW(whole && whole.count == 1 && room[0] == 4 && !whole.stopped_at, true);
+    auto part = end.take_up_to(room);
+    ROW(part && part.count == 2 && room[1] == 6 && number_in(part.stopped_at) == 9, true);
+    ROW(end.try_put(7).code, Code::Done);
+    ROW(end.close().code(), Code::Open);
+    ROW(end.join(std::move(other)), Code::Done);
+    ROW(other.full(), false);
+    ROW(end.shut().value(), true);
+    auto closed = end.close();
+    ROW(closed && closed->first == 3 && closed->put == 7 && closed->taken == 6, true);
+    ROW(closed->left.size() == 1 && closed->left[0] == 7, true);
+    QueueEnd shut = QueueEnd::make(64).value();
+    ROW(shut.shut().ok(), true);
+    ROW(shut.try_take().code, Code::Closed);
+    ROW(shut.take_up_to(room).code, Code::Closed);
+}
+
+/* Moves of an end: each object goes with its last end, which valgrind sees. */
+void moves()
+{
+    QueueEnd a = QueueEnd::make(64).value(), b = QueueEnd::make(64, 9).value();
+    ROW(a.try_put(1).code, Code::Done);
+    QueueEnd moved(std::move(a));
+    ROW(moved.full() && !a.full(), true);
+    b = std::move(moved);
+    ROW(b.full() && !moved.full(), true);
+    ROW(number_in(b.try_take().item), 1);
+    QueueEnd &same = b;
+    b = std::move(same);
+    ROW(b.full(), true);
+    a = b.split().value();
+    std::swap(a, b);
+    ROW(a.full() && b.full(), true);
+    b = QueueEnd();
+    ROW(b.full(), false);
+    ROW(a.close().code(), Code::Open);
+    QueueEnd stranger = QueueEnd::make(64).value();
+    ROW(a.join(std::move(stranger)), Code::OtherObject);
+    ROW(stranger.full(), true);
+    std::vector<QueueEnd> ends(2);
+    ends.push_back(std::move(stranger));
+    ends.insert(ends.begin(), a.split().value());
+    ROW(ends[0].full() && !ends[1].full() && ends[3].full(), true);
+    QueueEnd adopted = QueueEnd::adopt(ends[3].release());
+    ROW(adopted.full() && !ends[3].full(), true);
+    ROW(synth_queue_free(adopted.raw()), SYNTH_DONE);
+    ROW(adopted.full(), false);
+}
+
+enum class Colour : std::uint8_t { Red = 1, Blue = 200 };
+struct Pair {
+    std::int32_t left;
+    std::int16_t right;
+};
+
+void queue_of_values()
+{
+    auto colours = QueueOf<Colour>::make(64).value();
+    ROW(colours.try_put(Colour::Blue).code, Code::Done);
+    ROW(colours.try_take().item == Colour::Blue, true);
+    ROW(QueueOf<Colour>::make(1).code(), Code::BadNumber);
+    auto pairs = QueueOf<Pair>::make(256).value();
+    auto other = pairs.split().value();
+    const std::vector<Pair> three = {{-1, -2}, {3, 4}, {5, 6}};
+    ROW(other.try_put(three).code, Code::Done);
+    ROW(other.try_put(View<const Pair>()).code, Code::NoItems);
+    ROW(other.try_put(std::vector<Pair>(257)).code, Code::TooLong);
+    ROW(other.try_put(std::vector<Pair>(2000000)).code, Code::TooLong);
+    ROW(other.try_put(std::vector<Pair>(254)).full->tail, 0);
+    ROW(other.try_take().item->left, -1);
+    std::array<Pair, 300> room = {};
+    auto run = pairs.take_up_to(View<Pair>(room).first(1));
+    ROW(run.count == 1 && room[0].left == 3 && room[0].right == 4, true);
+    ROW(pairs.shut().value(), true);
+    ROW(pairs.close().code(), Code::Open);
+    ROW(pairs.join(std::move(other)), Code::Done);
+    ROW(other.full() || other.try_take().item, false);
+    ROW(other.try_put(three).code, Code::EmptyHandle);
+    ROW(other.try_put(std::vector<Pair>(257)).code, Code::EmptyHandle);
+    auto closed = pairs.close();
+    ROW(closed && closed->put == 3 && closed->left.size() == 1 && closed->left[0].right == 6, true);
+    int number = 7;
+    auto pointers = QueueOf<int *>::make(64).value();
+    ROW(pointers.try_put(&number).code, Code::Done);
+    ROW(*pointers.try_take().item.value() == 7, true);
+    ROW(pointers.take_up_to({}).code, Code::ShortBuffer);
+    auto words = QueueOf<std::uint64_t>::make(64).value();
+    ROW(words.try_put({}).code, Code::NoItems);
+    ROW(words.try_put({1, 2}).code, Code::Done);
+    ROW(words.try_put({3}).code, Code::Done);
+    ROW(number_in(words.try_take().item), 1);
+    ROW(number_in(words.end().try_take().item), 2);
+}
+
+void seats()
+{
+    Seat seat = Seat::make(UINT32_MAX - 1).value(), other = seat.split().value();
+    const synthesis::Alarm first = {UINT32_MAX, 9, 3}, second = {UINT32_MAX - 1, 63, 15};
+    ROW(seat.tick(2, 5).value(), 0);
+    ROW(other.tick(2, 1).value(), 5);
+    ROW(seat.tick(8, 1).code(), Code::BadNumber);
+    ROW(number_in(seat.try_set(first).slot), 0);
+    ROW(number_in(seat.try_set(second).slot), 1);
+    ROW(seat.try_set({0, 64, 0}).code, Code::BadNumber);
+    auto due = seat.due();
+    ROW(due && due->size() == 1 && (*due)[0].element == 63 && due->begin()->signal == 15, true);
+    auto clock = seat.advance();
+    ROW(clock && number_in(clock.clock) == UINT32_MAX && !clock.found, true);
+    ROW(seat.advance().code, Code::Spent);
+    ROW(seat.cancel(0, first).value(), true);
+    ROW(seat.cancel(0, first).value(), false);
+    for (std::uint32_t i = 0; i < 16; i++) {
+        ROW(number_in(other.try_set(second).slot), i);
+    }
+    ROW(other.try_set(second).code, Code::NoRoom);
+    ROW(seat.close().code(), Code::Open);
+    ROW(seat.join(std::move(other)), Code::Done);
+    auto closed = seat.close();
+    ROW(closed && closed->gauges[2] == 6 && closed->clock == UINT32_MAX && closed->alarms.size() == 16, true);
+    std::size_t alarms = 0;
+    for (const synthesis::Alarm &alarm : closed->alarms) {
+        alarms += alarm.element == 63;
+    }
+    ROW(alarms, 16);
+    ROW(seat.tick(0, 0).code(), Code::EmptyHandle);
+    ROW(seat.due().code(), Code::EmptyHandle);
+    ROW(seat.close().code(), Code::EmptyHandle);
+}
+
+void chains()
+{
+    using synthesis::ChainEnd;
+    ChainEnd end = ChainEnd::make(7).value(), other = end.split().value();
+    std::vector<std::uint16_t> served;
+    const auto serve = [&served](std::uint16_t note) { served.push_back(note); };
+    std::uint16_t note = 0;
+    ROW(end.next(note), Code::NotRunning);
+    ROW(end.try_chain(1).is_runner(), true);
+    const auto left = other.try_chain(2);
+    ROW(left && !left.is_runner() && !left.full && !left.lost, true);
+    ROW(other.serve(serve), Code::NotRunning);
+    ROW(end.close().code(), Code::Running);
+    ROW(end.serve(serve), Code::Done);
+    ROW(served == std::vector<std::uint16_t>({1, 2}), true);
+    ROW(end.close().code(), Code::Open);
+    ROW(end.join(std::move(other)), Code::Done);
+    const auto closed = end.close();
+    ROW(closed && closed->put == 2 && closed->run == 2, true);
+    ROW(end.try_chain(1).code, Code::EmptyHandle);
+    ROW(end.next(note), Code::EmptyHandle);
+}
+
+void lines()
+{
+    ROW(synthesis::make_line(0).code(), Code::BadNumber);
+    auto [in, out] = synthesis::make_line(2).value();
+    ROW(out.pop().code(), Code::Empty);
+    ROW(in.push(0), Code::Done);
+    ROW(in.push(105), Code::Done);
+    ROW(in.push(33), Code::Full);
+    auto byte = out.pop();
+    ROW(byte && *byte == 0, true);
+    synthesis::Line stranger = synthesis::make_line(65536).value();
+    ROW(finish(std::move(in), std::move(stranger.out)).code(), Code::OtherObject);
+    ROW(in.full() && stranger.out.full(), true);
+    auto totals = finish(std::move(in), std::move(out));
+    ROW(totals && totals->sent == 2 && totals->received == 1 && totals->left == 1, true);
+    ROW(in.full() || out.full(), false);
+    ROW(in.push(1), Code::EmptyHandle);
+    stranger.in = std::move(in);
+    ROW(stranger.in.full(), false);
+}
+
+/* The moves of elements, and the processors. */
+void hands()
+{
+    ROW(Hand::make(UINT32_MAX).code(), Code::BadNumber);
+    Hand hand = Hand::make(100).value(), other = hand.split(1u << 3).value();
+    ROW(hand.split(256).code(), Code::BadNumber);
+    ROW(hand.split(1u << 3).code(), Code::NotServed);
+    ROW(other.serves(3).value() && !other.serves(2).value(), true);
+    ROW(hand.try_next().code, Code::Empty);
+    for (std::uint32_t i = 0; i < 4; i++) {
+        ROW(number_in(hand.try_free().element), i);
+    }
+    ROW(hand.holds(0).value(), true);
+    ROW(other.holds(0).value(), false);
+    ROW(hand.try_ready(0).code, Code::Done);
+    ROW(hand.try_ready(0).code, Code::NotHeld);
+    ROW(number_in(other.try_next().element), 0);
+    ROW(other.on_processor(3).code(), Code::Vacant);
+    ROW(other.on(3, 0), Code::Done);
+    ROW(other.on(3, 1), Code::NotHeld);
+    auto on = other.on_processor(3);
+    ROW(on && *on == 0, true);
+    ROW(other.step_done(0).value(), 1);
+    ROW(other.pc(0).value(), 1);
+    ROW(hand.pc(0).code(), Code::NotHeld);
+    auto off = other.off(3);
+    ROW(off && *off == 0, true);
+    ROW(other.try_retire(0).code, Code::Done);
+    ROW(hand.try_next().code, Code::Empty);
+    ROW(other.split(1u << 3).value().on(3, 0), Code::NotHeld);
+}
+
+/* Tickets, signals, stop cells and the close. */
+void hands_wait()
+{
+    Hand hand = Hand::make(100).value();
+    for (std::uint32_t i = 0; i < 4; i++) {
+        ROW(number_in(hand.try_free().element), i);
+    }
+    const std::uint32_t ticket = hand.ticket(2).value();
+    ROW(hand.try_wait_at(0, 2, ticket).code, Code::Done);
+    ROW(hand.notify(2).value(), 101);
+    auto moved = hand.try_wait_at(1, 2, ticket);
+    ROW(moved.code, Code::Moved);
+    ROW(!moved && !moved.lost && number_in(moved.notifies) == 1, true);
+    ROW(hand.try_wait(1, 2).code, Code::Done);
+    ROW(number_in(hand.try_wake_before(2, 101).element), 0);
+    ROW(hand.try_wake_before(2, 101).code, Code::AllWoken);
+    ROW(number_in(hand.try_wake(2).element), 1);
+    ROW(hand.try_wait(1, 16).code, Code::BadNumber);
+    ROW(hand.signal(2, 5).value(), true);
+    ROW(hand.signal(2, 5).value(), false);
+    ROW(number_in(hand.try_deliver(2).value), 1 << 5);
+    ROW(hand.try_start(2).value == synthesis::Started::NotStopped, true);
+    ROW(number_in(hand.try_park(2).value), false);
+    ROW(hand.stop(2).value(), true);
+    ROW(number_in(hand.try_park(2).value), true);
+    ROW(hand.try_deliver(2).code, Code::NotHeld);
+    ROW(hand.try_start(2).value == synthesis::Started::Held, true);
+    ROW(hand.step_done(3).value(), 1);
+    ROW(hand.stop(3).value() && hand.try_park(3).ok(), true);
+    ROW(hand.signal(3, 15).value() && hand.on(7, 2) == Code::Done && hand.try_wait(0, 9).code == Code::Done, true);
+    auto closed = hand.close();
+    ROW(closed && closed->places[0].kind == synthesis::PlaceKind::Wait && number_in(closed->places[0].wait) == 9, true);
+    ROW(closed->places[0].processor || closed->places[1].wait, false);
+    ROW(closed->places[1].kind, synthesis::PlaceKind::Held);
+    ROW(number_in(closed->places[2].processor), 7);
+    ROW(closed->places[3].kind, synthesis::PlaceKind::Stopped);
+    ROW(closed->places[63].kind, synthesis::PlaceKind::Free);
+    ROW(closed->stops == 1u << 3 && closed->pending[3] == 1u << 15 && closed->pc[3] == 1, true);
+    ROW(hand.close().code(), Code::EmptyHandle);
+}
+
+/* Waits whose time is over, by a clock that is not ours; and tickets. */
+void waits_in_vain()
+{
+    synthesis::QueueEvents events;
+    QueueEnd end = QueueEnd::make(64).value();
+    const auto begun = std::chrono::steady_clock::now();
+    ROW(end.take_wait(events, 20ms).code, Code::Empty);
+    ROW(std::chrono::steady_clock::now() - begun >= 20ms, true);
+    ROW(end.take_wait(events, -1s).code, Code::Empty);
+    for (int i = 0; i < 64; i++) {
+        ROW(end.put_wait(7, events).code, Code::Done);
+    }
+    ROW(end.put_wait(8, events, 1500us).code, Code::Full);
+    ROW(number_in(end.take_wait(events, 0s).item), 7);
+    ROW(end.shut().ok(), true);
+    ROW(end.put_wait(8, events).code, Code::Closed);
+    ROW(QueueEnd().take_wait(events).code, Code::EmptyHandle);
+    synthesis::Event event;
+    auto ticket = event.prepare();
+    event.notify_one();
+    ROW(ticket.wait(), true);
+    ROW(ticket.wait(), false);
+    ROW(event.prepare().wait(1ms), false);
+    auto kept = event.prepare();
+    auto moved = std::move(kept);
+    ROW(event.raw()->waiters.load(), 1);
+    moved.cancel();
+    ROW(event.raw()->waiters.load(), 0);
+    {
+        auto dropped = event.prepare();
+        ROW(event.raw()->waiters.load(), 1);
+    }
+    ROW(event.raw()->waiters.load(), 0);
+}
+
+/* What is tried again, and how often. */
+void repeated_tries()
+{
+    synthesis::Event event;
+    int tries = 0;
+    const auto lost_twice = [&tries] { return synthesis::SetAnswer{++tries < 3 ? Code::Lost : Code::NoRoom, {}, {}}; };
+    ROW(synthesis::repeat(lost_twice).code, Code::NoRoom);
+    ROW(tries, 3);
+    const auto refused = [&tries] { return synthesis::SetAnswer{++tries < 5 ? Code::NoRoom : Code::Done, {}, {}}; };
+    ROW(event.wait_while(Code::NoRoom, {}, refused).code, Code::Done);
+    ROW(tries, 5);
+    tries = 0;
+    ROW(event.wait_while(Code::NoRoom, 1ms, refused).code, Code::NoRoom);
+    ROW(tries, 3);
+    ROW(event.raw()->waiters.load(), 0);
+}
+
+} // namespace
+
+int main()
+{
+    std::uint64_t sum = 0;
+    ROW(passes_a_thousand(sum), true);
+    ROW(sum, 499500);
+    codes();
+    views();
+    expected_values();
+    limits();
+    empty_queue();
+    queue_puts();
+    queue_takings();
+    moves();
+    queue_of_values();
+    seats();
+    chains();
+    lines();
+    hands();
+    hands_wait();
+    waits_in_vain();
+    repeated_tries();
+    return rows_end("wrappers");
+}

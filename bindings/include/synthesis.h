@@ -31,7 +31,8 @@
  * an object. `at` of a handle is the library's own: never follow it, and never write to either field.
  *
  * CODES. Every other mistake is answered by a code: an empty handle, a full one where an empty one is wanted, a
- * handle of another object, a number out of range, a short buffer, an element that isn't held. Each call lists its
+ * handle of another object, a number out of range, a short buffer, an element that isn't held. A handle that holds
+ * another kind of end than the call is for, by a cast, counts as an empty one, and stays as it is. Each call lists its
  * codes in the order in which they are looked at: where more than one fits, the first one is told. After any code but
  * SYNTH_DONE all is as it was, the caller's variables and buffers too, but where a call says otherwise. A try
  * (`.._try_..`) makes one, and always returns.

@@ -1,5 +1,6 @@
 mod Buffers
 mod HandFits
+mod Holding
 mod QueueClosed
 mod QueueEnds
 mod SeatSetting

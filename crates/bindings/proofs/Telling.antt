@@ -6,6 +6,7 @@ use mir.Val.{SFits, of_z, to_z}
 use Rattle.std.specs.declared.option.Option.{Option}
 use Rattle.std.specs.declared.option.Option.TheVariants.{None, Some}
 use Rattle.bindings.specs.Hiding.{is_some}
+use Rattle.bindings.specs.declared.payload.Payload.{Payload}
 
 abbrev IsTrueSome : Bool → Type 0
 IsTrueSome true = Unit {0}
@@ -32,3 +33,7 @@ no_answer e = subst IsTrueSome (sym e) tt
 -- a code is told as it is
 pub as_told : (F : ℤ → Type 0) (z : ℤ) → SFits w32 z → F z → F (to_z w32 (of_z w32 z))
 as_told F z fits h = subst F (sym (to_z-of_z w32 z fits)) h
+
+-- the end that came out of the box is the one that was held
+pub unboxed : {X : Type 0} (of : Payload → Option X) (h : Payload) {z r : X} {p q : Payload} → of h ≡ Some z → Some h ≡ Some p → q ≡ p → of q ≡ Some r → r ≡ z
+unboxed of h {r = r} is b e d = ap (the r) (sym d ∙ ap of e ∙ ap of (sym (ap (the h) b)) ∙ is)

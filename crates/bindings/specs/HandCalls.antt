@@ -1,43 +1,28 @@
 -- What the calls for C do to the handles of hands. A handle has None where it is empty.
 use Rattle.std.specs.Prelude.{◌≡◌, ◌≢◌, ◌⊎◌, ◌≤◌, ◌<◌, ℕ, ℤ, Bool, true, false, Ok, Err}
-use Rattle.std.specs.declared.option.Option.{Option}
 use Rattle.std.specs.declared.option.Option.TheVariants.{None, Some}
 use Rattle.thread_table.specs.declared.programs.Spent as programs
 use Rattle.thread_table.specs.Handles.{view_of}
 use Rattle.thread_table.specs.Rules.{has, serves, running, MayStep}
 use Rattle.bindings.specs.declared.hand.held.HeldHand.{HeldHand}
+use Rattle.bindings.specs.declared.handle.Handle.{Handle}
+use Rattle.bindings.specs.declared.payload.Payload.TheVariants.{Hand}
+use Rattle.bindings.specs.Handles.{held_by, hand_of, AsItWas}
 use Rattle.bindings.specs.Hiding.{is_some}
-use Rattle.bindings.specs.Codes.{Done, NoMemory, EmptyHandle, FullHandle, OtherObject, NoShare, BadNumber}
+use Rattle.bindings.specs.Codes.{Done, NoMemory, EmptyHandle, FullHandle, NoShare, BadNumber}
 use Rattle.bindings.specs.Codes.{Spent, Busy, Vacant, NotHeld, NotServed}
-use Rattle.bindings.specs.HandHeld.{IsNewHand, Divided, Joined, AreOfOneTable, HaveOneMark, MayJoin, MayNotJoin}
+use Rattle.bindings.specs.HandHeld.{IsNewHand, Divided}
 use Rattle.bindings.specs.HandHeld.{ServesAll, LacksOne}
 use Rattle.bindings.specs.HandHeld.{HasNoneOn, HasOneOn, HasNot, WasPutOn, WasTakenOff, WasCounted, WasDone}
 
--- this holds of what the handle held
-abbrev pub HoldsThen : Option HeldHand → (HeldHand → Type 0) → Type 0
-HoldsThen old P = (x : HeldHand) → old ≡ Some x → P x
-
--- this holds of what the handle held and of what it holds then
-abbrev pub TurnsThen : Option HeldHand → Option HeldHand → (HeldHand → HeldHand → Type 0) → Type 0
-TurnsThen old new P = HoldsThen old (λ x. (y : HeldHand) × (new ≡ Some y) × P x y)
-
--- Two handles whose tables have one mark are of one table: each table has a mark of its own
-abbrev pub MarksTell : Option HeldHand → Option HeldHand → Type 0
-MarksTell (Some x) (Some z) = HaveOneMark x z → AreOfOneTable x z
-MarksTell _ _ = Unit {0}
-
 -- What `new` did, by its code. The positions of an element queue begin at 4294967231 at most
-abbrev pub MadeTable : ℕ → ℕ → Option HeldHand → Option HeldHand → ℤ → Type 0
+abbrev pub MadeTable : ℕ → ℕ → Handle → Handle → ℤ → Type 0
 MadeTable first mark old new code =
-    ((code ≡ FullHandle) × (is_some old ≡ true) × (new ≡ old))
-    ⊎ ((code ≡ BadNumber) × (old ≡ None) × (4294967231 < first) × (new ≡ None))
-    ⊎ ((code ≡ NoMemory) × (old ≡ None) × (first ≤ 4294967231) × (new ≡ None))
-    ⊎ ((code ≡ Done) × (old ≡ None) × (first ≤ 4294967231) × (y : HeldHand) × (new ≡ Some y) × IsNewHand first mark y)
-
--- what `free` did, by its code
-abbrev pub FreedHand : Option HeldHand → Option HeldHand → ℤ → Type 0
-FreedHand old new code =
-    ((code ≡ EmptyHandle) × (old ≡ None) × (new ≡ None)) ⊎ ((code ≡ Done) × (is_some old ≡ true) × (new ≡ None))
+    ((code ≡ FullHandle) × (is_some (held_by old) ≡ true) × AsItWas old new)
+    ⊎ ((code ≡ BadNumber) × (held_by old ≡ None) × (4294967231 < first) × AsItWas old new)
+    ⊎ ((code ≡ NoMemory) × (held_by old ≡ None) × (first ≤ 4294967231) × AsItWas old new)
+    ⊎ ((code ≡ Done) × (held_by old ≡ None) × (first ≤ 4294967231) × (y : HeldHand) × (held_by new ≡ Some (Hand y))
+    × IsNewHand first mark y)
 
 -- the hand can give the processors of the mask away, and a part of its share
 abbrev pub MaySplit : ℕ → HeldHand → Type 0
@@ -52,27 +37,20 @@ MayNotSplit mask x code =
     ⊎ ((code ≡ NoShare) × (mask < 256) × ServesAll mask x × HasNoneOn mask x × (x.parts < 2))
 
 -- What `split` did to the hand x, by its code. Only a hand that can be split finds no memory
-abbrev pub SplitTold : ℕ → HeldHand → Option HeldHand → Option HeldHand → ℤ → Type 0
-SplitTold mask x new made code =
-    (MayNotSplit mask x code × (new ≡ Some x) × (made ≡ None))
-    ⊎ ((code ≡ NoMemory) × MaySplit mask x × (new ≡ Some x) × (made ≡ None))
-    ⊎ ((code ≡ Done) × MaySplit mask x × (y z : HeldHand) × (new ≡ Some y) × (made ≡ Some z) × Divided mask x y z)
+abbrev pub SplitTold : ℕ → HeldHand → Handle → Handle → Handle → ℤ → Type 0
+SplitTold mask x old new made code =
+    (MayNotSplit mask x code × AsItWas old new × (held_by made ≡ None))
+    ⊎ ((code ≡ NoMemory) × MaySplit mask x × AsItWas old new × (held_by made ≡ None))
+    ⊎ ((code ≡ Done) × MaySplit mask x × (y z : HeldHand) × (hand_of new ≡ Some y) × (hand_of made ≡ Some z)
+    × Divided mask x y z)
 
 -- what `split` did, by its code
-abbrev pub SplitHands : ℕ → Option HeldHand → Option HeldHand → Option HeldHand → Option HeldHand → ℤ → Type 0
+abbrev pub SplitHands : ℕ → Handle → Handle → Handle → Handle → ℤ → Type 0
 SplitHands mask old new other made code =
-    ((code ≡ EmptyHandle) × (old ≡ None) × (new ≡ None) × (made ≡ other))
-    ⊎ ((code ≡ FullHandle) × (is_some old ≡ true) × (new ≡ old) × (is_some other ≡ true) × (made ≡ other))
-    ⊎ ((other ≡ None) × (x : HeldHand) × (old ≡ Some x) × SplitTold mask x new made code)
-
--- what `join` did, by its code
-abbrev pub JoinedHands : Option HeldHand → Option HeldHand → Option HeldHand → Option HeldHand → ℤ → Type 0
-JoinedHands old new other left code =
-    ((code ≡ EmptyHandle) × ((old ≡ None) ⊎ (other ≡ None)) × (new ≡ old) × (left ≡ other))
-    ⊎ ((code ≡ OtherObject) × (x z : HeldHand) × (old ≡ Some x) × (other ≡ Some z) × (new ≡ old) × (left ≡ other)
-    × MayNotJoin x z)
-    ⊎ ((code ≡ Done) × (x y z : HeldHand) × (old ≡ Some x) × (other ≡ Some z) × (new ≡ Some y) × (left ≡ None)
-    × MayJoin x z × Joined x y z)
+    ((code ≡ EmptyHandle) × (hand_of old ≡ None) × AsItWas old new × AsItWas other made)
+    ⊎ ((code ≡ FullHandle) × (is_some (hand_of old) ≡ true) × AsItWas old new × (is_some (held_by other) ≡ true)
+    × AsItWas other made)
+    ⊎ ((held_by other ≡ None) × (x : HeldHand) × (hand_of old ≡ Some x) × SplitTold mask x old new made code)
 
 -- what `holds` told of the hand x, by its code
 abbrev pub HoldsTold : ℕ → HeldHand → Bool → Bool → ℤ → Type 0

@@ -9,6 +9,8 @@ use Rattle.table_theory.specs.Sharing.{the_whole}
 use Rattle.thread_table.specs.Handles.{view_of, call_of}
 use Rattle.thread_table.specs.Closings.{ClosedNow}
 use Rattle.bindings.specs.declared.hand.held.HeldHand.{HeldHand}
+use Rattle.bindings.specs.declared.payload.Payload.{Payload}
+use Rattle.bindings.specs.declared.payload.Payload.TheVariants.{Hand}
 use Rattle.bindings.specs.declared.hand.closing.Outcome.{Outcome}
 use Rattle.bindings.specs.declared.hand.closing.Outcome.TheVariants.{Closed, Open}
 use Rattle.bindings.specs.declared.hand.places.SynthPlace.{SynthPlace}
@@ -35,12 +37,12 @@ IsToldPlaces c told = (told.place ≡ map place_told c.places) × (told.pc ≡ c
     × (told.stops ≡ c.stops)
 
 -- what C is told of the end of a table
-abbrev pub IsToldEnding : Outcome → Option HeldHand → SynthPlaces → SynthPlaces → ℤ → Type 0
+abbrev pub IsToldEnding : Outcome → Option Payload → SynthPlaces → SynthPlaces → ℤ → Type 0
 IsToldEnding (Closed c) new old told code = (code ≡ codes.Done) × (new ≡ None) × IsToldPlaces c told
-IsToldEnding (Open y) new old told code = (code ≡ codes.Open) × (new ≡ Some y) × (told ≡ old)
+IsToldEnding (Open y) new old told code = (code ≡ codes.Open) × (new ≡ Some (Hand y)) × (told ≡ old)
 
 -- C is told what became of the table
-pub record WasClosed (x : HeldHand) (new : Option HeldHand) (old told : SynthPlaces) (code : ℤ) : Type 0 where
+pub record WasClosed (x : HeldHand) (new : Option Payload) (old told : SynthPlaces) (code : ℤ) : Type 0 where
   pub outcome : Outcome
   pub ended : Ended outcome x
   pub tells : IsToldEnding outcome new old told code

@@ -6,7 +6,10 @@ pub mod HandMoves
 pub mod HandStates
 pub mod HandTakings
 pub mod HandWakes
+pub mod Handles
 pub mod Hiding
+pub mod Kinds
+pub mod Lending
 pub mod LineCalls
 pub mod QueueCalls
 pub mod QueueClosing

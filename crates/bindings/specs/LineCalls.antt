@@ -4,38 +4,37 @@ use Rattle.std.specs.declared.option.Option.{Option}
 use Rattle.std.specs.declared.option.Option.TheVariants.{None, Some}
 use Rattle.spsc_line.specs.Lines.{bytes_sent, bytes_received, bytes_left, capacity_in, known_room, known_bytes}
 use Rattle.spsc_line.specs.Lines.{IsLine, IsNewIn, IsNewOut, SameIn, SameOut, Sends, SendsNothing, Receives, ReceivesNothing}
-use Rattle.bindings.specs.declared.line.input.held.HeldIn.{HeldIn}
-use Rattle.bindings.specs.declared.line.output.held.HeldOut.{HeldOut}
+use Rattle.bindings.specs.declared.handle.Handle.{Handle}
+use Rattle.bindings.specs.declared.payload.Payload.TheVariants.{LineIn, LineOut}
+use Rattle.bindings.specs.declared.line.held.HeldIn.{HeldIn}
+use Rattle.bindings.specs.declared.line.held.HeldOut.{HeldOut}
 use Rattle.bindings.specs.declared.line.SynthLineTotals.{SynthLineTotals}
+use Rattle.bindings.specs.Handles.{held_by, line_in_of, line_out_of, AsItWas}
 use Rattle.bindings.specs.Hiding.{is_some}
 use Rattle.bindings.specs.Codes.{Done, NoMemory, EmptyHandle, FullHandle, OtherObject, BadNumber}
 
--- The ends of lines that have one mark are of one line: each line has a mark of its own
-abbrev pub MarksTell : Option HeldIn → Option HeldOut → Type 0
-MarksTell (Some x) (Some z) = z.mark ≡ x.mark → IsLine x.line z.line
-MarksTell _ _ = Unit {0}
+-- the ends' lines have one mark
+abbrev pub HaveOneMark : HeldIn → HeldOut → Type 0
+HaveOneMark x z = z.mark ≡ x.mark
 
--- this holds of what the handle held
-abbrev pub HoldsThen : {X : Type 0} → Option X → (X → Type 0) → Type 0
-HoldsThen {X} old P = (x : X) → old ≡ Some x → P x
+-- both are the ends of one line
+abbrev pub AreOfOneLine : HeldIn → HeldOut → Type 0
+AreOfOneLine x z = IsLine x.line z.line
 
 -- as many bytes as a line can have room for
 abbrev pub IsRoom : ℕ → Type 0
 IsRoom room = (0 < room) × (room ≤ 65536)
 
 -- what `new` did, by its code
-abbrev pub MadeLine : ℕ → ℕ → Option HeldIn → Option HeldIn → Option HeldOut → Option HeldOut → ℤ → Type 0
+abbrev pub MadeLine : ℕ → ℕ → Handle → Handle → Handle → Handle → ℤ → Type 0
 MadeLine room mark old new other made code =
-    ((code ≡ FullHandle) × ((is_some old ≡ true) ⊎ (is_some other ≡ true)) × (new ≡ old) × (made ≡ other))
-    ⊎ ((code ≡ BadNumber) × (old ≡ None) × (other ≡ None) × (IsRoom room → ⊥) × (new ≡ old) × (made ≡ other))
-    ⊎ ((code ≡ NoMemory) × (old ≡ None) × (other ≡ None) × IsRoom room × (new ≡ old) × (made ≡ other))
-    ⊎ ((code ≡ Done) × (old ≡ None) × (other ≡ None) × IsRoom room × (x : HeldIn) × (z : HeldOut) × (new ≡ Some x) × (made ≡ Some z)
+    ((code ≡ FullHandle) × ((is_some (held_by old) ≡ true) ⊎ (is_some (held_by other) ≡ true)) × AsItWas old new × AsItWas other made)
+    ⊎ ((code ≡ BadNumber) × (held_by old ≡ None) × (held_by other ≡ None) × (IsRoom room → ⊥) × AsItWas old new
+    × AsItWas other made)
+    ⊎ ((code ≡ NoMemory) × (held_by old ≡ None) × (held_by other ≡ None) × IsRoom room × AsItWas old new × AsItWas other made)
+    ⊎ ((code ≡ Done) × (held_by old ≡ None) × (held_by other ≡ None) × IsRoom room × (x : HeldIn) × (z : HeldOut)
+    × (held_by new ≡ Some (LineIn x)) × (held_by made ≡ Some (LineOut z))
     × IsLine x.line z.line × IsNewIn room x.line × IsNewOut room z.line × (x.mark ≡ mark) × (z.mark ≡ mark))
-
--- what `free_in` and `free_out` did, by their code
-abbrev pub FreedHandle : {X : Type 0} → Option X → Option X → ℤ → Type 0
-FreedHandle old new code =
-    ((code ≡ EmptyHandle) × (old ≡ None) × (new ≡ None)) ⊎ ((code ≡ Done) × (is_some old ≡ true) × (new ≡ None))
 
 -- the same end of the same line
 abbrev pub SameHeldIn : HeldIn → HeldIn → Type 0
@@ -66,11 +65,11 @@ pub record IsTold (x : HeldIn) (z : HeldOut) (told : SynthLineTotals) : Type 0 w
   pub within : told.left ≤ capacity_in x.line
 
 -- what `finish` did, by its code
-abbrev pub FinishedLine : Option HeldIn → Option HeldIn → Option HeldOut → Option HeldOut → SynthLineTotals → SynthLineTotals
-    → ℤ → Type 0
+abbrev pub FinishedLine : Handle → Handle → Handle → Handle → SynthLineTotals → SynthLineTotals → ℤ → Type 0
 FinishedLine old new other made old_told told code =
-    ((code ≡ EmptyHandle) × ((old ≡ None) ⊎ (other ≡ None)) × (new ≡ old) × (made ≡ other) × (told ≡ old_told))
-    ⊎ ((code ≡ OtherObject) × (x : HeldIn) × (z : HeldOut) × (old ≡ Some x) × (other ≡ Some z) × (new ≡ old) × (made ≡ other)
-    × (told ≡ old_told) × (z.mark ≡ x.mark → ⊥))
-    ⊎ ((code ≡ Done) × (x : HeldIn) × (z : HeldOut) × (old ≡ Some x) × (other ≡ Some z) × (new ≡ None) × (made ≡ None)
-    × (z.mark ≡ x.mark) × IsTold x z told)
+    ((code ≡ EmptyHandle) × ((line_in_of old ≡ None) ⊎ (line_out_of other ≡ None)) × AsItWas old new × AsItWas other made
+    × (told ≡ old_told))
+    ⊎ ((code ≡ OtherObject) × (x : HeldIn) × (z : HeldOut) × (line_in_of old ≡ Some x) × (line_out_of other ≡ Some z)
+    × AsItWas old new × AsItWas other made × (told ≡ old_told) × (HaveOneMark x z → ⊥))
+    ⊎ ((code ≡ Done) × (x : HeldIn) × (z : HeldOut) × (line_in_of old ≡ Some x) × (line_out_of other ≡ Some z)
+    × (held_by new ≡ None) × (held_by made ≡ None) × HaveOneMark x z × IsTold x z told)

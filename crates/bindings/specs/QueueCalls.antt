@@ -7,57 +7,28 @@ use Rattle.claim_queue.specs.declared.take.TakeRefusal.{TakeRefusal}
 use Rattle.bindings.specs.declared.answer.SynthAnswer.{SynthAnswer}
 use Rattle.bindings.specs.declared.answer.SynthClosed.{SynthClosed}
 use Rattle.bindings.specs.declared.queue.held.HeldQueue.{HeldQueue}
+use Rattle.bindings.specs.declared.handle.Handle.{Handle}
+use Rattle.bindings.specs.declared.payload.Payload.{Payload}
+use Rattle.bindings.specs.declared.payload.Payload.TheVariants.{Queue}
 use Rattle.bindings.specs.declared.queue.closing.Outcome.{Outcome}
 use Rattle.bindings.specs.declared.queue.closing.Outcome.TheVariants as ended
+use Rattle.bindings.specs.Handles.{held_by, AsItWas}
 use Rattle.bindings.specs.Hiding.{is_some}
-use Rattle.bindings.specs.Codes.{Done, Open, NoMemory, EmptyHandle, FullHandle, OtherObject, NoShare, ShortBuffer, BadNumber}
+use Rattle.bindings.specs.Codes.{Done, Open, NoMemory, FullHandle, ShortBuffer, BadNumber}
 use Rattle.bindings.specs.Codes.{code_of_claim, head_of_claim, tail_of_claim, code_of_take, tail_of_take, code_of_some, tail_of_some}
-use Rattle.bindings.specs.QueueParts.{PutPart, TookPart, TookLinePart, TookSomePart, ShutPart, DividedPart, JoinedPart}
-use Rattle.bindings.specs.QueueHeld.{AtSize, AtSizes, IsSize, HaveOneMark, AreOfOneQueue, MayJoin, MayNotJoin}
-use Rattle.bindings.specs.QueueHeld.{IsNewHeld, places_of, parts_of}
+use Rattle.bindings.specs.QueueParts.{PutPart, TookPart, TookLinePart, TookSomePart, ShutPart}
+use Rattle.bindings.specs.QueueHeld.{AtSize, IsSize}
+use Rattle.bindings.specs.QueueHeld.{IsNewHeld, places_of}
 use Rattle.bindings.specs.QueueOutcomes.{EndedHeld}
 use Rattle.bindings.specs.Told.{IsCodeAlone}
 
--- Two handles whose queues have one mark are of one queue: each queue has a mark of its own
-abbrev pub MarksTell : Option HeldQueue → Option HeldQueue → Type 0
-MarksTell (Some x) (Some z) = HaveOneMark x z → AreOfOneQueue x z
-MarksTell _ _ = Unit {0}
-
--- this holds of what the handle held
-abbrev pub HoldsThen : Option HeldQueue → (HeldQueue → Type 0) → Type 0
-HoldsThen old P = (x : HeldQueue) → old ≡ Some x → P x
-
 -- what `new` did, by its code
-abbrev pub MadeQueue : ℕ → ℕ → ℕ → Option HeldQueue → Option HeldQueue → ℤ → Type 0
+abbrev pub MadeQueue : ℕ → ℕ → ℕ → Handle → Handle → ℤ → Type 0
 MadeQueue places first mark old new code =
-    ((code ≡ FullHandle) × (is_some old ≡ true) × (new ≡ old))
-    ⊎ ((code ≡ BadNumber) × (old ≡ None) × (new ≡ None) × (IsSize places → ⊥))
-    ⊎ ((code ≡ NoMemory) × (old ≡ None) × (new ≡ None) × IsSize places)
-    ⊎ ((code ≡ Done) × (old ≡ None) × (y : HeldQueue) × (new ≡ Some y) × IsNewHeld places first mark y)
-
--- what `free` did, by its code
-abbrev pub FreedHandle : Option HeldQueue → Option HeldQueue → ℤ → Type 0
-FreedHandle old new code =
-    ((code ≡ EmptyHandle) × (old ≡ None) × (new ≡ None)) ⊎ ((code ≡ Done) × (is_some old ≡ true) × (new ≡ None))
-
--- what `split` did, by its code
-abbrev pub SplitQueue : Option HeldQueue → Option HeldQueue → Option HeldQueue → Option HeldQueue → ℤ → Type 0
-SplitQueue old new other made code =
-    ((code ≡ EmptyHandle) × (old ≡ None) × (new ≡ None) × (made ≡ other))
-    ⊎ ((code ≡ FullHandle) × (is_some old ≡ true) × (new ≡ old) × (is_some other ≡ true) × (made ≡ other))
-    ⊎ ((code ≡ NoShare) × (other ≡ None) × (made ≡ None) × (x : HeldQueue) × (old ≡ Some x) × (new ≡ Some x) × (parts_of x < 2))
-    ⊎ ((code ≡ NoMemory) × (other ≡ None) × (made ≡ None) × (x : HeldQueue) × (old ≡ Some x) × (new ≡ Some x) × (2 ≤ parts_of x))
-    ⊎ ((code ≡ Done) × (other ≡ None) × (x y z : HeldQueue) × (old ≡ Some x) × (new ≡ Some y) × (made ≡ Some z)
-    × (2 ≤ parts_of x) × AtSizes DividedPart x y z)
-
--- what `join` did, by its code
-abbrev pub JoinedQueue : Option HeldQueue → Option HeldQueue → Option HeldQueue → Option HeldQueue → ℤ → Type 0
-JoinedQueue old new other left code =
-    ((code ≡ EmptyHandle) × ((old ≡ None) ⊎ (other ≡ None)) × (new ≡ old) × (left ≡ other))
-    ⊎ ((code ≡ OtherObject) × (x z : HeldQueue) × (old ≡ Some x) × (other ≡ Some z) × (new ≡ old) × (left ≡ other)
-    × MayNotJoin x z)
-    ⊎ ((code ≡ Done) × (x y z : HeldQueue) × (old ≡ Some x) × (other ≡ Some z) × (new ≡ Some y) × (left ≡ None)
-    × MayJoin x z × AtSizes JoinedPart x y z)
+    ((code ≡ FullHandle) × (is_some (held_by old) ≡ true) × AsItWas old new)
+    ⊎ ((code ≡ BadNumber) × (held_by old ≡ None) × AsItWas old new × (IsSize places → ⊥))
+    ⊎ ((code ≡ NoMemory) × (held_by old ≡ None) × AsItWas old new × IsSize places)
+    ⊎ ((code ≡ Done) × (held_by old ≡ None) × (y : HeldQueue) × (held_by new ≡ Some (Queue y)) × IsNewHeld places first mark y)
 
 -- The handle is still for the same end, and C is told what the library's `try_put` answered
 pub record WasPut (x : HeldQueue) (items : List ℕ) (new : Option HeldQueue) (told : SynthAnswer) : Type 0 where
@@ -116,12 +87,12 @@ pub record WasTakenUpTo (x : HeldQueue) (old_items items : List ℕ) (count : �
   pub tail : told.tail ≡ tail_of_some refusal
 
 -- the queue is closed, and the numbers are told; or the handle holds what it held
-abbrev pub IsToldEnding : Outcome → Option HeldQueue → SynthClosed → SynthClosed → ℤ → Type 0
+abbrev pub IsToldEnding : Outcome → Option Payload → SynthClosed → SynthClosed → ℤ → Type 0
 IsToldEnding (ended.Closed c) new old told code = (code ≡ Done) × (new ≡ None) × (told ≡ c)
-IsToldEnding (ended.Open y) new old told code = (code ≡ Open) × (new ≡ Some y) × (told ≡ old)
+IsToldEnding (ended.Open y) new old told code = (code ≡ Open) × (new ≡ Some (Queue y)) × (told ≡ old)
 
 -- C is told what became of the queue
-pub record WasEnded (x : HeldQueue) (old_items items : List ℕ) (new : Option HeldQueue) (old told : SynthClosed) (code : ℤ)
+pub record WasEnded (x : HeldQueue) (old_items items : List ℕ) (new : Option Payload) (old told : SynthClosed) (code : ℤ)
     : Type 0 where
   pub outcome : Outcome
   pub ended : EndedHeld old_items items outcome x
@@ -140,7 +111,7 @@ WasSomeTold x old_items items old_count count new told =
     ⊎ ((0 < length old_items) × WasTakenUpTo x old_items items count new told)
 
 -- the buffer was too short, and nothing happened; or the queue was closed, or was not
-abbrev pub WasClosed : HeldQueue → List ℕ → List ℕ → Option HeldQueue → SynthClosed → SynthClosed → ℤ → Type 0
+abbrev pub WasClosed : HeldQueue → List ℕ → List ℕ → Option Payload → SynthClosed → SynthClosed → ℤ → Type 0
 WasClosed x old_items items new old told code =
-    ((code ≡ ShortBuffer) × (length old_items < places_of x) × (new ≡ Some x) × (items ≡ old_items) × (told ≡ old))
+    ((code ≡ ShortBuffer) × (length old_items < places_of x) × (new ≡ Some (Queue x)) × (items ≡ old_items) × (told ≡ old))
     ⊎ ((places_of x ≤ length old_items) × WasEnded x old_items items new old told code)

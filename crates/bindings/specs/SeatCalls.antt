@@ -9,58 +9,29 @@ use Rattle.meters.specs.declared.alarms.SetRefusal.{SetRefusal}
 use Rattle.meters.specs.declared.alarms.SetRefusal.TheVariants as set
 use Rattle.meters.specs.declared.close.Metered.{Metered}
 use Rattle.bindings.specs.declared.answer.SynthAnswer.{SynthAnswer}
+use Rattle.bindings.specs.declared.handle.Handle.{Handle}
+use Rattle.bindings.specs.declared.payload.Payload.{Payload}
+use Rattle.bindings.specs.declared.payload.Payload.TheVariants.{Seat}
 use Rattle.bindings.specs.declared.seat.alarm.SynthAlarm.{SynthAlarm}
 use Rattle.bindings.specs.declared.seat.held.HeldSeat.{HeldSeat}
 use Rattle.bindings.specs.declared.seat.closing.Outcome.{Outcome}
 use Rattle.bindings.specs.declared.seat.closing.Outcome.TheVariants as ended
 use Rattle.bindings.specs.declared.seat.SynthMetered.{SynthMetered}
+use Rattle.bindings.specs.Handles.{held_by, AsItWas}
 use Rattle.bindings.specs.Hiding.{is_some}
-use Rattle.bindings.specs.Codes.{Done, Open, NoMemory, EmptyHandle, FullHandle, OtherObject, NoShare, ShortBuffer, BadNumber}
+use Rattle.bindings.specs.Codes.{Done, Open, NoMemory, FullHandle, ShortBuffer, BadNumber}
 use Rattle.bindings.specs.SeatAlarms.{alarm_told, IsAlarm, IsNoAlarm, IsRestKept, IsBlankFrom}
-use Rattle.bindings.specs.SeatHeld.{IsNewSeat, Divided, Joined, AreOfOneTable, HaveOneMark, MayJoin, MayNotJoin}
+use Rattle.bindings.specs.SeatHeld.{IsNewSeat}
 use Rattle.bindings.specs.SeatHeld.{WasTicked, WasAdvanced, WasSet, WasCancelled, WereFired}
 use Rattle.bindings.specs.SeatClosing.{Ended}
 use Rattle.bindings.specs.Told.{IsCodeAlone}
 
--- Two handles whose meters have one mark are of the same meters: all meters have a mark of their own
-abbrev pub MarksTell : Option HeldSeat → Option HeldSeat → Type 0
-MarksTell (Some x) (Some z) = HaveOneMark x z → AreOfOneTable x z
-MarksTell _ _ = Unit {0}
-
--- this holds of what the handle held
-abbrev pub HoldsThen : Option HeldSeat → (HeldSeat → Type 0) → Type 0
-HoldsThen old P = (x : HeldSeat) → old ≡ Some x → P x
-
 -- what `new` did, by its code
-abbrev pub MadeMeters : ℕ → ℕ → Option HeldSeat → Option HeldSeat → ℤ → Type 0
+abbrev pub MadeMeters : ℕ → ℕ → Handle → Handle → ℤ → Type 0
 MadeMeters clock mark old new code =
-    ((code ≡ FullHandle) × (is_some old ≡ true) × (new ≡ old))
-    ⊎ ((code ≡ NoMemory) × (old ≡ None) × (new ≡ None))
-    ⊎ ((code ≡ Done) × (old ≡ None) × (y : HeldSeat) × (new ≡ Some y) × IsNewSeat clock mark y)
-
--- what `free` did, by its code
-abbrev pub FreedHandle : Option HeldSeat → Option HeldSeat → ℤ → Type 0
-FreedHandle old new code =
-    ((code ≡ EmptyHandle) × (old ≡ None) × (new ≡ None)) ⊎ ((code ≡ Done) × (is_some old ≡ true) × (new ≡ None))
-
--- what `split` did, by its code
-abbrev pub SplitMeters : Option HeldSeat → Option HeldSeat → Option HeldSeat → Option HeldSeat → ℤ → Type 0
-SplitMeters old new other made code =
-    ((code ≡ EmptyHandle) × (old ≡ None) × (new ≡ None) × (made ≡ other))
-    ⊎ ((code ≡ FullHandle) × (is_some old ≡ true) × (new ≡ old) × (is_some other ≡ true) × (made ≡ other))
-    ⊎ ((code ≡ NoShare) × (other ≡ None) × (made ≡ None) × (x : HeldSeat) × (old ≡ Some x) × (new ≡ Some x) × (x.parts < 2))
-    ⊎ ((code ≡ NoMemory) × (other ≡ None) × (made ≡ None) × (x : HeldSeat) × (old ≡ Some x) × (new ≡ Some x) × (2 ≤ x.parts))
-    ⊎ ((code ≡ Done) × (other ≡ None) × (x y z : HeldSeat) × (old ≡ Some x) × (new ≡ Some y) × (made ≡ Some z)
-    × (2 ≤ x.parts) × Divided x y z)
-
--- what `join` did, by its code
-abbrev pub JoinedMeters : Option HeldSeat → Option HeldSeat → Option HeldSeat → Option HeldSeat → ℤ → Type 0
-JoinedMeters old new other left code =
-    ((code ≡ EmptyHandle) × ((old ≡ None) ⊎ (other ≡ None)) × (new ≡ old) × (left ≡ other))
-    ⊎ ((code ≡ OtherObject) × (x z : HeldSeat) × (old ≡ Some x) × (other ≡ Some z) × (new ≡ old) × (left ≡ other)
-    × MayNotJoin x z)
-    ⊎ ((code ≡ Done) × (x y z : HeldSeat) × (old ≡ Some x) × (other ≡ Some z) × (new ≡ Some y) × (left ≡ None)
-    × MayJoin x z × Joined x y z)
+    ((code ≡ FullHandle) × (is_some (held_by old) ≡ true) × AsItWas old new)
+    ⊎ ((code ≡ NoMemory) × (held_by old ≡ None) × AsItWas old new)
+    ⊎ ((code ≡ Done) × (held_by old ≡ None) × (y : HeldSeat) × (held_by new ≡ Some (Seat y)) × IsNewSeat clock mark y)
 
 -- what `tick` did, by its code
 abbrev pub TickTold : HeldSeat → ℕ → ℕ → ℕ → ℕ → Option HeldSeat → ℤ → Type 0
@@ -142,12 +113,12 @@ IsToldMetered c told = (told.gauges ≡ c.gauges) × (told.clock ≡ c.clock) ×
     × (take told.alarms told.alarm ≡ map alarm_told c.alarms.items) × IsBlankFrom told.alarms told.alarm
 
 -- what C is told of the end of meters. Where they aren't closed, the handle holds what it held
-abbrev pub IsToldEnding : Outcome → Option HeldSeat → SynthMetered → SynthMetered → ℤ → Type 0
+abbrev pub IsToldEnding : Outcome → Option Payload → SynthMetered → SynthMetered → ℤ → Type 0
 IsToldEnding (ended.Closed c) new old told code = (code ≡ Done) × (new ≡ None) × IsToldMetered c told
-IsToldEnding (ended.Open y) new old told code = (code ≡ Open) × (new ≡ Some y) × (told ≡ old)
+IsToldEnding (ended.Open y) new old told code = (code ≡ Open) × (new ≡ Some (Seat y)) × (told ≡ old)
 
 -- C is told what became of the meters
-pub record WasClosed (x : HeldSeat) (new : Option HeldSeat) (old told : SynthMetered) (code : ℤ) : Type 0 where
+pub record WasClosed (x : HeldSeat) (new : Option Payload) (old told : SynthMetered) (code : ℤ) : Type 0 where
   pub outcome : Outcome
   pub ended : Ended outcome x
   pub tells : IsToldEnding outcome new old told code

@@ -2,9 +2,7 @@
 
 mod closing;
 mod ends;
-mod handle;
-mod held;
-mod hidden;
+pub mod held;
 mod moves;
 mod numbers;
 mod places;

@@ -3,6 +3,9 @@
 
 mod answer;
 mod hand;
+mod handle;
+mod hidden;
 mod line;
+mod payload;
 mod queue;
 mod seat;

@@ -1,17 +1,17 @@
 //! The device line for C: each call is one of the library's, on the end that a handle holds.
 ghost use Rattle.std.specs.Prelude.{◌≡◌, ◌≤◌, ◌<◌};
-ghost use Rattle.std.specs.declared.option.Option.TheVariants.{None};
 ghost use Rattle.bindings.specs.Codes.{EmptyHandle};
-ghost use Rattle.bindings.specs.LineCalls.{MadeLine, FreedHandle, HoldsThen, PushTold, PopTold, FinishedLine, MarksTell};
+ghost use Rattle.bindings.specs.Handles.{line_in_of, line_out_of, NoneIn, HoldsThen, FreedHandle, MarksTell};
+ghost use Rattle.bindings.specs.LineCalls.{MadeLine, PushTold, PopTold, FinishedLine, HaveOneMark, AreOfOneLine};
 
-mod input;
-mod output;
+pub mod held;
 
 use crate::answer::{
     BAD_NUMBER, DONE, EMPTY, EMPTY_HANDLE, FULL, FULL_HANDLE, NO_MEMORY, OTHER_OBJECT,
 };
-use input::{HandleIn, HeldIn};
-use output::{HandleOut, HeldOut};
+use crate::handle::Handle;
+use crate::payload::Payload;
+use held::{HeldIn, HeldOut};
 use spsc_line::{finish, line};
 use std::alloc::Global;
 
@@ -30,11 +30,10 @@ pub extern "C" fn synth_line_new_marked(
     alloc: Global,
     room: usize,
     mark: u64,
-    input: &mut HandleIn,
-    output: &mut HandleOut,
+    input: &mut Handle,
+    output: &mut Handle,
 ) -> i32
-    ensures { MadeLine room mark input.old.hidden.value input.new.hidden.value output.old.hidden.value
-        output.new.hidden.value result }
+    ensures { MadeLine room mark input.old input.new output.old output.new result }
 {
     if input.is_full() {
         return FULL_HANDLE;
@@ -48,10 +47,10 @@ pub extern "C" fn synth_line_new_marked(
     let Ok((first, second)) = line(alloc, room) else {
         return NO_MEMORY;
     };
-    let Ok(first) = Box::new(alloc, HeldIn { line: first, mark }) else {
+    let Ok(first) = Box::new(alloc, Payload::LineIn(HeldIn { line: first, mark })) else {
         return NO_MEMORY;
     };
-    let Ok(second) = Box::new(alloc, HeldOut { line: second, mark }) else {
+    let Ok(second) = Box::new(alloc, Payload::LineOut(HeldOut { line: second, mark })) else {
         return NO_MEMORY;
     };
     input.put(first);
@@ -61,15 +60,14 @@ pub extern "C" fn synth_line_new_marked(
 
 /// `LineIn::push`.
 #[unsafe(no_mangle)]
-pub extern "C" fn synth_line_push(alloc: Global, input: &mut HandleIn, byte: u8) -> i32
-    ensures empty { input.old.hidden.value ≡ None → (result ≡ EmptyHandle) × (input.new.hidden.value ≡ None) }
-    ensures pushed { HoldsThen input.old.hidden.value (λ x. PushTold x byte input.new.hidden.value result) }
+pub extern "C" fn synth_line_push(input: &mut Handle, byte: u8) -> i32
+    ensures empty { NoneIn line_in_of input.old input.new (result ≡ EmptyHandle) }
+    ensures pushed { HoldsThen (line_in_of input.old) (λ x. PushTold x byte (line_in_of input.new) result) }
 {
-    let Some(mut held) = input.take(alloc) else {
+    let Some(held) = input.line_in() else {
         return EMPTY_HANDLE;
     };
     let answer = held.line.push(byte);
-    input.put(held);
     match answer {
         Ok(()) => DONE,
         Err(_) => FULL,
@@ -78,17 +76,15 @@ pub extern "C" fn synth_line_push(alloc: Global, input: &mut HandleIn, byte: u8)
 
 /// `LineOut::pop`.
 #[unsafe(no_mangle)]
-pub extern "C" fn synth_line_pop(alloc: Global, output: &mut HandleOut, byte: &mut u8) -> i32
-    ensures empty { output.old.hidden.value ≡ None → (result ≡ EmptyHandle) × (output.new.hidden.value ≡ None)
-        × (byte.new ≡ byte.old) }
-    ensures popped { HoldsThen output.old.hidden.value
-        (λ x. PopTold x byte.old byte.new output.new.hidden.value result) }
+pub extern "C" fn synth_line_pop(output: &mut Handle, byte: &mut u8) -> i32
+    ensures empty { NoneIn line_out_of output.old output.new ((result ≡ EmptyHandle) × (byte.new ≡ byte.old)) }
+    ensures popped { HoldsThen (line_out_of output.old)
+        (λ x. PopTold x byte.old byte.new (line_out_of output.new) result) }
 {
-    let Some(mut held) = output.take(alloc) else {
+    let Some(held) = output.line_out() else {
         return EMPTY_HANDLE;
     };
     let answer = held.line.pop();
-    output.put(held);
     match answer {
         Some(popped) => {
             *byte = popped;
@@ -102,27 +98,25 @@ pub extern "C" fn synth_line_pop(alloc: Global, output: &mut HandleOut, byte: &m
 #[unsafe(no_mangle)]
 pub extern "C" fn synth_line_finish(
     alloc: Global,
-    input: &mut HandleIn,
-    output: &mut HandleOut,
+    input: &mut Handle,
+    output: &mut Handle,
     totals: &mut SynthLineTotals,
 ) -> i32
-    requires { MarksTell input.old.hidden.value output.old.hidden.value }
-    ensures { FinishedLine input.old.hidden.value input.new.hidden.value output.old.hidden.value
-        output.new.hidden.value totals.old totals.new result }
+    requires { MarksTell HaveOneMark AreOfOneLine (line_in_of input.old) (line_out_of output.old) }
+    ensures { FinishedLine input.old input.new output.old output.new totals.old totals.new result }
 {
-    let Some(first) = input.take(alloc) else {
+    let Some(first) = input.line_in() else {
         return EMPTY_HANDLE;
     };
-    let Some(second) = output.take(alloc) else {
-        input.put(first);
+    let Some(second) = output.line_out() else {
         return EMPTY_HANDLE;
     };
     if first.mark != second.mark {
-        input.put(first);
-        output.put(second);
         return OTHER_OBJECT;
     }
-    let told = finish(Box::into_inner(first).line, Box::into_inner(second).line);
+    let first = Box::into_inner(input.take(alloc)).into_line_in();
+    let second = Box::into_inner(output.take(alloc)).into_line_out();
+    let told = finish(first.line, second.line);
     *totals = SynthLineTotals {
         sent: told.sent,
         received: told.received,
@@ -133,22 +127,24 @@ pub extern "C" fn synth_line_finish(
 
 /// Frees the end that pushes. The other goes on.
 #[unsafe(no_mangle)]
-pub extern "C" fn synth_line_free_in(alloc: Global, input: &mut HandleIn) -> i32
-    ensures { FreedHandle input.old.hidden.value input.new.hidden.value result }
+pub extern "C" fn synth_line_free_in(alloc: Global, input: &mut Handle) -> i32
+    ensures { FreedHandle line_in_of input.old input.new result }
 {
-    match input.take(alloc) {
-        Some(_first) => DONE,
-        None => EMPTY_HANDLE,
+    if input.line_in().is_none() {
+        return EMPTY_HANDLE;
     }
+    let _held = input.take(alloc);
+    DONE
 }
 
 /// Frees the end that pops. The other goes on.
 #[unsafe(no_mangle)]
-pub extern "C" fn synth_line_free_out(alloc: Global, output: &mut HandleOut) -> i32
-    ensures { FreedHandle output.old.hidden.value output.new.hidden.value result }
+pub extern "C" fn synth_line_free_out(alloc: Global, output: &mut Handle) -> i32
+    ensures { FreedHandle line_out_of output.old output.new result }
 {
-    match output.take(alloc) {
-        Some(_second) => DONE,
-        None => EMPTY_HANDLE,
+    if output.line_out().is_none() {
+        return EMPTY_HANDLE;
     }
+    let _held = output.take(alloc);
+    DONE
 }

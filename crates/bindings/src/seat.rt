@@ -1,27 +1,27 @@
 //! The meters for C: each call is one of the library's, on the end that a handle holds.
 ghost use Rattle.std.specs.Prelude.{◌≡◌, ◌≤◌, ◌<◌};
 ghost use Rattle.std.specs.Option.{MatchOption};
-ghost use Rattle.std.specs.declared.option.Option.TheVariants.{None};
 ghost use Rattle.bindings.specs.Codes.{EmptyHandle};
-ghost use Rattle.bindings.specs.SeatHeld.{Divided};
-ghost use Rattle.bindings.specs.SeatCalls.{MadeMeters, FreedHandle, SplitMeters, JoinedMeters, MarksTell};
-ghost use Rattle.bindings.specs.SeatCalls.{HoldsThen, TickTold, AdvanceTold, SetTold, CancelTold, DueTold, WasClosed};
+ghost use Rattle.bindings.specs.Handles.{held_by, seat_of, NoneIn, HoldsThen, HoldsSome};
+ghost use Rattle.bindings.specs.Handles.{FreedHandle, SplitHandle, JoinedHandle, MarksTell};
+ghost use Rattle.bindings.specs.Kinds.{seat_in};
+ghost use Rattle.bindings.specs.SeatHeld.{Divided, Joined, HaveOneMark, AreOfOneTable, MayJoin, MayNotJoin};
+ghost use Rattle.bindings.specs.SeatCalls.{MadeMeters, TickTold, AdvanceTold, SetTold, CancelTold, DueTold, WasClosed};
 ghost use Rattle.bindings.specs.SeatCalls.{IsToldMetered, code_of_advance, head_of_advance, code_of_set, head_of_set};
 ghost use Rattle.bindings.specs.Told.{IsCodeAlone};
 
 mod alarm;
 mod closing;
-mod handle;
-mod held;
-mod hidden;
+pub mod held;
 
 use crate::answer::{
     BAD_NUMBER, DONE, EMPTY_HANDLE, FULL_HANDLE, LOST, NO_MEMORY, NO_ROOM, NO_SHARE, OPEN,
     OTHER_OBJECT, SHORT_BUFFER, SPENT, SynthAnswer, told, told_with,
 };
+use crate::handle::Handle;
+use crate::payload::Payload;
 use alarm::{SynthAlarm, alarm_of, tell_alarms};
 use closing::Outcome;
-use handle::HandleSeat;
 use held::HeldSeat;
 use loose_box::{Loose, Vacant};
 use meters::{AdvanceRefusal, Metered, SetRefusal};
@@ -83,9 +83,9 @@ pub extern "C" fn synth_seat_new_marked(
     alloc: Global,
     clock: u32,
     mark: u64,
-    seat: &mut HandleSeat,
+    seat: &mut Handle,
 ) -> i32
-    ensures { MadeMeters clock mark seat.old.hidden.value seat.new.hidden.value result }
+    ensures { MadeMeters clock mark seat.old seat.new result }
 {
     if seat.is_full() {
         return FULL_HANDLE;
@@ -93,7 +93,7 @@ pub extern "C" fn synth_seat_new_marked(
     let Some(held) = HeldSeat::new(alloc, clock, mark) else {
         return NO_MEMORY;
     };
-    let Ok(held) = Box::new(alloc, held) else {
+    let Ok(held) = Box::new(alloc, Payload::Seat(held)) else {
         return NO_MEMORY;
     };
     seat.put(held);
@@ -102,25 +102,26 @@ pub extern "C" fn synth_seat_new_marked(
 
 /// Frees the handle, whose end is then never joined.
 #[unsafe(no_mangle)]
-pub extern "C" fn synth_seat_free(alloc: Global, seat: &mut HandleSeat) -> i32
-    ensures { FreedHandle seat.old.hidden.value seat.new.hidden.value result }
+pub extern "C" fn synth_seat_free(alloc: Global, seat: &mut Handle) -> i32
+    ensures { FreedHandle seat_of seat.old seat.new result }
 {
-    match seat.take(alloc) {
-        Some(_held) => DONE,
-        None => EMPTY_HANDLE,
+    if seat.seat().is_none() {
+        return EMPTY_HANDLE;
     }
+    let _held = seat.take(alloc);
+    DONE
 }
 
 // A new end in a box of its own. Nothing changes where no box can be had, or no more handles can be counted.
-fn split_boxed(alloc: Global, held: &mut HeldSeat) -> Option<Box<HeldSeat, Global>>
+fn split_boxed(alloc: Global, held: &mut HeldSeat) -> Option<Box<Payload, Global>>
     requires { 2 ≤ held.old.parts }
-    ensures { MatchOption result (held.new ≡ held.old) (λ b. Divided held.old held.new b.value) }
+    ensures { MatchOption result (held.new ≡ held.old) (λ b. HoldsSome (seat_in b.value) (Divided held.old held.new)) }
 {
     let Ok(room) = Vacant::take(alloc) else {
         return None;
     };
     match held.split() {
-        Some(born) => Some(Loose::fill(room, born).into_box()),
+        Some(born) => Some(Loose::fill(room, Payload::Seat(born)).into_box()),
         None => {
             let _alloc = room.free();
             None
@@ -130,31 +131,19 @@ fn split_boxed(alloc: Global, held: &mut HeldSeat) -> Option<Box<HeldSeat, Globa
 
 /// A second end of the meters, for another thread.
 #[unsafe(no_mangle)]
-pub extern "C" fn synth_seat_split(
-    alloc: Global,
-    seat: &mut HandleSeat,
-    other: &mut HandleSeat,
-) -> i32
-    ensures { SplitMeters seat.old.hidden.value seat.new.hidden.value other.old.hidden.value other.new.hidden.value
-        result }
+pub extern "C" fn synth_seat_split(alloc: Global, seat: &mut Handle, other: &mut Handle) -> i32
+    ensures { SplitHandle seat_of (λ x. x.parts) Divided seat.old seat.new other.old other.new result }
 {
-    if other.is_full() {
-        return if seat.is_full() {
-            FULL_HANDLE
-        } else {
-            EMPTY_HANDLE
-        };
-    }
-    let Some(mut held) = seat.take(alloc) else {
+    let Some(held) = seat.seat() else {
         return EMPTY_HANDLE;
     };
+    if other.is_full() {
+        return FULL_HANDLE;
+    }
     if !held.is_divisible() {
-        seat.put(held);
         return NO_SHARE;
     }
-    let made = split_boxed(alloc, &mut held);
-    seat.put(held);
-    match made {
+    match split_boxed(alloc, held) {
         Some(made) => {
             other.put(made);
             DONE
@@ -165,75 +154,56 @@ pub extern "C" fn synth_seat_split(
 
 /// The first end then has all that both had, and the second handle is empty.
 #[unsafe(no_mangle)]
-pub extern "C" fn synth_seat_join(
-    alloc: Global,
-    seat: &mut HandleSeat,
-    other: &mut HandleSeat,
-) -> i32
-    requires { MarksTell seat.old.hidden.value other.old.hidden.value }
-    ensures { JoinedMeters seat.old.hidden.value seat.new.hidden.value other.old.hidden.value other.new.hidden.value
-        result }
+pub extern "C" fn synth_seat_join(alloc: Global, seat: &mut Handle, other: &mut Handle) -> i32
+    requires { MarksTell HaveOneMark AreOfOneTable (seat_of seat.old) (seat_of other.old) }
+    ensures { JoinedHandle seat_of MayJoin MayNotJoin Joined seat.old seat.new other.old other.new result }
 {
-    let Some(mut held) = seat.take(alloc) else {
+    let Some(held) = seat.seat() else {
         return EMPTY_HANDLE;
     };
-    let Some(joined) = other.take(alloc) else {
-        seat.put(held);
+    let Some(joined) = other.seat() else {
         return EMPTY_HANDLE;
     };
-    if !held.may_join(&joined) {
-        seat.put(held);
-        other.put(joined);
+    if !held.may_join(joined) {
         return OTHER_OBJECT;
     }
-    held.join(Box::into_inner(joined));
-    seat.put(held);
+    held.join(Box::into_inner(other.take(alloc)).into_seat());
     DONE
 }
 
 /// `Meters::tick`. The gauges are 0 to 7.
 #[unsafe(no_mangle)]
 pub extern "C" fn synth_seat_tick(
-    alloc: Global,
-    seat: &mut HandleSeat,
+    seat: &mut Handle,
     gauge: u32,
     amount: u64,
     before: &mut u64,
 ) -> i32
-    ensures empty { seat.old.hidden.value ≡ None → (result ≡ EmptyHandle) × (seat.new.hidden.value ≡ None)
-        × (before.new ≡ before.old) }
-    ensures ticked { HoldsThen seat.old.hidden.value
-        (λ x. TickTold x gauge amount before.old before.new seat.new.hidden.value result) }
+    ensures empty { NoneIn seat_of seat.old seat.new ((result ≡ EmptyHandle) × (before.new ≡ before.old)) }
+    ensures ticked { HoldsThen (seat_of seat.old)
+        (λ x. TickTold x gauge amount before.old before.new (seat_of seat.new) result) }
 {
-    let Some(mut held) = seat.take(alloc) else {
+    let Some(held) = seat.seat() else {
         return EMPTY_HANDLE;
     };
     if gauge >= 8 {
-        seat.put(held);
         return BAD_NUMBER;
     }
     *before = held.tick(gauge as usize, amount);
-    seat.put(held);
     DONE
 }
 
 /// `Meters::advance`.
 #[unsafe(no_mangle)]
-pub extern "C" fn synth_seat_advance(
-    alloc: Global,
-    seat: &mut HandleSeat,
-    clock: &mut u32,
-) -> SynthAnswer
-    ensures empty { seat.old.hidden.value ≡ None → IsCodeAlone EmptyHandle result × (seat.new.hidden.value ≡ None)
-        × (clock.new ≡ clock.old) }
-    ensures advanced { HoldsThen seat.old.hidden.value
-        (λ x. AdvanceTold x clock.old clock.new seat.new.hidden.value result) }
+pub extern "C" fn synth_seat_advance(seat: &mut Handle, clock: &mut u32) -> SynthAnswer
+    ensures empty { NoneIn seat_of seat.old seat.new (IsCodeAlone EmptyHandle result × (clock.new ≡ clock.old)) }
+    ensures advanced { HoldsThen (seat_of seat.old)
+        (λ x. AdvanceTold x clock.old clock.new (seat_of seat.new) result) }
 {
-    let Some(mut held) = seat.take(alloc) else {
+    let Some(held) = seat.seat() else {
         return told(EMPTY_HANDLE);
     };
     let answer = held.advance();
-    seat.put(held);
     match answer {
         Ok(now) => {
             *clock = now;
@@ -246,25 +216,21 @@ pub extern "C" fn synth_seat_advance(
 /// `Meters::try_set`.
 #[unsafe(no_mangle)]
 pub extern "C" fn synth_seat_try_set(
-    alloc: Global,
-    seat: &mut HandleSeat,
+    seat: &mut Handle,
     alarm: &SynthAlarm,
     slot: &mut u32,
 ) -> SynthAnswer
-    ensures empty { seat.old.hidden.value ≡ None → IsCodeAlone EmptyHandle result × (seat.new.hidden.value ≡ None)
-        × (slot.new ≡ slot.old) }
-    ensures set { HoldsThen seat.old.hidden.value
-        (λ x. SetTold x alarm.now slot.old slot.new seat.new.hidden.value result) }
+    ensures empty { NoneIn seat_of seat.old seat.new (IsCodeAlone EmptyHandle result × (slot.new ≡ slot.old)) }
+    ensures set { HoldsThen (seat_of seat.old)
+        (λ x. SetTold x alarm.now slot.old slot.new (seat_of seat.new) result) }
 {
-    let Some(mut held) = seat.take(alloc) else {
+    let Some(held) = seat.seat() else {
         return told(EMPTY_HANDLE);
     };
     let Some(alarm) = alarm_of(alarm) else {
-        seat.put(held);
         return told(BAD_NUMBER);
     };
     let answer = held.try_set(alarm);
-    seat.put(held);
     match answer {
         Ok(found) => {
             *slot = found as u32;
@@ -277,55 +243,47 @@ pub extern "C" fn synth_seat_try_set(
 /// `Meters::cancel`. The slots are 0 to 15.
 #[unsafe(no_mangle)]
 pub extern "C" fn synth_seat_cancel(
-    alloc: Global,
-    seat: &mut HandleSeat,
+    seat: &mut Handle,
     slot: u32,
     alarm: &SynthAlarm,
     cancelled: &mut bool,
 ) -> i32
-    ensures empty { seat.old.hidden.value ≡ None → (result ≡ EmptyHandle) × (seat.new.hidden.value ≡ None)
-        × (cancelled.new ≡ cancelled.old) }
-    ensures cancelled { HoldsThen seat.old.hidden.value
-        (λ x. CancelTold x slot alarm.now cancelled.old cancelled.new seat.new.hidden.value result) }
+    ensures empty { NoneIn seat_of seat.old seat.new ((result ≡ EmptyHandle) × (cancelled.new ≡ cancelled.old)) }
+    ensures cancelled { HoldsThen (seat_of seat.old)
+        (λ x. CancelTold x slot alarm.now cancelled.old cancelled.new (seat_of seat.new) result) }
 {
-    let Some(mut held) = seat.take(alloc) else {
+    let Some(held) = seat.seat() else {
         return EMPTY_HANDLE;
     };
     if slot >= 16 {
-        seat.put(held);
         return BAD_NUMBER;
     }
     let Some(alarm) = alarm_of(alarm) else {
-        seat.put(held);
         return BAD_NUMBER;
     };
     *cancelled = held.cancel(slot as usize, alarm);
-    seat.put(held);
     DONE
 }
 
 /// `Meters::due`. The buffer has room for 16 alarms or more.
 #[unsafe(no_mangle)]
 pub extern "C" fn synth_seat_due(
-    alloc: Global,
-    seat: &mut HandleSeat,
+    seat: &mut Handle,
     alarms: &mut [SynthAlarm],
     count: &mut usize,
 ) -> i32
-    ensures empty { seat.old.hidden.value ≡ None → (result ≡ EmptyHandle) × (seat.new.hidden.value ≡ None)
-        × (alarms.new ≡ alarms.old) × (count.new ≡ count.old) }
-    ensures due { HoldsThen seat.old.hidden.value
-        (λ x. DueTold x alarms.old alarms.new count.old count.new seat.new.hidden.value result) }
+    ensures empty { NoneIn seat_of seat.old seat.new
+        ((result ≡ EmptyHandle) × (alarms.new ≡ alarms.old) × (count.new ≡ count.old)) }
+    ensures due { HoldsThen (seat_of seat.old)
+        (λ x. DueTold x alarms.old alarms.new count.old count.new (seat_of seat.new) result) }
 {
-    let Some(mut held) = seat.take(alloc) else {
+    let Some(held) = seat.seat() else {
         return EMPTY_HANDLE;
     };
     if alarms.len() < 16 {
-        seat.put(held);
         return SHORT_BUFFER;
     }
     let fired = held.due();
-    seat.put(held);
     *count = tell_alarms(fired.as_slice(), alarms);
     DONE
 }
@@ -334,26 +292,25 @@ pub extern "C" fn synth_seat_due(
 #[unsafe(no_mangle)]
 pub extern "C" fn synth_seat_close(
     alloc: Global,
-    seat: &mut HandleSeat,
+    seat: &mut Handle,
     metered: &mut SynthMetered,
 ) -> i32
-    ensures empty { seat.old.hidden.value ≡ None → (result ≡ EmptyHandle) × (seat.new.hidden.value ≡ None)
-        × (metered.new ≡ metered.old) }
-    ensures closed { HoldsThen seat.old.hidden.value
-        (λ x. WasClosed x seat.new.hidden.value metered.old metered.new result) }
+    ensures empty { NoneIn seat_of seat.old seat.new ((result ≡ EmptyHandle) × (metered.new ≡ metered.old)) }
+    ensures closed { HoldsThen (seat_of seat.old)
+        (λ x. WasClosed x (held_by seat.new) metered.old metered.new result) }
 {
-    let Some(held) = seat.take(alloc) else {
+    let Some(_held) = seat.seat() else {
         return EMPTY_HANDLE;
     };
-    let (held, room) = Loose::of(held).take_out();
-    match held.close() {
+    let (payload, room) = Loose::of(seat.take(alloc)).take_out();
+    match payload.into_seat().close() {
         Outcome::Closed(ended) => {
             let _alloc = room.free();
             *metered = told_of_metered(&ended);
             DONE
         }
         Outcome::Open(held) => {
-            seat.put(Loose::fill(room, held).into_box());
+            seat.put(Loose::fill(room, Payload::Seat(held)).into_box());
             OPEN
         }
     }

@@ -1,14 +1,14 @@
 //! Closing a table.
 ghost use Rattle.std.specs.Prelude.{◌≡◌};
-ghost use Rattle.std.specs.declared.option.Option.TheVariants.{None};
 ghost use Rattle.bindings.specs.Codes.{EmptyHandle};
-ghost use Rattle.bindings.specs.HandCalls.{HoldsThen};
+ghost use Rattle.bindings.specs.Handles.{held_by, hand_of, NoneIn, HoldsThen};
 ghost use Rattle.bindings.specs.HandClosing.{Ended, WasClosed};
 
-use super::handle::HandleHand;
 use super::held::HeldHand;
 use super::places::{SynthPlaces, told_of_places};
 use crate::answer::{DONE, EMPTY_HANDLE, OPEN};
+use crate::handle::Handle;
+use crate::payload::Payload;
 use loose_box::Loose;
 use std::alloc::Global;
 use std::sync::Arc;
@@ -59,26 +59,25 @@ impl HeldHand {
 #[unsafe(no_mangle)]
 pub extern "C" fn synth_hand_close(
     alloc: Global,
-    hand: &mut HandleHand,
+    hand: &mut Handle,
     places: &mut SynthPlaces,
 ) -> i32
-    ensures empty { hand.old.hidden.value ≡ None → (result ≡ EmptyHandle) × (hand.new.hidden.value ≡ None)
-        × (places.new ≡ places.old) }
-    ensures closed { HoldsThen hand.old.hidden.value
-        (λ x. WasClosed x hand.new.hidden.value places.old places.new result) }
+    ensures empty { NoneIn hand_of hand.old hand.new ((result ≡ EmptyHandle) × (places.new ≡ places.old)) }
+    ensures closed { HoldsThen (hand_of hand.old)
+        (λ x. WasClosed x (held_by hand.new) places.old places.new result) }
 {
-    let Some(held) = hand.take(alloc) else {
+    let Some(_held) = hand.hand() else {
         return EMPTY_HANDLE;
     };
-    let (held, room) = Loose::of(held).take_out();
-    match held.close() {
+    let (payload, room) = Loose::of(hand.take(alloc)).take_out();
+    match payload.into_hand().close() {
         Outcome::Closed(ended) => {
             let _alloc = room.free();
             *places = told_of_places(&ended);
             DONE
         }
         Outcome::Open(held) => {
-            hand.put(Loose::fill(room, held).into_box());
+            hand.put(Loose::fill(room, Payload::Hand(held)).into_box());
             OPEN
         }
     }

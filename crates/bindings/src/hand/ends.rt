@@ -1,16 +1,19 @@
 //! Making, freeing, splitting and joining hands.
 ghost use Rattle.std.specs.Prelude.{◌≡◌, ◌≤◌, ◌<◌};
 ghost use Rattle.std.specs.Option.{MatchOption};
-ghost use Rattle.bindings.specs.HandHeld.{Divided, ServesAll, HasNoneOn};
-ghost use Rattle.bindings.specs.HandCalls.{MadeTable, FreedHand, MaySplit, MayNotSplit, SplitHands};
-ghost use Rattle.bindings.specs.HandCalls.{MarksTell, JoinedHands};
+ghost use Rattle.bindings.specs.Handles.{hand_of, HoldsSome, FreedHandle, JoinedHandle, MarksTell};
+ghost use Rattle.bindings.specs.HandCalls.{MadeTable, MaySplit, MayNotSplit, SplitHands};
+ghost use Rattle.bindings.specs.HandHeld.{Divided, Joined, ServesAll, HasNoneOn};
+ghost use Rattle.bindings.specs.HandHeld.{HaveOneMark, AreOfOneTable, MayJoin, MayNotJoin};
+ghost use Rattle.bindings.specs.Kinds.{hand_in};
 
-use super::handle::HandleHand;
 use super::held::HeldHand;
 use crate::answer::{
     BAD_NUMBER, BUSY, DONE, EMPTY_HANDLE, FULL_HANDLE, NO_MEMORY, NO_SHARE, NOT_SERVED,
     OTHER_OBJECT,
 };
+use crate::handle::Handle;
+use crate::payload::Payload;
 use loose_box::{Loose, Vacant};
 use std::alloc::Global;
 
@@ -20,9 +23,9 @@ pub extern "C" fn synth_hand_new_marked(
     alloc: Global,
     first: u32,
     mark: u64,
-    hand: &mut HandleHand,
+    hand: &mut Handle,
 ) -> i32
-    ensures { MadeTable first mark hand.old.hidden.value hand.new.hidden.value result }
+    ensures { MadeTable first mark hand.old hand.new result }
 {
     if hand.is_full() {
         return FULL_HANDLE;
@@ -33,7 +36,7 @@ pub extern "C" fn synth_hand_new_marked(
     let Some(held) = HeldHand::new(alloc, first, mark) else {
         return NO_MEMORY;
     };
-    let Ok(held) = Box::new(alloc, held) else {
+    let Ok(held) = Box::new(alloc, Payload::Hand(held)) else {
         return NO_MEMORY;
     };
     hand.put(held);
@@ -42,13 +45,14 @@ pub extern "C" fn synth_hand_new_marked(
 
 /// Frees the handle, whose hand is then never joined.
 #[unsafe(no_mangle)]
-pub extern "C" fn synth_hand_free(alloc: Global, hand: &mut HandleHand) -> i32
-    ensures { FreedHand hand.old.hidden.value hand.new.hidden.value result }
+pub extern "C" fn synth_hand_free(alloc: Global, hand: &mut Handle) -> i32
+    ensures { FreedHandle hand_of hand.old hand.new result }
 {
-    match hand.take(alloc) {
-        Some(_held) => DONE,
-        None => EMPTY_HANDLE,
+    if hand.hand().is_none() {
+        return EMPTY_HANDLE;
     }
+    let _held = hand.take(alloc);
+    DONE
 }
 
 // Why the hand can't give these processors away.
@@ -72,16 +76,17 @@ fn why_not_split(held: &HeldHand, processors: u32) -> Option<i32>
 }
 
 // A new hand in a box of its own.
-fn split_boxed(alloc: Global, held: &mut HeldHand, processors: u8) -> Option<Box<HeldHand, Global>>
+fn split_boxed(alloc: Global, held: &mut HeldHand, processors: u8) -> Option<Box<Payload, Global>>
     requires parts { 2 ≤ held.old.parts }
     requires empty { ServesAll processors held.old × HasNoneOn processors held.old }
-    ensures { MatchOption result (held.new ≡ held.old) (λ b. Divided processors held.old held.new b.value) }
+    ensures { MatchOption result (held.new ≡ held.old)
+        (λ b. HoldsSome (hand_in b.value) (Divided processors held.old held.new)) }
 {
     let Ok(room) = Vacant::take(alloc) else {
         return None;
     };
     match held.split(processors) {
-        Some(born) => Some(Loose::fill(room, born).into_box()),
+        Some(born) => Some(Loose::fill(room, Payload::Hand(born)).into_box()),
         None => {
             let _alloc = room.free();
             None
@@ -93,30 +98,22 @@ fn split_boxed(alloc: Global, held: &mut HeldHand, processors: u8) -> Option<Box
 #[unsafe(no_mangle)]
 pub extern "C" fn synth_hand_split(
     alloc: Global,
-    hand: &mut HandleHand,
+    hand: &mut Handle,
     processors: u32,
-    other: &mut HandleHand,
+    other: &mut Handle,
 ) -> i32
-    ensures { SplitHands processors hand.old.hidden.value hand.new.hidden.value other.old.hidden.value
-        other.new.hidden.value result }
+    ensures { SplitHands processors hand.old hand.new other.old other.new result }
 {
-    if other.is_full() {
-        return if hand.is_full() {
-            FULL_HANDLE
-        } else {
-            EMPTY_HANDLE
-        };
-    }
-    let Some(mut held) = hand.take(alloc) else {
+    let Some(held) = hand.hand() else {
         return EMPTY_HANDLE;
     };
-    if let Some(code) = why_not_split(&held, processors) {
-        hand.put(held);
+    if other.is_full() {
+        return FULL_HANDLE;
+    }
+    if let Some(code) = why_not_split(held, processors) {
         return code;
     }
-    let made = split_boxed(alloc, &mut held, processors as u8);
-    hand.put(held);
-    match made {
+    match split_boxed(alloc, held, processors as u8) {
         Some(made) => {
             other.put(made);
             DONE
@@ -127,28 +124,19 @@ pub extern "C" fn synth_hand_split(
 
 /// The first hand then has all that both had, and the second handle is empty.
 #[unsafe(no_mangle)]
-pub extern "C" fn synth_hand_join(
-    alloc: Global,
-    hand: &mut HandleHand,
-    other: &mut HandleHand,
-) -> i32
-    requires { MarksTell hand.old.hidden.value other.old.hidden.value }
-    ensures { JoinedHands hand.old.hidden.value hand.new.hidden.value other.old.hidden.value other.new.hidden.value
-        result }
+pub extern "C" fn synth_hand_join(alloc: Global, hand: &mut Handle, other: &mut Handle) -> i32
+    requires { MarksTell HaveOneMark AreOfOneTable (hand_of hand.old) (hand_of other.old) }
+    ensures { JoinedHandle hand_of MayJoin MayNotJoin Joined hand.old hand.new other.old other.new result }
 {
-    let Some(mut held) = hand.take(alloc) else {
+    let Some(held) = hand.hand() else {
         return EMPTY_HANDLE;
     };
-    let Some(joined) = other.take(alloc) else {
-        hand.put(held);
+    let Some(joined) = other.hand() else {
         return EMPTY_HANDLE;
     };
-    if !held.may_join(&joined) {
-        hand.put(held);
-        other.put(joined);
+    if !held.may_join(joined) {
         return OTHER_OBJECT;
     }
-    held.join(Box::into_inner(joined));
-    hand.put(held);
+    held.join(Box::into_inner(other.take(alloc)).into_hand());
     DONE
 }

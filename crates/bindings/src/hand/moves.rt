@@ -1,21 +1,19 @@
 //! Moves of elements for C.
 ghost use Rattle.std.specs.Prelude.{◌≡◌, ◌+◌, true};
-ghost use Rattle.std.specs.declared.option.Option.TheVariants.{None};
 ghost use Rattle.event_theory.specs.Marks.{wait_ring};
 ghost use Rattle.thread_table.specs.Handles.{view_of};
 ghost use Rattle.thread_table.specs.Rules.{has};
 ghost use Rattle.bindings.specs.Codes.{EmptyHandle};
-ghost use Rattle.bindings.specs.HandCalls.{HoldsThen};
+ghost use Rattle.bindings.specs.Handles.{hand_of, NoneIn, HoldsThen};
 ghost use Rattle.bindings.specs.HandMoves.{WasMoved, WasWaited, WasTicket, code_of_move, head_of_move};
 ghost use Rattle.bindings.specs.HandMoves.{notifies_of_move, IsMoveCode, MovingTold, WaitingTold, TicketTold};
 ghost use Rattle.bindings.specs.HandMoves.{WaitingAtTold};
 
-use super::handle::HandleHand;
 use super::held::HeldHand;
 use super::numbers::{element_of, wait_of};
 use crate::answer::{BAD_NUMBER, DONE, EMPTY_HANDLE, LOST, MOVED, NOT_HELD, SPENT};
+use crate::handle::Handle;
 use event_theory::{Element, WaitNumber};
-use std::alloc::Global;
 use thread_table::MoveRefusal;
 
 /// What a move answered. With `LOST`, `head` and `notifies` are those of the head word that was found. With `MOVED`,
@@ -109,141 +107,105 @@ fn told_of_move(answer: Result<(), MoveRefusal>) -> SynthMoved
 
 /// `ThreadTable::try_ready`. The elements are 0 to 63.
 #[unsafe(no_mangle)]
-pub extern "C" fn synth_hand_try_ready(
-    alloc: Global,
-    hand: &mut HandleHand,
-    element: u32,
-) -> SynthMoved
-    ensures empty { hand.old.hidden.value ≡ None → IsMoveCode EmptyHandle result × (hand.new.hidden.value ≡ None) }
-    ensures moved { HoldsThen hand.old.hidden.value (λ x. MovingTold 0 element x hand.new.hidden.value result) }
+pub extern "C" fn synth_hand_try_ready(hand: &mut Handle, element: u32) -> SynthMoved
+    ensures empty { NoneIn hand_of hand.old hand.new (IsMoveCode EmptyHandle result) }
+    ensures moved { HoldsThen (hand_of hand.old) (λ x. MovingTold 0 element x (hand_of hand.new) result) }
 {
-    let Some(mut held) = hand.take(alloc) else {
+    let Some(held) = hand.hand() else {
         return code_alone(EMPTY_HANDLE);
     };
     let Some(element) = element_of(element) else {
-        hand.put(held);
         return code_alone(BAD_NUMBER);
     };
     if !held.hand.holds(element) {
-        hand.put(held);
         return code_alone(NOT_HELD);
     }
     let answer = held.try_ready(element);
-    hand.put(held);
     told_of_move(answer)
 }
 
 /// `ThreadTable::try_retire`. The elements are 0 to 63.
 #[unsafe(no_mangle)]
-pub extern "C" fn synth_hand_try_retire(
-    alloc: Global,
-    hand: &mut HandleHand,
-    element: u32,
-) -> SynthMoved
-    ensures empty { hand.old.hidden.value ≡ None → IsMoveCode EmptyHandle result × (hand.new.hidden.value ≡ None) }
-    ensures moved { HoldsThen hand.old.hidden.value (λ x. MovingTold 1 element x hand.new.hidden.value result) }
+pub extern "C" fn synth_hand_try_retire(hand: &mut Handle, element: u32) -> SynthMoved
+    ensures empty { NoneIn hand_of hand.old hand.new (IsMoveCode EmptyHandle result) }
+    ensures moved { HoldsThen (hand_of hand.old) (λ x. MovingTold 1 element x (hand_of hand.new) result) }
 {
-    let Some(mut held) = hand.take(alloc) else {
+    let Some(held) = hand.hand() else {
         return code_alone(EMPTY_HANDLE);
     };
     let Some(element) = element_of(element) else {
-        hand.put(held);
         return code_alone(BAD_NUMBER);
     };
     if !held.hand.holds(element) {
-        hand.put(held);
         return code_alone(NOT_HELD);
     }
     let answer = held.try_retire(element);
-    hand.put(held);
     told_of_move(answer)
 }
 
 /// `ThreadTable::try_wait`. The elements are 0 to 63, and the wait queues 0 to 15.
 #[unsafe(no_mangle)]
-pub extern "C" fn synth_hand_try_wait(
-    alloc: Global,
-    hand: &mut HandleHand,
-    element: u32,
-    wait: u32,
-) -> SynthMoved
-    ensures empty { hand.old.hidden.value ≡ None → IsMoveCode EmptyHandle result × (hand.new.hidden.value ≡ None) }
-    ensures moved { HoldsThen hand.old.hidden.value (λ x. WaitingTold element wait x hand.new.hidden.value result) }
+pub extern "C" fn synth_hand_try_wait(hand: &mut Handle, element: u32, wait: u32) -> SynthMoved
+    ensures empty { NoneIn hand_of hand.old hand.new (IsMoveCode EmptyHandle result) }
+    ensures moved { HoldsThen (hand_of hand.old) (λ x. WaitingTold element wait x (hand_of hand.new) result) }
 {
-    let Some(mut held) = hand.take(alloc) else {
+    let Some(held) = hand.hand() else {
         return code_alone(EMPTY_HANDLE);
     };
     let Some(element) = element_of(element) else {
-        hand.put(held);
         return code_alone(BAD_NUMBER);
     };
     let Some(wait) = wait_of(wait) else {
-        hand.put(held);
         return code_alone(BAD_NUMBER);
     };
     if !held.hand.holds(element) {
-        hand.put(held);
         return code_alone(NOT_HELD);
     }
     let answer = held.try_wait(element, wait);
-    hand.put(held);
     told_of_move(answer)
 }
 
 /// `ThreadTable::ticket`. The wait queues are 0 to 15.
 #[unsafe(no_mangle)]
-pub extern "C" fn synth_hand_ticket(
-    alloc: Global,
-    hand: &mut HandleHand,
-    wait: u32,
-    ticket: &mut u32,
-) -> i32
-    ensures empty { hand.old.hidden.value ≡ None → (result ≡ EmptyHandle) × (hand.new.hidden.value ≡ None)
-        × (ticket.new ≡ ticket.old) }
-    ensures loaded { HoldsThen hand.old.hidden.value
-        (λ x. TicketTold wait x ticket.old ticket.new hand.new.hidden.value result) }
+pub extern "C" fn synth_hand_ticket(hand: &mut Handle, wait: u32, ticket: &mut u32) -> i32
+    ensures empty { NoneIn hand_of hand.old hand.new ((result ≡ EmptyHandle) × (ticket.new ≡ ticket.old)) }
+    ensures loaded { HoldsThen (hand_of hand.old)
+        (λ x. TicketTold wait x ticket.old ticket.new (hand_of hand.new) result) }
 {
-    let Some(mut held) = hand.take(alloc) else {
+    let Some(held) = hand.hand() else {
         return EMPTY_HANDLE;
     };
     let Some(wait) = wait_of(wait) else {
-        hand.put(held);
         return BAD_NUMBER;
     };
     *ticket = held.ticket(wait);
-    hand.put(held);
     DONE
 }
 
 /// `ThreadTable::try_wait_at`. The elements are 0 to 63, and the wait queues 0 to 15.
 #[unsafe(no_mangle)]
 pub extern "C" fn synth_hand_try_wait_at(
-    alloc: Global,
-    hand: &mut HandleHand,
+    hand: &mut Handle,
     element: u32,
     wait: u32,
     ticket: u32,
 ) -> SynthMoved
-    ensures empty { hand.old.hidden.value ≡ None → IsMoveCode EmptyHandle result × (hand.new.hidden.value ≡ None) }
-    ensures moved { HoldsThen hand.old.hidden.value
-        (λ x. WaitingAtTold element wait ticket x hand.new.hidden.value result) }
+    ensures empty { NoneIn hand_of hand.old hand.new (IsMoveCode EmptyHandle result) }
+    ensures moved { HoldsThen (hand_of hand.old)
+        (λ x. WaitingAtTold element wait ticket x (hand_of hand.new) result) }
 {
-    let Some(mut held) = hand.take(alloc) else {
+    let Some(held) = hand.hand() else {
         return code_alone(EMPTY_HANDLE);
     };
     let Some(element) = element_of(element) else {
-        hand.put(held);
         return code_alone(BAD_NUMBER);
     };
     let Some(wait) = wait_of(wait) else {
-        hand.put(held);
         return code_alone(BAD_NUMBER);
     };
     if !held.hand.holds(element) {
-        hand.put(held);
         return code_alone(NOT_HELD);
     }
     let answer = held.try_wait_at(element, wait, ticket);
-    hand.put(held);
     told_of_move(answer)
 }

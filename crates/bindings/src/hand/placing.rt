@@ -1,16 +1,14 @@
 //! What a hand has, its processors, and the steps of its elements.
 ghost use Rattle.std.specs.Prelude.{◌≡◌};
-ghost use Rattle.std.specs.declared.option.Option.TheVariants.{None};
 ghost use Rattle.bindings.specs.Codes.{EmptyHandle};
-ghost use Rattle.bindings.specs.HandCalls.{HoldsThen, TurnsThen, HoldsTold, ServesTold, OnProcessorTold, OnTold, OffTold};
-ghost use Rattle.bindings.specs.HandCalls.{PcTold, StepTold};
+ghost use Rattle.bindings.specs.Handles.{hand_of, NoneIn, HoldsThen, TurnsThen};
+ghost use Rattle.bindings.specs.HandCalls.{HoldsTold, ServesTold, OnProcessorTold, OnTold, OffTold, PcTold, StepTold};
 
-use super::handle::HandleHand;
 use super::held::HeldHand;
 use super::numbers::element_of;
 use super::processors::processor_of;
 use crate::answer::{BAD_NUMBER, BUSY, DONE, EMPTY_HANDLE, NOT_HELD, NOT_SERVED, SPENT, VACANT};
-use std::alloc::Global;
+use crate::handle::Handle;
 
 fn tell_holds(held: &HeldHand, element: u32, holds: &mut bool) -> i32
     ensures { HoldsTold element held.now holds.old holds.new result }
@@ -24,22 +22,15 @@ fn tell_holds(held: &HeldHand, element: u32, holds: &mut bool) -> i32
 
 /// `Hand::holds`. The elements are 0 to 63.
 #[unsafe(no_mangle)]
-pub extern "C" fn synth_hand_holds(
-    alloc: Global,
-    hand: &mut HandleHand,
-    element: u32,
-    holds: &mut bool,
-) -> i32
-    ensures empty { hand.old.hidden.value ≡ None → (result ≡ EmptyHandle) × (hand.new.hidden.value ≡ None)
-        × (holds.new ≡ holds.old) }
-    ensures told { HoldsThen hand.old.hidden.value
-        (λ x. (hand.new.hidden.value ≡ hand.old.hidden.value) × HoldsTold element x holds.old holds.new result) }
+pub extern "C" fn synth_hand_holds(hand: &mut Handle, element: u32, holds: &mut bool) -> i32
+    ensures empty { NoneIn hand_of hand.old hand.new ((result ≡ EmptyHandle) × (holds.new ≡ holds.old)) }
+    ensures told { HoldsThen (hand_of hand.old)
+        (λ x. ((hand_of hand.new) ≡ (hand_of hand.old)) × HoldsTold element x holds.old holds.new result) }
 {
-    let Some(held) = hand.take(alloc) else {
+    let Some(held) = hand.hand() else {
         return EMPTY_HANDLE;
     };
-    let code = tell_holds(&held, element, holds);
-    hand.put(held);
+    let code = tell_holds(held, element, holds);
     code
 }
 
@@ -55,23 +46,16 @@ fn tell_serves(held: &HeldHand, processor: u32, serves: &mut bool) -> i32
 
 /// `Hand::serves`. The processors are 0 to 7.
 #[unsafe(no_mangle)]
-pub extern "C" fn synth_hand_serves(
-    alloc: Global,
-    hand: &mut HandleHand,
-    processor: u32,
-    serves: &mut bool,
-) -> i32
-    ensures empty { hand.old.hidden.value ≡ None → (result ≡ EmptyHandle) × (hand.new.hidden.value ≡ None)
-        × (serves.new ≡ serves.old) }
-    ensures told { HoldsThen hand.old.hidden.value
-        (λ x. (hand.new.hidden.value ≡ hand.old.hidden.value)
+pub extern "C" fn synth_hand_serves(hand: &mut Handle, processor: u32, serves: &mut bool) -> i32
+    ensures empty { NoneIn hand_of hand.old hand.new ((result ≡ EmptyHandle) × (serves.new ≡ serves.old)) }
+    ensures told { HoldsThen (hand_of hand.old)
+        (λ x. ((hand_of hand.new) ≡ (hand_of hand.old))
         × ServesTold processor x serves.old serves.new result) }
 {
-    let Some(held) = hand.take(alloc) else {
+    let Some(held) = hand.hand() else {
         return EMPTY_HANDLE;
     };
-    let code = tell_serves(&held, processor, serves);
-    hand.put(held);
+    let code = tell_serves(held, processor, serves);
     code
 }
 
@@ -91,22 +75,19 @@ fn tell_on_processor(held: &HeldHand, processor: u32, element: &mut u32) -> i32
 /// `Hand::on_processor`.
 #[unsafe(no_mangle)]
 pub extern "C" fn synth_hand_on_processor(
-    alloc: Global,
-    hand: &mut HandleHand,
+    hand: &mut Handle,
     processor: u32,
     element: &mut u32,
 ) -> i32
-    ensures empty { hand.old.hidden.value ≡ None → (result ≡ EmptyHandle) × (hand.new.hidden.value ≡ None)
-        × (element.new ≡ element.old) }
-    ensures told { HoldsThen hand.old.hidden.value
-        (λ x. (hand.new.hidden.value ≡ hand.old.hidden.value)
+    ensures empty { NoneIn hand_of hand.old hand.new ((result ≡ EmptyHandle) × (element.new ≡ element.old)) }
+    ensures told { HoldsThen (hand_of hand.old)
+        (λ x. ((hand_of hand.new) ≡ (hand_of hand.old))
         × OnProcessorTold processor x element.old element.new result) }
 {
-    let Some(held) = hand.take(alloc) else {
+    let Some(held) = hand.hand() else {
         return EMPTY_HANDLE;
     };
-    let code = tell_on_processor(&held, processor, element);
-    hand.put(held);
+    let code = tell_on_processor(held, processor, element);
     code
 }
 
@@ -134,21 +115,15 @@ fn put_on(held: &mut HeldHand, processor: u32, element: u32) -> i32
 
 /// `ThreadTable::on`.
 #[unsafe(no_mangle)]
-pub extern "C" fn synth_hand_on(
-    alloc: Global,
-    hand: &mut HandleHand,
-    processor: u32,
-    element: u32,
-) -> i32
-    ensures empty { hand.old.hidden.value ≡ None → (result ≡ EmptyHandle) × (hand.new.hidden.value ≡ None) }
-    ensures on { TurnsThen hand.old.hidden.value hand.new.hidden.value
+pub extern "C" fn synth_hand_on(hand: &mut Handle, processor: u32, element: u32) -> i32
+    ensures empty { NoneIn hand_of hand.old hand.new (result ≡ EmptyHandle) }
+    ensures on { TurnsThen (hand_of hand.old) (hand_of hand.new)
         (λ x y. OnTold processor element x y result) }
 {
-    let Some(mut held) = hand.take(alloc) else {
+    let Some(held) = hand.hand() else {
         return EMPTY_HANDLE;
     };
-    let code = put_on(&mut held, processor, element);
-    hand.put(held);
+    let code = put_on(held, processor, element);
     code
 }
 
@@ -170,22 +145,15 @@ fn take_off(held: &mut HeldHand, processor: u32, element: &mut u32) -> i32
 
 /// `ThreadTable::off`.
 #[unsafe(no_mangle)]
-pub extern "C" fn synth_hand_off(
-    alloc: Global,
-    hand: &mut HandleHand,
-    processor: u32,
-    element: &mut u32,
-) -> i32
-    ensures empty { hand.old.hidden.value ≡ None → (result ≡ EmptyHandle) × (hand.new.hidden.value ≡ None)
-        × (element.new ≡ element.old) }
-    ensures off { TurnsThen hand.old.hidden.value hand.new.hidden.value
+pub extern "C" fn synth_hand_off(hand: &mut Handle, processor: u32, element: &mut u32) -> i32
+    ensures empty { NoneIn hand_of hand.old hand.new ((result ≡ EmptyHandle) × (element.new ≡ element.old)) }
+    ensures off { TurnsThen (hand_of hand.old) (hand_of hand.new)
         (λ x y. OffTold processor x y element.old element.new result) }
 {
-    let Some(mut held) = hand.take(alloc) else {
+    let Some(held) = hand.hand() else {
         return EMPTY_HANDLE;
     };
-    let code = take_off(&mut held, processor, element);
-    hand.put(held);
+    let code = take_off(held, processor, element);
     code
 }
 
@@ -204,22 +172,15 @@ fn tell_pc(held: &mut HeldHand, element: u32, steps: &mut u64) -> i32
 
 /// `ThreadTable::pc`.
 #[unsafe(no_mangle)]
-pub extern "C" fn synth_hand_pc(
-    alloc: Global,
-    hand: &mut HandleHand,
-    element: u32,
-    steps: &mut u64,
-) -> i32
-    ensures empty { hand.old.hidden.value ≡ None → (result ≡ EmptyHandle) × (hand.new.hidden.value ≡ None)
-        × (steps.new ≡ steps.old) }
-    ensures told { TurnsThen hand.old.hidden.value hand.new.hidden.value
+pub extern "C" fn synth_hand_pc(hand: &mut Handle, element: u32, steps: &mut u64) -> i32
+    ensures empty { NoneIn hand_of hand.old hand.new ((result ≡ EmptyHandle) × (steps.new ≡ steps.old)) }
+    ensures told { TurnsThen (hand_of hand.old) (hand_of hand.new)
         (λ x y. PcTold element x y steps.old steps.new result) }
 {
-    let Some(mut held) = hand.take(alloc) else {
+    let Some(held) = hand.hand() else {
         return EMPTY_HANDLE;
     };
-    let code = tell_pc(&mut held, element, steps);
-    hand.put(held);
+    let code = tell_pc(held, element, steps);
     code
 }
 
@@ -243,21 +204,14 @@ fn count_step(held: &mut HeldHand, element: u32, steps: &mut u64) -> i32
 
 /// `ThreadTable::step_done`.
 #[unsafe(no_mangle)]
-pub extern "C" fn synth_hand_step_done(
-    alloc: Global,
-    hand: &mut HandleHand,
-    element: u32,
-    steps: &mut u64,
-) -> i32
-    ensures empty { hand.old.hidden.value ≡ None → (result ≡ EmptyHandle) × (hand.new.hidden.value ≡ None)
-        × (steps.new ≡ steps.old) }
-    ensures done { TurnsThen hand.old.hidden.value hand.new.hidden.value
+pub extern "C" fn synth_hand_step_done(hand: &mut Handle, element: u32, steps: &mut u64) -> i32
+    ensures empty { NoneIn hand_of hand.old hand.new ((result ≡ EmptyHandle) × (steps.new ≡ steps.old)) }
+    ensures done { TurnsThen (hand_of hand.old) (hand_of hand.new)
         (λ x y. StepTold element x y steps.old steps.new result) }
 {
-    let Some(mut held) = hand.take(alloc) else {
+    let Some(held) = hand.hand() else {
         return EMPTY_HANDLE;
     };
-    let code = count_step(&mut held, element, steps);
-    hand.put(held);
+    let code = count_step(held, element, steps);
     code
 }

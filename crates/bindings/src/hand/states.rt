@@ -1,22 +1,20 @@
 //! Stop bits, stop cells and signals for C.
 ghost use Rattle.std.specs.Prelude.{◌≡◌, ◌<◌, true};
-ghost use Rattle.std.specs.declared.option.Option.TheVariants.{None};
 ghost use Rattle.event_theory.specs.Numbers.{u32_values};
 ghost use Rattle.thread_table.specs.Handles.{view_of};
 ghost use Rattle.thread_table.specs.Rules.{has};
 ghost use Rattle.bindings.specs.Codes.{EmptyHandle};
-ghost use Rattle.bindings.specs.HandCalls.{HoldsThen};
+ghost use Rattle.bindings.specs.Handles.{hand_of, NoneIn, HoldsThen};
 ghost use Rattle.bindings.specs.HandStates.{WasStopped, WasStarted, WasParked, WasSignalled, WereDelivered};
 ghost use Rattle.bindings.specs.HandStates.{number_of_start, is_raised, IsStateCode, IsToldLost, IsFitState};
 ghost use Rattle.bindings.specs.HandStates.{IsToldStart, IsToldPark, IsToldDelivery};
 ghost use Rattle.bindings.specs.HandStates.{StopTold, StartTold, ParkTold, SignalTold, DeliverTold};
 
-use super::handle::HandleHand;
 use super::held::HeldHand;
 use super::numbers::{element_of, signal_of};
 use crate::answer::{BAD_NUMBER, DONE, EMPTY_HANDLE, LOST, NOT_HELD};
+use crate::handle::Handle;
 use event_theory::{Element, Signal};
-use std::alloc::Global;
 use thread_table::{Lost, Signalled, Started};
 
 /// What a start, a park or a delivery answered. With `LOST`, `word` is the state word that was found: bits 0 to 15 are
@@ -150,26 +148,18 @@ fn tell_delivery(answer: Result<u16, Lost>, signals: &mut u32) -> SynthState
 
 /// `ThreadTable::stop`. The elements are 0 to 63.
 #[unsafe(no_mangle)]
-pub extern "C" fn synth_hand_stop(
-    alloc: Global,
-    hand: &mut HandleHand,
-    element: u32,
-    was_clear: &mut bool,
-) -> i32
-    ensures empty { hand.old.hidden.value ≡ None → (result ≡ EmptyHandle) × (hand.new.hidden.value ≡ None)
-        × (was_clear.new ≡ was_clear.old) }
-    ensures stopped { HoldsThen hand.old.hidden.value
-        (λ x. StopTold element x was_clear.old was_clear.new hand.new.hidden.value result) }
+pub extern "C" fn synth_hand_stop(hand: &mut Handle, element: u32, was_clear: &mut bool) -> i32
+    ensures empty { NoneIn hand_of hand.old hand.new ((result ≡ EmptyHandle) × (was_clear.new ≡ was_clear.old)) }
+    ensures stopped { HoldsThen (hand_of hand.old)
+        (λ x. StopTold element x was_clear.old was_clear.new (hand_of hand.new) result) }
 {
-    let Some(mut held) = hand.take(alloc) else {
+    let Some(held) = hand.hand() else {
         return EMPTY_HANDLE;
     };
     let Some(element) = element_of(element) else {
-        hand.put(held);
         return BAD_NUMBER;
     };
     *was_clear = held.stop(element);
-    hand.put(held);
     DONE
 }
 
@@ -177,112 +167,93 @@ pub extern "C" fn synth_hand_stop(
 /// cleared, and 2 where it was cleared and the hand holds the element.
 #[unsafe(no_mangle)]
 pub extern "C" fn synth_hand_try_start(
-    alloc: Global,
-    hand: &mut HandleHand,
+    hand: &mut Handle,
     element: u32,
     started: &mut u32,
 ) -> SynthState
-    ensures empty { hand.old.hidden.value ≡ None → IsStateCode EmptyHandle result × (hand.new.hidden.value ≡ None)
-        × (started.new ≡ started.old) }
-    ensures started { HoldsThen hand.old.hidden.value
-        (λ x. StartTold element x started.old started.new hand.new.hidden.value result) }
+    ensures empty { NoneIn hand_of hand.old hand.new (IsStateCode EmptyHandle result × (started.new ≡ started.old)) }
+    ensures started { HoldsThen (hand_of hand.old)
+        (λ x. StartTold element x started.old started.new (hand_of hand.new) result) }
 {
-    let Some(mut held) = hand.take(alloc) else {
+    let Some(held) = hand.hand() else {
         return code_alone(EMPTY_HANDLE);
     };
     let Some(element) = element_of(element) else {
-        hand.put(held);
         return code_alone(BAD_NUMBER);
     };
     let answer = held.try_start(element);
-    hand.put(held);
     tell_start(answer, started)
 }
 
 /// `ThreadTable::try_park`. The elements are 0 to 63.
 #[unsafe(no_mangle)]
 pub extern "C" fn synth_hand_try_park(
-    alloc: Global,
-    hand: &mut HandleHand,
+    hand: &mut Handle,
     element: u32,
     parked: &mut bool,
 ) -> SynthState
-    ensures empty { hand.old.hidden.value ≡ None → IsStateCode EmptyHandle result × (hand.new.hidden.value ≡ None)
-        × (parked.new ≡ parked.old) }
-    ensures parked { HoldsThen hand.old.hidden.value
-        (λ x. ParkTold element x parked.old parked.new hand.new.hidden.value result) }
+    ensures empty { NoneIn hand_of hand.old hand.new (IsStateCode EmptyHandle result × (parked.new ≡ parked.old)) }
+    ensures parked { HoldsThen (hand_of hand.old)
+        (λ x. ParkTold element x parked.old parked.new (hand_of hand.new) result) }
 {
-    let Some(mut held) = hand.take(alloc) else {
+    let Some(held) = hand.hand() else {
         return code_alone(EMPTY_HANDLE);
     };
     let Some(element) = element_of(element) else {
-        hand.put(held);
         return code_alone(BAD_NUMBER);
     };
     if !held.hand.holds(element) {
-        hand.put(held);
         return code_alone(NOT_HELD);
     }
     let answer = held.try_park(element);
-    hand.put(held);
     tell_park(answer, parked)
 }
 
 /// `ThreadTable::signal`. The elements are 0 to 63, and the signals 0 to 15.
 #[unsafe(no_mangle)]
 pub extern "C" fn synth_hand_signal(
-    alloc: Global,
-    hand: &mut HandleHand,
+    hand: &mut Handle,
     element: u32,
     signal: u32,
     raised: &mut bool,
 ) -> i32
-    ensures empty { hand.old.hidden.value ≡ None → (result ≡ EmptyHandle) × (hand.new.hidden.value ≡ None)
-        × (raised.new ≡ raised.old) }
-    ensures signalled { HoldsThen hand.old.hidden.value
-        (λ x. SignalTold element signal x raised.old raised.new hand.new.hidden.value result) }
+    ensures empty { NoneIn hand_of hand.old hand.new ((result ≡ EmptyHandle) × (raised.new ≡ raised.old)) }
+    ensures signalled { HoldsThen (hand_of hand.old)
+        (λ x. SignalTold element signal x raised.old raised.new (hand_of hand.new) result) }
 {
-    let Some(mut held) = hand.take(alloc) else {
+    let Some(held) = hand.hand() else {
         return EMPTY_HANDLE;
     };
     let Some(element) = element_of(element) else {
-        hand.put(held);
         return BAD_NUMBER;
     };
     let Some(signal) = signal_of(signal) else {
-        hand.put(held);
         return BAD_NUMBER;
     };
     *raised = was_raised(held.signal(element, signal));
-    hand.put(held);
     DONE
 }
 
 /// `ThreadTable::try_deliver`. The elements are 0 to 63.
 #[unsafe(no_mangle)]
 pub extern "C" fn synth_hand_try_deliver(
-    alloc: Global,
-    hand: &mut HandleHand,
+    hand: &mut Handle,
     element: u32,
     signals: &mut u32,
 ) -> SynthState
-    ensures empty { hand.old.hidden.value ≡ None → IsStateCode EmptyHandle result × (hand.new.hidden.value ≡ None)
-        × (signals.new ≡ signals.old) }
-    ensures delivered { HoldsThen hand.old.hidden.value
-        (λ x. DeliverTold element x signals.old signals.new hand.new.hidden.value result) }
+    ensures empty { NoneIn hand_of hand.old hand.new (IsStateCode EmptyHandle result × (signals.new ≡ signals.old)) }
+    ensures delivered { HoldsThen (hand_of hand.old)
+        (λ x. DeliverTold element x signals.old signals.new (hand_of hand.new) result) }
 {
-    let Some(mut held) = hand.take(alloc) else {
+    let Some(held) = hand.hand() else {
         return code_alone(EMPTY_HANDLE);
     };
     let Some(element) = element_of(element) else {
-        hand.put(held);
         return code_alone(BAD_NUMBER);
     };
     if !held.hand.holds(element) {
-        hand.put(held);
         return code_alone(NOT_HELD);
     }
     let answer = held.try_deliver(element);
-    hand.put(held);
     tell_delivery(answer, signals)
 }

@@ -1,20 +1,18 @@
 //! Takings of elements for C.
 ghost use Rattle.std.specs.Prelude.{◌≡◌, ◌+◌, ◌<◌};
-ghost use Rattle.std.specs.declared.option.Option.TheVariants.{None};
 ghost use Rattle.event_theory.specs.Numbers.{u32_values};
 ghost use Rattle.event_theory.specs.Marks.{wait_ring};
 ghost use Rattle.bindings.specs.Codes.{EmptyHandle};
-ghost use Rattle.bindings.specs.HandCalls.{HoldsThen};
+ghost use Rattle.bindings.specs.Handles.{hand_of, NoneIn, HoldsThen};
 ghost use Rattle.bindings.specs.HandTakings.{WasTaken, IsFit, code_of_next, tail_of_next, IsToldTaking};
 ghost use Rattle.bindings.specs.HandTakings.{TakingTold, WakingTold};
 ghost use Rattle.bindings.specs.Told.{IsCodeAlone};
 
-use super::handle::HandleHand;
 use super::held::HeldHand;
 use super::numbers::wait_of;
 use crate::answer::{BAD_NUMBER, DONE, EMPTY, EMPTY_HANDLE, LOST, SynthAnswer, told};
+use crate::handle::Handle;
 use event_theory::{Element, WaitNumber};
-use std::alloc::Global;
 use thread_table::NextRefusal;
 
 impl HeldHand {
@@ -71,65 +69,49 @@ fn tell_taking(answer: Result<Element, NextRefusal>, element: &mut u32) -> Synth
 
 /// `ThreadTable::try_next`.
 #[unsafe(no_mangle)]
-pub extern "C" fn synth_hand_try_next(
-    alloc: Global,
-    hand: &mut HandleHand,
-    element: &mut u32,
-) -> SynthAnswer
-    ensures empty { hand.old.hidden.value ≡ None → IsCodeAlone EmptyHandle result × (hand.new.hidden.value ≡ None)
-        × (element.new ≡ element.old) }
-    ensures taken { HoldsThen hand.old.hidden.value
-        (λ x. TakingTold 0 x element.old element.new hand.new.hidden.value result) }
+pub extern "C" fn synth_hand_try_next(hand: &mut Handle, element: &mut u32) -> SynthAnswer
+    ensures empty { NoneIn hand_of hand.old hand.new (IsCodeAlone EmptyHandle result × (element.new ≡ element.old)) }
+    ensures taken { HoldsThen (hand_of hand.old)
+        (λ x. TakingTold 0 x element.old element.new (hand_of hand.new) result) }
 {
-    let Some(mut held) = hand.take(alloc) else {
+    let Some(held) = hand.hand() else {
         return told(EMPTY_HANDLE);
     };
     let answer = held.try_next();
-    hand.put(held);
     tell_taking(answer, element)
 }
 
 /// `ThreadTable::try_free`.
 #[unsafe(no_mangle)]
-pub extern "C" fn synth_hand_try_free(
-    alloc: Global,
-    hand: &mut HandleHand,
-    element: &mut u32,
-) -> SynthAnswer
-    ensures empty { hand.old.hidden.value ≡ None → IsCodeAlone EmptyHandle result × (hand.new.hidden.value ≡ None)
-        × (element.new ≡ element.old) }
-    ensures taken { HoldsThen hand.old.hidden.value
-        (λ x. TakingTold 1 x element.old element.new hand.new.hidden.value result) }
+pub extern "C" fn synth_hand_try_free(hand: &mut Handle, element: &mut u32) -> SynthAnswer
+    ensures empty { NoneIn hand_of hand.old hand.new (IsCodeAlone EmptyHandle result × (element.new ≡ element.old)) }
+    ensures taken { HoldsThen (hand_of hand.old)
+        (λ x. TakingTold 1 x element.old element.new (hand_of hand.new) result) }
 {
-    let Some(mut held) = hand.take(alloc) else {
+    let Some(held) = hand.hand() else {
         return told(EMPTY_HANDLE);
     };
     let answer = held.try_free();
-    hand.put(held);
     tell_taking(answer, element)
 }
 
 /// `ThreadTable::try_wake`. The wait queues are 0 to 15.
 #[unsafe(no_mangle)]
 pub extern "C" fn synth_hand_try_wake(
-    alloc: Global,
-    hand: &mut HandleHand,
+    hand: &mut Handle,
     wait: u32,
     element: &mut u32,
 ) -> SynthAnswer
-    ensures empty { hand.old.hidden.value ≡ None → IsCodeAlone EmptyHandle result × (hand.new.hidden.value ≡ None)
-        × (element.new ≡ element.old) }
-    ensures taken { HoldsThen hand.old.hidden.value
-        (λ x. WakingTold wait x element.old element.new hand.new.hidden.value result) }
+    ensures empty { NoneIn hand_of hand.old hand.new (IsCodeAlone EmptyHandle result × (element.new ≡ element.old)) }
+    ensures taken { HoldsThen (hand_of hand.old)
+        (λ x. WakingTold wait x element.old element.new (hand_of hand.new) result) }
 {
-    let Some(mut held) = hand.take(alloc) else {
+    let Some(held) = hand.hand() else {
         return told(EMPTY_HANDLE);
     };
     let Some(wait) = wait_of(wait) else {
-        hand.put(held);
         return told(BAD_NUMBER);
     };
     let answer = held.try_wake(wait);
-    hand.put(held);
     tell_taking(answer, element)
 }

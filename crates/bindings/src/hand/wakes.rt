@@ -1,19 +1,17 @@
 //! Notifies, and takings of those that wait, for C.
 ghost use Rattle.std.specs.Prelude.{◌≡◌};
-ghost use Rattle.std.specs.declared.option.Option.TheVariants.{None};
 ghost use Rattle.bindings.specs.Codes.{EmptyHandle};
-ghost use Rattle.bindings.specs.HandCalls.{HoldsThen};
+ghost use Rattle.bindings.specs.Handles.{hand_of, NoneIn, HoldsThen};
 ghost use Rattle.bindings.specs.HandWakes.{WasNotified, WasTriedBefore, IsFitBefore, IsToldBefore};
 ghost use Rattle.bindings.specs.HandWakes.{NotifyTold, BeforeTold};
 ghost use Rattle.bindings.specs.Told.{IsCodeAlone};
 
-use super::handle::HandleHand;
 use super::held::HeldHand;
 use super::numbers::wait_of;
 use super::takings::told_of_next;
 use crate::answer::{ALL_WOKEN, BAD_NUMBER, DONE, EMPTY_HANDLE, SynthAnswer, told};
+use crate::handle::Handle;
 use event_theory::{Element, WaitNumber};
-use std::alloc::Global;
 use thread_table::NextRefusal;
 
 impl HeldHand {
@@ -53,51 +51,39 @@ fn tell_before(answer: Result<Option<Element>, NextRefusal>, element: &mut u32) 
 
 /// `ThreadTable::notify`. The wait queues are 0 to 15.
 #[unsafe(no_mangle)]
-pub extern "C" fn synth_hand_notify(
-    alloc: Global,
-    hand: &mut HandleHand,
-    wait: u32,
-    head: &mut u32,
-) -> i32
-    ensures empty { hand.old.hidden.value ≡ None → (result ≡ EmptyHandle) × (hand.new.hidden.value ≡ None)
-        × (head.new ≡ head.old) }
-    ensures notified { HoldsThen hand.old.hidden.value
-        (λ x. NotifyTold wait x head.old head.new hand.new.hidden.value result) }
+pub extern "C" fn synth_hand_notify(hand: &mut Handle, wait: u32, head: &mut u32) -> i32
+    ensures empty { NoneIn hand_of hand.old hand.new ((result ≡ EmptyHandle) × (head.new ≡ head.old)) }
+    ensures notified { HoldsThen (hand_of hand.old)
+        (λ x. NotifyTold wait x head.old head.new (hand_of hand.new) result) }
 {
-    let Some(mut held) = hand.take(alloc) else {
+    let Some(held) = hand.hand() else {
         return EMPTY_HANDLE;
     };
     let Some(wait) = wait_of(wait) else {
-        hand.put(held);
         return BAD_NUMBER;
     };
     *head = held.notify(wait);
-    hand.put(held);
     DONE
 }
 
 /// `ThreadTable::try_wake_before`. The wait queues are 0 to 15.
 #[unsafe(no_mangle)]
 pub extern "C" fn synth_hand_try_wake_before(
-    alloc: Global,
-    hand: &mut HandleHand,
+    hand: &mut Handle,
     wait: u32,
     head: u32,
     element: &mut u32,
 ) -> SynthAnswer
-    ensures empty { hand.old.hidden.value ≡ None → IsCodeAlone EmptyHandle result × (hand.new.hidden.value ≡ None)
-        × (element.new ≡ element.old) }
-    ensures taken { HoldsThen hand.old.hidden.value
-        (λ x. BeforeTold wait head x element.old element.new hand.new.hidden.value result) }
+    ensures empty { NoneIn hand_of hand.old hand.new (IsCodeAlone EmptyHandle result × (element.new ≡ element.old)) }
+    ensures taken { HoldsThen (hand_of hand.old)
+        (λ x. BeforeTold wait head x element.old element.new (hand_of hand.new) result) }
 {
-    let Some(mut held) = hand.take(alloc) else {
+    let Some(held) = hand.hand() else {
         return told(EMPTY_HANDLE);
     };
     let Some(wait) = wait_of(wait) else {
-        hand.put(held);
         return told(BAD_NUMBER);
     };
     let answer = held.try_wake_before(wait, head);
-    hand.put(held);
     tell_before(answer, element)
 }

@@ -58,7 +58,6 @@ impl<const N: usize> Part<N> {
             end,
             parts,
             mark,
-            line,
         } = self;
         let queue = match Arc::try_unwrap(queue) {
             Ok(queue) => queue,
@@ -68,7 +67,6 @@ impl<const N: usize> Part<N> {
                     end,
                     parts,
                     mark,
-                    line,
                 });
             }
         };

@@ -1,5 +1,5 @@
 //! One end of a queue, whose queue other handles share.
-ghost use Rattle.std.specs.Prelude.{◌≡◌, ◌≤◌, ◌<◌, [], length, MatchBool};
+ghost use Rattle.std.specs.Prelude.{◌≡◌, ◌≤◌, ◌<◌, length, MatchBool};
 ghost use Rattle.std.specs.Option.{MatchOption};
 ghost use Rattle.std.specs.Arc.{arc_value};
 ghost use Rattle.table_theory.specs.Listing.{AllRaised};
@@ -20,11 +20,9 @@ pub struct Part<const N: usize> {
     pub(super) end: QueueEnd<N>,
     pub(super) parts: u64,
     pub(super) mark: u64,
-    pub(super) line: ArrayVec<u64, N>,
     ghost own: { IsEndOf (arc_value queue) end },
     ghost known: { parts ≡ (view_of end).member.share },
     ghost raised: { AllRaised (view_of end).own.runs },
-    ghost blank: { line.items ≡ [] },
 }
 
 impl<const N: usize> Part<N> {
@@ -44,7 +42,6 @@ impl<const N: usize> Part<N> {
             end,
             parts: u64::MAX,
             mark,
-            line: ArrayVec::new(),
         })
     }
 
@@ -76,7 +73,6 @@ impl<const N: usize> Part<N> {
             end,
             parts: given,
             mark: self.mark,
-            line: ArrayVec::new(),
         })
     }
 
@@ -91,7 +87,6 @@ impl<const N: usize> Part<N> {
             end,
             parts,
             mark: _mark,
-            line: _line,
         } = other;
         self.queue.join(&mut self.end, end);
         self.parts += parts;
@@ -123,10 +118,10 @@ impl<const N: usize> Part<N> {
         requires { N ≤ length out.old }
         ensures { TookLinePart out.old out.new result N self.old self.new }
     {
-        match self.queue.try_take_line(&mut self.end, &mut self.line) {
+        let mut line = ArrayVec::<u64, N>::new();
+        match self.queue.try_take_line(&mut self.end, &mut line) {
             Ok(taken) => {
-                copy_line(self.line.as_slice(), out);
-                self.line.clear();
+                copy_line(line.as_slice(), out);
                 Ok(taken)
             }
             Err(refusal) => Err(refusal),

@@ -1,38 +1,30 @@
-use Rattle.std.proofs.Common.{rules, inl, inr, refl, sym, ap, subst, ◌∙◌}
+use Rattle.std.proofs.Common.{rules, inl, inr, refl, sym, ap, ◌∙◌}
 use Rattle.std.specs.declared.option.Option.TheVariants.{Some}
-use Rattle.bindings.specs.declared.queue.held.HeldQueue.{HeldQueue}
-use Rattle.bindings.specs.QueueHeld.{AtSizes}
-use Rattle.bindings.specs.QueueParts.{DividedPart}
+use Rattle.bindings.specs.declared.payload.Payload.TheVariants.{Queue}
+use Rattle.bindings.specs.Handles.{held_by, of_kind}
+use Rattle.bindings.specs.Kinds.{queue_in}
 use Rattle.bindings.proofs.Telling.{is_none}
 use Rattle.bindings.proofs.queue.synth_queue_split.Goals as goal
 
 pub returns-then-not-is_divisible : goal.returns-then-not-is_divisible
-returns-then-not-is_divisible c = let n = is_none c.args.other.now.hidden.value (sym c.is_full.ensures ∙ c.if-is_full.false) in
-    inr (inr (inl (refl, n, n, c.in-Some.held.value, c.in-Some.ensures.taken, c.put.ensures, search rules)))
+returns-then-not-is_divisible c = let n = is_none (held_by c.args.other.now) (sym c.is_full.ensures ∙ c.if-is_full.false) in let e = c.in-Some.ensures.value in
+    inr (inr (inl (refl, n, n, c.in-Some.held.now, ap (of_kind queue_in) e, sym e, search rules)))
 
-pub returns-in-Some-made : goal.returns-in-Some-made
-returns-in-Some-made c = let n = is_none c.args.other.now.hidden.value (sym c.is_full.ensures ∙ c.if-is_full.false) in let y = c.split_boxed-made.new.held in let z = c.in-Some-made.made.value in
+pub returns-in-Some-split_boxed : goal.returns-in-Some-split_boxed
+returns-in-Some-split_boxed c = let n = is_none (held_by c.args.other.now) (sym c.is_full.ensures ∙ c.if-is_full.false) in let made = c.in-Some-split_boxed.ensures in
     inr (inr (inr (inr (
       refl,
       n,
-      c.in-Some.held.value,
-      y,
-      z,
-      c.in-Some.ensures.taken,
-      c.put-2.ensures,
-      c.put-in-Some-made.ensures,
+      c.in-Some.held.now,
+      c.split_boxed.new.held,
+      made.0,
+      ap (of_kind queue_in) c.in-Some.ensures.value,
+      refl,
+      ap (of_kind queue_in) c.put.ensures ∙ made.1,
       search rules,
-      subst (λ (h : HeldQueue). AtSizes DividedPart h y z) c.deref_mut.ensures.value c.in-Some-made.ensures,
+      made.2,
     ))))
 
 pub returns-in-None : goal.returns-in-None
-returns-in-None c = let n = is_none c.args.other.now.hidden.value (sym c.is_full.ensures ∙ c.if-is_full.false) in
-    inr (inr (inr (inl (
-      refl,
-      n,
-      n,
-      c.in-Some.held.value,
-      c.in-Some.ensures.taken,
-      c.put-2.ensures ∙ ap Some (c.in-None.ensures ∙ c.deref_mut.ensures.value),
-      search rules,
-    ))))
+returns-in-None c = let n = is_none (held_by c.args.other.now) (sym c.is_full.ensures ∙ c.if-is_full.false) in let e = c.in-Some.ensures.value in
+    inr (inr (inr (inl (refl, n, n, c.in-Some.held.now, ap (of_kind queue_in) e, ap (λ x. Some (Queue x)) c.in-None.ensures ∙ sym e, search rules))))

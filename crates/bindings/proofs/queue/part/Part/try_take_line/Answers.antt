@@ -1,4 +1,4 @@
-use Rattle.std.proofs.Common.{rules, ◌∙◌, sym}
+use Rattle.std.proofs.Common.{rules}
 use Rattle.claim_queue.specs.Handles.{view_of}
 use Rattle.bindings.proofs.QueueEnds.{line_keeps, still_raised}
 use Rattle.bindings.proofs.Buffers.{line_filled}
@@ -7,15 +7,6 @@ use Rattle.bindings.proofs.queue.part.Part.try_take_line.Goals as goal
 pub invariant_of-self-clause-raised : goal.invariant_of-self-clause-raised
 invariant_of-self-clause-raised g c = let x = c.args.self.now in let t = c.try_take_line in
     still_raised (line_keeps g.row.N (view_of x.end) (view_of t.new.end) t.new.line.items t.result t.ensures.steps) x.raised
-
-pub invariant_of-self-in-Err-1 : goal.invariant_of-self-in-Err-1
-invariant_of-self-in-Err-1 g c = let x = c.args.self.now in let t = c.try_take_line in
-    let k = line_keeps g.row.N (view_of x.end) (view_of t.new.end) t.new.line.items t.result t.ensures.steps in record {
-      own = t.ensures.same.0 ∙ x.own;
-      known = x.known ∙ sym k.share;
-      raised = still_raised k x.raised;
-      blank = c.in-Err.ensures.line;
-    }
 
 pub returns-in-Ok : goal.returns-in-Ok
 returns-in-Ok g c = let x = c.args.self.now in let t = c.try_take_line in let l = t.new.line.items in let d = c.in-Ok.ensures.line in

@@ -1,0 +1,146 @@
+/*
+ * A handle of one kind that is given to the calls of another, by a cast: to them it is an empty one, and it stays as it
+ * is. What fills a handle refuses it as a full one.
+ */
+#include "rows.h"
+#include "synthesis.h"
+
+enum { PLACES = 64, KINDS = 5 };
+
+static struct synth_queue queue, no_queue;
+static struct synth_seat seat, no_seat;
+static struct synth_hand hand, no_hand;
+static struct synth_line_in input, no_input;
+static struct synth_line_out output, no_output;
+
+/* One of each kind. */
+static void *handles[KINDS] = {&queue, &seat, &hand, &input, &output};
+
+static void to_queue_calls(struct synth_queue *other)
+{
+    uint64_t items[PLACES] = {0};
+    size_t count = 9;
+    bool was_open = false;
+    struct synth_closed closed;
+    ROW(synth_queue_new(PLACES, 0, other), SYNTH_FULL_HANDLE);
+    ROW(synth_queue_split(other, &no_queue), SYNTH_EMPTY_HANDLE);
+    ROW(synth_queue_split(&queue, other), SYNTH_FULL_HANDLE);
+    ROW(synth_queue_join(&queue, other), SYNTH_EMPTY_HANDLE);
+    ROW(synth_queue_join(other, &queue), SYNTH_EMPTY_HANDLE);
+    ROW(synth_queue_try_put(other, items, 1).code, SYNTH_EMPTY_HANDLE);
+    ROW(synth_queue_try_take(other, items).code, SYNTH_EMPTY_HANDLE);
+    ROW(synth_queue_take_up_to(other, items, PLACES, &count).code, SYNTH_EMPTY_HANDLE);
+    ROW(synth_queue_try_take_line(other, items, PLACES, &count).code, SYNTH_EMPTY_HANDLE);
+    ROW(synth_queue_shut(other, &was_open), SYNTH_EMPTY_HANDLE);
+    ROW(synth_queue_close(other, items, PLACES, &closed), SYNTH_EMPTY_HANDLE);
+    ROW(synth_queue_free(other), SYNTH_EMPTY_HANDLE);
+    ROW(count == 9 && !was_open && other->full, true);
+}
+
+static void to_seat_calls(struct synth_seat *other)
+{
+    struct synth_alarm alarm = {0, 0, 0};
+    struct synth_alarm alarms[16];
+    struct synth_metered metered;
+    uint64_t before = 9;
+    uint32_t number = 9;
+    size_t count = 9;
+    bool cancelled = false;
+    ROW(synth_seat_new(0, other), SYNTH_FULL_HANDLE);
+    ROW(synth_seat_split(other, &no_seat), SYNTH_EMPTY_HANDLE);
+    ROW(synth_seat_split(&seat, other), SYNTH_FULL_HANDLE);
+    ROW(synth_seat_join(&seat, other), SYNTH_EMPTY_HANDLE);
+    ROW(synth_seat_join(other, &seat), SYNTH_EMPTY_HANDLE);
+    ROW(synth_seat_tick(other, 0, 1, &before), SYNTH_EMPTY_HANDLE);
+    ROW(synth_seat_advance(other, &number).code, SYNTH_EMPTY_HANDLE);
+    ROW(synth_seat_try_set(other, &alarm, &number).code, SYNTH_EMPTY_HANDLE);
+    ROW(synth_seat_cancel(other, 0, &alarm, &cancelled), SYNTH_EMPTY_HANDLE);
+    ROW(synth_seat_due(other, alarms, 16, &count), SYNTH_EMPTY_HANDLE);
+    ROW(synth_seat_close(other, &metered), SYNTH_EMPTY_HANDLE);
+    ROW(synth_seat_free(other), SYNTH_EMPTY_HANDLE);
+    ROW(before == 9 && number == 9 && count == 9 && !cancelled && other->full, true);
+}
+
+static void to_hand_calls(struct synth_hand *other)
+{
+    static struct synth_places places;
+    uint32_t number = 9;
+    bool is = false;
+    ROW(synth_hand_new(0, other), SYNTH_FULL_HANDLE);
+    ROW(synth_hand_split(other, 0, &no_hand), SYNTH_EMPTY_HANDLE);
+    ROW(synth_hand_split(&hand, 0, other), SYNTH_FULL_HANDLE);
+    ROW(synth_hand_join(&hand, other), SYNTH_EMPTY_HANDLE);
+    ROW(synth_hand_join(other, &hand), SYNTH_EMPTY_HANDLE);
+    ROW(synth_hand_holds(other, 0, &is), SYNTH_EMPTY_HANDLE);
+    ROW(synth_hand_on(other, 0, 0), SYNTH_EMPTY_HANDLE);
+    ROW(synth_hand_off(other, 0, &number), SYNTH_EMPTY_HANDLE);
+    ROW(synth_hand_try_next(other, &number).code, SYNTH_EMPTY_HANDLE);
+    ROW(synth_hand_try_ready(other, 0).code, SYNTH_EMPTY_HANDLE);
+    ROW(synth_hand_stop(other, 0, &is), SYNTH_EMPTY_HANDLE);
+    ROW(synth_hand_close(other, &places), SYNTH_EMPTY_HANDLE);
+    ROW(synth_hand_free(other), SYNTH_EMPTY_HANDLE);
+    ROW(number == 9 && !is && other->full, true);
+}
+
+static void to_line_in_calls(struct synth_line_in *other)
+{
+    struct synth_line_totals totals;
+    ROW(synth_line_new(4, other, &no_output), SYNTH_FULL_HANDLE);
+    ROW(synth_line_push(other, 1), SYNTH_EMPTY_HANDLE);
+    ROW(synth_line_finish(other, &output, &totals), SYNTH_EMPTY_HANDLE);
+    ROW(synth_line_free_in(other), SYNTH_EMPTY_HANDLE);
+    ROW(other->full, true);
+}
+
+static void to_line_out_calls(struct synth_line_out *other)
+{
+    struct synth_line_totals totals;
+    uint8_t byte = 9;
+    ROW(synth_line_new(4, &no_input, other), SYNTH_FULL_HANDLE);
+    ROW(synth_line_pop(other, &byte), SYNTH_EMPTY_HANDLE);
+    ROW(synth_line_finish(&input, other, &totals), SYNTH_EMPTY_HANDLE);
+    ROW(synth_line_free_out(other), SYNTH_EMPTY_HANDLE);
+    ROW(byte == 9 && other->full, true);
+}
+
+/* Each object is whole still, so its close succeeds. */
+static void all_close(void)
+{
+    static struct synth_places places;
+    uint64_t left[PLACES];
+    struct synth_closed closed;
+    struct synth_metered metered;
+    struct synth_line_totals totals;
+    ROW(synth_queue_close(&queue, left, PLACES, &closed), SYNTH_DONE);
+    ROW(synth_seat_close(&seat, &metered), SYNTH_DONE);
+    ROW(synth_hand_close(&hand, &places), SYNTH_DONE);
+    ROW(synth_line_finish(&input, &output, &totals), SYNTH_DONE);
+    ROW(no_queue.full || no_seat.full || no_hand.full || no_input.full || no_output.full, false);
+}
+
+int main(void)
+{
+    ROW(synth_queue_new(PLACES, 0, &queue), SYNTH_DONE);
+    ROW(synth_seat_new(0, &seat), SYNTH_DONE);
+    ROW(synth_hand_new(0, &hand), SYNTH_DONE);
+    ROW(synth_line_new(4, &input, &output), SYNTH_DONE);
+    for (int i = 0; i < KINDS; i++) {
+        if (handles[i] != &queue) {
+            to_queue_calls((struct synth_queue *)handles[i]);
+        }
+        if (handles[i] != &seat) {
+            to_seat_calls((struct synth_seat *)handles[i]);
+        }
+        if (handles[i] != &hand) {
+            to_hand_calls((struct synth_hand *)handles[i]);
+        }
+        if (handles[i] != &input) {
+            to_line_in_calls((struct synth_line_in *)handles[i]);
+        }
+        if (handles[i] != &output) {
+            to_line_out_calls((struct synth_line_out *)handles[i]);
+        }
+    }
+    all_close();
+    return rows_end("misuse_kinds");
+}

@@ -1,0 +1,35 @@
+-- The kinds of ends that a handle can hold.
+use Rattle.std.specs.declared.option.Option.{Option}
+use Rattle.std.specs.declared.option.Option.TheVariants.{None, Some}
+use Rattle.bindings.specs.declared.payload.Payload.{Payload}
+use Rattle.bindings.specs.declared.payload.Payload.TheVariants.{Queue, Hand, Seat, LineIn, LineOut}
+use Rattle.bindings.specs.declared.queue.held.HeldQueue.{HeldQueue}
+use Rattle.bindings.specs.declared.hand.held.HeldHand.{HeldHand}
+use Rattle.bindings.specs.declared.seat.held.HeldSeat.{HeldSeat}
+use Rattle.bindings.specs.declared.line.held.HeldIn.{HeldIn}
+use Rattle.bindings.specs.declared.line.held.HeldOut.{HeldOut}
+
+-- the end of a queue, if it is one
+abbrev pub queue_in : Payload → Option HeldQueue
+queue_in (Queue x) = Some x
+queue_in _ = None
+
+-- the hand of a table of thread elements, if it is one
+abbrev pub hand_in : Payload → Option HeldHand
+hand_in (Hand x) = Some x
+hand_in _ = None
+
+-- the end of meters, if it is one
+abbrev pub seat_in : Payload → Option HeldSeat
+seat_in (Seat x) = Some x
+seat_in _ = None
+
+-- the end of a line that pushes, if it is one
+abbrev pub line_in_in : Payload → Option HeldIn
+line_in_in (LineIn x) = Some x
+line_in_in _ = None
+
+-- the end of a line that pops, if it is one
+abbrev pub line_out_in : Payload → Option HeldOut
+line_out_in (LineOut x) = Some x
+line_out_in _ = None

@@ -1,0 +1,77 @@
+//! A box as a pointer that says nothing of what lies there, so that it can cross to C.
+ghost use Rattle.std.specs.Prelude.{◌≡◌, true};
+ghost use Rattle.std.specs.declared.option.Option.{Option as Maybe};
+ghost use Rattle.std.specs.declared.option.Option.TheVariants.{None, Some};
+ghost use Rattle.bindings.specs.Hiding.{is_some};
+ghost use Rattle.bindings.specs.declared.payload.Payload.{Payload as PayloadValue};
+
+use crate::payload::Payload;
+use loose_box::Loose;
+use std::alloc::Global;
+use std::marker::Model;
+use std::ptr::null_mut;
+
+/// It owns the box that it leads to, or it leads nowhere. It can't be let go but where it leads nowhere, so no box is
+/// forgotten.
+#[repr(C)]
+pub struct Hidden {
+    at: *mut u8,
+    pub ghost value: { Maybe PayloadValue },
+}
+
+impl Model for Hidden {
+    ghost use Rattle.bindings.specs.contracts.payload.Payload.{the_row};
+    ghost use Rattle.bindings.specs.Hiding.{hides};
+
+    ghost also_owns = { λ h. hides the_row h.at h.value };
+}
+
+unsafe impl Send for Hidden {}
+
+impl Hidden {
+    ghost use Rattle.std.specs.Borrow.{sem};
+    ghost use Rattle.bindings.specs.Lending.{LendsHidden};
+
+    /// What it leads to, where it stands.
+    pub fn as_mut(&mut self) -> &mut Payload
+        requires { is_some self.old.value ≡ true }
+        ensures* writes_back { sem 𝓛 (LendsHidden self.entry result) }
+        ensures value { self.old.value ≡ Some result.now }
+    {
+        unsafe { &mut *(self.at as *mut Payload) }
+    }
+
+    /// It leads nowhere.
+    pub fn none() -> Hidden
+        ensures { result.value ≡ None }
+    {
+        Hidden { at: null_mut() }
+    }
+
+    /// Hides a box.
+    pub fn of(loose: Loose<Payload, Global>) -> Hidden
+        ensures { result.value ≡ Some loose.value }
+    {
+        let Loose { at, alloc: _alloc } = loose;
+        Hidden { at: at as *mut u8 }
+    }
+
+    /// Gives the box back.
+    pub fn into_loose(self, alloc: Global) -> Loose<Payload, Global>
+        requires { is_some self.value ≡ true }
+        ensures { self.value ≡ Some result.value }
+    {
+        let Hidden { at } = self;
+        Loose {
+            at: at as *mut Payload,
+            alloc,
+        }
+    }
+
+    /// Lets go of what leads nowhere.
+    pub fn let_go(self)
+        requires { self.value ≡ None }
+    {
+        let Hidden { at: _ } = self;
+    }
+}

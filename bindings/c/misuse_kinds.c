@@ -5,8 +5,9 @@
 #include "rows.h"
 #include "synthesis.h"
 
-enum { PLACES = 64, KINDS = 6 };
+enum { PLACES = 64, KINDS = 7 };
 
+static struct synth_batch batch, no_batch;
 static struct synth_queue queue, no_queue;
 static struct synth_chain chain, no_chain;
 static struct synth_seat seat, no_seat;
@@ -15,7 +16,31 @@ static struct synth_line_in input, no_input;
 static struct synth_line_out output, no_output;
 
 /* One of each kind. */
-static void *handles[KINDS] = {&queue, &chain, &seat, &hand, &input, &output};
+static void *handles[KINDS] = {&batch, &queue, &chain, &seat, &hand, &input, &output};
+
+static void to_batch_calls(struct synth_batch *other)
+{
+    struct synth_positions at = {9, 9};
+    uint64_t items[PLACES] = {0}, len = 9;
+    size_t count = 9;
+    bool was_open = false;
+    struct synth_batch_closed closed;
+    ROW(synth_batch_new(PLACES, other), SYNTH_FULL_HANDLE);
+    ROW(synth_batch_split(other, &no_batch), SYNTH_EMPTY_HANDLE);
+    ROW(synth_batch_split(&batch, other), SYNTH_FULL_HANDLE);
+    ROW(synth_batch_join(&batch, other), SYNTH_EMPTY_HANDLE);
+    ROW(synth_batch_join(other, &batch), SYNTH_EMPTY_HANDLE);
+    ROW(synth_batch_try_put(other, items, 1, &at), SYNTH_EMPTY_HANDLE);
+    ROW(synth_batch_try_put_some(other, items, 1, &count, &at), SYNTH_EMPTY_HANDLE);
+    ROW(synth_batch_try_take(other, items, PLACES, &count, &at), SYNTH_EMPTY_HANDLE);
+    ROW(synth_batch_try_take_some(other, items, PLACES, &count, &at), SYNTH_EMPTY_HANDLE);
+    ROW(synth_batch_len(other, &len), SYNTH_EMPTY_HANDLE);
+    ROW(synth_batch_capacity(other, &count), SYNTH_EMPTY_HANDLE);
+    ROW(synth_batch_shut(other, &was_open), SYNTH_EMPTY_HANDLE);
+    ROW(synth_batch_close(other, items, PLACES, &closed), SYNTH_EMPTY_HANDLE);
+    ROW(synth_batch_free(other), SYNTH_EMPTY_HANDLE);
+    ROW(count == 9 && len == 9 && at.head == 9 && at.tail == 9 && !was_open && other->full, true);
+}
 
 static void to_queue_calls(struct synth_queue *other)
 {
@@ -125,26 +150,33 @@ static void all_close(void)
 {
     static struct synth_places places;
     uint64_t left[PLACES];
+    struct synth_batch_closed batch_closed;
     struct synth_closed closed;
     struct synth_chained chained;
     struct synth_metered metered;
     struct synth_line_totals totals;
+    ROW(synth_batch_close(&batch, left, PLACES, &batch_closed), SYNTH_DONE);
     ROW(synth_queue_close(&queue, left, PLACES, &closed), SYNTH_DONE);
     ROW(synth_chain_close(&chain, &chained), SYNTH_DONE);
     ROW(synth_seat_close(&seat, &metered), SYNTH_DONE);
     ROW(synth_hand_close(&hand, &places), SYNTH_DONE);
     ROW(synth_line_finish(&input, &output, &totals), SYNTH_DONE);
-    ROW(no_queue.full || no_chain.full || no_seat.full || no_hand.full || no_input.full || no_output.full, false);
+    ROW(no_batch.full || no_queue.full || no_chain.full || no_seat.full, false);
+    ROW(no_hand.full || no_input.full || no_output.full, false);
 }
 
 int main(void)
 {
+    ROW(synth_batch_new(PLACES, &batch), SYNTH_DONE);
     ROW(synth_queue_new(PLACES, 0, &queue), SYNTH_DONE);
     ROW(synth_chain_new(0, &chain), SYNTH_DONE);
     ROW(synth_seat_new(0, &seat), SYNTH_DONE);
     ROW(synth_hand_new(0, &hand), SYNTH_DONE);
     ROW(synth_line_new(4, &input, &output), SYNTH_DONE);
     for (int i = 0; i < KINDS; i++) {
+        if (handles[i] != &batch) {
+            to_batch_calls((struct synth_batch *)handles[i]);
+        }
         if (handles[i] != &queue) {
             to_queue_calls((struct synth_queue *)handles[i]);
         }

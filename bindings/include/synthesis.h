@@ -1,7 +1,20 @@
 /*
- * The lock-free tables of synthesis for C11 and C++17: claim queues, chains, meters, device lines, thread elements. What
- * each call does to its table is proved, on the library's side of the call; docs/PROMISES.md says what of its answer
- * isn't. docs/GUIDE.md, "From C and Rust", shows two programs line by line.
+ * The lock-free tables of synthesis for C11 and C++17: batch queues, claim queues, chains, meters, device lines
+ * and thread elements. What each call does to its table is proved, on the library's side of the call; docs/PROMISES.md
+ * says what of its answer isn't. docs/GUIDE.md, "From C and Rust", shows programs line by line.
+ *
+ *     struct synth_batch queue = {NULL, false}, other = {NULL, false};
+ *     struct synth_positions at;
+ *     struct synth_batch_closed closed;
+ *     uint64_t items[32] = {1, 2, 3};
+ *     size_t count;
+ *
+ *     if (synth_batch_new(32, &queue) != SYNTH_DONE) return 1;        // an empty queue with room for 32 items
+ *     if (synth_batch_split(&queue, &other) != SYNTH_DONE) return 1;  // one more end, for another thread
+ *     synth_batch_try_put(&queue, items, 3, &at);                     // one batch: all three items or none
+ *     synth_batch_try_take(&other, items, 32, &count, &at);           // whole batches, as many as fit: count is 3
+ *     synth_batch_join(&queue, &other);                               // the last end has the whole again
+ *     return synth_batch_close(&queue, items, 32, &closed);           // and tells what became of everything
  *
  * ONE PROCESS, ONE COPY OF THE LIBRARY. Two copies give their objects the same marks, by which a join knows whether
  * two handles are of one object: NEVER GIVE A HANDLE OF ONE COPY TO ANOTHER.
@@ -88,6 +101,126 @@ struct synth_answer {
     uint32_t head;
     uint32_t tail;
 };
+
+/*
+ * BATCH QUEUES of 64-bit items, for any number of producers and takers. Any handle may put and take.
+ *
+ * A queue has room for as many items as it has places, which `new` is given. A put is one batch: its positions are
+ * reserved by one step, its items written, and all of them published by one more. So none can be taken before all can.
+ * A taking takes whole batches, as many as fit its buffer, by one step, and gives their places back by one more. Only
+ * `try_take_some` parts a batch. The order of a queue is that of its puts; no other's item comes between two of one
+ * put. A thread that stops within its put holds up what is put after it; one that stops within its taking keeps those
+ * places.
+ *
+ * A position counts the items of a queue, from 0 on. None comes back: a queue takes 2^62 items, 146 years at a billion
+ * a second.
+ */
+
+/* An end of a batch queue. */
+struct synth_batch {
+    void *at;
+    bool full;
+};
+
+/* The positions that a call tells. Where it tells one of them, the other is 0; where it tells none, both stay. */
+struct synth_positions {
+    uint64_t head;
+    uint64_t tail;
+};
+
+/* What a batch queue had at its end. */
+struct synth_batch_closed {
+    uint64_t put;   /* how many items were put */
+    uint64_t taken; /* how many were taken; they are the first of those put */
+    size_t left;    /* how many were left, all others */
+};
+
+/*
+ * Makes an empty queue with so many places, a power of two from 1 to 16,777,216, and fills `batch`, its only handle. It
+ * takes 16 bytes for each place.
+ * SYNTH_FULL_HANDLE; SYNTH_BAD_NUMBER: other places; SYNTH_NO_MEMORY.
+ */
+int32_t synth_batch_new(size_t places, struct synth_batch *batch);
+
+/*
+ * Fills `other`, one more handle of the queue, for another thread. The handle that new filled can be split two million
+ * times without a join, and each handle that it fills 43 times in a chain.
+ * SYNTH_EMPTY_HANDLE: `batch`; SYNTH_FULL_HANDLE: `other`; SYNTH_NO_SHARE; SYNTH_NO_MEMORY.
+ */
+int32_t synth_batch_split(struct synth_batch *batch, struct synth_batch *other);
+
+/*
+ * Joins `other`, a handle of the same queue, to `batch`, and empties it. Both are the calling thread's.
+ * SYNTH_EMPTY_HANDLE: either one; SYNTH_OTHER_OBJECT: they have two marks, or both shares are more than the whole,
+ * which those of one queue never are.
+ */
+int32_t synth_batch_join(struct synth_batch *batch, struct synth_batch *other);
+
+/*
+ * One try to put `count` items, 1 to as many as there are places, as one batch: all of them or none. `head` of
+ * `positions` is then the position of the first one.
+ * SYNTH_EMPTY_HANDLE; SYNTH_NO_ITEMS; SYNTH_TOO_LONG; SYNTH_CLOSED; SYNTH_SPENT: fewer positions are left; SYNTH_FULL:
+ * the items from `head` on had no room, since the places from `tail` on weren't given back; SYNTH_LOST: another end was
+ * first, and the head found is `head`.
+ */
+int32_t synth_batch_try_put(struct synth_batch *batch, const uint64_t *items, size_t count,
+                            struct synth_positions *positions);
+
+/*
+ * One try to put as many of the first of `count` items as there is room for, as one batch. Sets `put`, 1 to `count`;
+ * `head` of `positions` is then the position of the first one.
+ * SYNTH_EMPTY_HANDLE; SYNTH_NO_ITEMS; SYNTH_CLOSED; SYNTH_SPENT; SYNTH_FULL: there was no room for one; SYNTH_LOST.
+ */
+int32_t synth_batch_try_put_some(struct synth_batch *batch, const uint64_t *items, size_t count, size_t *put,
+                                 struct synth_positions *positions);
+
+/*
+ * One try to take batches: as many whole ones as are published, from the oldest on, and fit into `room` items. Sets
+ * `count`, 1 to `room`.
+ * SYNTH_EMPTY_HANDLE; then CLOSED, LOST, EMPTY or SHORT_BUFFER, of which `tail` of `positions` is the position that was
+ * found. SYNTH_CLOSED: the queue is shut, and nothing will ever come; SYNTH_LOST: another end took first; SYNTH_EMPTY:
+ * nothing was published there, and more may come; SYNTH_SHORT_BUFFER: the oldest batch has `count` items, more than
+ * `room`. After SYNTH_CLOSED `positions` stays.
+ */
+int32_t synth_batch_try_take(struct synth_batch *batch, uint64_t *items, size_t room, size_t *count,
+                             struct synth_positions *positions);
+
+/*
+ * As try_take, but takes up to `room` items, where need be the first ones of a batch. Its others stay published, and
+ * the next taking begins with them. So SYNTH_SHORT_BUFFER comes for a `room` of 0 alone.
+ */
+int32_t synth_batch_try_take_some(struct synth_batch *batch, uint64_t *items, size_t room, size_t *count,
+                                  struct synth_positions *positions);
+
+/*
+ * `count` becomes a hint of how many items are in the queue, published or not, which other ends change meanwhile.
+ * SYNTH_EMPTY_HANDLE.
+ */
+int32_t synth_batch_len(struct synth_batch *batch, uint64_t *count);
+
+/* `places` becomes how many places the queue has. SYNTH_EMPTY_HANDLE. */
+int32_t synth_batch_capacity(struct synth_batch *batch, size_t *places);
+
+/*
+ * Shuts the queue for puts, for good. What was put can still be taken. `was_open` becomes true for one call alone.
+ * SYNTH_EMPTY_HANDLE.
+ */
+int32_t synth_batch_shut(struct synth_batch *batch, bool *was_open);
+
+/*
+ * Closes the queue by a handle to which all others were joined, and empties it. The items left go to `left`, in their
+ * order; `room` is at least the number of places.
+ * SYNTH_EMPTY_HANDLE; SYNTH_SHORT_BUFFER; SYNTH_OPEN. Where others were freed it is always OPEN: take what is left by
+ * the calls above, and free the last handle.
+ */
+int32_t synth_batch_close(struct synth_batch *batch, uint64_t *left, size_t room, struct synth_batch_closed *closed);
+
+/*
+ * Empties the handle, which is then never joined, so the queue is never closed. The last handle that is freed takes
+ * the queue with it, and the items left.
+ * SYNTH_EMPTY_HANDLE.
+ */
+int32_t synth_batch_free(struct synth_batch *batch);
 
 /*
  * CLAIM QUEUES of 64-bit items, for any number of producers and takers. Any handle may put and take.

@@ -1,36 +1,36 @@
 //! Lock-free tables whose calls are proved, for Rust.
 //!
-//! Each object is shared by its ends: the ends of a queue or of a chain, the seats of meters, the hands of thread elements, the two
-//! ends of a line. An end owns its handle. It may go to another thread, and is used by one at a time, so each call
-//! takes `&mut`. `split` makes one more end, `join` takes one in again, and `close` by the last one tells what became
-//! of everything. What each call does to its object is proved on the library's side of the call; this crate is not,
-//! and is a few lines for each of them.
+//! Each object is shared by its ends: the ends of a batch queue, a claim queue or a chain, the seats of meters, the hands of
+//! thread elements, the two ends of a line. An end owns its handle. It may go to another thread, and is used by one at a
+//! time, so each call takes `&mut`. `split` makes one more end, `join` takes one in again, and `close` by the last one
+//! tells what became of everything. What each call does to its object is proved on the library's side of the call; this
+//! crate is not, and is a few lines for each of them.
 //!
 //! ```
 //! use std::thread;
-//! use synthesis_kernel::{QueueEnd, TakeRefusal};
+//! use synthesis_kernel::{BatchEnd, BatchTakeRefusal};
 //!
-//! let mut end = QueueEnd::<256>::new(0)?;
+//! let mut end = BatchEnd::new(1024)?;
 //! let mut putter = end.split()?;
 //! let thread = thread::spawn(move || {
 //!     for item in 0..100 {
-//!         while putter.try_put(&[item]).is_err() {}
+//!         while putter.try_put(&[item, item]).is_err() {}
 //!     }
 //!     putter.shut();
 //!     putter
 //! });
-//! let mut sum = 0;
+//! let (mut items, mut sum) = ([0; 32], 0);
 //! loop {
-//!     match end.try_take() {
-//!         Ok(item) => sum += item,
-//!         Err(TakeRefusal::Closed) => break,
+//!     match end.try_take(&mut items) {
+//!         Ok(count) => sum += items[..count].iter().sum::<u64>(),
+//!         Err(BatchTakeRefusal::Closed) => break,
 //!         Err(_) => thread::yield_now(),
 //!     }
 //! }
-//! assert_eq!(sum, 4950);
+//! assert_eq!(sum, 9900);
 //! end.join(thread.join().unwrap())?;
 //! let closed = end.close()?;
-//! assert_eq!((closed.put, closed.taken), (100, 100));
+//! assert_eq!((closed.put, closed.taken), (200, 200));
 //! # Ok::<(), Box<dyn std::error::Error>>(())
 //! ```
 //!
@@ -43,6 +43,7 @@
 //! one copy of the library gives.
 #![warn(missing_docs)]
 
+mod batch;
 mod chain;
 mod ends;
 mod event;
@@ -54,6 +55,7 @@ mod queue;
 mod raw;
 mod words;
 
+pub use batch::{BatchClosed, BatchEnd, BatchPutRefusal, BatchTakeRefusal, NewBatchRefusal};
 pub use chain::{ChainEnd, ChainNotClosed, ChainRefusal, Chained, Turn};
 pub use ends::{OtherObject, OutOfMemory, SplitRefusal, StillOpen};
 pub use event::{Event, EventTicket};

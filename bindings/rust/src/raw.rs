@@ -30,6 +30,8 @@ macro_rules! handles {
 }
 
 handles! {
+    /// An end of a batch queue.
+    Batch,
     /// An end of a queue.
     Queue,
     /// An end of a chain.
@@ -42,6 +44,21 @@ handles! {
     Output,
     /// An end of thread elements.
     Hand,
+}
+
+#[repr(C)]
+#[derive(Default)]
+pub(crate) struct Positions {
+    pub head: u64,
+    pub tail: u64,
+}
+
+#[repr(C)]
+#[derive(Default)]
+pub(crate) struct BatchClosed {
+    pub put: u64,
+    pub taken: u64,
+    pub left: usize,
 }
 
 #[repr(C)]
@@ -161,6 +178,7 @@ pub(crate) const RUNNING: i32 = 24;
 pub(crate) const NO_MEMORY: i32 = -1;
 pub(crate) const OTHER_OBJECT: i32 = -4;
 pub(crate) const NO_SHARE: i32 = -5;
+pub(crate) const SHORT_BUFFER: i32 = -6;
 pub(crate) const BAD_NUMBER: i32 = -7;
 
 /// A code that the call doesn't have, or that its types rule out.
@@ -172,6 +190,47 @@ pub(crate) fn no_such_answer(code: i32) -> ! {
 // empty or was filled by a call of its own kind, and a `&mut` to it lets no other call have it. For all else the
 // library answers by a code, so only the calls that take a buffer's length beside its pointer are unsafe.
 unsafe extern "C" {
+    pub(crate) safe fn synth_batch_new(places: usize, batch: &mut Batch) -> i32;
+    pub(crate) safe fn synth_batch_split(batch: &mut Batch, other: &mut Batch) -> i32;
+    pub(crate) safe fn synth_batch_join(batch: &mut Batch, other: &mut Batch) -> i32;
+    pub(crate) unsafe fn synth_batch_try_put(
+        batch: &mut Batch,
+        items: *const u64,
+        count: usize,
+        positions: &mut Positions,
+    ) -> i32;
+    pub(crate) unsafe fn synth_batch_try_put_some(
+        batch: &mut Batch,
+        items: *const u64,
+        count: usize,
+        put: &mut usize,
+        positions: &mut Positions,
+    ) -> i32;
+    pub(crate) unsafe fn synth_batch_try_take(
+        batch: &mut Batch,
+        items: *mut u64,
+        room: usize,
+        count: &mut usize,
+        positions: &mut Positions,
+    ) -> i32;
+    pub(crate) unsafe fn synth_batch_try_take_some(
+        batch: &mut Batch,
+        items: *mut u64,
+        room: usize,
+        count: &mut usize,
+        positions: &mut Positions,
+    ) -> i32;
+    pub(crate) safe fn synth_batch_len(batch: &mut Batch, count: &mut u64) -> i32;
+    pub(crate) safe fn synth_batch_capacity(batch: &mut Batch, places: &mut usize) -> i32;
+    pub(crate) safe fn synth_batch_shut(batch: &mut Batch, was_open: &mut bool) -> i32;
+    pub(crate) unsafe fn synth_batch_close(
+        batch: &mut Batch,
+        left: *mut u64,
+        room: usize,
+        closed: &mut BatchClosed,
+    ) -> i32;
+    pub(crate) safe fn synth_batch_free(batch: &mut Batch) -> i32;
+
     pub(crate) safe fn synth_queue_new(places: u32, first: u32, queue: &mut Queue) -> i32;
     pub(crate) safe fn synth_queue_split(queue: &mut Queue, other: &mut Queue) -> i32;
     pub(crate) safe fn synth_queue_join(queue: &mut Queue, other: &mut Queue) -> i32;

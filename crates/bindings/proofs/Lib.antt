@@ -1,3 +1,4 @@
+mod BatchEnds
 mod Buffers
 mod HandFits
 mod Holding

@@ -12,7 +12,7 @@ abbrev IsTrueSome : Bool → Type 0
 IsTrueSome true = Unit {0}
 IsTrueSome false = ⊥
 
-abbrev the : {X : Type 0} → X → Option X → X
+abbrev pub the : {X : Type 0} → X → Option X → X
 the x None = x
 the x (Some y) = y
 

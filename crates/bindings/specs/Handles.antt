@@ -4,6 +4,7 @@ use Rattle.std.specs.declared.option.Option.{Option}
 use Rattle.std.specs.declared.option.Option.TheVariants.{None, Some}
 use Rattle.bindings.specs.declared.handle.Handle.{Handle}
 use Rattle.bindings.specs.declared.payload.Payload.{Payload}
+use Rattle.bindings.specs.declared.batch.held.HeldBatch.{HeldBatch}
 use Rattle.bindings.specs.declared.queue.held.HeldQueue.{HeldQueue}
 use Rattle.bindings.specs.declared.chain.held.HeldChain.{HeldChain}
 use Rattle.bindings.specs.declared.hand.held.HeldHand.{HeldHand}
@@ -12,7 +13,7 @@ use Rattle.bindings.specs.declared.line.held.HeldIn.{HeldIn}
 use Rattle.bindings.specs.declared.line.held.HeldOut.{HeldOut}
 use Rattle.bindings.specs.Codes.{Done, NoMemory, EmptyHandle, FullHandle, OtherObject, NoShare}
 use Rattle.bindings.specs.Hiding.{is_some}
-use Rattle.bindings.specs.Kinds.{queue_in, chain_in, hand_in, seat_in, line_in_in, line_out_in}
+use Rattle.bindings.specs.Kinds.{batch_in, queue_in, chain_in, hand_in, seat_in, line_in_in, line_out_in}
 
 -- what it holds, None where it is empty
 abbrev pub held_by : Handle → Option Payload
@@ -23,7 +24,11 @@ abbrev pub of_kind : {X : Type 0} → (Payload → Option X) → Option Payload 
 of_kind kind None = None
 of_kind kind (Some p) = kind p
 
--- the end of a queue that is held, None where the handle is empty or holds another kind
+-- the end of a batch queue that is held, None where the handle is empty or holds another kind
+abbrev pub batch_of : Handle → Option HeldBatch
+batch_of h = of_kind batch_in (held_by h)
+
+-- the same of a claim queue
 abbrev pub queue_of : Handle → Option HeldQueue
 queue_of h = of_kind queue_in (held_by h)
 
@@ -87,14 +92,14 @@ SplitHandle {X} of parts Divided old new other made code =
     × AsItWas other made)
     ⊎ ((code ≡ NoShare) × (held_by other ≡ None) × (held_by made ≡ None) × (x : X) × (of old ≡ Some x) × AsItWas old new
     × (parts x < 2))
-    ⊎ ((code ≡ NoMemory) × (held_by other ≡ None) × (held_by made ≡ None) × (x : X) × (of old ≡ Some x) × AsItWas old new
-    × (2 ≤ parts x))
+    ⊎ ((code ≡ NoMemory) × (held_by other ≡ None) × (held_by made ≡ None) × (x : X) × (of old ≡ Some x)
+    × AsItWas old new × (2 ≤ parts x))
     ⊎ ((code ≡ Done) × (held_by other ≡ None) × (x y z : X) × (of old ≡ Some x) × (of new ≡ Some y) × (of made ≡ Some z)
     × (2 ≤ parts x) × Divided x y z)
 
 -- what `join` did, by its code
-abbrev pub JoinedHandle : {X : Type 0} → (Handle → Option X) → (X → X → Type 0) → (X → X → Type 0) → (X → X → X → Type 0)
-    → Handle → Handle → Handle → Handle → ℤ → Type 0
+abbrev pub JoinedHandle : {X : Type 0} → (Handle → Option X) → (X → X → Type 0) → (X → X → Type 0)
+    → (X → X → X → Type 0) → Handle → Handle → Handle → Handle → ℤ → Type 0
 JoinedHandle {X} of MayJoin MayNotJoin Joined old new other left code =
     ((code ≡ EmptyHandle) × ((of old ≡ None) ⊎ (of other ≡ None)) × AsItWas old new × AsItWas other left)
     ⊎ ((code ≡ OtherObject) × (x z : X) × (of old ≡ Some x) × (of other ≡ Some z) × AsItWas old new × AsItWas other left

@@ -2,13 +2,19 @@
 use Rattle.std.specs.declared.option.Option.{Option}
 use Rattle.std.specs.declared.option.Option.TheVariants.{None, Some}
 use Rattle.bindings.specs.declared.payload.Payload.{Payload}
-use Rattle.bindings.specs.declared.payload.Payload.TheVariants.{Queue, Chain, Hand, Seat, LineIn, LineOut}
+use Rattle.bindings.specs.declared.payload.Payload.TheVariants.{Batch, Queue, Chain, Hand, Seat, LineIn, LineOut}
+use Rattle.bindings.specs.declared.batch.held.HeldBatch.{HeldBatch}
 use Rattle.bindings.specs.declared.queue.held.HeldQueue.{HeldQueue}
 use Rattle.bindings.specs.declared.chain.held.HeldChain.{HeldChain}
 use Rattle.bindings.specs.declared.hand.held.HeldHand.{HeldHand}
 use Rattle.bindings.specs.declared.seat.held.HeldSeat.{HeldSeat}
 use Rattle.bindings.specs.declared.line.held.HeldIn.{HeldIn}
 use Rattle.bindings.specs.declared.line.held.HeldOut.{HeldOut}
+
+-- the end of a batch queue, if it is one
+abbrev pub batch_in : Payload → Option HeldBatch
+batch_in (Batch x) = Some x
+batch_in _ = None
 
 -- the end of a queue, if it is one
 abbrev pub queue_in : Payload → Option HeldQueue

@@ -6,7 +6,8 @@ use Rattle.std.specs.declared.option.Option.TheVariants.{Some}
 use Rattle.bindings.specs.declared.hidden.Hidden.{Hidden}
 use Rattle.bindings.specs.declared.handle.Handle.{Handle}
 use Rattle.bindings.specs.declared.payload.Payload.{Payload}
-use Rattle.bindings.specs.declared.payload.Payload.TheVariants.{Queue, Chain, Hand, Seat, LineIn, LineOut}
+use Rattle.bindings.specs.declared.payload.Payload.TheVariants.{Batch, Queue, Chain, Hand, Seat, LineIn, LineOut}
+use Rattle.bindings.specs.declared.batch.held.HeldBatch.{HeldBatch}
 use Rattle.bindings.specs.declared.queue.held.HeldQueue.{HeldQueue}
 use Rattle.bindings.specs.declared.chain.held.HeldChain.{HeldChain}
 use Rattle.bindings.specs.declared.hand.held.HeldHand.{HeldHand}
@@ -16,6 +17,7 @@ use Rattle.bindings.specs.declared.line.held.HeldOut.{HeldOut}
 use Rattle.bindings.specs.contracts.hidden.Hidden as hidden
 use Rattle.bindings.specs.contracts.handle.Handle as handle
 use Rattle.bindings.specs.contracts.payload.Payload as payload
+use Rattle.bindings.specs.contracts.batch.held.HeldBatch as batch
 use Rattle.bindings.specs.contracts.queue.held.HeldQueue as queue
 use Rattle.bindings.specs.contracts.chain.held.HeldChain as chain
 use Rattle.bindings.specs.contracts.hand.held.HeldHand as hand
@@ -39,7 +41,11 @@ LendsHidden s r = Lends hidden.the_row payload.the_row s r (leading s.now)
 abbrev pub LendsHandle : MutBor Handle → MutBor Payload → Fml
 LendsHandle s r = Lends handle.the_row payload.the_row s r (holding s.now)
 
--- the same, of an end of a queue alone; a handle that lends nothing is as it was
+-- the same, of an end of a batch queue alone; a handle that lends nothing is as it was
+abbrev pub LendsBatch : MutBor Handle → Option (MutBor HeldBatch) → Fml
+LendsBatch s r = LendsIf handle.the_row batch.the_row s r (λ w. holding s.now (Batch w)) s.now
+
+-- the same of an end of a queue
 abbrev pub LendsQueue : MutBor Handle → Option (MutBor HeldQueue) → Fml
 LendsQueue s r = LendsIf handle.the_row queue.the_row s r (λ w. holding s.now (Queue w)) s.now
 

@@ -1,3 +1,6 @@
+pub mod BatchCalls
+pub mod BatchClosing
+pub mod BatchHeld
 pub mod ChainCalls
 pub mod ChainHeld
 pub mod Codes

@@ -28,10 +28,12 @@ IsRoom room = (0 < room) × (room ≤ 65536)
 -- what `new` did, by its code
 abbrev pub MadeLine : ℕ → ℕ → Handle → Handle → Handle → Handle → ℤ → Type 0
 MadeLine room mark old new other made code =
-    ((code ≡ FullHandle) × ((is_some (held_by old) ≡ true) ⊎ (is_some (held_by other) ≡ true)) × AsItWas old new × AsItWas other made)
+    ((code ≡ FullHandle) × ((is_some (held_by old) ≡ true) ⊎ (is_some (held_by other) ≡ true)) × AsItWas old new
+    × AsItWas other made)
     ⊎ ((code ≡ BadNumber) × (held_by old ≡ None) × (held_by other ≡ None) × (IsRoom room → ⊥) × AsItWas old new
     × AsItWas other made)
-    ⊎ ((code ≡ NoMemory) × (held_by old ≡ None) × (held_by other ≡ None) × IsRoom room × AsItWas old new × AsItWas other made)
+    ⊎ ((code ≡ NoMemory) × (held_by old ≡ None) × (held_by other ≡ None) × IsRoom room × AsItWas old new
+    × AsItWas other made)
     ⊎ ((code ≡ Done) × (held_by old ≡ None) × (held_by other ≡ None) × IsRoom room × (x : HeldIn) × (z : HeldOut)
     × (held_by new ≡ Some (LineIn x)) × (held_by made ≡ Some (LineOut z))
     × IsLine x.line z.line × IsNewIn room x.line × IsNewOut room z.line × (x.mark ≡ mark) × (z.mark ≡ mark))
@@ -67,8 +69,8 @@ pub record IsTold (x : HeldIn) (z : HeldOut) (told : SynthLineTotals) : Type 0 w
 -- what `finish` did, by its code
 abbrev pub FinishedLine : Handle → Handle → Handle → Handle → SynthLineTotals → SynthLineTotals → ℤ → Type 0
 FinishedLine old new other made old_told told code =
-    ((code ≡ EmptyHandle) × ((line_in_of old ≡ None) ⊎ (line_out_of other ≡ None)) × AsItWas old new × AsItWas other made
-    × (told ≡ old_told))
+    ((code ≡ EmptyHandle) × ((line_in_of old ≡ None) ⊎ (line_out_of other ≡ None)) × AsItWas old new
+    × AsItWas other made × (told ≡ old_told))
     ⊎ ((code ≡ OtherObject) × (x : HeldIn) × (z : HeldOut) × (line_in_of old ≡ Some x) × (line_out_of other ≡ Some z)
     × AsItWas old new × AsItWas other made × (told ≡ old_told) × (HaveOneMark x z → ⊥))
     ⊎ ((code ≡ Done) × (x : HeldIn) × (z : HeldOut) × (line_in_of old ≡ Some x) × (line_out_of other ≡ Some z)

@@ -4,6 +4,7 @@ ghost use Rattle.std.specs.Option.{MatchOption};
 ghost use Rattle.std.specs.declared.option.Option.TheVariants.{None, Some};
 ghost use Rattle.bindings.specs.Hiding.{is_some};
 
+use crate::batch::held::HeldBatch;
 use crate::chain::held::HeldChain;
 use crate::hand::held::HeldHand;
 use crate::hidden::Hidden;
@@ -27,10 +28,12 @@ pub struct Handle {
 impl Handle {
     ghost use Rattle.std.specs.Prelude.{true};
     ghost use Rattle.std.specs.Borrow.{sem};
-    ghost use Rattle.bindings.specs.Handles.{held_by, queue_of, chain_of, hand_of, seat_of, line_in_of, line_out_of};
-    ghost use Rattle.bindings.specs.Lending.{LendsHandle, LendsQueue, LendsChain, LendsHand, LendsSeat};
-    ghost use Rattle.bindings.specs.Lending.{LendsLineIn, LendsLineOut};
-    ghost use Rattle.bindings.specs.declared.payload.Payload.TheVariants.{Queue, Chain, Hand, Seat, LineIn, LineOut};
+    ghost use Rattle.bindings.specs.Handles.{held_by, batch_of, queue_of, chain_of, hand_of, seat_of};
+    ghost use Rattle.bindings.specs.Handles.{line_in_of, line_out_of};
+    ghost use Rattle.bindings.specs.Lending.{LendsHandle, LendsBatch, LendsQueue, LendsChain, LendsHand};
+    ghost use Rattle.bindings.specs.Lending.{LendsSeat, LendsLineIn, LendsLineOut};
+    ghost use Rattle.bindings.specs.declared.payload.Payload.TheVariants.{Batch, Queue, Chain, Hand, Seat};
+    ghost use Rattle.bindings.specs.declared.payload.Payload.TheVariants.{LineIn, LineOut};
 
     /// Whether it holds an end.
     pub fn is_full(&self) -> bool
@@ -69,6 +72,20 @@ impl Handle {
         ensures value { held_by self.old ≡ Some result.now }
     {
         self.hidden.as_mut()
+    }
+
+    /// The end of a batch queue that it holds, where it is.
+    pub fn batch(&mut self) -> Option<&mut HeldBatch>
+        ensures* writes_back { sem 𝓛 (LendsBatch self.entry result) }
+        ensures value { MatchOption result (batch_of self.old ≡ None) (λ r. held_by self.old ≡ Some (Batch r.now)) }
+    {
+        if !self.full {
+            return None;
+        }
+        match self.as_mut() {
+            Payload::Batch(held) => Some(held),
+            _ => None,
+        }
     }
 
     /// The end of a queue that it holds, where it is.

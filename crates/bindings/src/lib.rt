@@ -2,6 +2,7 @@
 #![tactic(auto)]
 
 mod answer;
+mod batch;
 mod chain;
 mod hand;
 mod handle;

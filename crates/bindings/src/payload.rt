@@ -2,6 +2,7 @@
 ghost use Rattle.std.specs.Prelude.{◌≡◌, true};
 ghost use Rattle.bindings.specs.Hiding.{is_some};
 
+use crate::batch::held::HeldBatch;
 use crate::chain::held::HeldChain;
 use crate::hand::held::HeldHand;
 use crate::line::held::{HeldIn, HeldOut};
@@ -11,6 +12,7 @@ use crate::seat::held::HeldSeat;
 /// An end of an object.
 #[derive(Drop)]
 pub enum Payload {
+    Batch(HeldBatch),
     Queue(HeldQueue),
     Chain(HeldChain),
     Hand(HeldHand),
@@ -20,8 +22,20 @@ pub enum Payload {
 }
 
 impl Payload {
-    ghost use Rattle.bindings.specs.Kinds.{queue_in, chain_in, hand_in, seat_in, line_in_in, line_out_in};
+    ghost use Rattle.bindings.specs.Kinds.{batch_in, queue_in, chain_in, hand_in, seat_in};
+    ghost use Rattle.bindings.specs.Kinds.{line_in_in, line_out_in};
     ghost use Rattle.std.specs.declared.option.Option.TheVariants.{Some};
+
+    /// Condition: it is an end of a batch queue.
+    pub fn into_batch(self) -> HeldBatch
+        requires { is_some (batch_in self) ≡ true }
+        ensures { batch_in self ≡ Some result }
+    {
+        match self {
+            Payload::Batch(held) => held,
+            _ => unreachable!(),
+        }
+    }
 
     /// Condition: it is an end of a queue.
     pub fn into_queue(self) -> HeldQueue

@@ -1,0 +1,133 @@
+/*
+ * A receiver takes free buffers from one batch queue, fills them, and puts them in bursts into a second one; two
+ * workers take bursts from there, add up what is in the buffers, and put them back as free. All buffers are used again
+ * and again. An item is a buffer: its number, and what is in it. Prints how many were filled and worked on, and the sums of
+ * what was in them. Status 1: they are not the same.
+ */
+#include "synthesis.h"
+#include <pthread.h>
+#include <sched.h>
+#include <stdio.h>
+#include <stdlib.h>
+
+enum { BUFFERS = 64, BURST = 32, FILLS = 100000, WORKERS = 2 };
+
+/* What a thread works with: its ends of both queues, and what it did. */
+struct job {
+    struct synth_batch unused, filled;
+    unsigned long number;
+    uint64_t sum;
+};
+
+static void must(int32_t code, const char *what)
+{
+    if (code != SYNTH_DONE) {
+        fprintf(stderr, "bursts: %s: code %d\n", what, (int)code);
+        exit(1);
+    }
+}
+
+/* Puts a whole burst, in pieces while there is no room for all of it. */
+static void put_burst(struct synth_batch *queue, const uint64_t *numbers, size_t count)
+{
+    struct synth_positions at;
+    for (size_t done = 0, put; done < count;) {
+        int32_t code = synth_batch_try_put_some(queue, numbers + done, count - done, &put, &at);
+        if (code == SYNTH_DONE) {
+            done += put;
+        } else if (code != SYNTH_LOST && code != SYNTH_FULL) {
+            must(code, "put");
+        }
+    }
+}
+
+/* Takes a burst, and waits for one. Gives its length, 0 once nothing will come. */
+static size_t take_burst(struct synth_batch *queue, uint64_t *numbers, size_t room)
+{
+    struct synth_positions at;
+    size_t count;
+    for (;;) {
+        int32_t code = synth_batch_try_take_some(queue, numbers, room, &count, &at);
+        if (code == SYNTH_DONE) {
+            return count;
+        }
+        if (code == SYNTH_CLOSED) {
+            return 0;
+        }
+        if (code != SYNTH_LOST && code != SYNTH_EMPTY) {
+            must(code, "take");
+        }
+        sched_yield();
+    }
+}
+
+static void *receive(void *given)
+{
+    struct job *job = (struct job *)given;
+    bool was_open;
+    while (job->number < FILLS) {
+        uint64_t burst[BURST];
+        size_t left = FILLS - job->number, most = BURST;
+        size_t count = take_burst(&job->unused, burst, left < most ? left : most);
+        for (size_t i = 0; i < count; i++) {
+            burst[i] += job->number * BUFFERS;
+            job->sum += job->number++;
+        }
+        put_burst(&job->filled, burst, count);
+    }
+    must(synth_batch_shut(&job->filled, &was_open), "shut");
+    return NULL;
+}
+
+static void *work(void *given)
+{
+    struct job *job = (struct job *)given;
+    uint64_t burst[BURST];
+    for (size_t count; (count = take_burst(&job->filled, burst, BURST)) > 0;) {
+        for (size_t i = 0; i < count; i++) {
+            job->sum += burst[i] / BUFFERS;
+            burst[i] %= BUFFERS;
+            job->number++;
+        }
+        put_burst(&job->unused, burst, count);
+    }
+    return NULL;
+}
+
+int main(void)
+{
+    struct synth_batch unused = {NULL, false}, filled = {NULL, false};
+    struct synth_positions at;
+    struct synth_batch_closed closed;
+    struct job jobs[1 + WORKERS] = {{{NULL, false}, {NULL, false}, 0, 0}};
+    pthread_t threads[1 + WORKERS];
+    uint64_t numbers[BUFFERS], sum = 0;
+    unsigned long worked = 0;
+    for (uint64_t i = 0; i < BUFFERS; i++) {
+        numbers[i] = i;
+    }
+    must(synth_batch_new(BUFFERS, &unused), "new");
+    must(synth_batch_new(BUFFERS, &filled), "new");
+    must(synth_batch_try_put(&unused, numbers, BUFFERS, &at), "the first put");
+    for (int i = 0; i < 1 + WORKERS; i++) {
+        must(synth_batch_split(&unused, &jobs[i].unused), "split");
+        must(synth_batch_split(&filled, &jobs[i].filled), "split");
+        must(pthread_create(&threads[i], NULL, i == 0 ? receive : work, &jobs[i]), "a thread");
+    }
+    for (int i = 0; i < 1 + WORKERS; i++) {
+        must(pthread_join(threads[i], NULL), "the end of a thread");
+        must(synth_batch_join(&unused, &jobs[i].unused), "join");
+        must(synth_batch_join(&filled, &jobs[i].filled), "join");
+        if (i > 0) {
+            worked += jobs[i].number;
+            sum += jobs[i].sum;
+        }
+    }
+    must(synth_batch_close(&filled, numbers, BUFFERS, &closed), "close");
+    bool agrees = closed.left == 0 && closed.put == FILLS && closed.taken == FILLS;
+    must(synth_batch_close(&unused, numbers, BUFFERS, &closed), "close");
+    agrees = agrees && closed.left == BUFFERS && worked == jobs[0].number && sum == jobs[0].sum;
+    printf("bursts: %lu filled, sum %llu; %lu worked on, sum %llu\n", jobs[0].number, (unsigned long long)jobs[0].sum,
+           worked, (unsigned long long)sum);
+    return !agrees;
+}

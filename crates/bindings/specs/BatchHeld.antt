@@ -1,0 +1,145 @@
+-- What the calls of a batch queue do to an end of it. Each says what the library's call says.
+use Rattle.std.specs.Prelude.{◌≡◌, ◌⊎◌, ◌≤◌, ◌<◌, ◌+◌, ◌++◌, ℕ}
+use Rattle.std.specs.Prelude.{Bool, true, take, List, length, Result, MatchResult, IfErr}
+use Rattle.std.specs.Arc.{arc_value}
+use Rattle.table_theory.specs.Sharing.{given, kept, the_whole}
+use Rattle.batch_queue.specs.declared.layout.TheConstants.{MOST_PLACES}
+use Rattle.batch_queue.specs.declared.refusals.PutRefusal.{PutRefusal}
+use Rattle.batch_queue.specs.declared.refusals.PutRefusal.TheVariants as not_put
+use Rattle.batch_queue.specs.declared.refusals.TakeRefusal.{TakeRefusal}
+use Rattle.batch_queue.specs.Handles.{IsSameEnd, view_of, room_of}
+use Rattle.batch_queue.specs.Handles as batches
+use Rattle.batch_queue.specs.Layout.{IsPowerOfTwo}
+use Rattle.batch_queue.specs.Rules.{newcomer}
+use Rattle.batch_queue.specs.Answers.{WhyNotPut, WhyNotPutSome, WhyNotTaken}
+use Rattle.batch_queue.specs.Closings.{ShutNow}
+use Rattle.batch_queue.specs.Endings as endings
+use Rattle.batch_queue.specs.Hints.{LookedAround}
+use Rattle.batch_queue.specs.Lines.{SameLines, PutLine, lines_put, lines_taken, times_parted}
+use Rattle.batch_queue.specs.Parts.{FilledSome, SameSome, WhyNotTakenSome, TookSome, RefusedTakeSome}
+use Rattle.batch_queue.specs.Puts.{IsPut, IsPutSome, RefusedPut, RefusedSome}
+use Rattle.batch_queue.specs.Takings.{FilledBuffer, TookBatches, RefusedTake}
+use Rattle.bindings.specs.declared.batch.held.HeldBatch.{HeldBatch}
+
+-- a number of places that a batch queue can have
+abbrev pub IsCapacity : ℕ → Type 0
+IsCapacity places = (0 < places) × (places ≤ MOST_PLACES) × IsPowerOfTwo places
+
+-- how many places the queue has
+abbrev pub places_of : HeldBatch → ℕ
+places_of x = room_of (arc_value x.queue)
+
+-- the same end of the same queue
+abbrev pub IsSameHeld : HeldBatch → HeldBatch → Type 0
+IsSameHeld x y = (arc_value y.queue ≡ arc_value x.queue) × IsSameEnd x.end y.end × (y.mark ≡ x.mark)
+
+-- the same, and it has as many parts as before
+abbrev pub IsKept : HeldBatch → HeldBatch → Type 0
+IsKept x y = IsSameHeld x y × (y.parts ≡ x.parts)
+
+-- both are ends of one queue
+abbrev pub AreOfOneQueue : HeldBatch → HeldBatch → Type 0
+AreOfOneQueue x y = batches.AreOfOneQueue x.end y.end
+
+-- the queues have one mark
+abbrev pub HaveOneMark : HeldBatch → HeldBatch → Type 0
+HaveOneMark x y = y.mark ≡ x.mark
+
+-- together the ends have no more parts than one queue has
+abbrev pub Fit : HeldBatch → HeldBatch → Type 0
+Fit x y = x.parts + y.parts ≤ the_whole
+
+-- as far as the marks and the parts say, both are ends of one queue
+abbrev pub MayJoin : HeldBatch → HeldBatch → Type 0
+MayJoin x y = HaveOneMark x y × Fit x y
+
+-- the marks or the parts say that they aren't
+abbrev pub MayNotJoin : HeldBatch → HeldBatch → Type 0
+MayNotJoin x y = (HaveOneMark x y → ⊥) ⊎ (the_whole < x.parts + y.parts)
+
+-- the only end of an empty queue of so many places
+abbrev pub IsNewBatch : ℕ → ℕ → HeldBatch → Type 0
+IsNewBatch places mark x = (places_of x ≡ places) × (view_of x.end ≡ newcomer (record { room = places }))
+    × (x.mark ≡ mark) × (x.parts ≡ the_whole)
+
+-- what an end put and took, and how often it parted a batch, is as it was
+abbrev pub DidNothing : HeldBatch → HeldBatch → Type 0
+DidNothing x y = SameLines (view_of x.end) (view_of y.end)
+
+-- `split` gave this end, of the same queue and with its parts of the share
+pub record Divided (x y born : HeldBatch) : Type 0 where
+  pub same : IsSameHeld x y
+  pub one : (arc_value born.queue ≡ arc_value x.queue) × (born.mark ≡ x.mark)
+  pub parts : (born.parts ≡ given x.parts) × (y.parts ≡ kept x.parts)
+  pub effect : (lines_put (view_of y.end) ≡ lines_put (view_of x.end))
+      × (lines_taken (view_of y.end) ≡ lines_taken (view_of x.end))
+      × (times_parted (view_of y.end) ≡ times_parted (view_of x.end))
+  pub result : endings.IsNewborn (view_of x.end) (view_of y.end) (view_of born.end)
+  pub trace : endings.Divided (view_of x.end) (view_of y.end)
+
+-- `join` took the other end in, with its parts
+pub record Joined (x y other : HeldBatch) : Type 0 where
+  pub same : IsSameHeld x y
+  pub parts : y.parts ≡ x.parts + other.parts
+  pub effect : (lines_put (view_of y.end) ≡ lines_put (view_of x.end) ++ lines_put (view_of other.end))
+      × (lines_taken (view_of y.end) ≡ lines_taken (view_of x.end) ++ lines_taken (view_of other.end))
+      × (times_parted (view_of y.end) ≡ times_parted (view_of x.end) + times_parted (view_of other.end))
+  pub trace : endings.TookIn (view_of x.end) (view_of other.end) (view_of y.end)
+
+-- the end had seen the queue shut
+abbrev pub SawShut : HeldBatch → Type 0
+SawShut x = (view_of x.end).seen.object.shut ≡ true
+
+-- the queue was shut, says the answer
+abbrev pub SaysShut : {X : Type 0} → Result X PutRefusal → Type 0
+SaysShut answer = MatchResult answer (λ start. ⊥) (λ r. r ≡ not_put.Closed)
+
+-- `try_put` gave this answer
+pub record Put (items : List ℕ) (answer : Result ℕ PutRefusal) (x y : HeldBatch) : Type 0 where
+  pub same : IsKept x y
+  pub effect : MatchResult answer (λ start. PutLine items (view_of x.end) (view_of y.end)) (λ r. DidNothing x y)
+  pub error : IfErr answer (λ r. WhyNotPut (view_of x.end) (places_of x) (length items) r (view_of y.end))
+  pub shut : SawShut x → 0 < length items → length items ≤ places_of x → SaysShut answer
+  pub trace : MatchResult answer (λ start. IsPut (places_of x) (view_of x.end) start items (view_of y.end))
+      (λ r. RefusedPut (places_of x) (view_of x.end) (length items) r (view_of y.end))
+
+-- `try_put_some` gave this answer
+pub record PutSome (items : List ℕ) (answer : Result (ℕ × ℕ) PutRefusal) (x y : HeldBatch) : Type 0 where
+  pub same : IsKept x y
+  pub effect : MatchResult answer (λ r. (0 < r.1) × (r.1 ≤ length items)
+      × PutLine (take r.1 items) (view_of x.end) (view_of y.end)) (λ r. DidNothing x y)
+  pub error : IfErr answer (λ r. WhyNotPutSome (view_of x.end) (places_of x) (length items) r (view_of y.end))
+  pub shut : SawShut x → 0 < length items → SaysShut answer
+  pub trace : MatchResult answer (λ r. IsPutSome (places_of x) (view_of x.end) r.0 r.1 items (view_of y.end))
+      (λ r. RefusedSome (places_of x) (view_of x.end) (length items) r (view_of y.end))
+
+-- `try_take` gave this answer
+pub record Took (old new : List ℕ) (answer : Result ℕ TakeRefusal) (x y : HeldBatch) : Type 0 where
+  pub same : IsKept x y
+  pub effect : MatchResult answer (λ n. FilledBuffer n old new (view_of x.end) (view_of y.end))
+      (λ r. DidNothing x y × (new ≡ old))
+  pub error : IfErr answer (λ r. WhyNotTaken (view_of x.end) (length old) r (view_of y.end))
+  pub trace : MatchResult answer
+      (λ n. TookBatches (places_of x) (view_of x.end) (length old) (take n new) (view_of y.end))
+      (λ r. RefusedTake (places_of x) (view_of x.end) (length old) r (view_of y.end))
+
+-- `try_take_some` gave this answer
+pub record TookUpTo (old new : List ℕ) (answer : Result ℕ TakeRefusal) (x y : HeldBatch) : Type 0 where
+  pub same : IsKept x y
+  pub effect : MatchResult answer (λ n. FilledSome n old new (view_of x.end) (view_of y.end))
+      (λ r. SameSome (view_of x.end) (view_of y.end) × (new ≡ old))
+  pub error : IfErr answer (λ r. WhyNotTakenSome (view_of x.end) (length old) r (view_of y.end))
+  pub trace : MatchResult answer (λ n. TookSome (places_of x) (view_of x.end) (length old) (take n new) (view_of y.end))
+      (λ r. RefusedTakeSome (places_of x) (view_of x.end) (length old) r (view_of y.end))
+
+-- `len` gave this hint
+pub record Counted (count : ℕ) (x y : HeldBatch) : Type 0 where
+  pub same : IsKept x y
+  pub effect : DidNothing x y
+  pub trace : LookedAround (view_of x.end) count (view_of y.end)
+
+-- `shut` gave this answer
+pub record WasShut (was_open : Bool) (x y : HeldBatch) : Type 0 where
+  pub same : IsKept x y
+  pub effect : DidNothing x y × ((view_of y.end).seen.object.shut ≡ true)
+  pub trace : ShutNow (view_of x.end) was_open (view_of y.end)

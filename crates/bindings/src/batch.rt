@@ -1,0 +1,366 @@
+//! The batch queue for C: each call is one of the library's, on the end that a handle holds.
+ghost use Rattle.std.specs.Prelude.{◌≡◌, ◌≤◌, ◌<◌, length};
+ghost use Rattle.std.specs.Option.{MatchOption};
+ghost use Rattle.bindings.specs.BatchCalls.{MadeBatch, PutTold, PutSomeTold, TakeTold, WasClosed};
+ghost use Rattle.bindings.specs.BatchCalls.{IsToldPut, IsToldPutSome, IsToldTake, code_of_put, positions_of_put};
+ghost use Rattle.bindings.specs.BatchHeld.{Divided, Joined, HaveOneMark, AreOfOneQueue, MayJoin, MayNotJoin};
+ghost use Rattle.bindings.specs.BatchHeld.{places_of, Took, TookUpTo, Counted, WasShut};
+ghost use Rattle.bindings.specs.Codes.{Done, EmptyHandle};
+ghost use Rattle.bindings.specs.Handles.{held_by, batch_of, AsItWas, NoneIn, HoldsThen, HoldsSome, TurnsThen};
+ghost use Rattle.bindings.specs.Handles.{FreedHandle, SplitHandle, JoinedHandle, MarksTell};
+ghost use Rattle.bindings.specs.Kinds.{batch_in};
+
+mod closing;
+pub mod held;
+
+use crate::answer::{
+    BAD_NUMBER, CLOSED, DONE, EMPTY, EMPTY_HANDLE, FULL, FULL_HANDLE, LOST, NO_ITEMS, NO_MEMORY,
+    NO_SHARE, OPEN, OTHER_OBJECT, SHORT_BUFFER, SPENT, TOO_LONG,
+};
+use crate::handle::Handle;
+use crate::payload::Payload;
+use batch_queue::{PutRefusal, TakeRefusal};
+use closing::{Outcome, SynthBatchClosed};
+use held::HeldBatch;
+use loose_box::{Loose, Vacant};
+use std::alloc::Global;
+
+/// The positions that a call tells. Where it tells only one of them, the other is 0.
+#[repr(C)]
+#[derive(Drop)]
+pub struct SynthPositions {
+    pub head: u64,
+    pub tail: u64,
+}
+
+// The code of the refusal. The positions that it tells are written, if it tells any.
+fn tell_refused_put(refusal: PutRefusal, positions: &mut SynthPositions) -> i32
+    ensures { (result ≡ code_of_put refusal) × (positions.new ≡ positions_of_put refusal positions.old) }
+{
+    match refusal {
+        PutRefusal::NoItems => NO_ITEMS,
+        PutRefusal::TooLong => TOO_LONG,
+        PutRefusal::Closed => CLOSED,
+        PutRefusal::Spent => SPENT,
+        PutRefusal::Full { head, free } => {
+            *positions = SynthPositions { head, tail: free };
+            FULL
+        }
+        PutRefusal::Lost { head } => {
+            *positions = SynthPositions { head, tail: 0 };
+            LOST
+        }
+    }
+}
+
+// The code of the answer. The position of the first item is written, or those that the refusal tells.
+fn tell_put(answer: Result<u64, PutRefusal>, positions: &mut SynthPositions) -> i32
+    ensures { IsToldPut answer positions.old positions.new result }
+{
+    match answer {
+        Ok(head) => {
+            *positions = SynthPositions { head, tail: 0 };
+            DONE
+        }
+        Err(refusal) => tell_refused_put(refusal, positions),
+    }
+}
+
+// The same, and how many items were put.
+fn tell_put_some(
+    answer: Result<(u64, usize), PutRefusal>,
+    count: &mut usize,
+    positions: &mut SynthPositions,
+) -> i32
+    ensures { IsToldPutSome answer count.old count.new positions.old positions.new result }
+{
+    match answer {
+        Ok((head, put)) => {
+            *count = put;
+            *positions = SynthPositions { head, tail: 0 };
+            DONE
+        }
+        Err(refusal) => tell_refused_put(refusal, positions),
+    }
+}
+
+// The code of the answer. The number of the items is written, or what the refusal tells.
+fn tell_take(
+    answer: Result<usize, TakeRefusal>,
+    count: &mut usize,
+    positions: &mut SynthPositions,
+) -> i32
+    ensures { IsToldTake answer count.old count.new positions.old positions.new result }
+{
+    match answer {
+        Ok(taken) => {
+            *count = taken;
+            DONE
+        }
+        Err(TakeRefusal::Closed) => CLOSED,
+        Err(TakeRefusal::Lost { tail }) => {
+            *positions = SynthPositions { head: 0, tail };
+            LOST
+        }
+        Err(TakeRefusal::Empty { at }) => {
+            *positions = SynthPositions { head: 0, tail: at };
+            EMPTY
+        }
+        Err(TakeRefusal::ShortBuffer { at, count: long }) => {
+            *count = long as usize;
+            *positions = SynthPositions { head: 0, tail: at };
+            SHORT_BUFFER
+        }
+    }
+}
+
+/// An empty queue of so many places, a power of two, 2^24 at most. Each queue has a mark of its own.
+#[unsafe(no_mangle)]
+pub extern "C" fn synth_batch_new_marked(
+    alloc: Global,
+    places: usize,
+    mark: u64,
+    batch: &mut Handle,
+) -> i32
+    ensures { MadeBatch places mark batch.old batch.new result }
+{
+    if batch.is_full() {
+        return FULL_HANDLE;
+    }
+    if !HeldBatch::is_capacity(places) {
+        return BAD_NUMBER;
+    }
+    let Some(held) = HeldBatch::new(alloc, places, mark) else {
+        return NO_MEMORY;
+    };
+    let Ok(held) = Box::new(alloc, Payload::Batch(held)) else {
+        return NO_MEMORY;
+    };
+    batch.put(held);
+    DONE
+}
+
+/// Frees the handle, whose end is then never joined.
+#[unsafe(no_mangle)]
+pub extern "C" fn synth_batch_free(alloc: Global, batch: &mut Handle) -> i32
+    ensures { FreedHandle batch_of batch.old batch.new result }
+{
+    if batch.batch().is_none() {
+        return EMPTY_HANDLE;
+    }
+    let _held = batch.take(alloc);
+    DONE
+}
+
+// A new end in a box of its own. Nothing changes where no box can be had, or no more handles can be counted.
+fn split_boxed(alloc: Global, held: &mut HeldBatch) -> Option<Box<Payload, Global>>
+    requires { 2 ≤ held.old.parts }
+    ensures { MatchOption result (held.new ≡ held.old) (λ b. HoldsSome (batch_in b.value) (Divided held.old held.new)) }
+{
+    let Ok(room) = Vacant::take(alloc) else {
+        return None;
+    };
+    match held.split() {
+        Some(born) => Some(Loose::fill(room, Payload::Batch(born)).into_box()),
+        None => {
+            let _alloc = room.free();
+            None
+        }
+    }
+}
+
+/// A second end of the queue, for another thread.
+#[unsafe(no_mangle)]
+pub extern "C" fn synth_batch_split(alloc: Global, batch: &mut Handle, other: &mut Handle) -> i32
+    ensures { SplitHandle batch_of (λ x. x.parts) Divided batch.old batch.new other.old other.new result }
+{
+    let Some(held) = batch.batch() else {
+        return EMPTY_HANDLE;
+    };
+    if other.is_full() {
+        return FULL_HANDLE;
+    }
+    if !held.is_divisible() {
+        return NO_SHARE;
+    }
+    match split_boxed(alloc, held) {
+        Some(made) => {
+            other.put(made);
+            DONE
+        }
+        None => NO_MEMORY,
+    }
+}
+
+/// The first end then has all that both had, and the second handle is empty.
+#[unsafe(no_mangle)]
+pub extern "C" fn synth_batch_join(alloc: Global, batch: &mut Handle, other: &mut Handle) -> i32
+    requires { MarksTell HaveOneMark AreOfOneQueue (batch_of batch.old) (batch_of other.old) }
+    ensures { JoinedHandle batch_of MayJoin MayNotJoin Joined batch.old batch.new other.old other.new result }
+{
+    let Some(held) = batch.batch() else {
+        return EMPTY_HANDLE;
+    };
+    let Some(joined) = other.batch() else {
+        return EMPTY_HANDLE;
+    };
+    if !held.may_join(joined) {
+        return OTHER_OBJECT;
+    }
+    held.join(Box::into_inner(other.take(alloc)).into_batch());
+    DONE
+}
+
+/// `BatchQueue::try_put`.
+#[unsafe(no_mangle)]
+pub extern "C" fn synth_batch_try_put(
+    batch: &mut Handle,
+    items: &[u64],
+    positions: &mut SynthPositions,
+) -> i32
+    ensures empty { NoneIn batch_of batch.old batch.new ((result ≡ EmptyHandle) × (positions.new ≡ positions.old)) }
+    ensures put { TurnsThen (batch_of batch.old) (batch_of batch.new)
+        (PutTold items.now positions.old positions.new result) }
+{
+    let Some(held) = batch.batch() else {
+        return EMPTY_HANDLE;
+    };
+    let answer = held.try_put(items);
+    tell_put(answer, positions)
+}
+
+/// `BatchQueue::try_put_some`.
+#[unsafe(no_mangle)]
+pub extern "C" fn synth_batch_try_put_some(
+    batch: &mut Handle,
+    items: &[u64],
+    count: &mut usize,
+    positions: &mut SynthPositions,
+) -> i32
+    ensures empty { NoneIn batch_of batch.old batch.new
+        ((result ≡ EmptyHandle) × (count.new ≡ count.old) × (positions.new ≡ positions.old)) }
+    ensures put { TurnsThen (batch_of batch.old) (batch_of batch.new)
+        (PutSomeTold items.now count.old count.new positions.old positions.new result) }
+{
+    let Some(held) = batch.batch() else {
+        return EMPTY_HANDLE;
+    };
+    let answer = held.try_put_some(items);
+    tell_put_some(answer, count, positions)
+}
+
+/// `BatchQueue::try_take`.
+#[unsafe(no_mangle)]
+pub extern "C" fn synth_batch_try_take(
+    batch: &mut Handle,
+    items: &mut [u64],
+    count: &mut usize,
+    positions: &mut SynthPositions,
+) -> i32
+    ensures empty { NoneIn batch_of batch.old batch.new ((result ≡ EmptyHandle) × (items.new ≡ items.old)
+        × (count.new ≡ count.old) × (positions.new ≡ positions.old)) }
+    ensures taken { TurnsThen (batch_of batch.old) (batch_of batch.new)
+        (TakeTold Took items.old items.new count.old count.new positions.old positions.new result) }
+{
+    let Some(held) = batch.batch() else {
+        return EMPTY_HANDLE;
+    };
+    let answer = held.try_take(items);
+    tell_take(answer, count, positions)
+}
+
+/// `BatchQueue::try_take_some`.
+#[unsafe(no_mangle)]
+pub extern "C" fn synth_batch_try_take_some(
+    batch: &mut Handle,
+    items: &mut [u64],
+    count: &mut usize,
+    positions: &mut SynthPositions,
+) -> i32
+    ensures empty { NoneIn batch_of batch.old batch.new ((result ≡ EmptyHandle) × (items.new ≡ items.old)
+        × (count.new ≡ count.old) × (positions.new ≡ positions.old)) }
+    ensures taken { TurnsThen (batch_of batch.old) (batch_of batch.new)
+        (TakeTold TookUpTo items.old items.new count.old count.new positions.old positions.new result) }
+{
+    let Some(held) = batch.batch() else {
+        return EMPTY_HANDLE;
+    };
+    let answer = held.try_take_some(items);
+    tell_take(answer, count, positions)
+}
+
+/// `BatchQueue::len`.
+#[unsafe(no_mangle)]
+pub extern "C" fn synth_batch_len(batch: &mut Handle, count: &mut u64) -> i32
+    ensures empty { NoneIn batch_of batch.old batch.new ((result ≡ EmptyHandle) × (count.new ≡ count.old)) }
+    ensures counted { TurnsThen (batch_of batch.old) (batch_of batch.new)
+        (λ x y. Counted count.new x y × (result ≡ Done)) }
+{
+    let Some(held) = batch.batch() else {
+        return EMPTY_HANDLE;
+    };
+    *count = held.len();
+    DONE
+}
+
+/// How many places the queue has.
+#[unsafe(no_mangle)]
+pub extern "C" fn synth_batch_capacity(batch: &mut Handle, places: &mut usize) -> i32
+    ensures empty { NoneIn batch_of batch.old batch.new ((result ≡ EmptyHandle) × (places.new ≡ places.old)) }
+    ensures told { HoldsThen (batch_of batch.old)
+        (λ x. AsItWas batch.old batch.new × (places.new ≡ places_of x) × (result ≡ Done)) }
+{
+    let Some(held) = batch.batch() else {
+        return EMPTY_HANDLE;
+    };
+    *places = held.places();
+    DONE
+}
+
+/// `BatchQueue::shut`.
+#[unsafe(no_mangle)]
+pub extern "C" fn synth_batch_shut(batch: &mut Handle, was_open: &mut bool) -> i32
+    ensures empty { NoneIn batch_of batch.old batch.new ((result ≡ EmptyHandle) × (was_open.new ≡ was_open.old)) }
+    ensures shut { TurnsThen (batch_of batch.old) (batch_of batch.new)
+        (λ x y. WasShut was_open.new x y × (result ≡ Done)) }
+{
+    let Some(held) = batch.batch() else {
+        return EMPTY_HANDLE;
+    };
+    *was_open = held.shut();
+    DONE
+}
+
+/// `BatchQueue::close`, where the end has all parts of the queue. Else the handle keeps its end. The items left are in
+/// the buffer, which has room for as many as the queue has places, or more.
+#[unsafe(no_mangle)]
+pub extern "C" fn synth_batch_close(
+    alloc: Global,
+    batch: &mut Handle,
+    left: &mut [u64],
+    closed: &mut SynthBatchClosed,
+) -> i32
+    ensures empty { NoneIn batch_of batch.old batch.new
+        ((result ≡ EmptyHandle) × (left.new ≡ left.old) × (closed.new ≡ closed.old)) }
+    ensures closed { HoldsThen (batch_of batch.old)
+        (λ x. WasClosed x left.old left.new (held_by batch.new) closed.old closed.new result) }
+{
+    let Some(held) = batch.batch() else {
+        return EMPTY_HANDLE;
+    };
+    if left.len() < held.places() {
+        return SHORT_BUFFER;
+    }
+    let (payload, room) = Loose::of(batch.take(alloc)).take_out();
+    match payload.into_batch().close(left) {
+        Outcome::Closed(told) => {
+            let _alloc = room.free();
+            *closed = told;
+            DONE
+        }
+        Outcome::Open(held) => {
+            batch.put(Loose::fill(room, Payload::Batch(held)).into_box());
+            OPEN
+        }
+    }
+}

@@ -1,0 +1,95 @@
+//! Closing a batch queue.
+ghost use Rattle.std.specs.Prelude.{◌≡◌, ◌≤◌, length, take};
+ghost use Rattle.batch_queue.specs.Handles.{IsEndOf, IsOnlyEnd, room_of};
+ghost use Rattle.batch_queue.specs.Lefts.{items_left};
+ghost use Rattle.bindings.specs.BatchClosing.{ClosedInto, Ended};
+ghost use Rattle.bindings.specs.QueueTaking.{IsKeptFrom};
+
+use super::held::HeldBatch;
+use batch_queue::{BatchEnd, BatchQueue, LeftItems};
+use std::sync::Arc;
+
+/// What a batch queue had at its end: how many items were put and taken, and how many were left.
+#[repr(C)]
+#[derive(Drop)]
+pub struct SynthBatchClosed {
+    pub put: u64,
+    pub taken: u64,
+    pub left: usize,
+}
+
+/// What becomes of a queue that is to be closed.
+#[derive(Drop)]
+pub enum Outcome {
+    /// It is closed, and the items left are in the buffer.
+    Closed(SynthBatchClosed),
+    /// The end hasn't all parts of the queue.
+    Open(HeldBatch),
+}
+
+// Copies what was left to the beginning of a buffer. Gives its number.
+fn copy_left(left: &LeftItems, out: &mut [u64]) -> usize
+    requires { length (items_left left.now) ≤ length out.old }
+    ensures number { result ≡ length (items_left left.now) }
+    ensures copied { take result out.new ≡ items_left left.now }
+    ensures rest { IsKeptFrom result out.old out.new }
+{
+    let count = left.len();
+    for i in 0..count {
+        let Some(item) = left.get(i) else {
+            unreachable!()
+        };
+        out[i] = item;
+    }
+    count
+}
+
+// Closes a queue by its only end.
+fn close_queue(queue: BatchQueue, end: BatchEnd, out: &mut [u64]) -> SynthBatchClosed
+    requires queue { IsEndOf queue end }
+    requires only { IsOnlyEnd end }
+    requires buffer { room_of queue ≤ length out.old }
+    ensures { ClosedInto out.old out.new result queue end }
+{
+    let Ok(closed) = queue.close(end) else {
+        unreachable!()
+    };
+    let left = copy_left(&closed.left, out);
+    SynthBatchClosed {
+        put: closed.put,
+        taken: closed.taken,
+        left,
+    }
+}
+
+impl HeldBatch {
+    ghost use Rattle.bindings.specs.BatchHeld.{places_of};
+
+    /// `BatchQueue::close`, where the end has all parts.
+    pub fn close(self, out: &mut [u64]) -> Outcome
+        requires { places_of self ≤ length out.old }
+        ensures { Ended out.old out.new result self }
+    {
+        if self.parts != u64::MAX {
+            return Outcome::Open(self);
+        }
+        let HeldBatch {
+            queue,
+            end,
+            parts,
+            mark,
+        } = self;
+        let queue = match Arc::try_unwrap(queue) {
+            Ok(queue) => queue,
+            Err(queue) => {
+                return Outcome::Open(HeldBatch {
+                    queue,
+                    end,
+                    parts,
+                    mark,
+                });
+            }
+        };
+        Outcome::Closed(close_queue(queue, end, out))
+    }
+}

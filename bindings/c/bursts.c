@@ -1,8 +1,8 @@
 /*
  * A receiver takes free buffers from one batch queue, fills them, and puts them in bursts into a second one; two
  * workers take bursts from there, add up what is in the buffers, and put them back as free. All buffers are used again
- * and again. An item is a buffer: its number, and what is in it. Prints how many were filled and worked on, and the sums of
- * what was in them. Status 1: they are not the same.
+ * and again. An item is a buffer: its number, and what is in it. Prints how many were filled and worked on, and the
+ * sums of what was in them. Status 1: they are not the same.
  */
 #include "synthesis.h"
 #include <pthread.h>

@@ -187,7 +187,8 @@ int32_t synth_batch_try_take(struct synth_batch *batch, uint64_t *items, size_t 
 
 /*
  * As try_take, but takes up to `room` items, where need be the first ones of a batch. Its others stay published, and
- * the next taking begins with them. So SYNTH_SHORT_BUFFER comes for a `room` of 0 alone.
+ * the next taking begins with them. So SYNTH_SHORT_BUFFER comes for a `room` of 0 alone. SYNTH_LOST comes too where
+ * another end parted the same batch meanwhile; `tail` may be as it was then. It comes for no handle that has the whole.
  */
 int32_t synth_batch_try_take_some(struct synth_batch *batch, uint64_t *items, size_t room, size_t *count,
                                   struct synth_positions *positions);
@@ -255,8 +256,8 @@ struct synth_closed {
 int32_t synth_queue_new(uint32_t places, uint32_t first, struct synth_queue *queue);
 
 /*
- * Fills `other`, one more handle of the queue, for another thread. The handle that new filled can be split two million times without a
- * join, and each handle that it fills 43 times in a chain.
+ * Fills `other`, one more handle of the queue, for another thread. The handle that new filled can be split two million
+ * times without a join, and each handle that it fills 43 times in a chain.
  * SYNTH_EMPTY_HANDLE: `queue`; SYNTH_FULL_HANDLE: `other`; SYNTH_NO_SHARE; SYNTH_NO_MEMORY.
  */
 int32_t synth_queue_split(struct synth_queue *queue, struct synth_queue *other);
@@ -532,8 +533,8 @@ int32_t synth_line_new(size_t room, struct synth_line_in *input, struct synth_li
 
 /*
  * Pushes one byte behind all others.
- * SYNTH_EMPTY_HANDLE; SYNTH_FULL: no place of the line was seen free. None is refused so before as many bytes were pushed
- * as the line has room for.
+ * SYNTH_EMPTY_HANDLE; SYNTH_FULL: no place of the line was seen free. None is refused so before as many bytes were
+ * pushed as the line has room for.
  */
 int32_t synth_line_push(struct synth_line_in *input, uint8_t byte);
 

@@ -80,7 +80,7 @@ pub enum BatchTakeRefusal {
         /// How many items it has.
         count: usize,
     },
-    /// Another end took first.
+    /// Another end took first, or parted the batch that this one tried to part.
     Lost {
         /// The tail that was found.
         tail: u64,

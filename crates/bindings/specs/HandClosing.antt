@@ -19,7 +19,8 @@ use Rattle.bindings.specs.Codes as codes
 
 -- it is closed, as the library's `close` tells, by the hand that has all parts; or nothing happens
 abbrev pub Ended : Outcome → HeldHand → Type 0
-Ended (Closed c) x = (x.parts ≡ the_whole) × ClosedNow (call_of x.hand) (view_of x.hand) c.places c.pcs c.pending c.stops
+Ended (Closed c) x = (x.parts ≡ the_whole)
+    × ClosedNow (call_of x.hand) (view_of x.hand) c.places c.pcs c.pending c.stops
 Ended (Open y) x = y ≡ x
 
 -- how a place is told

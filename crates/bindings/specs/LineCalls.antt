@@ -3,7 +3,8 @@ use Rattle.std.specs.Prelude.{◌≡◌, ◌⊎◌, ◌≤◌, ◌<◌, ◌%◌,
 use Rattle.std.specs.declared.option.Option.{Option}
 use Rattle.std.specs.declared.option.Option.TheVariants.{None, Some}
 use Rattle.spsc_line.specs.Lines.{bytes_sent, bytes_received, bytes_left, capacity_in, known_room, known_bytes}
-use Rattle.spsc_line.specs.Lines.{IsLine, IsNewIn, IsNewOut, SameIn, SameOut, Sends, SendsNothing, Receives, ReceivesNothing}
+use Rattle.spsc_line.specs.Lines.{IsLine, IsNewIn, IsNewOut, SameIn, SameOut, Sends, SendsNothing}
+use Rattle.spsc_line.specs.Lines.{Receives, ReceivesNothing}
 use Rattle.bindings.specs.declared.handle.Handle.{Handle}
 use Rattle.bindings.specs.declared.payload.Payload.TheVariants.{LineIn, LineOut}
 use Rattle.bindings.specs.declared.line.held.HeldIn.{HeldIn}

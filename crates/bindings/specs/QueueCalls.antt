@@ -15,7 +15,8 @@ use Rattle.bindings.specs.declared.queue.closing.Outcome.TheVariants as ended
 use Rattle.bindings.specs.Handles.{held_by, AsItWas}
 use Rattle.bindings.specs.Hiding.{is_some}
 use Rattle.bindings.specs.Codes.{Done, Open, NoMemory, FullHandle, ShortBuffer, BadNumber}
-use Rattle.bindings.specs.Codes.{code_of_claim, head_of_claim, tail_of_claim, code_of_take, tail_of_take, code_of_some, tail_of_some}
+use Rattle.bindings.specs.Codes.{code_of_claim, head_of_claim, tail_of_claim, code_of_take, tail_of_take}
+use Rattle.bindings.specs.Codes.{code_of_some, tail_of_some}
 use Rattle.bindings.specs.QueueParts.{PutPart, TookPart, TookLinePart, TookSomePart, ShutPart}
 use Rattle.bindings.specs.QueueHeld.{AtSize, IsSize}
 use Rattle.bindings.specs.QueueHeld.{IsNewHeld, places_of}
@@ -28,7 +29,8 @@ MadeQueue places first mark old new code =
     ((code ≡ FullHandle) × (is_some (held_by old) ≡ true) × AsItWas old new)
     ⊎ ((code ≡ BadNumber) × (held_by old ≡ None) × AsItWas old new × (IsSize places → ⊥))
     ⊎ ((code ≡ NoMemory) × (held_by old ≡ None) × AsItWas old new × IsSize places)
-    ⊎ ((code ≡ Done) × (held_by old ≡ None) × (y : HeldQueue) × (held_by new ≡ Some (Queue y)) × IsNewHeld places first mark y)
+    ⊎ ((code ≡ Done) × (held_by old ≡ None) × (y : HeldQueue) × (held_by new ≡ Some (Queue y))
+      × IsNewHeld places first mark y)
 
 -- The handle is still for the same end, and C is told what the library's `try_put` answered
 pub record WasPut (x : HeldQueue) (items : List ℕ) (new : Option HeldQueue) (told : SynthAnswer) : Type 0 where
@@ -67,7 +69,8 @@ IsToldLine answer old new told = MatchResult answer
     (λ r. (new ≡ old) × (told.code ≡ code_of_take r) × (told.head ≡ 0) × (told.tail ≡ tail_of_take r))
 
 -- The handle is still for the same end, and C is told what the library's `try_take_line` answered
-pub record WasLineTaken (x : HeldQueue) (old_line line : List ℕ) (old_count count : ℕ) (new : Option HeldQueue) (told : SynthAnswer)
+pub record WasLineTaken (x : HeldQueue) (old_line line : List ℕ) (old_count count : ℕ) (new : Option HeldQueue)
+    (told : SynthAnswer)
     : Type 0 where
   pub y : HeldQueue
   pub full : new ≡ Some y
@@ -76,7 +79,8 @@ pub record WasLineTaken (x : HeldQueue) (old_line line : List ℕ) (old_count co
   pub tells : IsToldLine answer old_count count told
 
 -- The handle is still for the same end, and items were taken one by one into the buffer
-pub record WasTakenUpTo (x : HeldQueue) (old_items items : List ℕ) (count : ℕ) (new : Option HeldQueue) (told : SynthAnswer)
+pub record WasTakenUpTo (x : HeldQueue) (old_items items : List ℕ) (count : ℕ) (new : Option HeldQueue)
+    (told : SynthAnswer)
     : Type 0 where
   pub y : HeldQueue
   pub full : new ≡ Some y
@@ -92,7 +96,8 @@ IsToldEnding (ended.Closed c) new old told code = (code ≡ Done) × (new ≡ No
 IsToldEnding (ended.Open y) new old told code = (code ≡ Open) × (new ≡ Some (Queue y)) × (told ≡ old)
 
 -- C is told what became of the queue
-pub record WasEnded (x : HeldQueue) (old_items items : List ℕ) (new : Option Payload) (old told : SynthClosed) (code : ℤ)
+pub record WasEnded (x : HeldQueue) (old_items items : List ℕ) (new : Option Payload) (old told : SynthClosed)
+    (code : ℤ)
     : Type 0 where
   pub outcome : Outcome
   pub ended : EndedHeld old_items items outcome x
@@ -101,7 +106,8 @@ pub record WasEnded (x : HeldQueue) (old_items items : List ℕ) (new : Option P
 -- the buffer was too short, and nothing happened; or the line was taken
 abbrev pub WasLineTold : HeldQueue → List ℕ → List ℕ → ℕ → ℕ → Option HeldQueue → SynthAnswer → Type 0
 WasLineTold x old_line line old_count count new told =
-    (IsCodeAlone ShortBuffer told × (length old_line < places_of x) × (new ≡ Some x) × (line ≡ old_line) × (count ≡ old_count))
+    (IsCodeAlone ShortBuffer told × (length old_line < places_of x) × (new ≡ Some x) × (line ≡ old_line)
+      × (count ≡ old_count))
     ⊎ ((places_of x ≤ length old_line) × WasLineTaken x old_line line old_count count new told)
 
 -- the buffer has no room, and nothing happened; or items were taken
@@ -113,5 +119,6 @@ WasSomeTold x old_items items old_count count new told =
 -- the buffer was too short, and nothing happened; or the queue was closed, or was not
 abbrev pub WasClosed : HeldQueue → List ℕ → List ℕ → Option Payload → SynthClosed → SynthClosed → ℤ → Type 0
 WasClosed x old_items items new old told code =
-    ((code ≡ ShortBuffer) × (length old_items < places_of x) × (new ≡ Some (Queue x)) × (items ≡ old_items) × (told ≡ old))
+    ((code ≡ ShortBuffer) × (length old_items < places_of x) × (new ≡ Some (Queue x)) × (items ≡ old_items)
+      × (told ≡ old))
     ⊎ ((places_of x ≤ length old_items) × WasEnded x old_items items new old told code)

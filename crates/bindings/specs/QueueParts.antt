@@ -41,7 +41,8 @@ MayNotJoinPart n x y = (y.mark ≡ x.mark → ⊥) ⊎ (the_whole < x.parts + y.
 
 -- the only end of a queue in which nothing was claimed
 abbrev pub IsNewPart : ℕ → ℕ → (n : ℕ) → Part n → Type 0
-IsNewPart first mark n x = (first_of (arc_value x.queue) ≡ first) × (view_of x.end ≡ newcomer (record { first = first; room = n }))
+IsNewPart first mark n x = (first_of (arc_value x.queue) ≡ first)
+    × (view_of x.end ≡ newcomer (record { first = first; room = n }))
     × (x.mark ≡ mark) × (x.parts ≡ the_whole)
 
 -- `try_put` gave this answer

@@ -76,7 +76,8 @@ IsToldSet answer old new told = MatchResult answer
     (λ r. (new ≡ old) × (told.code ≡ code_of_set r) × (told.head ≡ head_of_set r) × (told.tail ≡ 0))
 
 -- C is told what the library's `try_set` answered of this alarm
-pub record WasSetTold (x : HeldSeat) (alarm : SynthAlarm) (old_slot slot : ℕ) (new : Option HeldSeat) (told : SynthAnswer)
+pub record WasSetTold (x : HeldSeat) (alarm : SynthAlarm) (old_slot slot : ℕ) (new : Option HeldSeat)
+    (told : SynthAnswer)
     : Type 0 where
   pub y : HeldSeat
   pub full : new ≡ Some y
@@ -96,7 +97,8 @@ SetTold x alarm old_slot slot new told =
 abbrev pub CancelTold : HeldSeat → ℕ → SynthAlarm → Bool → Bool → Option HeldSeat → ℤ → Type 0
 CancelTold x slot alarm old_answer answer new code =
     ((code ≡ BadNumber) × ((16 ≤ slot) ⊎ IsNoAlarm alarm) × (new ≡ Some x) × (answer ≡ old_answer))
-    ⊎ ((code ≡ Done) × (slot < 16) × IsAlarm alarm × (is : Alarm) × (alarm_told is ≡ alarm) × (y : HeldSeat) × (new ≡ Some y)
+    ⊎ ((code ≡ Done) × (slot < 16) × IsAlarm alarm × (is : Alarm) × (alarm_told is ≡ alarm)
+      × (y : HeldSeat) × (new ≡ Some y)
     × WasCancelled slot is answer x y)
 
 -- what `due` did, by its code: the alarms lie at the beginning of the buffer

@@ -43,7 +43,8 @@ MayNotJoin x y = (HaveOneMark x y → ⊥) ⊎ (the_whole < x.parts + y.parts)
 
 -- the only end of new meters with this clock
 abbrev pub IsNewSeat : ℕ → ℕ → HeldSeat → Type 0
-IsNewSeat clock mark x = (first_of (arc_value x.meters) ≡ clock) × (view_of x.seat ≡ newcomer (record { clock = clock }))
+IsNewSeat clock mark x = (first_of (arc_value x.meters) ≡ clock)
+    × (view_of x.seat ≡ newcomer (record { clock = clock }))
     × (x.mark ≡ mark) × (x.parts ≡ the_whole)
 
 -- `split` gave this end, of the same meters and with its parts of the share
@@ -65,7 +66,8 @@ WasTicked gauge amount before x y = IsKept x y × Ticked (view_of x.seat) gauge 
 -- `advance` gave this answer
 abbrev pub WasAdvanced : Result ℕ AdvanceRefusal → HeldSeat → HeldSeat → Type 0
 WasAdvanced answer x y = IsKept x y × MatchResult answer
-    (λ clock. AdvancedNow (view_of x.seat) clock (view_of y.seat)) (λ r. NotAdvanced (view_of x.seat) r (view_of y.seat))
+    (λ clock. AdvancedNow (view_of x.seat) clock (view_of y.seat))
+    (λ r. NotAdvanced (view_of x.seat) r (view_of y.seat))
 
 -- `try_set` gave this answer
 abbrev pub WasSet : Alarm → Result ℕ SetRefusal → HeldSeat → HeldSeat → Type 0

@@ -3,7 +3,8 @@ ghost use Rattle.std.specs.Prelude.{◌≡◌, ◌≤◌, ◌<◌, length, Match
 ghost use Rattle.std.specs.Option.{MatchOption};
 ghost use Rattle.bindings.specs.QueueHeld.{AtSize, AtSizes, IsSize, AreOfOneQueue, MayJoin, MayNotJoin, Fit};
 ghost use Rattle.bindings.specs.QueueHeld.{IsNewHeld, places_of, parts_of};
-ghost use Rattle.bindings.specs.QueueParts.{PutPart, TookPart, TookLinePart, TookSomePart, ShutPart, DividedPart, JoinedPart};
+ghost use Rattle.bindings.specs.QueueParts.{PutPart, TookPart, TookLinePart, TookSomePart};
+ghost use Rattle.bindings.specs.QueueParts.{ShutPart, DividedPart, JoinedPart};
 
 use super::part::Part;
 use claim_queue::{ClaimRefusal, TakeRefusal};

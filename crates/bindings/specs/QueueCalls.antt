@@ -30,7 +30,7 @@ MadeQueue places first mark old new code =
     ⊎ ((code ≡ BadNumber) × (held_by old ≡ None) × AsItWas old new × (IsSize places → ⊥))
     ⊎ ((code ≡ NoMemory) × (held_by old ≡ None) × AsItWas old new × IsSize places)
     ⊎ ((code ≡ Done) × (held_by old ≡ None) × (y : HeldQueue) × (held_by new ≡ Some (Queue y))
-      × IsNewHeld places first mark y)
+    × IsNewHeld places first mark y)
 
 -- The handle is still for the same end, and C is told what the library's `try_put` answered
 pub record WasPut (x : HeldQueue) (items : List ℕ) (new : Option HeldQueue) (told : SynthAnswer) : Type 0 where
@@ -107,7 +107,7 @@ pub record WasEnded (x : HeldQueue) (old_items items : List ℕ) (new : Option P
 abbrev pub WasLineTold : HeldQueue → List ℕ → List ℕ → ℕ → ℕ → Option HeldQueue → SynthAnswer → Type 0
 WasLineTold x old_line line old_count count new told =
     (IsCodeAlone ShortBuffer told × (length old_line < places_of x) × (new ≡ Some x) × (line ≡ old_line)
-      × (count ≡ old_count))
+    × (count ≡ old_count))
     ⊎ ((places_of x ≤ length old_line) × WasLineTaken x old_line line old_count count new told)
 
 -- the buffer has no room, and nothing happened; or items were taken
@@ -120,5 +120,5 @@ WasSomeTold x old_items items old_count count new told =
 abbrev pub WasClosed : HeldQueue → List ℕ → List ℕ → Option Payload → SynthClosed → SynthClosed → ℤ → Type 0
 WasClosed x old_items items new old told code =
     ((code ≡ ShortBuffer) × (length old_items < places_of x) × (new ≡ Some (Queue x)) × (items ≡ old_items)
-      × (told ≡ old))
+    × (told ≡ old))
     ⊎ ((places_of x ≤ length old_items) × WasEnded x old_items items new old told code)

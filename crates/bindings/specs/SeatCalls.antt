@@ -98,7 +98,7 @@ abbrev pub CancelTold : HeldSeat → ℕ → SynthAlarm → Bool → Bool → Op
 CancelTold x slot alarm old_answer answer new code =
     ((code ≡ BadNumber) × ((16 ≤ slot) ⊎ IsNoAlarm alarm) × (new ≡ Some x) × (answer ≡ old_answer))
     ⊎ ((code ≡ Done) × (slot < 16) × IsAlarm alarm × (is : Alarm) × (alarm_told is ≡ alarm)
-      × (y : HeldSeat) × (new ≡ Some y)
+    × (y : HeldSeat) × (new ≡ Some y)
     × WasCancelled slot is answer x y)
 
 -- what `due` did, by its code: the alarms lie at the beginning of the buffer

@@ -21,4 +21,4 @@ returns-in-Open-clause-closed c = let x = c.in-Some.held.now in
     let same = unboxed chain_in (Chain x) refl c.take.ensures.taken (c.take_out-payload.ensures ∙ c.of.ensures) c.into_chain.ensures in
     at_value (λ x. WasClosed x (held_by c.put.new.self) c.args.closed.now c.args.closed.now Open) (ap (of_kind chain_in) c.in-Some.ensures.value)
     (runs_none (sym c.runs.ensures ∙ c.if-runs.false) (ended.Open c.in-Open.held) (c.in-Open.ensures ∙ same)
-      (refl, c.put.ensures ∙ ap Some (c.into_box.ensures ∙ c.fill.ensures), refl))
+    (refl, c.put.ensures ∙ ap Some (c.into_box.ensures ∙ c.fill.ensures), refl))

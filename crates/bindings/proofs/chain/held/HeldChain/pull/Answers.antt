@@ -24,7 +24,9 @@ returns-in-More c = let (turn, (s, used, run)) = c.in-More.ensures.steps in let 
     let (note, one) = one_run s.uses used (λ e. c.in-More.ran-test.1 (sym run.number ∙ e)) in
     let served = subst (λ ns. HasServed v ns w) one run.served in
     let (inbox, slot, made, fits) = c.in-More.ensures.slot in
-    let is = ap note_of (sym c.quaject.ensures.result ∙ slot) ∙ made ∙ ap (last_or _) served.notes ∙ last_on _ (notes_of (queue_of v)) note in
-    (search rules, c.quaject.ensures.frame.1,
+    let is = ap note_of (sym c.quaject.ensures.result ∙ slot) ∙ made ∙ ap (last_or _) served.notes ∙ last_on _ (notes_of (queue_of v)) note in (
+      search rules,
+      c.quaject.ensures.frame.1,
       subst (λ n. HasServed v (n ∷ []) (view_of c.quaject.new.end)) (sym is) (subst (λ me. HasServed v (note ∷ []) me.0) (sym c.quaject.ensures.frame.0) served),
-      (turn, (s, used, subst (λ me. HasRun v (s ∷ []) None 1 me.0) (sym c.quaject.ensures.frame.0) (subst (λ n. HasRun v (s ∷ []) None n w) (sym run.number ∙ ap length one) run))))
+      (turn, (s, used, subst (λ me. HasRun v (s ∷ []) None 1 me.0) (sym c.quaject.ensures.frame.0) (subst (λ n. HasRun v (s ∷ []) None n w) (sym run.number ∙ ap length one) run))),
+    )

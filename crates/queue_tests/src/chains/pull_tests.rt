@@ -34,24 +34,43 @@ fn notes_are_pulled_one_by_one(rt: HostRuntime) {
         Ok(Chained::Run(turn)) => turn,
         Ok(Chained::Left) | Err(_) => panic!(rt; "the gate of a new chain is open"),
     };
-    for note in [20, 30] {
-        match chain.try_chain(&mut second, note) {
-            Ok(Chained::Left) => {}
-            Ok(Chained::Run(_turn)) => panic!(rt; "the first end has the Turn"),
-            Err(_) => panic!(rt; "there is room"),
-        }
+    match chain.try_chain(&mut second, 20) {
+        Ok(Chained::Left) => {}
+        Ok(Chained::Run(_turn)) => panic!(rt; "the first end has the Turn"),
+        Err(_) => panic!(rt; "there is room"),
     }
-    for note in [10, 20, 30] {
-        turn = match chain.serve(&mut first, &0, turn, 1) {
-            Served::More { turn, ran: 1 } => turn,
-            Served::More {
-                turn: _turn,
-                ran: _,
-            } => panic!(rt; "a note is there"),
-            Served::Done { ran: _ } => panic!(rt; "the Turn is kept after a note"),
-        };
-        assert!(rt; chain.quaject(&mut first).last == note);
+    match chain.try_chain(&mut second, 30) {
+        Ok(Chained::Left) => {}
+        Ok(Chained::Run(_turn)) => panic!(rt; "the first end has the Turn"),
+        Err(_) => panic!(rt; "there is room"),
     }
+    turn = match chain.serve(&mut first, &0, turn, 1) {
+        Served::More { turn, ran: 1 } => turn,
+        Served::More {
+            turn: _turn,
+            ran: _,
+        } => panic!(rt; "a note is there"),
+        Served::Done { ran: _ } => panic!(rt; "the Turn is kept after a note"),
+    };
+    assert!(rt; chain.quaject(&mut first).last == 10);
+    turn = match chain.serve(&mut first, &0, turn, 1) {
+        Served::More { turn, ran: 1 } => turn,
+        Served::More {
+            turn: _turn,
+            ran: _,
+        } => panic!(rt; "a note is there"),
+        Served::Done { ran: _ } => panic!(rt; "the Turn is kept after a note"),
+    };
+    assert!(rt; chain.quaject(&mut first).last == 20);
+    turn = match chain.serve(&mut first, &0, turn, 1) {
+        Served::More { turn, ran: 1 } => turn,
+        Served::More {
+            turn: _turn,
+            ran: _,
+        } => panic!(rt; "a note is there"),
+        Served::Done { ran: _ } => panic!(rt; "the Turn is kept after a note"),
+    };
+    assert!(rt; chain.quaject(&mut first).last == 30);
     match chain.serve(&mut first, &0, turn, 2) {
         Served::Done { ran } => assert!(rt; ran == 0),
         Served::More {

@@ -35,6 +35,13 @@
  * WITHIN A CALL, and never leave one by longjmp: its handle is broken then, and takers may wait for good for what it
  * put.
  *
+ * ORDER. Each atomic step of a call is sequentially consistent, as C11 has the word. So whoever took an item sees all
+ * that was done before its put. The procedure of a note sees what was done before the note was chained, and what the
+ * procedures before it did. Whoever takes or finds an element, a signal, a notify or a tick sees what was done before it
+ * was moved, raised, counted. So an item may be a pointer. No proof says so: the proofs speak of steps in one order, and
+ * the compiler keeps to it. ThreadSanitizer doesn't see the library's steps. c/deferred.c shows how a program tells it
+ * of them; synthesis.hpp has that in itself.
+ *
  * MEMORY. None but `.._new` and `.._split` takes any, and all of it is `malloc`'s. Where `malloc` gives null they
  * answer SYNTH_NO_MEMORY. `malloc`, `realloc` and `free` are of one allocator, which aligns blocks as C wants it.
  *

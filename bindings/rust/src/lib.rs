@@ -6,6 +6,9 @@
 //! tells what became of everything. What each call does to its object is proved on the library's side of the call; this
 //! crate is not, and is a few lines for each of them.
 //!
+//! Each atomic step of a call is sequentially consistent: whoever took an item sees all that was done before its put, and
+//! the procedure of a note what was done before the note was chained. ThreadSanitizer doesn't see these steps.
+//!
 //! ```
 //! use std::thread;
 //! use synthesis_kernel::{BatchEnd, BatchTakeRefusal};

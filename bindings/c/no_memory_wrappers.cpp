@@ -64,6 +64,7 @@ template <class End> void queues()
 int main()
 {
     const long taken = memory_taken();
+    queues<synthesis::BatchEnd>();
     queues<synthesis::QueueEnd>();
     queues<synthesis::QueueOf<short>>();
     {

@@ -1,11 +1,13 @@
 /*
  * Threads that use synthesis.hpp: `wrapped_threads [ITEMS]`, 100,000 if no number is given. Three producers and three
- * takers pass boxes by their addresses through one queue, first without a sleep and then with sleeps. Takers pass one
- * wake on. Workers pass elements, each of which has a word. A thread sends bytes, each of which says that a word is
+ * takers pass boxes by their addresses through one queue, first without a sleep and then with sleeps. In the same two
+ * ways they pass pieces through a batch queue, each batch whole. Takers pass one wake on. Puts of two lengths wait for
+ * places. Workers pass elements, each of which has a word. A thread sends bytes, each of which says that a word is
  * written. What an item, an element or a byte leads to is read and written by plain code, at which ThreadSanitizer
  * looks. Prints one line. Status 1: something was lost or came twice. A wake that is lost hangs it.
  */
 #include "synthesis.hpp"
+#include <algorithm>
 #include <atomic>
 #include <cstdio>
 #include <cstdlib>
@@ -173,6 +175,164 @@ void pass_boxes(std::uint64_t items)
     faults += events.items.raw()->waiters + events.places.raw()->waiters;
 }
 
+/* What a producer writes before its put of a batch, and a taker counts. */
+struct Piece {
+    std::size_t producer;
+    std::size_t index;  /* in its batch */
+    std::size_t length; /* of its batch */
+    std::uint64_t taken;
+};
+
+enum { BATCH_PLACES = 16, LONGEST = 5 };
+
+std::vector<Piece> pieces;
+
+/* What is written before the shut, and read by whoever is answered Closed. */
+std::uint64_t shut_word;
+
+/* The pieces of each producer begin here. Those of PRODUCERS are none. */
+std::size_t first_piece(std::size_t producer)
+{
+    return pieces.size() * producer / PRODUCERS;
+}
+
+/* One try to put a batch, or a wait. The third producer puts as many as there is room for: batches of no set length. */
+synthesis::BatchPutAnswer put_batch(synthesis::BatchEnd &end, View<const std::uint64_t> items, std::size_t number)
+{
+    if (number == 2) {
+        return end.try_put_some(items);
+    }
+    return sleeps ? end.put_wait(items, events, limit_of(items.size())) : end.try_put(items);
+}
+
+/* Puts batches of 1 to 5 pieces by turns. */
+void put_batches(synthesis::BatchEnd &end, std::size_t number)
+{
+    std::array<std::uint64_t, LONGEST> items = {};
+    const std::size_t last = first_piece(number + 1);
+    for (std::size_t next = first_piece(number); next < last;) {
+        const std::size_t length = std::min(1 + next % LONGEST, last - next);
+        for (std::size_t i = 0; i < length; i++) {
+            pieces[next + i] = number == 2 ? Piece{number, 0, 1, 0} : Piece{number, i, length, 0};
+            items[i] = reinterpret_cast<std::uintptr_t>(&pieces[next + i]);
+        }
+        const auto put = put_batch(end, View<const std::uint64_t>(items.data(), length), number);
+        next += put.count;
+        if (put && number == 2) {
+            notify(events.items);
+        } else if (put) {
+            faults += put.count != length;
+        } else if (put.code != Code::Full && put.code != Code::Lost) {
+            must(put.code, "put a batch");
+        } else {
+            faults += put.full.has_value() == put.lost.has_value() || (sleeps && number != 2 && put.lost);
+            std::this_thread::yield();
+        }
+    }
+}
+
+/* Counts the pieces of a taking: whole batches alone, and those of each producer in its order. */
+void count_pieces(View<std::uint64_t> items, std::array<Piece *, PRODUCERS> &before)
+{
+    std::size_t index = 0;
+    for (std::uint64_t item : items) {
+        Piece *piece = reinterpret_cast<Piece *>(static_cast<std::uintptr_t>(item));
+        Piece *&last = before[piece->producer];
+        faults += piece->index != index || (index > 0 ? piece != last + 1 : last != nullptr && piece <= last);
+        index = piece->index + 1 < piece->length ? piece->index + 1 : 0;
+        piece->taken++;
+        last = piece;
+    }
+    faults += index != 0;
+}
+
+/* Takes batches until none will ever come. The second taker tries with little room first. */
+void take_batches(synthesis::BatchEnd &end, std::size_t number)
+{
+    std::array<std::uint64_t, BATCH_PLACES> items = {};
+    std::array<Piece *, PRODUCERS> before = {};
+    std::size_t room = number == 1 ? 1 : items.size();
+    for (;;) {
+        const View<std::uint64_t> buffer(items.data(), room);
+        const auto taken = sleeps ? end.take_wait(buffer, events, limit_of(number)) : end.try_take(buffer);
+        room = number == 1 ? 1 : items.size();
+        if (taken) {
+            count_pieces(buffer.first(taken.count), before);
+        } else if (taken.code == Code::ShortBuffer) {
+            faults += taken.oldest->count <= buffer.size() || taken.oldest->count > LONGEST;
+            room = taken.oldest->count;
+        } else if (taken.code == Code::Closed) {
+            faults += shut_word != 1;
+            return;
+        } else if (taken.code != Code::Empty && taken.code != Code::Lost) {
+            must(taken.code, "take batches");
+        } else {
+            faults += taken.empty.has_value() == taken.lost.has_value() || (sleeps && taken.lost);
+            std::this_thread::yield();
+        }
+    }
+}
+
+void pass_batches(std::uint64_t items)
+{
+    pieces.assign(items, Piece{0, 0, 0, 0});
+    shut_word = 0;
+    synthesis::BatchEnd last = synthesis::BatchEnd::make(BATCH_PLACES).value();
+    std::array<synthesis::BatchEnd, PRODUCERS + TAKERS> ends;
+    std::array<std::thread, PRODUCERS + TAKERS> threads;
+    for (synthesis::BatchEnd &end : ends) {
+        end = last.split().value();
+    }
+    for (std::size_t i = 0; i < PRODUCERS; i++) {
+        threads[i] = std::thread([&ends, i] { put_batches(ends[i], i); });
+    }
+    for (std::size_t i = 0; i < TAKERS; i++) {
+        threads[PRODUCERS + i] = std::thread([&ends, i] { take_batches(ends[PRODUCERS + i], i); });
+    }
+    for (std::size_t i = 0; i < threads.size(); i++) {
+        threads[i].join();
+        must(last.join(std::move(ends[i])), "join");
+        if (i == PRODUCERS - 1) {
+            shut_word = 1;
+            must(last.shut().code(), "shut");
+            events.notify_all();
+        }
+    }
+    const auto closed = last.close();
+    must(closed.code(), "close");
+    for (const Piece &piece : pieces) {
+        faults += piece.taken != 1;
+    }
+    faults += (closed->put != items) + (closed->taken != items) + closed->left.size();
+    faults += events.items.raw()->waiters + events.places.raw()->waiters;
+}
+
+/* A thread puts until the queue is shut, and sees what was written before the shut. */
+void pass_shut()
+{
+    shut_word = 0;
+    synthesis::BatchEnd last = synthesis::BatchEnd::make(1).value();
+    synthesis::BatchEnd other = last.split().value();
+    std::thread putter([&other] {
+        while (other.try_put(1).code != Code::Closed) {
+            std::this_thread::yield();
+        }
+        faults += shut_word != 1;
+    });
+    shut_word = 1;
+    must(last.shut().code(), "shut");
+    putter.join();
+    must(last.join(std::move(other)), "join");
+    faults += !last.close().ok();
+}
+
+void wait_for_waiters(synthesis::Event &event, std::uint32_t count)
+{
+    for (int yields = 0; yields < 1000 || event.raw()->waiters < count; yields++) {
+        std::this_thread::yield();
+    }
+}
+
 /* Takers wait, and one notify follows a run of items for all: each taker wakes the next one. */
 void pass_wake_on()
 {
@@ -183,9 +343,7 @@ void pass_wake_on()
         ends[i] = last.split().value();
         threads[i] = std::thread([&ends, i] { must(ends[i].take_wait(events).code, "take"); });
     }
-    for (int yields = 0; yields < 1000 || events.items.raw()->waiters < TAKERS; yields++) {
-        std::this_thread::yield();
-    }
+    wait_for_waiters(events.items, TAKERS);
     must(last.try_put({1, 2, 3}).code, "put");
     events.items.notify_one();
     for (std::size_t i = 0; i < TAKERS; i++) {
@@ -194,6 +352,36 @@ void pass_wake_on()
     }
     const auto closed = last.close();
     faults += !closed || !closed->left.empty();
+}
+
+/* A long put waits for places, and then a short one: one place is enough for the short one. Then a taker waits. */
+void pass_places_on()
+{
+    synthesis::BatchEnd last = synthesis::BatchEnd::make(4).value();
+    synthesis::BatchEnd first = last.split().value(), second = last.split().value();
+    const std::array<std::uint64_t, 4> items = {1, 2, 3, 4};
+    std::array<std::uint64_t, 4> room = {};
+    const View<const std::uint64_t> all(items), one = all.first(1);
+    for (std::size_t i = 0; i < items.size(); i++) {
+        must(last.put_wait(one, events).code, "put");
+    }
+    std::thread longer([&] { must(first.put_wait(all, events).code, "put"); });
+    wait_for_waiters(events.places, 1);
+    std::thread shorter([&] { must(second.put_wait(one, events).code, "put"); });
+    wait_for_waiters(events.places, 2);
+    must(last.take_wait(View<std::uint64_t>(room).first(1), events).code, "take");
+    shorter.join();
+    faults += last.take_wait(room, events).count != 4;
+    longer.join();
+    faults += last.take_wait(room, events).count != 4;
+    std::thread taker([&] { faults += second.take_wait(room, events).count != 2; });
+    wait_for_waiters(events.items, 1);
+    must(last.put_wait(all.first(2), events).code, "put");
+    taker.join();
+    must(last.join(std::move(first)), "join");
+    must(last.join(std::move(second)), "join");
+    const auto closed = last.close();
+    faults += !closed || closed->taken != 11 || !closed->left.empty();
 }
 
 /* Whoever holds an element has its word. */
@@ -275,10 +463,14 @@ int main(int count, char **words_given)
 {
     const std::uint64_t items = count > 1 ? std::strtoull(words_given[1], nullptr, 10) : 100000;
     pass_boxes(items);
+    pass_batches(items);
     sleeps = true;
     pass_boxes(items);
+    pass_batches(items);
     for (int times = 0; times < 20; times++) {
+        pass_shut();
         pass_wake_on();
+        pass_places_on();
     }
     pass_elements(items / 10);
     pass_bytes(items / 10);

@@ -16,6 +16,7 @@
 #endif
 
 using namespace std::chrono_literals;
+using synthesis::BatchEnd;
 using synthesis::Code;
 using synthesis::Hand;
 using synthesis::QueueEnd;
@@ -34,7 +35,7 @@ constexpr bool moves_only = !std::is_copy_constructible_v<End> && !std::is_copy_
                             std::is_nothrow_move_constructible_v<End> && std::is_nothrow_move_assignable_v<End> &&
                             std::is_nothrow_default_constructible_v<End>;
 static_assert(moves_only<QueueEnd> && moves_only<QueueOf<int>> && moves_only<Seat> && moves_only<Hand>);
-static_assert(moves_only<synthesis::ChainEnd>);
+static_assert(moves_only<BatchEnd> && moves_only<synthesis::ChainEnd>);
 static_assert(moves_only<synthesis::LineIn> && moves_only<synthesis::LineOut>);
 static_assert(!std::is_copy_constructible_v<synthesis::Event> && !std::is_move_constructible_v<synthesis::Event>);
 static_assert(!std::is_copy_constructible_v<synthesis::Event::Ticket>);
@@ -48,6 +49,7 @@ static_assert(!std::is_constructible_v<View<const std::uint64_t>, int>);
 static_assert(std::is_convertible_v<View<std::uint64_t>, View<const std::uint64_t>>);
 static_assert(!std::is_convertible_v<View<const std::uint64_t>, View<std::uint64_t>>);
 static_assert(sizeof(QueueEnd) == sizeof(synth_queue) && sizeof(Hand) == sizeof(synth_hand));
+static_assert(sizeof(BatchEnd) == sizeof(synth_batch));
 
 /* The number in a field of an answer; -1 if it is empty. */
 template <class T> long long number_in(const std::optional<T> &number)
@@ -167,6 +169,210 @@ void limits()
     static_assert(synthesis::Limit().nanoseconds() == SYNTH_EVENT_NO_LIMIT);
     ROW(synthesis::Limit(0.5s).nanoseconds(), 500000000);
     ROW(synthesis::Limit(std::chrono::duration<float, std::nano>(7)).nanoseconds(), 7);
+}
+
+/* Each call on an end that is empty. */
+void empty_batch()
+{
+    BatchEnd none, full = BatchEnd::make(4).value();
+    std::uint64_t room[4] = {99};
+    synthesis::QueueEvents events;
+    ROW(none.full(), false);
+    ROW(none.split().code(), Code::EmptyHandle);
+    ROW(none.join(std::move(full)), Code::EmptyHandle);
+    ROW(full.join(std::move(none)), Code::EmptyHandle);
+    ROW(full.join(std::move(full)), Code::EmptyHandle);
+    ROW(full.full(), true);
+    ROW(none.try_put(1).code, Code::EmptyHandle);
+    ROW(none.try_put({}).code, Code::EmptyHandle);
+    ROW(none.try_put_some({1, 2}).code, Code::EmptyHandle);
+    ROW(none.try_take(room).code, Code::EmptyHandle);
+    ROW(none.try_take_some(room).code, Code::EmptyHandle);
+    ROW(none.put_wait(View<const std::uint64_t>(room), events).code, Code::EmptyHandle);
+    ROW(none.take_wait(room, events).code, Code::EmptyHandle);
+    ROW(none.len().code(), Code::EmptyHandle);
+    ROW(none.capacity().code(), Code::EmptyHandle);
+    ROW(none.shut().code(), Code::EmptyHandle);
+    ROW(none.close(room).code(), Code::EmptyHandle);
+    ROW(none.close().code(), Code::EmptyHandle);
+    none.free();
+    ROW(room[0], 99);
+}
+
+void batch_puts()
+{
+    ROW(BatchEnd::make(0).code(), Code::BadNumber);
+    ROW(BatchEnd::make(9).code(), Code::BadNumber);
+    ROW(BatchEnd::make(33554432).code(), Code::BadNumber);
+    ROW(BatchEnd::make(1).value().capacity().value(), 1);
+    BatchEnd end = BatchEnd::make(8).value();
+    std::uint64_t room[9] = {};
+    ROW(end.capacity().value(), 8);
+    ROW(end.try_put({}).code, Code::NoItems);
+    ROW(end.try_put_some({}).code, Code::NoItems);
+    ROW(end.try_put_some(View<const std::uint64_t>()).code, Code::NoItems);
+    ROW(end.try_put(std::vector<std::uint64_t>(9)).code, Code::TooLong);
+    ROW(end.try_put({7, 8}).count, 2);
+    ROW(end.try_take(room).count, 2);
+    auto put = end.try_put({1, 2, 3});
+    ROW(put && put.count == 3 && !put.full && !put.lost, true);
+    ROW(number_in(put.position), 2);
+    auto full = end.try_put(View<const std::uint64_t>(room, 6));
+    ROW(full.code, Code::Full);
+    ROW(!full && full.count == 0 && !full.position && !full.lost && full.full, true);
+    ROW(full.full->head == 5 && full.full->tail == 2, true);
+    ROW(number_in(end.try_put(4).position), 5);
+    ROW(number_in(end.try_put(true).position), 6);
+    ROW(end.len().value(), 5);
+    auto some = end.try_put_some({21, 22, 23, 24, 25, 26, 27, 28, 29});
+    ROW(some && some.count == 3 && number_in(some.position) == 7, true);
+    ROW(end.try_put_some({1}).code, Code::Full);
+    ROW(end.try_put_some({1}).full->head, 10);
+    ROW(end.try_put_some({1}).count, 0);
+    ROW(end.len().value(), 8);
+    ROW(end.shut().value(), true);
+    ROW(end.shut().value(), false);
+    auto closed_put = end.try_put(1);
+    ROW(closed_put.code, Code::Closed);
+    ROW(closed_put || closed_put.position || closed_put.full || closed_put.lost, false);
+    ROW(end.try_put_some({1}).code, Code::Closed);
+    ROW(end.close(View<std::uint64_t>(room, 7)).code(), Code::ShortBuffer);
+    auto closed = end.close(room);
+    ROW(closed && closed->put == 10 && closed->taken == 2 && closed->left == 8, true);
+    ROW(room[0] == 1 && room[2] == 3 && room[3] == 4 && room[4] == 1 && room[5] == 21 && room[7] == 23, true);
+    ROW(end.full(), false);
+    ROW(end.close(room).code(), Code::EmptyHandle);
+}
+
+void batch_takings()
+{
+    BatchEnd end = BatchEnd::make(8).value(), other = end.split().value();
+    std::array<std::uint64_t, 8> room = {};
+    const View<std::uint64_t> view(room);
+    auto none = end.try_take(room);
+    ROW(none.code, Code::Empty);
+    ROW(!none && none.count == 0 && !none.lost && !none.oldest && none.empty && none.empty->tail == 0, true);
+    ROW(end.try_take_some(room).code, Code::Empty);
+    ROW(other.try_put({1, 2, 3}).code, Code::Done);
+    ROW(other.try_put({4, 5}).code, Code::Done);
+    ROW(other.try_put({6}).code, Code::Done);
+    auto too_short = end.try_take(view.first(2));
+    ROW(too_short.code, Code::ShortBuffer);
+    ROW(!too_short && too_short.count == 0 && !too_short.empty && !too_short.lost && too_short.oldest, true);
+    ROW(too_short.oldest->tail == 0 && too_short.oldest->count == 3 && room[0] == 0, true);
+    ROW(end.try_take_some({}).code, Code::ShortBuffer);
+    auto whole = end.try_take(view.first(4));
+    ROW(whole && whole.count == 3 && !whole.empty && !whole.lost && !whole.oldest, true);
+    ROW(room[0] == 1 && room[2] == 3 && room[3] == 0, true);
+    auto part = other.try_take_some(view.first(1));
+    ROW(part && part.count == 1 && room[0] == 4 && room[1] == 2, true);
+    ROW(end.try_take({}).oldest->count, 1);
+    ROW(end.try_take({}).oldest->tail, 4);
+    auto rest = other.try_take(room);
+    ROW(rest && rest.count == 2 && room[0] == 5 && room[1] == 6, true);
+    ROW(end.try_take(room).empty->tail, 6);
+    ROW(end.try_take_some(room).empty->tail, 6);
+    ROW(end.try_put({7, 8, 9}).code, Code::Done);
+    ROW(end.try_take_some(room).count, 3);
+    ROW(end.try_put({10, 11}).code, Code::Done);
+    ROW(end.close().code(), Code::Open);
+    ROW(end.full() && end.join(std::move(other)) == Code::Done, true);
+    ROW(other.full(), false);
+    ROW(end.shut().value(), true);
+    ROW(end.try_take(view.first(1)).code, Code::ShortBuffer);
+    auto closed = end.close();
+    ROW(closed && closed->put == 11 && closed->taken == 9, true);
+    ROW(closed->left == std::vector<std::uint64_t>({10, 11}), true);
+    BatchEnd shut = BatchEnd::make(8).value();
+    ROW(shut.shut().ok(), true);
+    auto over = shut.try_take(room);
+    ROW(over.code, Code::Closed);
+    ROW(over || over.count != 0 || over.empty || over.lost || over.oldest, false);
+    ROW(shut.try_take_some({}).code, Code::Closed);
+    auto all = shut.close();
+    ROW(all && all->put == 0 && all->taken == 0 && all->left.empty(), true);
+}
+
+/* Answers that one thread doesn't get: of a race, and of a queue after 146 years. */
+void batch_answers()
+{
+    const synth_positions at = {5000000000, 6000000000};
+    const auto lost_put = synthesis::detail::batch_put_answer(SYNTH_LOST, 3, at);
+    ROW(lost_put.code, Code::Lost);
+    ROW(!lost_put && lost_put.count == 0 && !lost_put.position && !lost_put.full && lost_put.lost, true);
+    ROW(lost_put.lost->head, 5000000000);
+    const auto spent = synthesis::detail::batch_put_answer(SYNTH_SPENT, 3, at);
+    ROW(spent.code, Code::Spent);
+    ROW(spent || spent.count != 0 || spent.position || spent.full || spent.lost, false);
+    ROW(synthesis::detail::batch_put_answer(SYNTH_FULL, 3, at).full->tail, 6000000000);
+    ROW(number_in(synthesis::detail::batch_put_answer(SYNTH_DONE, 3, at).position), 5000000000);
+    const auto lost_take = synthesis::detail::batch_take_answer(SYNTH_LOST, nullptr, 3, at);
+    ROW(lost_take.code, Code::Lost);
+    ROW(!lost_take && lost_take.count == 0 && !lost_take.empty && !lost_take.oldest && lost_take.lost, true);
+    ROW(lost_take.lost->tail, 6000000000);
+    ROW(synthesis::detail::batch_take_answer(SYNTH_EMPTY, nullptr, 3, at).empty->tail, 6000000000);
+    ROW(synthesis::detail::batch_take_answer(SYNTH_SHORT_BUFFER, nullptr, 3, at).oldest->tail, 6000000000);
+}
+
+/* Moves of an end: each queue goes with its last end, which valgrind sees. */
+void batch_moves()
+{
+    BatchEnd a = BatchEnd::make(8).value(), b = BatchEnd::make(16).value();
+    std::uint64_t room[16];
+    ROW(a.try_put(1).code, Code::Done);
+    BatchEnd moved(std::move(a));
+    ROW(moved.full() && !a.full(), true);
+    b = std::move(moved);
+    ROW(b.full() && !moved.full() && b.capacity().value() == 8, true);
+    ROW(b.try_take(room).count == 1 && room[0] == 1, true);
+    BatchEnd &same = b;
+    b = std::move(same);
+    ROW(b.full(), true);
+    a = b.split().value();
+    std::swap(a, b);
+    ROW(a.full() && b.full(), true);
+    b = BatchEnd();
+    ROW(b.full(), false);
+    ROW(a.close().code(), Code::Open);
+    BatchEnd stranger = BatchEnd::make(8).value();
+    ROW(a.join(std::move(stranger)), Code::OtherObject);
+    ROW(stranger.full(), true);
+    BatchEnd adopted = BatchEnd::adopt(stranger.release());
+    ROW(adopted.full() && !stranger.full(), true);
+    ROW(synth_batch_free(adopted.raw()), SYNTH_DONE);
+    ROW(adopted.full(), false);
+    std::array<BatchEnd, 64> chain;
+    std::size_t last = 0;
+    chain[0] = BatchEnd::make(1).value();
+    for (auto next = chain[0].split(); next; next = chain[last].split()) {
+        chain[++last] = std::move(*next);
+    }
+    ROW(last, 44);
+    ROW(chain[last].split().code(), Code::NoShare);
+}
+
+/* Waits whose time is over, and those that end at once. */
+void batch_waits()
+{
+    synthesis::QueueEvents events;
+    BatchEnd end = BatchEnd::make(4).value();
+    std::array<std::uint64_t, 4> room = {};
+    const std::vector<std::uint64_t> three = {1, 2, 3};
+    const auto begun = std::chrono::steady_clock::now();
+    ROW(end.take_wait(room, events, 20ms).code, Code::Empty);
+    ROW(std::chrono::steady_clock::now() - begun >= 20ms, true);
+    ROW(end.put_wait({}, events).code, Code::NoItems);
+    ROW(end.put_wait(std::vector<std::uint64_t>(5), events).code, Code::TooLong);
+    ROW(number_in(end.put_wait(three, events).position), 0);
+    ROW(end.put_wait(three, events, 1500us).full->head, 3);
+    ROW(end.take_wait(View<std::uint64_t>(room).first(2), events).oldest->count, 3);
+    ROW(end.take_wait(room, events, 0s).count == 3 && room[2] == 3, true);
+    ROW(end.put_wait(three, events).count, 3);
+    ROW(end.shut().ok(), true);
+    ROW(end.put_wait(three, events).code, Code::Closed);
+    ROW(end.take_wait(room, events).count, 3);
+    ROW(end.take_wait(room, events).code, Code::Closed);
+    ROW(events.items.raw()->waiters.load() + events.places.raw()->waiters.load(), 0);
 }
 
 /* Each call on an end that is empty. */
@@ -549,6 +755,12 @@ int main()
     views();
     expected_values();
     limits();
+    empty_batch();
+    batch_puts();
+    batch_takings();
+    batch_answers();
+    batch_moves();
+    batch_waits();
     empty_queue();
     queue_puts();
     queue_takings();

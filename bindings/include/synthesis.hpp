@@ -1,7 +1,7 @@
 /*
- * The lock-free tables of synthesis for C++17: a class for each handle of synthesis.h, and one for the event count of
- * synthesis_event.h. It is a header alone. NOTHING HERE IS PROVED: it passes each call on to the library, whose calls
- * are.
+ * The lock-free tables of synthesis for C++17: a class for each handle of synthesis.h, BatchEnd, QueueEnd, ChainEnd,
+ * Seat, LineIn, LineOut and Hand, and Event for the event count of synthesis_event.h. QueueOf<T> is a QueueEnd of
+ * values. It is a header alone. NOTHING HERE IS PROVED: it passes each call on to the library, whose calls are.
  *
  * Two threads, and a queue on which they sleep. bindings/c/wrappers.cpp runs this:
  *
@@ -43,6 +43,7 @@
 #define SYNTHESIS_HPP
 
 #include "synthesis/answers.hpp"
+#include "synthesis/batch.hpp"
 #include "synthesis/chain.hpp"
 #include "synthesis/event.hpp"
 #include "synthesis/hand.hpp"

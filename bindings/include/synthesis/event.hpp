@@ -131,7 +131,7 @@ private:
 /// The events of one queue: takers sleep on `items`, producers on `places`.
 ///
 /// A put by another call than put_wait is followed by items.notify_one(), a taking by another call than take_wait by
-/// places.notify_one(), and a shut by notify_all().
+/// places.notify_one(), of a batch queue by places.notify_all(), and a shut by notify_all().
 struct QueueEvents {
     Event items;
     Event places;

@@ -47,7 +47,7 @@ impl<Q: Quaject> ProcChain<Q> {
         ensures ends { IsEndOf self.now end.new }
         ensures same { IsSameEnd end.old end.new }
     {
-        let turn = turn_of_runner(&end.seat);
+        let turn = turn_of_runner(&self.table.shared, &end.seat);
         match self.serve(end, world, turn, limit) {
             Served::Done { ran } => ServedKept::Done { ran },
             Served::More { turn, ran } => {

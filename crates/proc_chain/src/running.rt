@@ -1,7 +1,7 @@
 //! The Turn of an end, and what it gives the right to: to take a note, to run it, and to leave.
 //!
-//! The types keep an order. The swap that finds the gate Idle alone makes a `Turn`, and an end that has one can set it
-//! aside and serve without it. Taking a note spends the Turn and
+//! The types keep an order. The swap that finds the gate Idle makes a `Turn`. An end that has one can set it aside, and
+//! take it up again only where it has run each note that it took. Taking a note spends the Turn and
 //! gives a `Taken`, which has the note; running it spends the `Taken` and gives the Turn back. Neither can be copied or
 //! let go. So each note is run behind its taking, and before the end takes the next one, begins a round or leaves.
 ghost use Rattle.std.specs.Prelude.{◌≡◌, ◌<◌, ◌≤◌, ℕ, List, true, [], ◌∷◌, ◌++◌, MatchOption};
@@ -12,6 +12,7 @@ ghost use Rattle.proc_chain.specs.Rules.{suits, makes, IsTold};
 ghost use Rattle.proc_chain.specs.Layout.{gate_word, width};
 ghost use Rattle.proc_chain.specs.declared.layout.TheConstants.{MORE};
 ghost use Rattle.proc_chain.specs.Own.{queue_of};
+ghost use Rattle.proc_chain.specs.Shown.{notes_of};
 ghost use Rattle.proc_chain.specs.Steps.{Found, Took, Notified, GotTurn, HasLeft, Stays};
 ghost use Rattle.proc_chain.specs.Turns.{Carries, IsRunner};
 
@@ -39,9 +40,15 @@ pub(crate) fn set_aside<Q: Quaject>(seat: &Seat<Q, View>, turn: Turn)
     let Turn(()) = turn;
 }
 
-/// The Turn of an end, from the end that has it.
-pub(crate) fn turn_of_runner<Q: Quaject>(seat: &Seat<Q, View>) -> Turn
-    requires { seat.now.me.0.own.runner ≡ true }
+/// The Turn of an end, from the end that has it, and has run each note that it took: the quaject in its hand was made by
+/// all of them. So there is no Turn between a taking and the run of its note.
+pub(crate) fn turn_of_runner<Q: Quaject>(
+    words: &Shared<Q, View, Shape<Pact<Q::World, Q>>, ChainRule>,
+    seat: &Seat<Q, View>,
+) -> Turn
+    requires runner { seat.now.me.0.own.runner ≡ true }
+    requires ran { Carries (makes Q.made_by words.now.key.pact) (suits Q.fits words.now.key.pact)
+        (notes_of (queue_of seat.now.me.0)) [] seat.now.me.1 }
 {
     Turn(())
 }

@@ -11,8 +11,8 @@
 #include <stdlib.h>
 
 /*
- * ThreadSanitizer doesn't see what the library does, so it is told what a chain orders: a procedure sees all that the
- * ones before it wrote. What it sees by itself is that nobody but a procedure touches what they work on.
+ * ThreadSanitizer doesn't see what the library does. These two words declare what a chain orders: a procedure sees all
+ * that the ones before it wrote. What it sees by itself is that nobody but a procedure touches what they work on.
  */
 #ifdef __SANITIZE_THREAD__
 #ifdef __cplusplus

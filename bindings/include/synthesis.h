@@ -14,7 +14,7 @@
  *     synth_batch_try_put(&queue, items, 3, &at);                     // one batch: all three items or none
  *     synth_batch_try_take(&other, items, 32, &count, &at);           // whole batches, as many as fit: count is 3
  *     synth_batch_join(&queue, &other);                               // the last end has the whole again
- *     return synth_batch_close(&queue, items, 32, &closed);           // and tells what became of everything
+ *     return synth_batch_close(&queue, items, 32, &closed);           // and reports what became of everything
  *
  * ONE PROCESS, ONE COPY OF THE LIBRARY. Two copies give their objects the same marks, by which a join knows whether
  * two handles are of one object: NEVER GIVE A HANDLE OF ONE COPY TO ANOTHER.
@@ -39,8 +39,8 @@
  * that was done before its put. The procedure of a note sees what was done before the note was chained, and what the
  * procedures before it did. Whoever takes or finds an element, a signal, a notify or a tick sees what was done before it
  * was moved, raised, counted. So an item may be a pointer. No proof says so: the proofs speak of steps in one order, and
- * the compiler keeps to it. ThreadSanitizer doesn't see the library's steps. c/deferred.c shows how a program tells it
- * of them; synthesis.hpp has that in itself.
+ * the compiler keeps to it. ThreadSanitizer doesn't see the library's steps. c/deferred.c shows how a program declares
+ * them; synthesis.hpp does so itself.
  *
  * MEMORY. None but `.._new` and `.._split` takes any, and all of it is `malloc`'s. Where `malloc` gives null they
  * answer SYNTH_NO_MEMORY. `malloc`, `realloc` and `free` are of one allocator, which aligns blocks as C wants it.
@@ -129,7 +129,7 @@ struct synth_batch {
     bool full;
 };
 
-/* The positions that a call tells. Where it tells one of them, the other is 0; where it tells none, both stay. */
+/* The positions that a call reports. If it reports one of them, the other is 0; if it reports none, both stay. */
 struct synth_positions {
     uint64_t head;
     uint64_t tail;
@@ -431,8 +431,8 @@ int32_t synth_seat_free(struct synth_seat *seat);
  * waits. One handle at a time runs notes, in the order in which they were chained: the one whose note found nobody
  * running. So what the procedures work on needs no lock (Massalin and Pu, 1991).
  *
- *     struct synth_answer told = synth_chain_try_chain(&end, note);
- *     if (told.code == SYNTH_RUN) {
+ *     struct synth_answer answer = synth_chain_try_chain(&end, note);
+ *     if (answer.code == SYNTH_RUN) {
  *         uint16_t next;
  *         int32_t code;
  *         while ((code = synth_chain_next(&end, &next)) != SYNTH_DONE)

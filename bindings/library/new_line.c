@@ -2,9 +2,9 @@
 #include "mark.h"
 #include "synthesis.h"
 
-int32_t synth_line_new_marked(size_t room, uint64_t mark, struct synth_line_in *input, struct synth_line_out *output);
+int32_t synth_raw_line_new_marked(size_t room, uint64_t mark, struct synth_line_in *input, struct synth_line_out *output);
 
-int32_t synth_line_new(size_t room, struct synth_line_in *input, struct synth_line_out *output)
+int32_t synth_raw_line_new(size_t room, struct synth_line_in *input, struct synth_line_out *output)
 {
-    return synth_line_new_marked(room, synth_next_mark(), input, output);
+    return synth_raw_line_new_marked(room, synth_next_mark(), input, output);
 }

@@ -2,9 +2,9 @@
 #include "mark.h"
 #include "synthesis.h"
 
-int32_t synth_queue_new_marked(uint32_t places, uint32_t first, uint64_t mark, struct synth_queue *queue);
+int32_t synth_raw_queue_new_marked(uint32_t places, uint32_t first, uint64_t mark, struct synth_queue *queue);
 
-int32_t synth_queue_new(uint32_t places, uint32_t first, struct synth_queue *queue)
+int32_t synth_raw_queue_new(uint32_t places, uint32_t first, struct synth_queue *queue)
 {
-    return synth_queue_new_marked(places, first, synth_next_mark(), queue);
+    return synth_raw_queue_new_marked(places, first, synth_next_mark(), queue);
 }

@@ -165,7 +165,7 @@ impl BatchEnd {
     /// ```
     pub fn new(places: usize) -> Result<BatchEnd, NewBatchRefusal> {
         let mut handle = raw::Batch::default();
-        match raw::synth_batch_new(places, &mut handle) {
+        match raw::synth_raw_batch_new(places, &mut handle) {
             raw::DONE => Ok(BatchEnd { handle }),
             raw::BAD_NUMBER => Err(NewBatchRefusal::BadNumber),
             raw::NO_MEMORY => Err(NewBatchRefusal::OutOfMemory),
@@ -175,7 +175,7 @@ impl BatchEnd {
 
     /// A new end, for another thread. Both ends are to be joined again before the queue can be closed.
     pub fn split(&mut self) -> Result<BatchEnd, SplitRefusal> {
-        let handle = split_off(|other| raw::synth_batch_split(&mut self.handle, other))?;
+        let handle = split_off(|other| raw::synth_raw_batch_split(&mut self.handle, other))?;
         Ok(BatchEnd { handle })
     }
 
@@ -190,7 +190,7 @@ impl BatchEnd {
     /// # Ok::<(), Box<dyn std::error::Error>>(())
     /// ```
     pub fn join(&mut self, mut other: BatchEnd) -> Result<(), OtherObject<BatchEnd>> {
-        let code = raw::synth_batch_join(&mut self.handle, &mut other.handle);
+        let code = raw::synth_raw_batch_join(&mut self.handle, &mut other.handle);
         joined(code, other)
     }
 
@@ -198,7 +198,7 @@ impl BatchEnd {
     pub fn try_put(&mut self, items: &[u64]) -> Result<u64, BatchPutRefusal> {
         let mut at = raw::Positions::default();
         // SAFETY: the pointer leads to as many items as the number says, which are only read.
-        let code = unsafe { raw::synth_batch_try_put(&mut self.handle, items.as_ptr(), items.len(), &mut at) };
+        let code = unsafe { raw::synth_raw_batch_try_put(&mut self.handle, items.as_ptr(), items.len(), &mut at) };
         put(code, at)
     }
 
@@ -216,7 +216,7 @@ impl BatchEnd {
         let (mut count, mut at) = (0, raw::Positions::default());
         // SAFETY: the pointer leads to as many items as the number says, which are only read.
         let code = unsafe {
-            raw::synth_batch_try_put_some(&mut self.handle, items.as_ptr(), items.len(), &mut count, &mut at)
+            raw::synth_raw_batch_try_put_some(&mut self.handle, items.as_ptr(), items.len(), &mut count, &mut at)
         };
         Ok((put(code, at)?, count))
     }
@@ -239,7 +239,7 @@ impl BatchEnd {
         let (mut count, mut at) = (0, raw::Positions::default());
         // SAFETY: the pointer leads to as much room as the number says, and nobody else has it.
         let code = unsafe {
-            raw::synth_batch_try_take(&mut self.handle, items.as_mut_ptr(), items.len(), &mut count, &mut at)
+            raw::synth_raw_batch_try_take(&mut self.handle, items.as_mut_ptr(), items.len(), &mut count, &mut at)
         };
         taken(code, count, at)
     }
@@ -261,7 +261,7 @@ impl BatchEnd {
         let (mut count, mut at) = (0, raw::Positions::default());
         // SAFETY: the pointer leads to as much room as the number says, and nobody else has it.
         let code = unsafe {
-            raw::synth_batch_try_take_some(&mut self.handle, items.as_mut_ptr(), items.len(), &mut count, &mut at)
+            raw::synth_raw_batch_try_take_some(&mut self.handle, items.as_mut_ptr(), items.len(), &mut count, &mut at)
         };
         taken(code, count, at)
     }
@@ -277,7 +277,7 @@ impl BatchEnd {
     /// ```
     pub fn len(&mut self) -> u64 {
         let mut count = 0;
-        match raw::synth_batch_len(&mut self.handle, &mut count) {
+        match raw::synth_raw_batch_len(&mut self.handle, &mut count) {
             raw::DONE => count,
             code => raw::no_such_answer(code),
         }
@@ -291,7 +291,7 @@ impl BatchEnd {
     /// How many places the queue has.
     pub fn capacity(&mut self) -> usize {
         let mut places = 0;
-        match raw::synth_batch_capacity(&mut self.handle, &mut places) {
+        match raw::synth_raw_batch_capacity(&mut self.handle, &mut places) {
             raw::DONE => places,
             code => raw::no_such_answer(code),
         }
@@ -311,7 +311,7 @@ impl BatchEnd {
     /// ```
     pub fn shut(&mut self) -> bool {
         let mut was_open = false;
-        match raw::synth_batch_shut(&mut self.handle, &mut was_open) {
+        match raw::synth_raw_batch_shut(&mut self.handle, &mut was_open) {
             raw::DONE => was_open,
             code => raw::no_such_answer(code),
         }
@@ -334,7 +334,7 @@ impl BatchEnd {
         let mut left = vec![0; self.capacity()];
         let mut numbers = raw::BatchClosed::default();
         // SAFETY: the pointer leads to as much room as the number says, and nobody else has it.
-        let code = unsafe { raw::synth_batch_close(&mut self.handle, left.as_mut_ptr(), left.len(), &mut numbers) };
+        let code = unsafe { raw::synth_raw_batch_close(&mut self.handle, left.as_mut_ptr(), left.len(), &mut numbers) };
         closed(code, self)?;
         left.truncate(numbers.left);
         Ok(BatchClosed { put: numbers.put, taken: numbers.taken, left })
@@ -344,6 +344,6 @@ impl BatchEnd {
 impl Drop for BatchEnd {
     fn drop(&mut self) {
         // An end that was joined or closed is empty, which the call tells by a code.
-        raw::synth_batch_free(&mut self.handle);
+        raw::synth_raw_batch_free(&mut self.handle);
     }
 }

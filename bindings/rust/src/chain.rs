@@ -104,19 +104,19 @@ impl Error for ChainNotClosed {}
 impl ChainEnd {
     /// An empty chain, whose first position is `first`, by its only end.
     pub fn new(first: u32) -> Result<ChainEnd, OutOfMemory> {
-        Ok(ChainEnd { handle: made(|chain| raw::synth_chain_new(first, chain))?, runs: false })
+        Ok(ChainEnd { handle: made(|chain| raw::synth_raw_chain_new(first, chain))?, runs: false })
     }
 
     /// One more end of the chain, for another thread.
     pub fn split(&mut self) -> Result<ChainEnd, SplitRefusal> {
-        Ok(ChainEnd { handle: split_off(|other| raw::synth_chain_split(&mut self.handle, other))?, runs: false })
+        Ok(ChainEnd { handle: split_off(|other| raw::synth_raw_chain_split(&mut self.handle, other))?, runs: false })
     }
 
     /// Takes another end of the chain in. If that one runs notes, this one runs them from now on: see
     /// [`ChainEnd::turn`].
     pub fn join(&mut self, mut other: ChainEnd) -> Result<(), OtherObject<ChainEnd>> {
         let runs = other.runs;
-        joined(raw::synth_chain_join(&mut self.handle, &mut other.handle), other)?;
+        joined(raw::synth_raw_chain_join(&mut self.handle, &mut other.handle), other)?;
         self.runs |= runs;
         Ok(())
     }
@@ -124,7 +124,7 @@ impl ChainEnd {
     /// One try to chain a note. The end that found nobody running gets the turn. Else the end that runs notes, which may
     /// be this one, is given it.
     pub fn try_chain(&mut self, note: u16) -> Result<Option<Turn<'_>>, ChainRefusal> {
-        let answer = raw::synth_chain_try_chain(&mut self.handle, note);
+        let answer = raw::synth_raw_chain_try_chain(&mut self.handle, note);
         match answer.code {
             raw::RUN => {
                 self.runs = true;
@@ -146,7 +146,7 @@ impl ChainEnd {
     /// Closes the chain by the end to which all others were joined.
     pub fn close(mut self) -> Result<Chained, ChainNotClosed> {
         let mut closed = raw::Chained::default();
-        match raw::synth_chain_close(&mut self.handle, &mut closed) {
+        match raw::synth_raw_chain_close(&mut self.handle, &mut closed) {
             raw::DONE => Ok(Chained { put: closed.put, run: closed.run }),
             raw::RUNNING => Err(ChainNotClosed::Running(self)),
             raw::OPEN => Err(ChainNotClosed::Open(self)),
@@ -161,7 +161,7 @@ impl Iterator for Turn<'_> {
     fn next(&mut self) -> Option<u16> {
         let mut note = 0;
         while self.end.runs {
-            match raw::synth_chain_next(&mut self.end.handle, &mut note) {
+            match raw::synth_raw_chain_next(&mut self.end.handle, &mut note) {
                 raw::NOTE => return Some(note),
                 raw::AGAIN => hint::spin_loop(),
                 raw::DONE => self.end.runs = false,
@@ -175,6 +175,6 @@ impl Iterator for Turn<'_> {
 impl Drop for ChainEnd {
     fn drop(&mut self) {
         // An end that was joined or closed is empty, which the call tells by a code.
-        raw::synth_chain_free(&mut self.handle);
+        raw::synth_raw_chain_free(&mut self.handle);
     }
 }

@@ -99,7 +99,7 @@ says!(HandSplitRefusal {
 impl Hand {
     /// A table whose elements are all free, in their order, by its only hand, which serves all processors.
     pub fn new() -> Result<Hand, OutOfMemory> {
-        let handle = made(|handle| raw::synth_hand_new(0, handle))?;
+        let handle = made(|handle| raw::synth_raw_hand_new(0, handle))?;
         Ok(Hand { handle })
     }
 
@@ -115,7 +115,7 @@ impl Hand {
     /// ```
     pub fn new_at(first: u32) -> Result<Hand, HandRefusal> {
         let mut handle = raw::Hand::default();
-        match raw::synth_hand_new(first, &mut handle) {
+        match raw::synth_raw_hand_new(first, &mut handle) {
             raw::DONE => Ok(Hand { handle }),
             raw::BAD_NUMBER => Err(HandRefusal::BadFirst),
             raw::NO_MEMORY => Err(HandRefusal::OutOfMemory),
@@ -137,7 +137,7 @@ impl Hand {
     /// ```
     pub fn split(&mut self, processors: u8) -> Result<Hand, HandSplitRefusal> {
         let mut handle = raw::Hand::default();
-        match raw::synth_hand_split(&mut self.handle, processors.into(), &mut handle) {
+        match raw::synth_raw_hand_split(&mut self.handle, processors.into(), &mut handle) {
             raw::DONE => Ok(Hand { handle }),
             raw::NOT_SERVED => Err(HandSplitRefusal::NotServed),
             raw::BUSY => Err(HandSplitRefusal::Busy),
@@ -150,14 +150,14 @@ impl Hand {
     /// Joins a hand of the same table to this one, which then has all that both had: elements, processors, and what
     /// stands there. A hand of another table comes back.
     pub fn join(&mut self, mut other: Hand) -> Result<(), OtherObject<Hand>> {
-        let code = raw::synth_hand_join(&mut self.handle, &mut other.handle);
+        let code = raw::synth_raw_hand_join(&mut self.handle, &mut other.handle);
         joined(code, other)
     }
 
     /// Whether the hand holds the element.
     pub fn holds(&mut self, element: Element) -> bool {
         let mut held = false;
-        match raw::synth_hand_holds(&mut self.handle, element.raw(), &mut held) {
+        match raw::synth_raw_hand_holds(&mut self.handle, element.raw(), &mut held) {
             raw::DONE => held,
             code => raw::no_such_answer(code),
         }
@@ -166,7 +166,7 @@ impl Hand {
     /// Whether the hand serves the processor.
     pub fn serves(&mut self, processor: Processor) -> bool {
         let mut served = false;
-        match raw::synth_hand_serves(&mut self.handle, processor.raw(), &mut served) {
+        match raw::synth_raw_hand_serves(&mut self.handle, processor.raw(), &mut served) {
             raw::DONE => served,
             code => raw::no_such_answer(code),
         }
@@ -176,6 +176,6 @@ impl Hand {
 impl Drop for Hand {
     fn drop(&mut self) {
         // A hand that was joined or closed is empty, which the call tells by a code.
-        raw::synth_hand_free(&mut self.handle);
+        raw::synth_raw_hand_free(&mut self.handle);
     }
 }

@@ -55,7 +55,7 @@ says!(LineRefusal {
 /// ```
 pub fn line(room: usize) -> Result<(LineIn, LineOut), LineRefusal> {
     let (mut input, mut output) = (raw::Input::default(), raw::Output::default());
-    match raw::synth_line_new(room, &mut input, &mut output) {
+    match raw::synth_raw_line_new(room, &mut input, &mut output) {
         raw::DONE => Ok((LineIn { handle: input }, LineOut { handle: output })),
         raw::BAD_NUMBER => Err(LineRefusal::BadRoom),
         raw::NO_MEMORY => Err(LineRefusal::OutOfMemory),
@@ -76,7 +76,7 @@ pub fn line(room: usize) -> Result<(LineIn, LineOut), LineRefusal> {
 /// ```
 pub fn finish(mut input: LineIn, mut output: LineOut) -> Result<LineTotals, OtherObject<(LineIn, LineOut)>> {
     let mut totals = raw::LineTotals::default();
-    match raw::synth_line_finish(&mut input.handle, &mut output.handle, &mut totals) {
+    match raw::synth_raw_line_finish(&mut input.handle, &mut output.handle, &mut totals) {
         raw::DONE => Ok(LineTotals { sent: totals.sent, received: totals.received, left: totals.left }),
         raw::OTHER_OBJECT => Err(OtherObject { end: (input, output) }),
         code => raw::no_such_answer(code),
@@ -87,7 +87,7 @@ impl LineIn {
     /// Pushes one byte behind all others, or hands it back where no place of the line is free. None is refused before
     /// as many bytes were pushed as the line has room for.
     pub fn push(&mut self, byte: u8) -> Result<(), u8> {
-        match raw::synth_line_push(&mut self.handle, byte) {
+        match raw::synth_raw_line_push(&mut self.handle, byte) {
             raw::DONE => Ok(()),
             raw::FULL => Err(byte),
             code => raw::no_such_answer(code),
@@ -99,7 +99,7 @@ impl LineOut {
     /// Pops the oldest byte, or gives `None` where the line is empty.
     pub fn pop(&mut self) -> Option<u8> {
         let mut byte = 0;
-        match raw::synth_line_pop(&mut self.handle, &mut byte) {
+        match raw::synth_raw_line_pop(&mut self.handle, &mut byte) {
             raw::DONE => Some(byte),
             raw::EMPTY => None,
             code => raw::no_such_answer(code),
@@ -110,13 +110,13 @@ impl LineOut {
 impl Drop for LineIn {
     fn drop(&mut self) {
         // An end of a line that was finished is empty, which the call tells by a code.
-        raw::synth_line_free_in(&mut self.handle);
+        raw::synth_raw_line_free_in(&mut self.handle);
     }
 }
 
 impl Drop for LineOut {
     fn drop(&mut self) {
         // An end of a line that was finished is empty, which the call tells by a code.
-        raw::synth_line_free_out(&mut self.handle);
+        raw::synth_raw_line_free_out(&mut self.handle);
     }
 }

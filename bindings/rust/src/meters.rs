@@ -121,26 +121,26 @@ impl Slot {
 impl MeterSeat {
     /// Gauges at 0, the clock as told, no alarm, and the only end.
     pub fn new(clock: u32) -> Result<MeterSeat, OutOfMemory> {
-        let handle = made(|handle| raw::synth_seat_new(clock, handle))?;
+        let handle = made(|handle| raw::synth_raw_seat_new(clock, handle))?;
         Ok(MeterSeat { handle })
     }
 
     /// A new end, for another thread. Both ends are to be joined again before the meters can be closed.
     pub fn split(&mut self) -> Result<MeterSeat, SplitRefusal> {
-        let handle = split_off(|other| raw::synth_seat_split(&mut self.handle, other))?;
+        let handle = split_off(|other| raw::synth_raw_seat_split(&mut self.handle, other))?;
         Ok(MeterSeat { handle })
     }
 
     /// Joins an end of the same meters to this one. One of other meters comes back.
     pub fn join(&mut self, mut other: MeterSeat) -> Result<(), OtherObject<MeterSeat>> {
-        let code = raw::synth_seat_join(&mut self.handle, &mut other.handle);
+        let code = raw::synth_raw_seat_join(&mut self.handle, &mut other.handle);
         joined(code, other)
     }
 
     /// Adds `amount` to the gauge, modulo 2^64, by one step, and gives the gauge's value before.
     pub fn tick(&mut self, gauge: Gauge, amount: u64) -> u64 {
         let mut before = 0;
-        match raw::synth_seat_tick(&mut self.handle, gauge.raw(), amount, &mut before) {
+        match raw::synth_raw_seat_tick(&mut self.handle, gauge.raw(), amount, &mut before) {
             raw::DONE => before,
             code => raw::no_such_answer(code),
         }
@@ -149,7 +149,7 @@ impl MeterSeat {
     /// One try to move the clock on by one tick. Gives the clock after.
     pub fn advance(&mut self) -> Result<u32, AdvanceRefusal> {
         let mut clock = 0;
-        let answer = raw::synth_seat_advance(&mut self.handle, &mut clock);
+        let answer = raw::synth_raw_seat_advance(&mut self.handle, &mut clock);
         match answer.code {
             raw::DONE => Ok(clock),
             raw::SPENT => Err(AdvanceRefusal::Spent),
@@ -161,7 +161,7 @@ impl MeterSeat {
     /// One try to set an alarm in the first empty slot. Gives the slot, by which the alarm can be cancelled.
     pub fn try_set(&mut self, alarm: Alarm) -> Result<Slot, SetRefusal> {
         let mut number = 0;
-        let answer = raw::synth_seat_try_set(&mut self.handle, &alarm.raw(), &mut number);
+        let answer = raw::synth_raw_seat_try_set(&mut self.handle, &alarm.raw(), &mut number);
         match answer.code {
             raw::DONE => Ok(Slot { number }),
             raw::NO_ROOM => Err(SetRefusal::NoRoom),
@@ -174,7 +174,7 @@ impl MeterSeat {
     /// before, or never stood there. Two alarms that are equal can't be told apart.
     pub fn cancel(&mut self, slot: Slot, alarm: Alarm) -> bool {
         let mut cancelled = false;
-        match raw::synth_seat_cancel(&mut self.handle, slot.number, &alarm.raw(), &mut cancelled) {
+        match raw::synth_raw_seat_cancel(&mut self.handle, slot.number, &alarm.raw(), &mut cancelled) {
             raw::DONE => cancelled,
             code => raw::no_such_answer(code),
         }
@@ -185,7 +185,7 @@ impl MeterSeat {
     pub fn due(&mut self) -> impl ExactSizeIterator<Item = Alarm> {
         let (mut alarms, mut count) = ([raw::Alarm::default(); 16], 0);
         // SAFETY: the pointer leads to room for as many alarms as the number says, and nobody else has it.
-        let code = unsafe { raw::synth_seat_due(&mut self.handle, alarms.as_mut_ptr(), alarms.len(), &mut count) };
+        let code = unsafe { raw::synth_raw_seat_due(&mut self.handle, alarms.as_mut_ptr(), alarms.len(), &mut count) };
         match code {
             raw::DONE => alarms.into_iter().take(count).map(Alarm::told),
             code => raw::no_such_answer(code),
@@ -195,7 +195,7 @@ impl MeterSeat {
     /// Closes the meters where every other end has been joined. Where others stand, or were dropped, this one comes back.
     pub fn close(mut self) -> Result<Metered, StillOpen<MeterSeat>> {
         let mut numbers = raw::Metered::default();
-        let code = raw::synth_seat_close(&mut self.handle, &mut numbers);
+        let code = raw::synth_raw_seat_close(&mut self.handle, &mut numbers);
         closed(code, self)?;
         let alarms = &numbers.alarm[..numbers.alarms as usize];
         Ok(Metered {
@@ -209,6 +209,6 @@ impl MeterSeat {
 impl Drop for MeterSeat {
     fn drop(&mut self) {
         // An end that was joined or closed is empty, which the call tells by a code.
-        raw::synth_seat_free(&mut self.handle);
+        raw::synth_raw_seat_free(&mut self.handle);
     }
 }

@@ -135,13 +135,13 @@ impl<const N: usize> QueueEnd<N> {
     /// ```
     pub fn new(first: u32) -> Result<QueueEnd<N>, OutOfMemory> {
         const { assert!(N == 64 || N == 256, "a queue has 64 or 256 places") }
-        let handle = made(|handle| raw::synth_queue_new(N as u32, first, handle))?;
+        let handle = made(|handle| raw::synth_raw_queue_new(N as u32, first, handle))?;
         Ok(QueueEnd { handle })
     }
 
     /// A new end, for another thread. Both ends are to be joined again before the queue can be closed.
     pub fn split(&mut self) -> Result<QueueEnd<N>, SplitRefusal> {
-        let handle = split_off(|other| raw::synth_queue_split(&mut self.handle, other))?;
+        let handle = split_off(|other| raw::synth_raw_queue_split(&mut self.handle, other))?;
         Ok(QueueEnd { handle })
     }
 
@@ -156,14 +156,14 @@ impl<const N: usize> QueueEnd<N> {
     /// # Ok::<(), Box<dyn std::error::Error>>(())
     /// ```
     pub fn join(&mut self, mut other: QueueEnd<N>) -> Result<(), OtherObject<QueueEnd<N>>> {
-        let code = raw::synth_queue_join(&mut self.handle, &mut other.handle);
+        let code = raw::synth_raw_queue_join(&mut self.handle, &mut other.handle);
         joined(code, other)
     }
 
     /// One try to put a run of items, with no other end's item between them. Gives the position of the first one.
     pub fn try_put(&mut self, items: &[u64]) -> Result<u32, ClaimRefusal> {
         // SAFETY: the pointer leads to as many items as the number says, which are only read.
-        let answer = unsafe { raw::synth_queue_try_put(&mut self.handle, items.as_ptr(), items.len()) };
+        let answer = unsafe { raw::synth_raw_queue_try_put(&mut self.handle, items.as_ptr(), items.len()) };
         match answer.code {
             raw::DONE => Ok(answer.head),
             raw::NO_ITEMS => Err(ClaimRefusal::NoItems),
@@ -188,7 +188,7 @@ impl<const N: usize> QueueEnd<N> {
     /// ```
     pub fn try_take(&mut self) -> Result<u64, TakeRefusal> {
         let mut item = 0;
-        taken(raw::synth_queue_try_take(&mut self.handle, &mut item))?;
+        taken(raw::synth_raw_queue_try_take(&mut self.handle, &mut item))?;
         Ok(item)
     }
 
@@ -211,7 +211,7 @@ impl<const N: usize> QueueEnd<N> {
         }
         let mut count = 0;
         // SAFETY: the pointer leads to as much room as the number says, and nobody else has it.
-        taken(unsafe { raw::synth_queue_take_up_to(&mut self.handle, items.as_mut_ptr(), items.len(), &mut count) })?;
+        taken(unsafe { raw::synth_raw_queue_take_up_to(&mut self.handle, items.as_mut_ptr(), items.len(), &mut count) })?;
         Ok(count)
     }
 
@@ -221,7 +221,7 @@ impl<const N: usize> QueueEnd<N> {
     pub fn try_take_line(&mut self, line: &mut [u64; N]) -> Result<usize, TakeRefusal> {
         let mut count = 0;
         // SAFETY: the pointer leads to room for N items, and nobody else has it.
-        taken(unsafe { raw::synth_queue_try_take_line(&mut self.handle, line.as_mut_ptr(), N, &mut count) })?;
+        taken(unsafe { raw::synth_raw_queue_try_take_line(&mut self.handle, line.as_mut_ptr(), N, &mut count) })?;
         Ok(count)
     }
 
@@ -239,7 +239,7 @@ impl<const N: usize> QueueEnd<N> {
     /// ```
     pub fn shut(&mut self) -> bool {
         let mut was_open = false;
-        match raw::synth_queue_shut(&mut self.handle, &mut was_open) {
+        match raw::synth_raw_queue_shut(&mut self.handle, &mut was_open) {
             raw::DONE => was_open,
             code => raw::no_such_answer(code),
         }
@@ -262,7 +262,7 @@ impl<const N: usize> QueueEnd<N> {
         let mut room = [0; N];
         let mut numbers = raw::Closed::default();
         // SAFETY: the pointer leads to room for N items, and nobody else has it.
-        let code = unsafe { raw::synth_queue_close(&mut self.handle, room.as_mut_ptr(), N, &mut numbers) };
+        let code = unsafe { raw::synth_raw_queue_close(&mut self.handle, room.as_mut_ptr(), N, &mut numbers) };
         closed(code, self)?;
         let left = room[..numbers.left].to_vec();
         Ok(Closed { first: numbers.first, put: numbers.put, taken: numbers.taken, left })
@@ -272,6 +272,6 @@ impl<const N: usize> QueueEnd<N> {
 impl<const N: usize> Drop for QueueEnd<N> {
     fn drop(&mut self) {
         // An end that was joined or closed is empty, which the call tells by a code.
-        raw::synth_queue_free(&mut self.handle);
+        raw::synth_raw_queue_free(&mut self.handle);
     }
 }

@@ -190,119 +190,119 @@ pub(crate) fn no_such_answer(code: i32) -> ! {
 // empty or was filled by a call of its own kind, and a `&mut` to it lets no other call have it. For all else the
 // library answers by a code, so only the calls that take a buffer's length beside its pointer are unsafe.
 unsafe extern "C" {
-    pub(crate) safe fn synth_batch_new(places: usize, batch: &mut Batch) -> i32;
-    pub(crate) safe fn synth_batch_split(batch: &mut Batch, other: &mut Batch) -> i32;
-    pub(crate) safe fn synth_batch_join(batch: &mut Batch, other: &mut Batch) -> i32;
-    pub(crate) unsafe fn synth_batch_try_put(
+    pub(crate) safe fn synth_raw_batch_new(places: usize, batch: &mut Batch) -> i32;
+    pub(crate) safe fn synth_raw_batch_split(batch: &mut Batch, other: &mut Batch) -> i32;
+    pub(crate) safe fn synth_raw_batch_join(batch: &mut Batch, other: &mut Batch) -> i32;
+    pub(crate) unsafe fn synth_raw_batch_try_put(
         batch: &mut Batch,
         items: *const u64,
         count: usize,
         positions: &mut Positions,
     ) -> i32;
-    pub(crate) unsafe fn synth_batch_try_put_some(
+    pub(crate) unsafe fn synth_raw_batch_try_put_some(
         batch: &mut Batch,
         items: *const u64,
         count: usize,
         put: &mut usize,
         positions: &mut Positions,
     ) -> i32;
-    pub(crate) unsafe fn synth_batch_try_take(
+    pub(crate) unsafe fn synth_raw_batch_try_take(
         batch: &mut Batch,
         items: *mut u64,
         room: usize,
         count: &mut usize,
         positions: &mut Positions,
     ) -> i32;
-    pub(crate) unsafe fn synth_batch_try_take_some(
+    pub(crate) unsafe fn synth_raw_batch_try_take_some(
         batch: &mut Batch,
         items: *mut u64,
         room: usize,
         count: &mut usize,
         positions: &mut Positions,
     ) -> i32;
-    pub(crate) safe fn synth_batch_len(batch: &mut Batch, count: &mut u64) -> i32;
-    pub(crate) safe fn synth_batch_capacity(batch: &mut Batch, places: &mut usize) -> i32;
-    pub(crate) safe fn synth_batch_shut(batch: &mut Batch, was_open: &mut bool) -> i32;
-    pub(crate) unsafe fn synth_batch_close(
+    pub(crate) safe fn synth_raw_batch_len(batch: &mut Batch, count: &mut u64) -> i32;
+    pub(crate) safe fn synth_raw_batch_capacity(batch: &mut Batch, places: &mut usize) -> i32;
+    pub(crate) safe fn synth_raw_batch_shut(batch: &mut Batch, was_open: &mut bool) -> i32;
+    pub(crate) unsafe fn synth_raw_batch_close(
         batch: &mut Batch,
         left: *mut u64,
         room: usize,
         closed: &mut BatchClosed,
     ) -> i32;
-    pub(crate) safe fn synth_batch_free(batch: &mut Batch) -> i32;
+    pub(crate) safe fn synth_raw_batch_free(batch: &mut Batch) -> i32;
 
-    pub(crate) safe fn synth_queue_new(places: u32, first: u32, queue: &mut Queue) -> i32;
-    pub(crate) safe fn synth_queue_split(queue: &mut Queue, other: &mut Queue) -> i32;
-    pub(crate) safe fn synth_queue_join(queue: &mut Queue, other: &mut Queue) -> i32;
-    pub(crate) unsafe fn synth_queue_try_put(queue: &mut Queue, items: *const u64, count: usize) -> Answer;
-    pub(crate) safe fn synth_queue_try_take(queue: &mut Queue, item: &mut u64) -> Answer;
-    pub(crate) unsafe fn synth_queue_take_up_to(
+    pub(crate) safe fn synth_raw_queue_new(places: u32, first: u32, queue: &mut Queue) -> i32;
+    pub(crate) safe fn synth_raw_queue_split(queue: &mut Queue, other: &mut Queue) -> i32;
+    pub(crate) safe fn synth_raw_queue_join(queue: &mut Queue, other: &mut Queue) -> i32;
+    pub(crate) unsafe fn synth_raw_queue_try_put(queue: &mut Queue, items: *const u64, count: usize) -> Answer;
+    pub(crate) safe fn synth_raw_queue_try_take(queue: &mut Queue, item: &mut u64) -> Answer;
+    pub(crate) unsafe fn synth_raw_queue_take_up_to(
         queue: &mut Queue,
         items: *mut u64,
         room: usize,
         count: &mut usize,
     ) -> Answer;
-    pub(crate) unsafe fn synth_queue_try_take_line(
+    pub(crate) unsafe fn synth_raw_queue_try_take_line(
         queue: &mut Queue,
         line: *mut u64,
         room: usize,
         count: &mut usize,
     ) -> Answer;
-    pub(crate) safe fn synth_queue_shut(queue: &mut Queue, was_open: &mut bool) -> i32;
-    pub(crate) unsafe fn synth_queue_close(queue: &mut Queue, left: *mut u64, room: usize, closed: &mut Closed) -> i32;
-    pub(crate) safe fn synth_queue_free(queue: &mut Queue) -> i32;
+    pub(crate) safe fn synth_raw_queue_shut(queue: &mut Queue, was_open: &mut bool) -> i32;
+    pub(crate) unsafe fn synth_raw_queue_close(queue: &mut Queue, left: *mut u64, room: usize, closed: &mut Closed) -> i32;
+    pub(crate) safe fn synth_raw_queue_free(queue: &mut Queue) -> i32;
 
-    pub(crate) safe fn synth_chain_new(first: u32, chain: &mut Chain) -> i32;
-    pub(crate) safe fn synth_chain_split(chain: &mut Chain, other: &mut Chain) -> i32;
-    pub(crate) safe fn synth_chain_join(chain: &mut Chain, other: &mut Chain) -> i32;
-    pub(crate) safe fn synth_chain_try_chain(chain: &mut Chain, note: u16) -> Answer;
-    pub(crate) safe fn synth_chain_next(chain: &mut Chain, note: &mut u16) -> i32;
-    pub(crate) safe fn synth_chain_close(chain: &mut Chain, closed: &mut Chained) -> i32;
-    pub(crate) safe fn synth_chain_free(chain: &mut Chain) -> i32;
+    pub(crate) safe fn synth_raw_chain_new(first: u32, chain: &mut Chain) -> i32;
+    pub(crate) safe fn synth_raw_chain_split(chain: &mut Chain, other: &mut Chain) -> i32;
+    pub(crate) safe fn synth_raw_chain_join(chain: &mut Chain, other: &mut Chain) -> i32;
+    pub(crate) safe fn synth_raw_chain_try_chain(chain: &mut Chain, note: u16) -> Answer;
+    pub(crate) safe fn synth_raw_chain_next(chain: &mut Chain, note: &mut u16) -> i32;
+    pub(crate) safe fn synth_raw_chain_close(chain: &mut Chain, closed: &mut Chained) -> i32;
+    pub(crate) safe fn synth_raw_chain_free(chain: &mut Chain) -> i32;
 
-    pub(crate) safe fn synth_seat_new(clock: u32, seat: &mut Seat) -> i32;
-    pub(crate) safe fn synth_seat_split(seat: &mut Seat, other: &mut Seat) -> i32;
-    pub(crate) safe fn synth_seat_join(seat: &mut Seat, other: &mut Seat) -> i32;
-    pub(crate) safe fn synth_seat_tick(seat: &mut Seat, gauge: u32, amount: u64, before: &mut u64) -> i32;
-    pub(crate) safe fn synth_seat_advance(seat: &mut Seat, clock: &mut u32) -> Answer;
-    pub(crate) safe fn synth_seat_try_set(seat: &mut Seat, alarm: &Alarm, slot: &mut u32) -> Answer;
-    pub(crate) safe fn synth_seat_cancel(seat: &mut Seat, slot: u32, alarm: &Alarm, cancelled: &mut bool) -> i32;
-    pub(crate) unsafe fn synth_seat_due(seat: &mut Seat, alarms: *mut Alarm, room: usize, count: &mut usize) -> i32;
-    pub(crate) safe fn synth_seat_close(seat: &mut Seat, metered: &mut Metered) -> i32;
-    pub(crate) safe fn synth_seat_free(seat: &mut Seat) -> i32;
+    pub(crate) safe fn synth_raw_seat_new(clock: u32, seat: &mut Seat) -> i32;
+    pub(crate) safe fn synth_raw_seat_split(seat: &mut Seat, other: &mut Seat) -> i32;
+    pub(crate) safe fn synth_raw_seat_join(seat: &mut Seat, other: &mut Seat) -> i32;
+    pub(crate) safe fn synth_raw_seat_tick(seat: &mut Seat, gauge: u32, amount: u64, before: &mut u64) -> i32;
+    pub(crate) safe fn synth_raw_seat_advance(seat: &mut Seat, clock: &mut u32) -> Answer;
+    pub(crate) safe fn synth_raw_seat_try_set(seat: &mut Seat, alarm: &Alarm, slot: &mut u32) -> Answer;
+    pub(crate) safe fn synth_raw_seat_cancel(seat: &mut Seat, slot: u32, alarm: &Alarm, cancelled: &mut bool) -> i32;
+    pub(crate) unsafe fn synth_raw_seat_due(seat: &mut Seat, alarms: *mut Alarm, room: usize, count: &mut usize) -> i32;
+    pub(crate) safe fn synth_raw_seat_close(seat: &mut Seat, metered: &mut Metered) -> i32;
+    pub(crate) safe fn synth_raw_seat_free(seat: &mut Seat) -> i32;
 
-    pub(crate) safe fn synth_line_new(room: usize, input: &mut Input, output: &mut Output) -> i32;
-    pub(crate) safe fn synth_line_push(input: &mut Input, byte: u8) -> i32;
-    pub(crate) safe fn synth_line_pop(output: &mut Output, byte: &mut u8) -> i32;
-    pub(crate) safe fn synth_line_finish(input: &mut Input, output: &mut Output, totals: &mut LineTotals) -> i32;
-    pub(crate) safe fn synth_line_free_in(input: &mut Input) -> i32;
-    pub(crate) safe fn synth_line_free_out(output: &mut Output) -> i32;
+    pub(crate) safe fn synth_raw_line_new(room: usize, input: &mut Input, output: &mut Output) -> i32;
+    pub(crate) safe fn synth_raw_line_push(input: &mut Input, byte: u8) -> i32;
+    pub(crate) safe fn synth_raw_line_pop(output: &mut Output, byte: &mut u8) -> i32;
+    pub(crate) safe fn synth_raw_line_finish(input: &mut Input, output: &mut Output, totals: &mut LineTotals) -> i32;
+    pub(crate) safe fn synth_raw_line_free_in(input: &mut Input) -> i32;
+    pub(crate) safe fn synth_raw_line_free_out(output: &mut Output) -> i32;
 
-    pub(crate) safe fn synth_hand_new(first: u32, hand: &mut Hand) -> i32;
-    pub(crate) safe fn synth_hand_split(hand: &mut Hand, processors: u32, other: &mut Hand) -> i32;
-    pub(crate) safe fn synth_hand_join(hand: &mut Hand, other: &mut Hand) -> i32;
-    pub(crate) safe fn synth_hand_holds(hand: &mut Hand, element: u32, held: &mut bool) -> i32;
-    pub(crate) safe fn synth_hand_serves(hand: &mut Hand, processor: u32, served: &mut bool) -> i32;
-    pub(crate) safe fn synth_hand_on_processor(hand: &mut Hand, processor: u32, element: &mut u32) -> i32;
-    pub(crate) safe fn synth_hand_on(hand: &mut Hand, processor: u32, element: u32) -> i32;
-    pub(crate) safe fn synth_hand_off(hand: &mut Hand, processor: u32, element: &mut u32) -> i32;
-    pub(crate) safe fn synth_hand_pc(hand: &mut Hand, element: u32, steps: &mut u64) -> i32;
-    pub(crate) safe fn synth_hand_step_done(hand: &mut Hand, element: u32, steps: &mut u64) -> i32;
-    pub(crate) safe fn synth_hand_try_next(hand: &mut Hand, element: &mut u32) -> Answer;
-    pub(crate) safe fn synth_hand_try_free(hand: &mut Hand, element: &mut u32) -> Answer;
-    pub(crate) safe fn synth_hand_try_wake(hand: &mut Hand, wait: u32, element: &mut u32) -> Answer;
-    pub(crate) safe fn synth_hand_notify(hand: &mut Hand, wait: u32, head: &mut u32) -> i32;
-    pub(crate) safe fn synth_hand_try_wake_before(hand: &mut Hand, wait: u32, head: u32, element: &mut u32) -> Answer;
-    pub(crate) safe fn synth_hand_try_ready(hand: &mut Hand, element: u32) -> Moved;
-    pub(crate) safe fn synth_hand_try_retire(hand: &mut Hand, element: u32) -> Moved;
-    pub(crate) safe fn synth_hand_try_wait(hand: &mut Hand, element: u32, wait: u32) -> Moved;
-    pub(crate) safe fn synth_hand_ticket(hand: &mut Hand, wait: u32, ticket: &mut u32) -> i32;
-    pub(crate) safe fn synth_hand_try_wait_at(hand: &mut Hand, element: u32, wait: u32, ticket: u32) -> Moved;
-    pub(crate) safe fn synth_hand_stop(hand: &mut Hand, element: u32, was_clear: &mut bool) -> i32;
-    pub(crate) safe fn synth_hand_try_start(hand: &mut Hand, element: u32, started: &mut u32) -> State;
-    pub(crate) safe fn synth_hand_try_park(hand: &mut Hand, element: u32, parked: &mut bool) -> State;
-    pub(crate) safe fn synth_hand_signal(hand: &mut Hand, element: u32, signal: u32, raised: &mut bool) -> i32;
-    pub(crate) safe fn synth_hand_try_deliver(hand: &mut Hand, element: u32, signals: &mut u32) -> State;
-    pub(crate) safe fn synth_hand_close(hand: &mut Hand, places: &mut Places) -> i32;
-    pub(crate) safe fn synth_hand_free(hand: &mut Hand) -> i32;
+    pub(crate) safe fn synth_raw_hand_new(first: u32, hand: &mut Hand) -> i32;
+    pub(crate) safe fn synth_raw_hand_split(hand: &mut Hand, processors: u32, other: &mut Hand) -> i32;
+    pub(crate) safe fn synth_raw_hand_join(hand: &mut Hand, other: &mut Hand) -> i32;
+    pub(crate) safe fn synth_raw_hand_holds(hand: &mut Hand, element: u32, held: &mut bool) -> i32;
+    pub(crate) safe fn synth_raw_hand_serves(hand: &mut Hand, processor: u32, served: &mut bool) -> i32;
+    pub(crate) safe fn synth_raw_hand_on_processor(hand: &mut Hand, processor: u32, element: &mut u32) -> i32;
+    pub(crate) safe fn synth_raw_hand_on(hand: &mut Hand, processor: u32, element: u32) -> i32;
+    pub(crate) safe fn synth_raw_hand_off(hand: &mut Hand, processor: u32, element: &mut u32) -> i32;
+    pub(crate) safe fn synth_raw_hand_pc(hand: &mut Hand, element: u32, steps: &mut u64) -> i32;
+    pub(crate) safe fn synth_raw_hand_step_done(hand: &mut Hand, element: u32, steps: &mut u64) -> i32;
+    pub(crate) safe fn synth_raw_hand_try_next(hand: &mut Hand, element: &mut u32) -> Answer;
+    pub(crate) safe fn synth_raw_hand_try_free(hand: &mut Hand, element: &mut u32) -> Answer;
+    pub(crate) safe fn synth_raw_hand_try_wake(hand: &mut Hand, wait: u32, element: &mut u32) -> Answer;
+    pub(crate) safe fn synth_raw_hand_notify(hand: &mut Hand, wait: u32, head: &mut u32) -> i32;
+    pub(crate) safe fn synth_raw_hand_try_wake_before(hand: &mut Hand, wait: u32, head: u32, element: &mut u32) -> Answer;
+    pub(crate) safe fn synth_raw_hand_try_ready(hand: &mut Hand, element: u32) -> Moved;
+    pub(crate) safe fn synth_raw_hand_try_retire(hand: &mut Hand, element: u32) -> Moved;
+    pub(crate) safe fn synth_raw_hand_try_wait(hand: &mut Hand, element: u32, wait: u32) -> Moved;
+    pub(crate) safe fn synth_raw_hand_ticket(hand: &mut Hand, wait: u32, ticket: &mut u32) -> i32;
+    pub(crate) safe fn synth_raw_hand_try_wait_at(hand: &mut Hand, element: u32, wait: u32, ticket: u32) -> Moved;
+    pub(crate) safe fn synth_raw_hand_stop(hand: &mut Hand, element: u32, was_clear: &mut bool) -> i32;
+    pub(crate) safe fn synth_raw_hand_try_start(hand: &mut Hand, element: u32, started: &mut u32) -> State;
+    pub(crate) safe fn synth_raw_hand_try_park(hand: &mut Hand, element: u32, parked: &mut bool) -> State;
+    pub(crate) safe fn synth_raw_hand_signal(hand: &mut Hand, element: u32, signal: u32, raised: &mut bool) -> i32;
+    pub(crate) safe fn synth_raw_hand_try_deliver(hand: &mut Hand, element: u32, signals: &mut u32) -> State;
+    pub(crate) safe fn synth_raw_hand_close(hand: &mut Hand, places: &mut Places) -> i32;
+    pub(crate) safe fn synth_raw_hand_free(hand: &mut Hand) -> i32;
 }

@@ -116,7 +116,7 @@ fn tell_take(
 
 /// An empty queue of so many places, a power of two, 2^24 at most. Each queue has a mark of its own.
 #[unsafe(no_mangle)]
-pub extern "C" fn synth_batch_new_marked(
+pub extern "C" fn synth_raw_batch_new_marked(
     alloc: Global,
     places: usize,
     mark: u64,
@@ -142,7 +142,7 @@ pub extern "C" fn synth_batch_new_marked(
 
 /// Frees the handle, whose end is then never joined.
 #[unsafe(no_mangle)]
-pub extern "C" fn synth_batch_free(alloc: Global, batch: &mut Handle) -> i32
+pub extern "C" fn synth_raw_batch_free(alloc: Global, batch: &mut Handle) -> i32
     ensures { FreedHandle batch_of batch.old batch.new result }
 {
     if batch.batch().is_none() {
@@ -171,7 +171,11 @@ fn split_boxed(alloc: Global, held: &mut HeldBatch) -> Option<Box<Payload, Globa
 
 /// A second end of the queue, for another thread.
 #[unsafe(no_mangle)]
-pub extern "C" fn synth_batch_split(alloc: Global, batch: &mut Handle, other: &mut Handle) -> i32
+pub extern "C" fn synth_raw_batch_split(
+    alloc: Global,
+    batch: &mut Handle,
+    other: &mut Handle,
+) -> i32
     ensures { SplitHandle batch_of (λ x. x.parts) Divided batch.old batch.new other.old other.new result }
 {
     let Some(held) = batch.batch() else {
@@ -194,7 +198,7 @@ pub extern "C" fn synth_batch_split(alloc: Global, batch: &mut Handle, other: &m
 
 /// The first end then has all that both had, and the second handle is empty.
 #[unsafe(no_mangle)]
-pub extern "C" fn synth_batch_join(alloc: Global, batch: &mut Handle, other: &mut Handle) -> i32
+pub extern "C" fn synth_raw_batch_join(alloc: Global, batch: &mut Handle, other: &mut Handle) -> i32
     requires { MarksTell HaveOneMark AreOfOneQueue (batch_of batch.old) (batch_of other.old) }
     ensures { JoinedHandle batch_of MayJoin MayNotJoin Joined batch.old batch.new other.old other.new result }
 {
@@ -213,7 +217,7 @@ pub extern "C" fn synth_batch_join(alloc: Global, batch: &mut Handle, other: &mu
 
 /// `BatchQueue::try_put`.
 #[unsafe(no_mangle)]
-pub extern "C" fn synth_batch_try_put(
+pub extern "C" fn synth_raw_batch_try_put(
     batch: &mut Handle,
     items: &[u64],
     positions: &mut SynthPositions,
@@ -231,7 +235,7 @@ pub extern "C" fn synth_batch_try_put(
 
 /// `BatchQueue::try_put_some`.
 #[unsafe(no_mangle)]
-pub extern "C" fn synth_batch_try_put_some(
+pub extern "C" fn synth_raw_batch_try_put_some(
     batch: &mut Handle,
     items: &[u64],
     count: &mut usize,
@@ -251,7 +255,7 @@ pub extern "C" fn synth_batch_try_put_some(
 
 /// `BatchQueue::try_take`.
 #[unsafe(no_mangle)]
-pub extern "C" fn synth_batch_try_take(
+pub extern "C" fn synth_raw_batch_try_take(
     batch: &mut Handle,
     items: &mut [u64],
     count: &mut usize,
@@ -271,7 +275,7 @@ pub extern "C" fn synth_batch_try_take(
 
 /// `BatchQueue::try_take_some`.
 #[unsafe(no_mangle)]
-pub extern "C" fn synth_batch_try_take_some(
+pub extern "C" fn synth_raw_batch_try_take_some(
     batch: &mut Handle,
     items: &mut [u64],
     count: &mut usize,
@@ -291,7 +295,7 @@ pub extern "C" fn synth_batch_try_take_some(
 
 /// `BatchQueue::len`.
 #[unsafe(no_mangle)]
-pub extern "C" fn synth_batch_len(batch: &mut Handle, count: &mut u64) -> i32
+pub extern "C" fn synth_raw_batch_len(batch: &mut Handle, count: &mut u64) -> i32
     ensures empty { NoneIn batch_of batch.old batch.new ((result ≡ EmptyHandle) × (count.new ≡ count.old)) }
     ensures counted { TurnsThen (batch_of batch.old) (batch_of batch.new)
         (λ x y. Counted count.new x y × (result ≡ Done)) }
@@ -305,7 +309,7 @@ pub extern "C" fn synth_batch_len(batch: &mut Handle, count: &mut u64) -> i32
 
 /// How many places the queue has.
 #[unsafe(no_mangle)]
-pub extern "C" fn synth_batch_capacity(batch: &mut Handle, places: &mut usize) -> i32
+pub extern "C" fn synth_raw_batch_capacity(batch: &mut Handle, places: &mut usize) -> i32
     ensures empty { NoneIn batch_of batch.old batch.new ((result ≡ EmptyHandle) × (places.new ≡ places.old)) }
     ensures told { HoldsThen (batch_of batch.old)
         (λ x. AsItWas batch.old batch.new × (places.new ≡ places_of x) × (result ≡ Done)) }
@@ -319,7 +323,7 @@ pub extern "C" fn synth_batch_capacity(batch: &mut Handle, places: &mut usize) -
 
 /// `BatchQueue::shut`.
 #[unsafe(no_mangle)]
-pub extern "C" fn synth_batch_shut(batch: &mut Handle, was_open: &mut bool) -> i32
+pub extern "C" fn synth_raw_batch_shut(batch: &mut Handle, was_open: &mut bool) -> i32
     ensures empty { NoneIn batch_of batch.old batch.new ((result ≡ EmptyHandle) × (was_open.new ≡ was_open.old)) }
     ensures shut { TurnsThen (batch_of batch.old) (batch_of batch.new)
         (λ x y. WasShut was_open.new x y × (result ≡ Done)) }
@@ -334,7 +338,7 @@ pub extern "C" fn synth_batch_shut(batch: &mut Handle, was_open: &mut bool) -> i
 /// `BatchQueue::close`, where the end has all parts of the queue. Else the handle keeps its end. The items left are in
 /// the buffer, which has room for as many as the queue has places, or more.
 #[unsafe(no_mangle)]
-pub extern "C" fn synth_batch_close(
+pub extern "C" fn synth_raw_batch_close(
     alloc: Global,
     batch: &mut Handle,
     left: &mut [u64],

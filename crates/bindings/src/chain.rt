@@ -53,7 +53,7 @@ fn told_of_noted(answer: Result<Noted, ChainRefusal>) -> SynthAnswer
 
 /// An empty chain, whose first position is `first`. Each chain has a mark of its own.
 #[unsafe(no_mangle)]
-pub extern "C" fn synth_chain_new_marked(
+pub extern "C" fn synth_raw_chain_new_marked(
     alloc: Global,
     first: u32,
     mark: u64,
@@ -76,7 +76,7 @@ pub extern "C" fn synth_chain_new_marked(
 
 /// Frees the handle, whose end is then never joined. If it runs notes, those that are left are never run.
 #[unsafe(no_mangle)]
-pub extern "C" fn synth_chain_free(alloc: Global, chain: &mut Handle) -> i32
+pub extern "C" fn synth_raw_chain_free(alloc: Global, chain: &mut Handle) -> i32
     ensures { FreedHandle chain_of chain.old chain.new result }
 {
     if chain.chain().is_none() {
@@ -105,7 +105,11 @@ fn split_boxed(alloc: Global, held: &mut HeldChain) -> Option<Box<Payload, Globa
 
 /// A second end of the chain, for another thread.
 #[unsafe(no_mangle)]
-pub extern "C" fn synth_chain_split(alloc: Global, chain: &mut Handle, other: &mut Handle) -> i32
+pub extern "C" fn synth_raw_chain_split(
+    alloc: Global,
+    chain: &mut Handle,
+    other: &mut Handle,
+) -> i32
     ensures { SplitHandle chain_of (λ x. x.parts) Divided chain.old chain.new other.old other.new result }
 {
     let Some(held) = chain.chain() else {
@@ -128,7 +132,7 @@ pub extern "C" fn synth_chain_split(alloc: Global, chain: &mut Handle, other: &m
 
 /// The first end then has all that both had, and the second handle is empty.
 #[unsafe(no_mangle)]
-pub extern "C" fn synth_chain_join(alloc: Global, chain: &mut Handle, other: &mut Handle) -> i32
+pub extern "C" fn synth_raw_chain_join(alloc: Global, chain: &mut Handle, other: &mut Handle) -> i32
     requires { MarksTell HaveOneMark AreOfOneChain (chain_of chain.old) (chain_of other.old) }
     ensures { JoinedHandle chain_of MayJoin MayNotJoin Joined chain.old chain.new other.old other.new result }
 {
@@ -147,7 +151,7 @@ pub extern "C" fn synth_chain_join(alloc: Global, chain: &mut Handle, other: &mu
 
 /// `ProcChain::try_chain`.
 #[unsafe(no_mangle)]
-pub extern "C" fn synth_chain_try_chain(chain: &mut Handle, note: u16) -> SynthAnswer
+pub extern "C" fn synth_raw_chain_try_chain(chain: &mut Handle, note: u16) -> SynthAnswer
     ensures empty { NoneIn chain_of chain.old chain.new (IsCodeAlone EmptyHandle result) }
     ensures chained { HoldsThen (chain_of chain.old) (λ x. ChainTold x note (chain_of chain.new) result) }
 {
@@ -159,7 +163,7 @@ pub extern "C" fn synth_chain_try_chain(chain: &mut Handle, note: u16) -> SynthA
 
 /// The next note, for the end that runs notes.
 #[unsafe(no_mangle)]
-pub extern "C" fn synth_chain_next(chain: &mut Handle, note: &mut u16) -> i32
+pub extern "C" fn synth_raw_chain_next(chain: &mut Handle, note: &mut u16) -> i32
     ensures empty { NoneIn chain_of chain.old chain.new ((result ≡ EmptyHandle) × (note.new ≡ note.old)) }
     ensures pulled { HoldsThen (chain_of chain.old) (λ x. PullTold x note.old note.new (chain_of chain.new) result) }
 {
@@ -181,7 +185,7 @@ pub extern "C" fn synth_chain_next(chain: &mut Handle, note: &mut u16) -> i32
 
 /// Closes the chain, where the handle has all parts, and empties it.
 #[unsafe(no_mangle)]
-pub extern "C" fn synth_chain_close(
+pub extern "C" fn synth_raw_chain_close(
     alloc: Global,
     chain: &mut Handle,
     closed: &mut SynthChained,

@@ -26,7 +26,7 @@ pub struct SynthLineTotals {
 
 /// A line with room for so many bytes, 1 to 65,536, and its two ends. Each line has a mark of its own.
 #[unsafe(no_mangle)]
-pub extern "C" fn synth_line_new_marked(
+pub extern "C" fn synth_raw_line_new_marked(
     alloc: Global,
     room: usize,
     mark: u64,
@@ -60,7 +60,7 @@ pub extern "C" fn synth_line_new_marked(
 
 /// `LineIn::push`.
 #[unsafe(no_mangle)]
-pub extern "C" fn synth_line_push(input: &mut Handle, byte: u8) -> i32
+pub extern "C" fn synth_raw_line_push(input: &mut Handle, byte: u8) -> i32
     ensures empty { NoneIn line_in_of input.old input.new (result ≡ EmptyHandle) }
     ensures pushed { HoldsThen (line_in_of input.old) (λ x. PushTold x byte (line_in_of input.new) result) }
 {
@@ -76,7 +76,7 @@ pub extern "C" fn synth_line_push(input: &mut Handle, byte: u8) -> i32
 
 /// `LineOut::pop`.
 #[unsafe(no_mangle)]
-pub extern "C" fn synth_line_pop(output: &mut Handle, byte: &mut u8) -> i32
+pub extern "C" fn synth_raw_line_pop(output: &mut Handle, byte: &mut u8) -> i32
     ensures empty { NoneIn line_out_of output.old output.new ((result ≡ EmptyHandle) × (byte.new ≡ byte.old)) }
     ensures popped { HoldsThen (line_out_of output.old)
         (λ x. PopTold x byte.old byte.new (line_out_of output.new) result) }
@@ -96,7 +96,7 @@ pub extern "C" fn synth_line_pop(output: &mut Handle, byte: &mut u8) -> i32
 
 /// `finish`. Both handles are then empty.
 #[unsafe(no_mangle)]
-pub extern "C" fn synth_line_finish(
+pub extern "C" fn synth_raw_line_finish(
     alloc: Global,
     input: &mut Handle,
     output: &mut Handle,
@@ -127,7 +127,7 @@ pub extern "C" fn synth_line_finish(
 
 /// Frees the end that pushes. The other goes on.
 #[unsafe(no_mangle)]
-pub extern "C" fn synth_line_free_in(alloc: Global, input: &mut Handle) -> i32
+pub extern "C" fn synth_raw_line_free_in(alloc: Global, input: &mut Handle) -> i32
     ensures { FreedHandle line_in_of input.old input.new result }
 {
     if input.line_in().is_none() {
@@ -139,7 +139,7 @@ pub extern "C" fn synth_line_free_in(alloc: Global, input: &mut Handle) -> i32
 
 /// Frees the end that pops. The other goes on.
 #[unsafe(no_mangle)]
-pub extern "C" fn synth_line_free_out(alloc: Global, output: &mut Handle) -> i32
+pub extern "C" fn synth_raw_line_free_out(alloc: Global, output: &mut Handle) -> i32
     ensures { FreedHandle line_out_of output.old output.new result }
 {
     if output.line_out().is_none() {

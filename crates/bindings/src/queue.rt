@@ -28,7 +28,7 @@ use std::alloc::Global;
 
 /// An empty queue of 64 or 256 places, whose first position is `first`. Each queue has a mark of its own.
 #[unsafe(no_mangle)]
-pub extern "C" fn synth_queue_new_marked(
+pub extern "C" fn synth_raw_queue_new_marked(
     alloc: Global,
     places: u32,
     first: u32,
@@ -55,7 +55,7 @@ pub extern "C" fn synth_queue_new_marked(
 
 /// Frees the handle, whose end is then never joined.
 #[unsafe(no_mangle)]
-pub extern "C" fn synth_queue_free(alloc: Global, queue: &mut Handle) -> i32
+pub extern "C" fn synth_raw_queue_free(alloc: Global, queue: &mut Handle) -> i32
     ensures { FreedHandle queue_of queue.old queue.new result }
 {
     if queue.queue().is_none() {
@@ -85,7 +85,11 @@ fn split_boxed(alloc: Global, held: &mut HeldQueue) -> Option<Box<Payload, Globa
 
 /// A second end of the queue, for another thread.
 #[unsafe(no_mangle)]
-pub extern "C" fn synth_queue_split(alloc: Global, queue: &mut Handle, other: &mut Handle) -> i32
+pub extern "C" fn synth_raw_queue_split(
+    alloc: Global,
+    queue: &mut Handle,
+    other: &mut Handle,
+) -> i32
     ensures { SplitHandle queue_of parts_of (AtSizes DividedPart) queue.old queue.new other.old other.new result }
 {
     let Some(held) = queue.queue() else {
@@ -108,7 +112,7 @@ pub extern "C" fn synth_queue_split(alloc: Global, queue: &mut Handle, other: &m
 
 /// The first end then has all that both had, and the second handle is empty.
 #[unsafe(no_mangle)]
-pub extern "C" fn synth_queue_join(alloc: Global, queue: &mut Handle, other: &mut Handle) -> i32
+pub extern "C" fn synth_raw_queue_join(alloc: Global, queue: &mut Handle, other: &mut Handle) -> i32
     requires { MarksTell HaveOneMark AreOfOneQueue (queue_of queue.old) (queue_of other.old) }
     ensures { JoinedHandle queue_of MayJoin MayNotJoin (AtSizes JoinedPart) queue.old queue.new other.old other.new
         result }
@@ -128,7 +132,7 @@ pub extern "C" fn synth_queue_join(alloc: Global, queue: &mut Handle, other: &mu
 
 /// `ClaimQueue::try_put`.
 #[unsafe(no_mangle)]
-pub extern "C" fn synth_queue_try_put(queue: &mut Handle, items: &[u64]) -> SynthAnswer
+pub extern "C" fn synth_raw_queue_try_put(queue: &mut Handle, items: &[u64]) -> SynthAnswer
     ensures empty { NoneIn queue_of queue.old queue.new (IsCodeAlone EmptyHandle result) }
     ensures put { HoldsThen (queue_of queue.old) (λ x. WasPut x items.now (queue_of queue.new) result) }
 {
@@ -141,7 +145,7 @@ pub extern "C" fn synth_queue_try_put(queue: &mut Handle, items: &[u64]) -> Synt
 
 /// `ClaimQueue::try_take`.
 #[unsafe(no_mangle)]
-pub extern "C" fn synth_queue_try_take(queue: &mut Handle, item: &mut u64) -> SynthAnswer
+pub extern "C" fn synth_raw_queue_try_take(queue: &mut Handle, item: &mut u64) -> SynthAnswer
     ensures empty { NoneIn queue_of queue.old queue.new (IsCodeAlone EmptyHandle result × (item.new ≡ item.old)) }
     ensures taken { HoldsThen (queue_of queue.old)
         (λ x. WasTaken x item.old item.new (queue_of queue.new) result) }
@@ -161,7 +165,7 @@ pub extern "C" fn synth_queue_try_take(queue: &mut Handle, item: &mut u64) -> Sy
 
 /// Takings of one item each, until one is refused or the buffer is full. A refusal is told where nothing was taken.
 #[unsafe(no_mangle)]
-pub extern "C" fn synth_queue_take_up_to(
+pub extern "C" fn synth_raw_queue_take_up_to(
     queue: &mut Handle,
     items: &mut [u64],
     count: &mut usize,
@@ -184,7 +188,7 @@ pub extern "C" fn synth_queue_take_up_to(
 
 /// `ClaimQueue::try_take_line`. The buffer has room for as many items as the queue has places, or more.
 #[unsafe(no_mangle)]
-pub extern "C" fn synth_queue_try_take_line(
+pub extern "C" fn synth_raw_queue_try_take_line(
     queue: &mut Handle,
     line: &mut [u64],
     count: &mut usize,
@@ -212,7 +216,7 @@ pub extern "C" fn synth_queue_try_take_line(
 
 /// `ClaimQueue::shut`.
 #[unsafe(no_mangle)]
-pub extern "C" fn synth_queue_shut(queue: &mut Handle, was_open: &mut bool) -> i32
+pub extern "C" fn synth_raw_queue_shut(queue: &mut Handle, was_open: &mut bool) -> i32
     ensures empty { NoneIn queue_of queue.old queue.new ((result ≡ EmptyHandle) × (was_open.new ≡ was_open.old)) }
     ensures shut { HoldsThen (queue_of queue.old)
         (λ x. WasShut x was_open.new (queue_of queue.new) × (result ≡ Done)) }
@@ -227,7 +231,7 @@ pub extern "C" fn synth_queue_shut(queue: &mut Handle, was_open: &mut bool) -> i
 /// `ClaimQueue::close`, where the end has all parts of the queue. Else the handle keeps its end. The items left lie in
 /// the buffer, which has room for as many as the queue has places, or more.
 #[unsafe(no_mangle)]
-pub extern "C" fn synth_queue_close(
+pub extern "C" fn synth_raw_queue_close(
     alloc: Global,
     queue: &mut Handle,
     left: &mut [u64],

@@ -79,7 +79,7 @@ fn told_of_metered(metered: &Metered) -> SynthMetered
 
 /// Gauges at 0, the clock as told, and no alarm. All meters have a mark of their own.
 #[unsafe(no_mangle)]
-pub extern "C" fn synth_seat_new_marked(
+pub extern "C" fn synth_raw_seat_new_marked(
     alloc: Global,
     clock: u32,
     mark: u64,
@@ -102,7 +102,7 @@ pub extern "C" fn synth_seat_new_marked(
 
 /// Frees the handle, whose end is then never joined.
 #[unsafe(no_mangle)]
-pub extern "C" fn synth_seat_free(alloc: Global, seat: &mut Handle) -> i32
+pub extern "C" fn synth_raw_seat_free(alloc: Global, seat: &mut Handle) -> i32
     ensures { FreedHandle seat_of seat.old seat.new result }
 {
     if seat.seat().is_none() {
@@ -131,7 +131,7 @@ fn split_boxed(alloc: Global, held: &mut HeldSeat) -> Option<Box<Payload, Global
 
 /// A second end of the meters, for another thread.
 #[unsafe(no_mangle)]
-pub extern "C" fn synth_seat_split(alloc: Global, seat: &mut Handle, other: &mut Handle) -> i32
+pub extern "C" fn synth_raw_seat_split(alloc: Global, seat: &mut Handle, other: &mut Handle) -> i32
     ensures { SplitHandle seat_of (λ x. x.parts) Divided seat.old seat.new other.old other.new result }
 {
     let Some(held) = seat.seat() else {
@@ -154,7 +154,7 @@ pub extern "C" fn synth_seat_split(alloc: Global, seat: &mut Handle, other: &mut
 
 /// The first end then has all that both had, and the second handle is empty.
 #[unsafe(no_mangle)]
-pub extern "C" fn synth_seat_join(alloc: Global, seat: &mut Handle, other: &mut Handle) -> i32
+pub extern "C" fn synth_raw_seat_join(alloc: Global, seat: &mut Handle, other: &mut Handle) -> i32
     requires { MarksTell HaveOneMark AreOfOneTable (seat_of seat.old) (seat_of other.old) }
     ensures { JoinedHandle seat_of MayJoin MayNotJoin Joined seat.old seat.new other.old other.new result }
 {
@@ -173,7 +173,7 @@ pub extern "C" fn synth_seat_join(alloc: Global, seat: &mut Handle, other: &mut 
 
 /// `Meters::tick`. The gauges are 0 to 7.
 #[unsafe(no_mangle)]
-pub extern "C" fn synth_seat_tick(
+pub extern "C" fn synth_raw_seat_tick(
     seat: &mut Handle,
     gauge: u32,
     amount: u64,
@@ -195,7 +195,7 @@ pub extern "C" fn synth_seat_tick(
 
 /// `Meters::advance`.
 #[unsafe(no_mangle)]
-pub extern "C" fn synth_seat_advance(seat: &mut Handle, clock: &mut u32) -> SynthAnswer
+pub extern "C" fn synth_raw_seat_advance(seat: &mut Handle, clock: &mut u32) -> SynthAnswer
     ensures empty { NoneIn seat_of seat.old seat.new (IsCodeAlone EmptyHandle result × (clock.new ≡ clock.old)) }
     ensures advanced { HoldsThen (seat_of seat.old)
         (λ x. AdvanceTold x clock.old clock.new (seat_of seat.new) result) }
@@ -215,7 +215,7 @@ pub extern "C" fn synth_seat_advance(seat: &mut Handle, clock: &mut u32) -> Synt
 
 /// `Meters::try_set`.
 #[unsafe(no_mangle)]
-pub extern "C" fn synth_seat_try_set(
+pub extern "C" fn synth_raw_seat_try_set(
     seat: &mut Handle,
     alarm: &SynthAlarm,
     slot: &mut u32,
@@ -242,7 +242,7 @@ pub extern "C" fn synth_seat_try_set(
 
 /// `Meters::cancel`. The slots are 0 to 15.
 #[unsafe(no_mangle)]
-pub extern "C" fn synth_seat_cancel(
+pub extern "C" fn synth_raw_seat_cancel(
     seat: &mut Handle,
     slot: u32,
     alarm: &SynthAlarm,
@@ -267,7 +267,7 @@ pub extern "C" fn synth_seat_cancel(
 
 /// `Meters::due`. The buffer has room for 16 alarms or more.
 #[unsafe(no_mangle)]
-pub extern "C" fn synth_seat_due(
+pub extern "C" fn synth_raw_seat_due(
     seat: &mut Handle,
     alarms: &mut [SynthAlarm],
     count: &mut usize,
@@ -290,7 +290,7 @@ pub extern "C" fn synth_seat_due(
 
 /// `Meters::close`, where the end has all parts of the meters. Else the handle keeps its end.
 #[unsafe(no_mangle)]
-pub extern "C" fn synth_seat_close(
+pub extern "C" fn synth_raw_seat_close(
     alloc: Global,
     seat: &mut Handle,
     metered: &mut SynthMetered,

@@ -49,24 +49,24 @@ fn moved(answer: raw::Moved) -> Result<(), MoveRefusal> {
 impl Hand {
     /// One try to put an element that the hand holds into the ready ring, as the last one.
     pub fn try_ready(&mut self, element: Element) -> Result<(), MoveRefusal> {
-        moved(raw::synth_hand_try_ready(&mut self.handle, element.raw()))
+        moved(raw::synth_raw_hand_try_ready(&mut self.handle, element.raw()))
     }
 
     /// One try to put an element that the hand holds behind the free elements.
     pub fn try_retire(&mut self, element: Element) -> Result<(), MoveRefusal> {
-        moved(raw::synth_hand_try_retire(&mut self.handle, element.raw()))
+        moved(raw::synth_raw_hand_try_retire(&mut self.handle, element.raw()))
     }
 
     /// One try to put an element that the hand holds into a wait queue; no ticket guards it against a lost wake.
     pub fn try_wait(&mut self, element: Element, wait: WaitNumber) -> Result<(), MoveRefusal> {
-        moved(raw::synth_hand_try_wait(&mut self.handle, element.raw(), wait.raw()))
+        moved(raw::synth_raw_hand_try_wait(&mut self.handle, element.raw(), wait.raw()))
     }
 
     /// A wait queue's number of notifies so far, modulo 2^32: a ticket for a wait. It has to be read before the look
     /// for what the element would wait for.
     pub fn ticket(&mut self, wait: WaitNumber) -> u32 {
         let mut ticket = 0;
-        match raw::synth_hand_ticket(&mut self.handle, wait.raw(), &mut ticket) {
+        match raw::synth_raw_hand_ticket(&mut self.handle, wait.raw(), &mut ticket) {
             raw::DONE => ticket,
             code => raw::no_such_answer(code),
         }
@@ -88,6 +88,6 @@ impl Hand {
     /// # Ok::<(), Box<dyn std::error::Error>>(())
     /// ```
     pub fn try_wait_at(&mut self, element: Element, wait: WaitNumber, ticket: u32) -> Result<(), MoveRefusal> {
-        moved(raw::synth_hand_try_wait_at(&mut self.handle, element.raw(), wait.raw(), ticket))
+        moved(raw::synth_raw_hand_try_wait_at(&mut self.handle, element.raw(), wait.raw(), ticket))
     }
 }

@@ -55,7 +55,7 @@ impl Hand {
     /// dropped, this one comes back.
     pub fn close(mut self) -> Result<Places, StillOpen<Hand>> {
         let mut told = raw::Places::default();
-        let code = raw::synth_hand_close(&mut self.handle, &mut told);
+        let code = raw::synth_raw_hand_close(&mut self.handle, &mut told);
         closed(code, self)?;
         let raw::Places { place, pc, pending, stops } = told;
         Ok(Places { places: place.map(Place::told), pcs: pc, pending, stops })

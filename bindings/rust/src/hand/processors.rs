@@ -62,7 +62,7 @@ impl Hand {
     /// The element that the hand has on the processor.
     pub fn on_processor(&mut self, processor: Processor) -> Option<Element> {
         let mut element = 0;
-        match raw::synth_hand_on_processor(&mut self.handle, processor.raw(), &mut element) {
+        match raw::synth_raw_hand_on_processor(&mut self.handle, processor.raw(), &mut element) {
             raw::DONE => Some(Element::told(element)),
             raw::VACANT => None,
             code => raw::no_such_answer(code),
@@ -71,7 +71,7 @@ impl Hand {
 
     /// Puts an element that the hand holds on a processor that it serves, by one step.
     pub fn on(&mut self, processor: Processor, element: Element) -> Result<(), OnRefusal> {
-        match raw::synth_hand_on(&mut self.handle, processor.raw(), element.raw()) {
+        match raw::synth_raw_hand_on(&mut self.handle, processor.raw(), element.raw()) {
             raw::DONE => Ok(()),
             raw::NOT_HELD => Err(OnRefusal::NotHeld),
             raw::NOT_SERVED => Err(OnRefusal::NotServed),
@@ -83,7 +83,7 @@ impl Hand {
     /// Takes the element off a processor that the hand serves, by one step. The hand then holds it.
     pub fn off(&mut self, processor: Processor) -> Result<Element, OffRefusal> {
         let mut element = 0;
-        match raw::synth_hand_off(&mut self.handle, processor.raw(), &mut element) {
+        match raw::synth_raw_hand_off(&mut self.handle, processor.raw(), &mut element) {
             raw::DONE => Ok(Element::told(element)),
             raw::NOT_SERVED => Err(OffRefusal::NotServed),
             raw::VACANT => Err(OffRefusal::Vacant),
@@ -94,7 +94,7 @@ impl Hand {
     /// How many steps an element has done that the hand holds or has on a processor.
     pub fn pc(&mut self, element: Element) -> Result<u64, NotHeld> {
         let mut steps = 0;
-        match raw::synth_hand_pc(&mut self.handle, element.raw(), &mut steps) {
+        match raw::synth_raw_hand_pc(&mut self.handle, element.raw(), &mut steps) {
             raw::DONE => Ok(steps),
             raw::NOT_HELD => Err(NotHeld),
             code => raw::no_such_answer(code),
@@ -104,7 +104,7 @@ impl Hand {
     /// Counts one more step of an element that the hand holds or has on a processor, and gives the new number.
     pub fn step_done(&mut self, element: Element) -> Result<u64, StepRefusal> {
         let mut steps = 0;
-        match raw::synth_hand_step_done(&mut self.handle, element.raw(), &mut steps) {
+        match raw::synth_raw_hand_step_done(&mut self.handle, element.raw(), &mut steps) {
             raw::DONE => Ok(steps),
             raw::NOT_HELD => Err(StepRefusal::NotHeld),
             raw::SPENT => Err(StepRefusal::Spent),

@@ -91,7 +91,7 @@ impl Hand {
     /// Sets the stop bit of an element, wherever it is, by one step. True where it was clear.
     pub fn stop(&mut self, element: Element) -> bool {
         let mut was_clear = false;
-        match raw::synth_hand_stop(&mut self.handle, element.raw(), &mut was_clear) {
+        match raw::synth_raw_hand_stop(&mut self.handle, element.raw(), &mut was_clear) {
             raw::DONE => was_clear,
             code => raw::no_such_answer(code),
         }
@@ -112,7 +112,7 @@ impl Hand {
     /// ```
     pub fn try_start(&mut self, element: Element) -> Result<Started, Lost> {
         let mut started = 0;
-        let answer = raw::synth_hand_try_start(&mut self.handle, element.raw(), &mut started);
+        let answer = raw::synth_raw_hand_try_start(&mut self.handle, element.raw(), &mut started);
         match (answer.code, started) {
             (raw::DONE, raw::START_NOT_STOPPED) => Ok(Started::NotStopped),
             (raw::DONE, raw::START_CLEARED) => Ok(Started::Cleared),
@@ -126,14 +126,14 @@ impl Hand {
     /// there; where the bit was clear the hand holds it still.
     pub fn try_park(&mut self, element: Element) -> Result<bool, StateRefusal> {
         let mut parked = false;
-        tried(raw::synth_hand_try_park(&mut self.handle, element.raw(), &mut parked))?;
+        tried(raw::synth_raw_hand_try_park(&mut self.handle, element.raw(), &mut parked))?;
         Ok(parked)
     }
 
     /// Makes a signal of an element pending, wherever the element is, by one step.
     pub fn signal(&mut self, element: Element, signal: Signal) -> Signalled {
         let mut raised = false;
-        match raw::synth_hand_signal(&mut self.handle, element.raw(), signal.raw(), &mut raised) {
+        match raw::synth_raw_hand_signal(&mut self.handle, element.raw(), signal.raw(), &mut raised) {
             raw::DONE if raised => Signalled::Raised,
             raw::DONE => Signalled::Merged,
             code => raw::no_such_answer(code),
@@ -144,7 +144,7 @@ impl Hand {
     /// no more.
     pub fn try_deliver(&mut self, element: Element) -> Result<u16, StateRefusal> {
         let mut signals = 0;
-        tried(raw::synth_hand_try_deliver(&mut self.handle, element.raw(), &mut signals))?;
+        tried(raw::synth_raw_hand_try_deliver(&mut self.handle, element.raw(), &mut signals))?;
         Ok(u16::try_from(signals).unwrap_or_else(|_| unreachable!("the library told signals {signals}")))
     }
 }

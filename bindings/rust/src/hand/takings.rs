@@ -36,21 +36,21 @@ impl Hand {
     /// One try to take the oldest element of the ready ring, which the hand then holds.
     pub fn try_next(&mut self) -> Result<Element, NextRefusal> {
         let mut element = 0;
-        let answer = raw::synth_hand_try_next(&mut self.handle, &mut element);
+        let answer = raw::synth_raw_hand_try_next(&mut self.handle, &mut element);
         taken(answer, element)
     }
 
     /// One try to take the oldest of the free elements, which the hand then holds.
     pub fn try_free(&mut self) -> Result<Element, NextRefusal> {
         let mut element = 0;
-        let answer = raw::synth_hand_try_free(&mut self.handle, &mut element);
+        let answer = raw::synth_raw_hand_try_free(&mut self.handle, &mut element);
         taken(answer, element)
     }
 
     /// One try to take the oldest element of a wait queue, which the hand then holds.
     pub fn try_wake(&mut self, wait: WaitNumber) -> Result<Element, NextRefusal> {
         let mut element = 0;
-        let answer = raw::synth_hand_try_wake(&mut self.handle, wait.raw(), &mut element);
+        let answer = raw::synth_raw_hand_try_wake(&mut self.handle, wait.raw(), &mut element);
         taken(answer, element)
     }
 
@@ -58,7 +58,7 @@ impl Hand {
     /// position behind the last place that was claimed before, for `try_wake_before`.
     pub fn notify(&mut self, wait: WaitNumber) -> u32 {
         let mut head = 0;
-        match raw::synth_hand_notify(&mut self.handle, wait.raw(), &mut head) {
+        match raw::synth_raw_hand_notify(&mut self.handle, wait.raw(), &mut head) {
             raw::DONE => head,
             code => raw::no_such_answer(code),
         }
@@ -83,7 +83,7 @@ impl Hand {
     /// ```
     pub fn try_wake_before(&mut self, wait: WaitNumber, head: u32) -> Result<Option<Element>, NextRefusal> {
         let mut element = 0;
-        let answer = raw::synth_hand_try_wake_before(&mut self.handle, wait.raw(), head, &mut element);
+        let answer = raw::synth_raw_hand_try_wake_before(&mut self.handle, wait.raw(), head, &mut element);
         if answer.code == raw::ALL_WOKEN {
             return Ok(None);
         }

@@ -57,7 +57,7 @@ impl HeldHand {
 
 /// `ThreadTable::close`, where the hand has all parts of the table. Else the handle keeps its hand.
 #[unsafe(no_mangle)]
-pub extern "C" fn synth_hand_close(
+pub extern "C" fn synth_raw_hand_close(
     alloc: Global,
     hand: &mut Handle,
     places: &mut SynthPlaces,

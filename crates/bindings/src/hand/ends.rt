@@ -19,7 +19,7 @@ use std::alloc::Global;
 
 /// `ThreadTable::new_at`. All tables have a mark of their own. The first position is at most 4,294,967,231.
 #[unsafe(no_mangle)]
-pub extern "C" fn synth_hand_new_marked(
+pub extern "C" fn synth_raw_hand_new_marked(
     alloc: Global,
     first: u32,
     mark: u64,
@@ -45,7 +45,7 @@ pub extern "C" fn synth_hand_new_marked(
 
 /// Frees the handle, whose hand is then never joined.
 #[unsafe(no_mangle)]
-pub extern "C" fn synth_hand_free(alloc: Global, hand: &mut Handle) -> i32
+pub extern "C" fn synth_raw_hand_free(alloc: Global, hand: &mut Handle) -> i32
     ensures { FreedHandle hand_of hand.old hand.new result }
 {
     if hand.hand().is_none() {
@@ -96,7 +96,7 @@ fn split_boxed(alloc: Global, held: &mut HeldHand, processors: u8) -> Option<Box
 
 /// A second hand of the table, for another thread. It has the processors of the mask, bit p for processor p.
 #[unsafe(no_mangle)]
-pub extern "C" fn synth_hand_split(
+pub extern "C" fn synth_raw_hand_split(
     alloc: Global,
     hand: &mut Handle,
     processors: u32,
@@ -124,7 +124,7 @@ pub extern "C" fn synth_hand_split(
 
 /// The first hand then has all that both had, and the second handle is empty.
 #[unsafe(no_mangle)]
-pub extern "C" fn synth_hand_join(alloc: Global, hand: &mut Handle, other: &mut Handle) -> i32
+pub extern "C" fn synth_raw_hand_join(alloc: Global, hand: &mut Handle, other: &mut Handle) -> i32
     requires { MarksTell HaveOneMark AreOfOneTable (hand_of hand.old) (hand_of other.old) }
     ensures { JoinedHandle hand_of MayJoin MayNotJoin Joined hand.old hand.new other.old other.new result }
 {

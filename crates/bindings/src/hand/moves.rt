@@ -107,7 +107,7 @@ fn told_of_move(answer: Result<(), MoveRefusal>) -> SynthMoved
 
 /// `ThreadTable::try_ready`. The elements are 0 to 63.
 #[unsafe(no_mangle)]
-pub extern "C" fn synth_hand_try_ready(hand: &mut Handle, element: u32) -> SynthMoved
+pub extern "C" fn synth_raw_hand_try_ready(hand: &mut Handle, element: u32) -> SynthMoved
     ensures empty { NoneIn hand_of hand.old hand.new (IsMoveCode EmptyHandle result) }
     ensures moved { HoldsThen (hand_of hand.old) (λ x. MovingTold 0 element x (hand_of hand.new) result) }
 {
@@ -126,7 +126,7 @@ pub extern "C" fn synth_hand_try_ready(hand: &mut Handle, element: u32) -> Synth
 
 /// `ThreadTable::try_retire`. The elements are 0 to 63.
 #[unsafe(no_mangle)]
-pub extern "C" fn synth_hand_try_retire(hand: &mut Handle, element: u32) -> SynthMoved
+pub extern "C" fn synth_raw_hand_try_retire(hand: &mut Handle, element: u32) -> SynthMoved
     ensures empty { NoneIn hand_of hand.old hand.new (IsMoveCode EmptyHandle result) }
     ensures moved { HoldsThen (hand_of hand.old) (λ x. MovingTold 1 element x (hand_of hand.new) result) }
 {
@@ -145,7 +145,7 @@ pub extern "C" fn synth_hand_try_retire(hand: &mut Handle, element: u32) -> Synt
 
 /// `ThreadTable::try_wait`. The elements are 0 to 63, and the wait queues 0 to 15.
 #[unsafe(no_mangle)]
-pub extern "C" fn synth_hand_try_wait(hand: &mut Handle, element: u32, wait: u32) -> SynthMoved
+pub extern "C" fn synth_raw_hand_try_wait(hand: &mut Handle, element: u32, wait: u32) -> SynthMoved
     ensures empty { NoneIn hand_of hand.old hand.new (IsMoveCode EmptyHandle result) }
     ensures moved { HoldsThen (hand_of hand.old) (λ x. WaitingTold element wait x (hand_of hand.new) result) }
 {
@@ -167,7 +167,7 @@ pub extern "C" fn synth_hand_try_wait(hand: &mut Handle, element: u32, wait: u32
 
 /// `ThreadTable::ticket`. The wait queues are 0 to 15.
 #[unsafe(no_mangle)]
-pub extern "C" fn synth_hand_ticket(hand: &mut Handle, wait: u32, ticket: &mut u32) -> i32
+pub extern "C" fn synth_raw_hand_ticket(hand: &mut Handle, wait: u32, ticket: &mut u32) -> i32
     ensures empty { NoneIn hand_of hand.old hand.new ((result ≡ EmptyHandle) × (ticket.new ≡ ticket.old)) }
     ensures loaded { HoldsThen (hand_of hand.old)
         (λ x. TicketTold wait x ticket.old ticket.new (hand_of hand.new) result) }
@@ -184,7 +184,7 @@ pub extern "C" fn synth_hand_ticket(hand: &mut Handle, wait: u32, ticket: &mut u
 
 /// `ThreadTable::try_wait_at`. The elements are 0 to 63, and the wait queues 0 to 15.
 #[unsafe(no_mangle)]
-pub extern "C" fn synth_hand_try_wait_at(
+pub extern "C" fn synth_raw_hand_try_wait_at(
     hand: &mut Handle,
     element: u32,
     wait: u32,

@@ -22,7 +22,7 @@ fn tell_holds(held: &HeldHand, element: u32, holds: &mut bool) -> i32
 
 /// `Hand::holds`. The elements are 0 to 63.
 #[unsafe(no_mangle)]
-pub extern "C" fn synth_hand_holds(hand: &mut Handle, element: u32, holds: &mut bool) -> i32
+pub extern "C" fn synth_raw_hand_holds(hand: &mut Handle, element: u32, holds: &mut bool) -> i32
     ensures empty { NoneIn hand_of hand.old hand.new ((result ≡ EmptyHandle) × (holds.new ≡ holds.old)) }
     ensures told { HoldsThen (hand_of hand.old)
         (λ x. ((hand_of hand.new) ≡ (hand_of hand.old)) × HoldsTold element x holds.old holds.new result) }
@@ -46,7 +46,7 @@ fn tell_serves(held: &HeldHand, processor: u32, serves: &mut bool) -> i32
 
 /// `Hand::serves`. The processors are 0 to 7.
 #[unsafe(no_mangle)]
-pub extern "C" fn synth_hand_serves(hand: &mut Handle, processor: u32, serves: &mut bool) -> i32
+pub extern "C" fn synth_raw_hand_serves(hand: &mut Handle, processor: u32, serves: &mut bool) -> i32
     ensures empty { NoneIn hand_of hand.old hand.new ((result ≡ EmptyHandle) × (serves.new ≡ serves.old)) }
     ensures told { HoldsThen (hand_of hand.old)
         (λ x. ((hand_of hand.new) ≡ (hand_of hand.old))
@@ -74,7 +74,7 @@ fn tell_on_processor(held: &HeldHand, processor: u32, element: &mut u32) -> i32
 
 /// `Hand::on_processor`.
 #[unsafe(no_mangle)]
-pub extern "C" fn synth_hand_on_processor(
+pub extern "C" fn synth_raw_hand_on_processor(
     hand: &mut Handle,
     processor: u32,
     element: &mut u32,
@@ -115,7 +115,7 @@ fn put_on(held: &mut HeldHand, processor: u32, element: u32) -> i32
 
 /// `ThreadTable::on`.
 #[unsafe(no_mangle)]
-pub extern "C" fn synth_hand_on(hand: &mut Handle, processor: u32, element: u32) -> i32
+pub extern "C" fn synth_raw_hand_on(hand: &mut Handle, processor: u32, element: u32) -> i32
     ensures empty { NoneIn hand_of hand.old hand.new (result ≡ EmptyHandle) }
     ensures on { TurnsThen (hand_of hand.old) (hand_of hand.new)
         (λ x y. OnTold processor element x y result) }
@@ -145,7 +145,7 @@ fn take_off(held: &mut HeldHand, processor: u32, element: &mut u32) -> i32
 
 /// `ThreadTable::off`.
 #[unsafe(no_mangle)]
-pub extern "C" fn synth_hand_off(hand: &mut Handle, processor: u32, element: &mut u32) -> i32
+pub extern "C" fn synth_raw_hand_off(hand: &mut Handle, processor: u32, element: &mut u32) -> i32
     ensures empty { NoneIn hand_of hand.old hand.new ((result ≡ EmptyHandle) × (element.new ≡ element.old)) }
     ensures off { TurnsThen (hand_of hand.old) (hand_of hand.new)
         (λ x y. OffTold processor x y element.old element.new result) }
@@ -172,7 +172,7 @@ fn tell_pc(held: &mut HeldHand, element: u32, steps: &mut u64) -> i32
 
 /// `ThreadTable::pc`.
 #[unsafe(no_mangle)]
-pub extern "C" fn synth_hand_pc(hand: &mut Handle, element: u32, steps: &mut u64) -> i32
+pub extern "C" fn synth_raw_hand_pc(hand: &mut Handle, element: u32, steps: &mut u64) -> i32
     ensures empty { NoneIn hand_of hand.old hand.new ((result ≡ EmptyHandle) × (steps.new ≡ steps.old)) }
     ensures told { TurnsThen (hand_of hand.old) (hand_of hand.new)
         (λ x y. PcTold element x y steps.old steps.new result) }
@@ -204,7 +204,7 @@ fn count_step(held: &mut HeldHand, element: u32, steps: &mut u64) -> i32
 
 /// `ThreadTable::step_done`.
 #[unsafe(no_mangle)]
-pub extern "C" fn synth_hand_step_done(hand: &mut Handle, element: u32, steps: &mut u64) -> i32
+pub extern "C" fn synth_raw_hand_step_done(hand: &mut Handle, element: u32, steps: &mut u64) -> i32
     ensures empty { NoneIn hand_of hand.old hand.new ((result ≡ EmptyHandle) × (steps.new ≡ steps.old)) }
     ensures done { TurnsThen (hand_of hand.old) (hand_of hand.new)
         (λ x y. StepTold element x y steps.old steps.new result) }

@@ -148,7 +148,7 @@ fn tell_delivery(answer: Result<u16, Lost>, signals: &mut u32) -> SynthState
 
 /// `ThreadTable::stop`. The elements are 0 to 63.
 #[unsafe(no_mangle)]
-pub extern "C" fn synth_hand_stop(hand: &mut Handle, element: u32, was_clear: &mut bool) -> i32
+pub extern "C" fn synth_raw_hand_stop(hand: &mut Handle, element: u32, was_clear: &mut bool) -> i32
     ensures empty { NoneIn hand_of hand.old hand.new ((result ≡ EmptyHandle) × (was_clear.new ≡ was_clear.old)) }
     ensures stopped { HoldsThen (hand_of hand.old)
         (λ x. StopTold element x was_clear.old was_clear.new (hand_of hand.new) result) }
@@ -166,7 +166,7 @@ pub extern "C" fn synth_hand_stop(hand: &mut Handle, element: u32, was_clear: &m
 /// `ThreadTable::try_start`. The elements are 0 to 63. `started` is then 0 where the stop bit was clear, 1 where it was
 /// cleared, and 2 where it was cleared and the hand holds the element.
 #[unsafe(no_mangle)]
-pub extern "C" fn synth_hand_try_start(
+pub extern "C" fn synth_raw_hand_try_start(
     hand: &mut Handle,
     element: u32,
     started: &mut u32,
@@ -187,7 +187,7 @@ pub extern "C" fn synth_hand_try_start(
 
 /// `ThreadTable::try_park`. The elements are 0 to 63.
 #[unsafe(no_mangle)]
-pub extern "C" fn synth_hand_try_park(
+pub extern "C" fn synth_raw_hand_try_park(
     hand: &mut Handle,
     element: u32,
     parked: &mut bool,
@@ -211,7 +211,7 @@ pub extern "C" fn synth_hand_try_park(
 
 /// `ThreadTable::signal`. The elements are 0 to 63, and the signals 0 to 15.
 #[unsafe(no_mangle)]
-pub extern "C" fn synth_hand_signal(
+pub extern "C" fn synth_raw_hand_signal(
     hand: &mut Handle,
     element: u32,
     signal: u32,
@@ -236,7 +236,7 @@ pub extern "C" fn synth_hand_signal(
 
 /// `ThreadTable::try_deliver`. The elements are 0 to 63.
 #[unsafe(no_mangle)]
-pub extern "C" fn synth_hand_try_deliver(
+pub extern "C" fn synth_raw_hand_try_deliver(
     hand: &mut Handle,
     element: u32,
     signals: &mut u32,

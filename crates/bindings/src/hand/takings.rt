@@ -69,7 +69,7 @@ fn tell_taking(answer: Result<Element, NextRefusal>, element: &mut u32) -> Synth
 
 /// `ThreadTable::try_next`.
 #[unsafe(no_mangle)]
-pub extern "C" fn synth_hand_try_next(hand: &mut Handle, element: &mut u32) -> SynthAnswer
+pub extern "C" fn synth_raw_hand_try_next(hand: &mut Handle, element: &mut u32) -> SynthAnswer
     ensures empty { NoneIn hand_of hand.old hand.new (IsCodeAlone EmptyHandle result × (element.new ≡ element.old)) }
     ensures taken { HoldsThen (hand_of hand.old)
         (λ x. TakingTold 0 x element.old element.new (hand_of hand.new) result) }
@@ -83,7 +83,7 @@ pub extern "C" fn synth_hand_try_next(hand: &mut Handle, element: &mut u32) -> S
 
 /// `ThreadTable::try_free`.
 #[unsafe(no_mangle)]
-pub extern "C" fn synth_hand_try_free(hand: &mut Handle, element: &mut u32) -> SynthAnswer
+pub extern "C" fn synth_raw_hand_try_free(hand: &mut Handle, element: &mut u32) -> SynthAnswer
     ensures empty { NoneIn hand_of hand.old hand.new (IsCodeAlone EmptyHandle result × (element.new ≡ element.old)) }
     ensures taken { HoldsThen (hand_of hand.old)
         (λ x. TakingTold 1 x element.old element.new (hand_of hand.new) result) }
@@ -97,7 +97,7 @@ pub extern "C" fn synth_hand_try_free(hand: &mut Handle, element: &mut u32) -> S
 
 /// `ThreadTable::try_wake`. The wait queues are 0 to 15.
 #[unsafe(no_mangle)]
-pub extern "C" fn synth_hand_try_wake(
+pub extern "C" fn synth_raw_hand_try_wake(
     hand: &mut Handle,
     wait: u32,
     element: &mut u32,

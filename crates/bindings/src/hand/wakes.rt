@@ -51,7 +51,7 @@ fn tell_before(answer: Result<Option<Element>, NextRefusal>, element: &mut u32) 
 
 /// `ThreadTable::notify`. The wait queues are 0 to 15.
 #[unsafe(no_mangle)]
-pub extern "C" fn synth_hand_notify(hand: &mut Handle, wait: u32, head: &mut u32) -> i32
+pub extern "C" fn synth_raw_hand_notify(hand: &mut Handle, wait: u32, head: &mut u32) -> i32
     ensures empty { NoneIn hand_of hand.old hand.new ((result ≡ EmptyHandle) × (head.new ≡ head.old)) }
     ensures notified { HoldsThen (hand_of hand.old)
         (λ x. NotifyTold wait x head.old head.new (hand_of hand.new) result) }
@@ -68,7 +68,7 @@ pub extern "C" fn synth_hand_notify(hand: &mut Handle, wait: u32, head: &mut u32
 
 /// `ThreadTable::try_wake_before`. The wait queues are 0 to 15.
 #[unsafe(no_mangle)]
-pub extern "C" fn synth_hand_try_wake_before(
+pub extern "C" fn synth_raw_hand_try_wake_before(
     hand: &mut Handle,
     wait: u32,
     head: u32,

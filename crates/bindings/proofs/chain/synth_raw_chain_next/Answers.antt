@@ -1,0 +1,21 @@
+use Rattle.std.proofs.Common.{refl, sym, ap, ◌∙◌}
+use Rattle.std.specs.declared.option.Option.TheVariants.{Some}
+use Rattle.bindings.specs.ChainCalls.{PullTold, runs_notes}
+use Rattle.bindings.specs.Codes.{Note, Again, Done}
+use Rattle.bindings.specs.Handles.{of_kind}
+use Rattle.bindings.specs.Kinds.{chain_in}
+use Rattle.bindings.specs.declared.chain.held.Pulled.TheVariants as pulled
+use Rattle.bindings.proofs.Telling.{at_value}
+use Rattle.bindings.proofs.chain.synth_raw_chain_next.Goals as goal
+
+pub returns-in-Note-clause-pulled : goal.returns-in-Note-clause-pulled
+returns-in-Note-clause-pulled c = at_value (λ x. PullTold x c.args.note.now c.in-Note.next (Some c.pull.new.self) Note) (ap (of_kind chain_in) c.in-Some.ensures.value)
+    (runs_notes (sym c.runs.ensures ∙ c.if-not-runs.false) c.pull.new.self (pulled.Note c.in-Note.next) refl c.in-Note.ensures (refl, refl))
+
+pub returns-in-Again-clause-pulled : goal.returns-in-Again-clause-pulled
+returns-in-Again-clause-pulled c = at_value (λ x. PullTold x c.args.note.now c.args.note.now (Some c.pull.new.self) Again) (ap (of_kind chain_in) c.in-Some.ensures.value)
+    (runs_notes (sym c.runs.ensures ∙ c.if-not-runs.false) c.pull.new.self pulled.Again refl c.in-Again.ensures (refl, refl))
+
+pub returns-in-Done-clause-pulled : goal.returns-in-Done-clause-pulled
+returns-in-Done-clause-pulled c = at_value (λ x. PullTold x c.args.note.now c.args.note.now (Some c.pull.new.self) Done) (ap (of_kind chain_in) c.in-Some.ensures.value)
+    (runs_notes (sym c.runs.ensures ∙ c.if-not-runs.false) c.pull.new.self pulled.Done refl c.in-Done.ensures (refl, refl))

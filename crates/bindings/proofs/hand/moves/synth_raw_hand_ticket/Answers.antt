@@ -1,0 +1,19 @@
+use Rattle.std.proofs.Common.{ℕ, inr, refl, subst, pos, ap}
+use Rattle.bindings.specs.HandMoves.{WasTicket, TicketTold}
+use Rattle.std.specs.declared.option.Option.TheVariants.{Some}
+use Rattle.bindings.specs.Handles.{of_kind}
+use Rattle.bindings.specs.Kinds.{hand_in}
+use Rattle.bindings.proofs.Telling.{at_value}
+use Rattle.bindings.proofs.hand.moves.synth_raw_hand_ticket.Goals as goal
+
+pub returns-clause-loaded : goal.returns-clause-loaded
+returns-clause-loaded c = let a = c.ticket in let y = a.new.self in let m = c.in-Some-wait_of in
+    at_value (λ x. TicketTold c.args.wait x c.args.ticket.now a.result (Some y) (pos 0)) (ap (of_kind hand_in) c.in-Some.ensures.value)
+    (inr (
+      refl,
+      m.ensures.1,
+      y,
+      refl,
+      subst (λ (q : ℕ). WasTicket q a.result c.in-Some.held.now y) m.ensures.0
+          a.ensures,
+    ))

@@ -1,0 +1,19 @@
+use Rattle.std.proofs.Common.{ℕ, inr, refl, subst, pos, ap}
+use Rattle.bindings.specs.HandStates.{WasStopped, StopTold}
+use Rattle.std.specs.declared.option.Option.TheVariants.{Some}
+use Rattle.bindings.specs.Handles.{of_kind}
+use Rattle.bindings.specs.Kinds.{hand_in}
+use Rattle.bindings.proofs.Telling.{at_value}
+use Rattle.bindings.proofs.hand.states.synth_raw_hand_stop.Goals as goal
+
+pub returns-clause-stopped : goal.returns-clause-stopped
+returns-clause-stopped c = let a = c.stop in let y = a.new.self in let e = c.in-Some-element_of in
+    at_value (λ x. StopTold c.args.element x c.args.was_clear.now a.result (Some y) (pos 0)) (ap (of_kind hand_in) c.in-Some.ensures.value)
+    (inr (
+      refl,
+      e.ensures.1,
+      y,
+      refl,
+      subst (λ (n : ℕ). WasStopped n a.result c.in-Some.held.now y) e.ensures.0
+          a.ensures,
+    ))

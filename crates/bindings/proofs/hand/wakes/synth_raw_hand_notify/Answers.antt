@@ -1,0 +1,19 @@
+use Rattle.std.proofs.Common.{ℕ, inr, refl, subst, pos, ap}
+use Rattle.bindings.specs.HandWakes.{WasNotified, NotifyTold}
+use Rattle.std.specs.declared.option.Option.TheVariants.{Some}
+use Rattle.bindings.specs.Handles.{of_kind}
+use Rattle.bindings.specs.Kinds.{hand_in}
+use Rattle.bindings.proofs.Telling.{at_value}
+use Rattle.bindings.proofs.hand.wakes.synth_raw_hand_notify.Goals as goal
+
+pub returns-clause-notified : goal.returns-clause-notified
+returns-clause-notified c = let a = c.notify in let y = a.new.self in let m = c.in-Some-wait_of in
+    at_value (λ x. NotifyTold c.args.wait x c.args.head.now a.result (Some y) (pos 0)) (ap (of_kind hand_in) c.in-Some.ensures.value)
+    (inr (
+      refl,
+      m.ensures.1,
+      y,
+      refl,
+      subst (λ (q : ℕ). WasNotified q a.result c.in-Some.held.now y) m.ensures.0
+          a.ensures,
+    ))

@@ -1,0 +1,12 @@
+use Rattle.std.proofs.Common.{rules, inr, refl, pos, ap}
+use Rattle.bindings.specs.SeatCalls.{CancelTold}
+use Rattle.std.specs.declared.option.Option.TheVariants.{Some}
+use Rattle.bindings.specs.Handles.{of_kind}
+use Rattle.bindings.specs.Kinds.{seat_in}
+use Rattle.bindings.proofs.Telling.{at_value}
+use Rattle.bindings.proofs.seat.synth_raw_seat_cancel.Goals as goal
+
+pub returns-clause-cancelled : goal.returns-clause-cancelled
+returns-clause-cancelled c = let m = c.in-Some-alarm_of in let y = c.cancel.new.self in
+    at_value (λ x. CancelTold x c.args.slot c.args.alarm.now c.args.cancelled.now c.cancel.result (Some y) (pos 0)) (ap (of_kind seat_in) c.in-Some.ensures.value)
+    (inr (refl, search rules, m.ensures.0, m.alarm, m.ensures.1, y, refl, c.cancel.ensures))

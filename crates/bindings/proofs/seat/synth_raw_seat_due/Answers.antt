@@ -1,0 +1,23 @@
+use Rattle.std.proofs.Common.{rules, inr, refl, ap, ◌∙◌, pos, map, length}
+use Rattle.bindings.specs.SeatAlarms.{alarm_told}
+use Rattle.bindings.specs.SeatCalls.{DueTold}
+use Rattle.std.specs.declared.option.Option.TheVariants.{Some}
+use Rattle.bindings.specs.Handles.{of_kind}
+use Rattle.bindings.specs.Kinds.{seat_in}
+use Rattle.bindings.proofs.Telling.{at_value}
+use Rattle.bindings.proofs.seat.synth_raw_seat_due.Goals as goal
+
+pub returns-clause-due : goal.returns-clause-due
+returns-clause-due c = let f = c.due-fired in let t = c.tell_alarms in let s = c.as_slice.ensures.value in
+    at_value (λ x. DueTold x c.args.alarms.now t.new.out c.args.count.now t.result (Some f.new.self) (pos 0)) (ap (of_kind seat_in) c.in-Some.ensures.value)
+    (inr (
+      refl,
+      search rules,
+      f.result.items,
+      t.ensures.number ∙ ap length s,
+      t.ensures.told ∙ ap (map alarm_told) s,
+      t.ensures.rest,
+      f.new.self,
+      refl,
+      f.ensures,
+    ))

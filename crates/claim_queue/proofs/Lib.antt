@@ -12,6 +12,7 @@ pub mod Putting
 pub mod Answered
 pub mod Lining
 pub mod Scanning
+pub mod Walking
 pub mod Emptying
 pub mod Settling
 pub mod Betweens

@@ -15,3 +15,4 @@ pub mod Between
 pub mod Puts
 pub mod Orders
 pub mod Reads
+pub mod Walks

@@ -1,5 +1,6 @@
 //! The tests of `claim_queue`.
 
+mod look_tests;
 mod pause_tests;
 mod scripts;
 mod tests;

@@ -20,6 +20,8 @@ pub(crate) enum Act {
     Line(Result<usize, TakeRefusal>, &'static [u64]),
     /// It shuts the queue, which was open or not.
     Shut(bool),
+    /// It looks at the queue: the tail, how many items are raised from there on, the head, and whether it is shut.
+    Look(u32, u32, u32, bool),
 }
 
 /// What one end does at a queue alone, and what the queue has then: how many items were put and taken, and those left.
@@ -64,6 +66,10 @@ pub(crate) fn does<R: Abort + Wait>(rt: &R, queue: &Four, end: &mut QueueEnd<4>,
             Act::Take(answer) => queue.try_take(end) == *answer,
             Act::Line(answer, items) => takes_line(queue, end, *answer, items),
             Act::Shut(was_open) => queue.shut(end) == *was_open,
+            Act::Look(tail, raised, head, shut) => {
+                let look = queue.look(end);
+                (look.tail, look.raised, look.head, look.shut) == (*tail, *raised, *head, *shut)
+            }
         };
         assert!(rt; as_said, "act {at}");
     }

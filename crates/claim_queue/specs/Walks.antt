@@ -1,0 +1,66 @@
+-- Walks over the flags from the tail on, and what a look at the queue says.
+use Rattle.std.specs.Prelude.{◌≡◌, ◌≢◌, ◌+◌, ◌-◌, ◌<◌, ◌≤◌, ℕ, min, true, List, [], ◌∷◌, ◌++◌, length}
+use Rattle.table_theory.specs.declared.queues.Positions.{Positions}
+use Rattle.table_theory.specs.declared.views.Moment.{Moment}
+use Rattle.table_theory.specs.Ledgers.{Step, load, Made}
+use Rattle.table_theory.specs.Positioned.{head_of, tail_of, written_at}
+use Rattle.claim_queue.specs.declared.look.QueueLook.{QueueLook}
+use Rattle.claim_queue.specs.Layout.{head_word, tail_word, flag_word, mark}
+use Rattle.claim_queue.specs.Own.{View}
+
+-- flags that were found raised, side by side from this position on, each at its moment
+abbrev pub raised_flags : ℕ → ℕ → List (Moment Positions) → List (Step Positions)
+raised_flags room position [] = []
+raised_flags room position (m ∷ more) =
+    load (flag_word room position) (position + 1) m ∷ raised_flags room (position + 1) more
+
+-- How a walk ended that found so many flags raised from the tail on: these were the most that it was to find, or the
+-- next flag was not raised. These are its loads after the flags that it found raised
+pub data WalkEnd (room tail most count : ℕ) (loads : List (Step Positions)) : Type 0 where
+  at_most : count ≡ most → loads ≡ [] → WalkEnd room tail most count loads
+  at_gap : (flag : ℕ) → (m : Moment Positions) → count < most → flag ≢ tail + count + 1
+      → loads ≡ load (flag_word room (tail + count)) flag m ∷ [] → WalkEnd room tail most count loads
+
+-- a walk over the flags from the tail on, with all its loads in order
+pub record FlagWalk (room tail most count : ℕ) (loads : List (Step Positions)) : Type 0 where
+  pub raised : List (Moment Positions)
+  pub count_is : length raised ≡ count
+  pub last : List (Step Positions)
+  pub ends : WalkEnd room tail most count last
+  pub loads_are : loads ≡ raised_flags room tail raised ++ last
+
+-- the same, by the end, which did nothing else
+pub record HasWalked (room tail most count : ℕ) (v w : View) : Type 0 where
+  pub loads : List (Step Positions)
+  pub walked : FlagWalk room tail most count loads
+  pub made : Made v loads v.own w
+
+-- the n places from this position on are raised, if they aren't taken already
+abbrev pub AreRaised : Positions → ℕ → ℕ → Type 0
+AreRaised q position n = (i : ℕ) → i < n → 2 ≤ written_at q (position - q.first + i)
+
+-- the place at this position is not raised, or the tail is past it
+abbrev pub IsNotRaised : Positions → ℕ → Type 0
+IsNotRaised q position = tail_of q ≤ position → written_at q (position - q.first) < 2
+
+-- What a look at a queue of so many places says of the queue as its last load found it. Tail and head may have moved on
+-- by then
+pub record LookAgrees (room : ℕ) (look : QueueLook) (q : Positions) : Type 0 where
+  pub ordered : look.tail ≤ look.head
+  pub first : q.first ≤ look.tail
+  pub tail : look.tail ≤ tail_of q
+  pub head : look.head ≤ head_of q
+  pub shut : look.shut ≡ true → q.shut ≡ true
+  pub within : look.raised ≤ min room (look.head - look.tail)
+  pub raised : AreRaised q look.tail look.raised
+  pub next : look.raised < min room (look.head - look.tail) → IsNotRaised q (look.tail + look.raised)
+
+-- The tail was loaded, then the head with the mark of a shut queue, and then the flags from that tail on, up to that
+-- head and for so many places at most
+pub record HasLooked (room : ℕ) (v : View) (look : QueueLook) (w : View) : Type 0 where
+  pub at_tail : Moment Positions
+  pub at_head : Moment Positions
+  pub flags : List (Step Positions)
+  pub walked : FlagWalk room look.tail (min room (look.head - look.tail)) look.raised flags
+  pub made : Made v (load tail_word look.tail at_tail
+      ∷ load head_word (look.head + mark look.shut) at_head ∷ flags) v.own w

@@ -1,0 +1,86 @@
+//! A look at a queue, for whoever watches it: how much is in it, whether it is shut, and whether a put that has not ended
+//! holds it up.
+ghost use Rattle.std.specs.Prelude.{◌≡◌, ◌+◌, ◌<◌, ◌≤◌, min};
+ghost use Rattle.table_theory.specs.declared.positions.TheConstants.{POSITIONS};
+ghost use Rattle.table_theory.specs.Positioned.{Grows, tail_of};
+ghost use Rattle.claim_queue.specs.Claims.{KeepsClaims};
+ghost use Rattle.claim_queue.specs.Lines.{SameLines};
+ghost use Rattle.claim_queue.specs.Walks.{AreRaised, IsNotRaised, HasWalked, LookAgrees, HasLooked};
+
+use crate::ends::{ClaimQueue, QueueEnd};
+use crate::layout::SHUT;
+use crate::steps::{load_flag, load_head, load_tail};
+
+/// What a look at a queue found. The numbers were found one after the other, and may have changed since.
+#[derive(Clone, Copy, Debug, PartialEq, Eq, Drop)]
+pub struct QueueLook {
+    /// The position of the next item that is taken.
+    pub tail: u32,
+    /// The position of the next item that is claimed. It was found after the tail.
+    pub head: u32,
+    /// The queue is shut.
+    pub shut: bool,
+    /// So many items are raised from the tail on, without a gap. The count ends at the head, and at N. If it ends
+    /// earlier, the flag of the next position was not raised. Either its put has not ended, and no taking gets past it,
+    /// or the tail has passed it since.
+    pub raised: u32,
+}
+
+impl QueueLook {
+    /// How many positions are left for claims. A claim of more items is Spent.
+    pub fn positions_left(&self) -> u32
+        ensures { self.now.head + result + 1 ≡ POSITIONS }
+    {
+        u32::MAX - self.head
+    }
+}
+
+impl<const N: usize> ClaimQueue<N> {
+    ghost use Rattle.claim_queue.specs.Handles.{view_of, IsEndOf, IsSameEnd};
+
+    // How many items are raised from `tail` on, without a gap: `most` at most.
+    fn count_raised(&self, end: &mut QueueEnd<N>, tail: u64, most: usize) -> usize
+        requires queue { IsEndOf self.now end.old }
+        requires tail { ((view_of end.old).seen.object.first ≤ tail) × (tail ≤ tail_of (view_of end.old).seen.object)
+            × (tail < POSITIONS) }
+        requires within { most ≤ N }
+        ensures grows { Grows (view_of end.old).seen.object (view_of end.new).seen.object }
+        ensures most { result ≤ most }
+        ensures raised { AreRaised (view_of end.new).seen.object tail result }
+        ensures next { result < most → IsNotRaised (view_of end.new).seen.object (tail + result) }
+        ensures steps { HasWalked N tail most result (view_of end.old) (view_of end.new) }
+        ensures same { IsSameEnd end.old end.new }
+    {
+        for i in 0..most {
+            let position = tail + i as u64;
+            let flag = load_flag(&self.table.shared, &mut end.seat, N, position);
+            if flag != position + 1 {
+                return i;
+            }
+        }
+        most
+    }
+
+    /// A look at the tail, then at the head, and then at the flags from that tail on. It ends at the first flag that is
+    /// not raised, at that head, or after N flags. It makes at most N + 2 loads, and changes nothing.
+    pub fn look(&self, end: &mut QueueEnd<N>) -> QueueLook
+        requires { IsEndOf self.now end.old }
+        ensures lines { SameLines (view_of end.old) (view_of end.new) }
+        ensures result { LookAgrees N result (view_of end.new).seen.object }
+        ensures steps { HasLooked N (view_of end.old) result (view_of end.new) }
+        ensures others { KeepsClaims (view_of end.old) (view_of end.new) }
+        ensures same { IsSameEnd end.old end.new }
+    {
+        let tail = load_tail(&self.table.shared, &mut end.seat);
+        let word = load_head(&self.table.shared, &mut end.seat);
+        let head = word % SHUT;
+        let most = N.min((head - tail) as usize);
+        let raised = self.count_raised(end, tail, most);
+        QueueLook {
+            tail: tail as u32,
+            head: head as u32,
+            shut: word >= SHUT,
+            raised: raised as u32,
+        }
+    }
+}

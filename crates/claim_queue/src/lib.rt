@@ -31,6 +31,9 @@
 //! leaves its places unraised: nobody takes past them, and with N places claimed behind the tail every claim is Full.
 //! An end that is dropped is never joined, so the queue can't be closed any more; all else goes on.
 //!
+//! `look` is for whoever watches a queue: it returns how deep the queue is, and whether a put that has not ended holds
+//! it up.
+//!
 //! `ClaimRule`, `Shape`, `Did` and `View` are for the proofs alone: they stand in the contracts of what the ends list.
 #![tactic(auto)]
 

@@ -1,5 +1,5 @@
-//! A look at a queue, for whoever watches it: how much is in it, whether it is shut, and whether a put that has not ended
-//! holds it up.
+//! A look at a queue, for whoever watches it: how much is in it, whether it is shut, and whether a put that has not
+//! ended holds it up.
 ghost use Rattle.std.specs.Prelude.{◌≡◌, ◌+◌, ◌<◌, ◌≤◌, min};
 ghost use Rattle.table_theory.specs.declared.positions.TheConstants.{POSITIONS};
 ghost use Rattle.table_theory.specs.Positioned.{Grows, tail_of};

@@ -35,7 +35,7 @@ pub record HasWalked (room tail most count : ℕ) (v w : View) : Type 0 where
   pub walked : FlagWalk room tail most count loads
   pub made : Made v loads v.own w
 
--- the n places from this position on are raised, if they aren't taken already
+-- the n places from this position on were raised, whether or not they were taken since
 abbrev pub AreRaised : Positions → ℕ → ℕ → Type 0
 AreRaised q position n = (i : ℕ) → i < n → 2 ≤ written_at q (position - q.first + i)
 

@@ -160,6 +160,10 @@ abbrev pub FoundState : (ℕ → Type 0) → View → ℕ → View → Type 0
 FoundState Is v element w = (word : ℕ) × (r : Past) × Is word
     × Acts v (load (state_word element) word r ∷ []) (quiet v) w
 
+-- the state word was loaded, and these are the signals that were pending there
+abbrev pub IsPending : View → ℕ → ℕ → View → Type 0
+IsPending v element mask w = FoundState (λ word. mask ≡ word % STOP) v element w
+
 -- the stop bit of a state word is set, or clear
 abbrev pub HasStop : ℕ → Type 0
 HasStop word = is_in word stop_bit ≡ true

@@ -41,7 +41,7 @@ ghost use Rattle.thread_table.specs.Entries.{Step, change, Acts, AreInOrder, ste
 ghost use Rattle.thread_table.specs.Endings.{TookIn};
 ghost use Rattle.thread_table.specs.Answers.{TakeAnswer, MoveAnswer, WaitAnswer, IsTicket, StoppedNow, StartAnswer};
 ghost use Rattle.thread_table.specs.Answers.{ParkAnswer, SignalAnswer, DeliverAnswer, ReadPc, DoneAnswer, is_in};
-ghost use Rattle.thread_table.specs.Answers.{head_in, mark_in};
+ghost use Rattle.thread_table.specs.Answers.{head_in, mark_in, IsPending};
 ghost use Rattle.thread_table.specs.Notifies.{notifies_in, head_seen, tail_seen};
 ghost use Rattle.thread_table.specs.Wakes.{WokeAll, NotifiedNow, BeforeAnswer};
 ghost use Rattle.thread_table.specs.Keeping.{Keeps, Stays};
@@ -223,6 +223,7 @@ pub fn refusals_stay()
         → Stays v w }
     ensures parks { (call element : ℕ) (v w : View) (r : Lost) → ParkAnswer call v element (Err r) w → Stays v w }
     ensures runs { (call element : ℕ) (v w : View) → ParkAnswer call v element (Ok false) w → Stays v w }
+    ensures pendings { (element mask : ℕ) (v w : View) → IsPending v element mask w → Stays v w }
     ensures delivers { (call element : ℕ) (v w : View) (r : Lost) → DeliverAnswer call v element (Err r) w
         → Stays v w }
     ensures delivers_none { (call element : ℕ) (v w : View) → DeliverAnswer call v element (Ok 0) w → Stays v w }

@@ -3,6 +3,7 @@ ghost use Rattle.std.specs.Prelude.{◌≡◌, true};
 ghost use Rattle.thread_table.specs.Handles.{view_of, call_of, IsHandOf, IsSameHand};
 ghost use Rattle.thread_table.specs.Rules.{has};
 ghost use Rattle.thread_table.specs.Answers.{StoppedNow, StartAnswer, ParkAnswer, SignalAnswer, DeliverAnswer};
+ghost use Rattle.thread_table.specs.Answers.{IsPending};
 
 use crate::hand::{Hand, ThreadTable, set_held};
 use crate::steps::{exchange_state, load_state, or_signal, or_stop};
@@ -113,6 +114,18 @@ impl ThreadTable {
             return Signalled::Merged;
         }
         Signalled::Raised
+    }
+
+    /// The pending signals of an element, wherever it is, by one load of its state word: bit s for signal s. It changes
+    /// nothing, and the signals stay pending.
+    pub fn pending(&self, hand: &mut Hand, element: Element) -> u16
+        requires { IsHandOf self.now hand.old }
+        ensures steps { IsPending (view_of hand.old) element result (view_of hand.new) }
+        ensures same { IsSameHand hand.old hand.new }
+    {
+        let word = load_state(&self.table.shared, &mut hand.seat, element.number());
+        let state = StateWord { word };
+        state.pending()
     }
 
     /// Delivers the pending signals of an element that the hand holds: bit s for signal s. It loads the state word and

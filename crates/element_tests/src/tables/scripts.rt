@@ -39,6 +39,8 @@ pub(crate) enum Act {
     /// The signal of this number; the mask of what is delivered.
     Signal(u8, u8, Signalled),
     Deliver(u8, u16),
+    /// The mask of the signals that are pending, wherever the element is.
+    Pending(u8, u16),
 }
 
 /// Takes the next free element, which has to be this one.
@@ -191,6 +193,7 @@ fn tends<R: Abort>(rt: &R, table: &ThreadTable, hand: &mut Hand, act: &Act) -> b
             table.signal(hand, element(rt, *e), signal(rt, *s)) == *signalled
         }
         Act::Deliver(e, mask) => delivers(rt, table, hand, *e, *mask),
+        Act::Pending(e, mask) => table.pending(hand, element(rt, *e)) == *mask,
         _ => false,
     }
 }

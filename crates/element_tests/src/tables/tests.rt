@@ -2,7 +2,7 @@ ghost use Rattle.std.specs.Prelude.{◌≡◌, ◌+◌, true, false, Some, IfOk,
 ghost use Rattle.thread_table.specs.Handles.{view_of, IsHandOf, IsSameHand};
 ghost use Rattle.thread_table.specs.Rules.{has, serves, running};
 
-use crate::fixtures::{begins, closes, element, is_told, processor, wait_queue};
+use crate::fixtures::{begins, closes, element, is_told, processor, signal, wait_queue};
 use crate::tables::scripts::{Act, does, free, plays};
 use event_theory::{Element, OutOfMemory, Processor, WaitNumber};
 use std::alloc::Global;
@@ -28,6 +28,23 @@ fn wake_and_take_off<R: Wait>(
 {
     let woken = table.wake_all(rt, hand, wait);
     (woken, table.off(hand, processor))
+}
+
+/// Looks at an element's signals, and then takes off what the hand has on a processor: that it serves it still, and
+/// that the same element stands there, is proved, not tried. The mask of the signals comes back too.
+fn look_and_take_off(
+    table: &ThreadTable,
+    hand: &mut Hand,
+    element: Element,
+    processor: Processor,
+) -> (u16, Result<Element, ProcessorEmpty>)
+    requires table { IsHandOf table.now hand.old }
+    requires mine { serves (view_of hand.old) processor ≡ true }
+    ensures stood { IfOk result.1 (λ element. running (view_of hand.old) processor ≡ Some element) }
+    ensures same { IsSameHand hand.old hand.new }
+{
+    let pending = table.pending(hand, element);
+    (pending, table.off(hand, processor))
 }
 
 /// Notifies, and tries once to take: that what was taken wasn't held before, and is held now, is proved, not tried.
@@ -100,6 +117,72 @@ const SIGNALS: &[Act] = &[
 fn signals(rt: HostRuntime) {
     let places = [(0, Place::Held)];
     plays(&rt, rt.alloc(), 0, SIGNALS, &places);
+}
+
+const PENDING_ANYWHERE: &[Act] = &[
+    Act::Pending(0, 0),
+    Act::Signal(0, 0, Signalled::Raised),
+    Act::Signal(0, 15, Signalled::Raised),
+    Act::Pending(0, 32_769),
+    Act::Pending(1, 0),
+    Act::Free(0),
+    Act::Pending(0, 32_769),
+    Act::On(3, 0, Ok(())),
+    Act::Signal(0, 4, Signalled::Raised),
+    Act::Pending(0, 32_785),
+    Act::Stop(0),
+    Act::Pending(0, 32_785),
+    Act::Off(3, Some(0)),
+    Act::Park(0, true),
+    Act::Pending(0, 32_785),
+    Act::Signal(0, 4, Signalled::Merged),
+    Act::Start(0, Started::Held),
+    Act::Wait(0, 7),
+    Act::Pending(0, 32_785),
+    Act::Wake(7, 0),
+    Act::Ready(0),
+    Act::Pending(0, 32_785),
+    Act::Next(0),
+    Act::Deliver(0, 32_785),
+    Act::Pending(0, 0),
+    Act::Stop(0),
+    Act::Pending(0, 0),
+];
+
+/// A look at an element's pending signals, bit s for signal s, finds them wherever the element is, and leaves them.
+#[test]
+fn pending_anywhere(rt: HostRuntime) {
+    let places = [(0, Place::Held), (1, Place::Free)];
+    let closed = plays(&rt, rt.alloc(), 0, PENDING_ANYWHERE, &places);
+    assert!(rt; (closed.stops, closed.pending[0]) == (1, 0));
+}
+
+/// What a hand has on a processor it can look at there: all sixteen signals, each by its bit. So can another hand.
+#[test]
+fn pending_on_a_processor(rt: HostRuntime) {
+    let (table, mut first) = begins(&rt, rt.alloc(), 0);
+    let (a, p, e) = (&mut first, processor(&rt, 5), element(&rt, 0));
+    let mut b = table.split(a, 1);
+    does(&rt, &table, a, &[Act::Free(0), Act::On(5, 0, Ok(()))]);
+    let mut wanted = 0u16;
+    for s in 0..16u8 {
+        assert!(rt; table.pending(a, e) == wanted);
+        assert!(rt; table.signal(&mut b, e, signal(&rt, s)) == Signalled::Raised);
+        wanted |= 1 << s;
+        assert!(rt; table.pending(&mut b, e) == wanted);
+    }
+    assert!(rt; wanted == 65_535);
+    assert!(rt; a.serves(p));
+    assert!(rt; look_and_take_off(&table, a, e, p) == (65_535, Ok(e)));
+    does(
+        &rt,
+        &table,
+        a,
+        &[Act::Deliver(0, 65_535), Act::Pending(0, 0)],
+    );
+    assert!(rt; table.pending(&mut b, e) == 0);
+    table.join(a, b);
+    closes(&rt, table, first, &[(0, Place::Held)]);
 }
 
 const READY_IN_TURN: &[Act] = &[

@@ -15,6 +15,7 @@ returns c = record {
   goes_on = λ call element v w a. stays_by v w _ a.3;
   parks = λ call element v w r a. stays_by v w _ a.5;
   runs = λ call element v w a. stays_by v w _ a.3;
+  pendings = λ element mask v w a. stays_by v w _ a.3;
   delivers = λ call element v w r a. stays_by v w _ a.5;
   delivers_none = λ call element v w a. stays_by v w _ a.3;
   counts = counts_stay;

@@ -1,6 +1,7 @@
 pub mod BatchCalls
 pub mod BatchClosing
 pub mod BatchHeld
+pub mod BatchLooks
 pub mod ChainCalls
 pub mod ChainHeld
 pub mod Codes
@@ -8,6 +9,7 @@ pub mod HandCalls
 pub mod HandClosing
 pub mod HandHeld
 pub mod HandMoves
+pub mod HandReads
 pub mod HandStates
 pub mod HandTakings
 pub mod HandWakes
@@ -20,6 +22,7 @@ pub mod LineCalls
 pub mod QueueCalls
 pub mod QueueClosing
 pub mod QueueHeld
+pub mod QueueLooks
 pub mod QueueOutcomes
 pub mod QueueParts
 pub mod QueueTaking
@@ -27,4 +30,5 @@ pub mod SeatAlarms
 pub mod SeatCalls
 pub mod SeatClosing
 pub mod SeatHeld
+pub mod SeatReads
 pub mod Told

@@ -12,6 +12,7 @@ ghost use Rattle.bindings.specs.Kinds.{batch_in};
 
 mod closing;
 pub mod held;
+mod looking;
 
 use crate::answer::{
     BAD_NUMBER, CLOSED, DONE, EMPTY, EMPTY_HANDLE, FULL, FULL_HANDLE, LOST, NO_ITEMS, NO_MEMORY,

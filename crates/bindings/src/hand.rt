@@ -5,6 +5,7 @@ mod ends;
 pub mod held;
 mod moves;
 mod numbers;
+mod pending;
 mod places;
 mod placing;
 mod processors;

@@ -12,6 +12,7 @@ ghost use Rattle.bindings.specs.Told.{IsCodeAlone};
 
 mod closing;
 pub mod held;
+mod looking;
 mod part;
 mod taking;
 

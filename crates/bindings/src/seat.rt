@@ -13,6 +13,7 @@ ghost use Rattle.bindings.specs.Told.{IsCodeAlone};
 mod alarm;
 mod closing;
 pub mod held;
+mod reading;
 
 use crate::answer::{
     BAD_NUMBER, DONE, EMPTY_HANDLE, FULL_HANDLE, LOST, NO_MEMORY, NO_ROOM, NO_SHARE, OPEN,

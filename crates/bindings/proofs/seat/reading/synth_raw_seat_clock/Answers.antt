@@ -1,0 +1,12 @@
+use Rattle.std.proofs.Common.{◌≡◌, refl, ap, pos}
+use Rattle.std.specs.declared.option.Option.TheVariants.{Some}
+use Rattle.bindings.specs.SeatReads.{WasClock}
+use Rattle.bindings.specs.Handles.{HoldsSome, of_kind}
+use Rattle.bindings.specs.Kinds.{seat_in}
+use Rattle.bindings.proofs.Telling.{at_value}
+use Rattle.bindings.proofs.seat.reading.synth_raw_seat_clock.Goals as goal
+
+pub returns-clause-loaded : goal.returns-clause-loaded
+returns-clause-loaded c = at_value (λ x. HoldsSome (Some c.clock.new.self)
+    (λ y. WasClock c.clock.result x y × (pos 0 ≡ pos 0))) (ap (of_kind seat_in) c.in-Some.ensures.value)
+    (c.clock.new.self, refl, (c.clock.ensures, refl))

@@ -38,6 +38,9 @@ pub(crate) fn load_head(words: &Words, seat: &mut Seat<u64, View>) -> u64
 
 // Claims positions for the first of the items, as many as there is room for and no fewer than `least`, and takes their
 // slots. Returns the first position, and the number of items.
+//
+// In line, the answer stays in registers.
+#[inline(always)]
 fn claim(
     words: &Words,
     seat: &mut Seat<u64, View>,

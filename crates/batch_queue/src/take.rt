@@ -120,6 +120,8 @@ impl BatchQueue {
     /// One try to take batches: as many whole batches as are published side by side at the tail and fit the buffer. If
     /// the batch at the tail was parted by `try_take_some`, the first of them is what is left of it. Their items are
     /// then the first of the buffer, in order. Returns the number of items.
+    // In line, the answer stays in registers.
+    #[inline(always)]
     pub fn try_take(&self, end: &mut BatchEnd, items: &mut [u64]) -> Result<usize, TakeRefusal>
         requires { IsEndOf self.now end.old }
         ensures effect { MatchResult result

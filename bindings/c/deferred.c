@@ -1,34 +1,14 @@
 /*
  * Four top halves, each in a thread of its own, defer procedures by one chain: `deferred [NOTES]`, 1,000,000 notes of
  * each where no number is given. A bottom half is whichever of them runs notes at the time. It counts in plain memory,
- * with no lock: each note is run once, those of one top half in its order, and no two at once. Prints one line. Status 1:
- * a note was lost, came twice, or came beside another.
+ * with no lock: each note is run once, those of one top half in its order, and no two at once. Prints one line. Status
+ * 1: a note was lost, came twice, or came beside another.
  */
 #include "synthesis.h"
 #include <pthread.h>
 #include <sched.h>
 #include <stdio.h>
 #include <stdlib.h>
-
-/*
- * ThreadSanitizer doesn't see what the library does. These two words declare what a chain orders: a procedure sees all
- * that the ones before it wrote. What it sees by itself is that nobody but a procedure touches what they work on.
- */
-#ifdef __SANITIZE_THREAD__
-#ifdef __cplusplus
-extern "C" {
-#endif
-void __tsan_acquire(void *);
-void __tsan_release(void *);
-#ifdef __cplusplus
-}
-#endif
-#define AFTER_OTHERS(what) __tsan_acquire(what)
-#define BEFORE_OTHERS(what) __tsan_release(what)
-#else
-#define AFTER_OTHERS(what) ((void)(what))
-#define BEFORE_OTHERS(what) ((void)(what))
-#endif
 
 enum { TOP_HALVES = 4, NUMBERS = 1 << 14 };
 
@@ -42,9 +22,9 @@ static struct {
 static unsigned long notes;
 static struct synth_chain ends[TOP_HALVES];
 
-static void must(int32_t code, const char *what)
+static void must(synth_code code, const char *what)
 {
-    if (code != SYNTH_DONE) {
+    if (code != SYNTH_OK) {
         fprintf(stderr, "deferred: %s: code %d\n", what, (int)code);
         exit(1);
     }
@@ -55,21 +35,19 @@ static void procedure(uint16_t note)
 {
     int top_half = note / NUMBERS;
     uint16_t number = note % NUMBERS;
-    AFTER_OTHERS(&bottom);
     if (bottom.inside++ != 0 || number != bottom.next[top_half]) {
         bottom.at_fault++;
     }
     bottom.next[top_half] = (uint16_t)((number + 1) % NUMBERS);
     bottom.run++;
     bottom.inside--;
-    BEFORE_OTHERS(&bottom);
 }
 
 static void run_notes(struct synth_chain *end)
 {
     uint16_t note;
-    int32_t code;
-    while ((code = synth_chain_next(end, &note)) != SYNTH_DONE) {
+    synth_code code;
+    while ((code = synth_chain_next(end, &note)) != SYNTH_OK) {
         if (code == SYNTH_NOTE) {
             procedure(note);
         } else if (code != SYNTH_AGAIN) {
@@ -84,7 +62,7 @@ static void *defer_all(void *given)
     unsigned long next = 0;
     while (next < notes) {
         uint16_t note = (uint16_t)(top_half * NUMBERS + (int)(next % NUMBERS));
-        int32_t code = synth_chain_try_chain(&ends[top_half], note).code;
+        synth_code code = synth_chain_try_chain(&ends[top_half], note, NULL);
         if (code == SYNTH_RUN) {
             next++;
             run_notes(&ends[top_half]);
@@ -102,7 +80,7 @@ static void *defer_all(void *given)
 int main(int count, char **words)
 {
     pthread_t threads[TOP_HALVES];
-    struct synth_chained closed;
+    struct synth_chain_totals totals;
     notes = count > 1 ? strtoul(words[1], NULL, 10) : 1000000;
     must(synth_chain_new(0, &ends[0]), "new");
     for (int i = 1; i < TOP_HALVES; i++) {
@@ -117,8 +95,8 @@ int main(int count, char **words)
     for (int i = 1; i < TOP_HALVES; i++) {
         must(synth_chain_join(&ends[0], &ends[i]), "join");
     }
-    must(synth_chain_close(&ends[0], &closed), "close");
-    bool is_right = closed.put == closed.run && closed.run == bottom.run && bottom.run == TOP_HALVES * notes
+    must(synth_chain_finish(&ends[0], &totals), "finish");
+    bool is_right = totals.put == totals.run && totals.run == bottom.run && bottom.run == TOP_HALVES * notes
         && bottom.at_fault == 0;
     printf("deferred: %lu notes by %d threads, %s\n", bottom.run, TOP_HALVES, is_right ? "each once" : "at fault");
     return is_right ? 0 : 1;

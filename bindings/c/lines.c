@@ -20,9 +20,9 @@ struct job {
 };
 
 /* Ends the program where a call that has to succeed did not. */
-static void must(int32_t code, const char *what)
+static void must(synth_code code, const char *what)
 {
-    if (code != SYNTH_DONE) {
+    if (code != SYNTH_OK) {
         fprintf(stderr, "lines: %s: code %d\n", what, (int)code);
         exit(1);
     }
@@ -32,12 +32,12 @@ static void must(int32_t code, const char *what)
 static void put_line(struct job *job, const uint64_t *line, size_t length)
 {
     for (;;) {
-        struct synth_answer answer = synth_queue_try_put(&job->end, line, length);
-        if (answer.code == SYNTH_DONE) {
+        synth_code code = synth_queue_try_put(&job->end, line, length, NULL);
+        if (code == SYNTH_OK) {
             return;
         }
-        if (answer.code != SYNTH_LOST && answer.code != SYNTH_FULL) {
-            must(answer.code, "put");
+        if (code != SYNTH_LOST && code != SYNTH_FULL) {
+            must(code, "put");
         }
         sched_yield();
     }
@@ -68,11 +68,11 @@ static void *take_lines(void *given)
     for (;;) {
         uint64_t line[PLACES];
         size_t length = 0;
-        struct synth_answer answer = synth_queue_try_take_line(&job->end, line, PLACES, &length);
-        if (answer.code == SYNTH_CLOSED) {
+        synth_code code = synth_queue_try_take_line(&job->end, line, PLACES, &length, NULL);
+        if (code == SYNTH_CLOSED) {
             return NULL;
         }
-        if (answer.code == SYNTH_DONE) {
+        if (code == SYNTH_OK) {
             for (size_t k = 0; k < length; k++) {
                 job->sum += line[k];
             }
@@ -88,7 +88,7 @@ static struct job jobs[PRODUCERS + TAKERS];
 
 int main(void)
 {
-    struct synth_queue last = {NULL, false};
+    struct synth_queue last = SYNTH_QUEUE_INIT;
     pthread_t threads[PRODUCERS + TAKERS];
     must(synth_queue_new(PLACES, 0, &last), "new");
     for (int i = 0; i < PRODUCERS + TAKERS; i++) {
@@ -100,16 +100,15 @@ int main(void)
     }
 
     /* Once all is put the queue is shut, so that the takers are told when all is taken. */
-    bool was_open = false;
     for (int i = 0; i < PRODUCERS; i++) {
         must(pthread_join(threads[i], NULL), "the end of a producer");
     }
-    must(synth_queue_shut(&last, &was_open), "shut");
+    must(synth_queue_shut(&last), "shut");
     for (int i = PRODUCERS; i < PRODUCERS + TAKERS; i++) {
         must(pthread_join(threads[i], NULL), "the end of a taker");
     }
 
-    /* The last handle closes the queue, once all others are joined to it. */
+    /* The last handle ends the queue, once all others are joined to it. */
     unsigned long lines[2] = {0, 0}, sums[2] = {0, 0};
     for (int i = 0; i < PRODUCERS + TAKERS; i++) {
         lines[i < PRODUCERS ? 0 : 1] += jobs[i].lines;
@@ -117,11 +116,11 @@ int main(void)
         must(synth_queue_join(&last, &jobs[i].end), "join");
     }
     uint64_t left[PLACES];
-    struct synth_closed closed;
-    must(synth_queue_close(&last, left, PLACES, &closed), "close");
+    struct synth_queue_totals totals;
+    must(synth_queue_finish(&last, left, PLACES, &totals), "finish");
 
     printf("put %lu lines, sum %lu\n", lines[0], sums[0]);
     printf("taken %lu lines, sum %lu\n", lines[1], sums[1]);
-    printf("closed: put %u items, taken %u, left %zu\n", closed.put, closed.taken, closed.left);
-    return lines[0] != lines[1] || sums[0] != sums[1] || closed.put != closed.taken || closed.left != 0;
+    printf("closed: put %u items, taken %u, left %zu\n", totals.put, totals.taken, totals.left);
+    return lines[0] != lines[1] || sums[0] != sums[1] || totals.put != totals.taken || totals.left != 0;
 }

@@ -25,9 +25,9 @@ struct job {
 static uint64_t items;
 static struct job jobs[THREADS];
 
-static void must(int32_t code, const char *what)
+static void must(synth_code code, const char *what)
 {
-    if (code != SYNTH_DONE) {
+    if (code != SYNTH_OK) {
         fprintf(stderr, "many: %s: code %d\n", what, (int)code);
         exit(1);
     }
@@ -54,13 +54,13 @@ static void *put_items(void *given)
         for (uint64_t i = 0; i < length; i++) {
             run[i] = next + i;
         }
-        struct synth_answer answer = synth_queue_try_put(&job->queue, run, (size_t)length);
-        if (answer.code == SYNTH_DONE) {
+        synth_code code = synth_queue_try_put(&job->queue, run, (size_t)length, NULL);
+        if (code == SYNTH_OK) {
             next += length;
-        } else if (answer.code == SYNTH_FULL) {
+        } else if (code == SYNTH_FULL) {
             sched_yield();
-        } else if (answer.code != SYNTH_LOST) {
-            must(answer.code, "put");
+        } else if (code != SYNTH_LOST) {
+            must(code, "put");
         }
     }
     return NULL;
@@ -88,19 +88,19 @@ static void *take_items(void *given)
     for (;;) {
         uint64_t taken[ROOM];
         size_t count = 1;
-        struct synth_answer answer = room == 1 ? synth_queue_try_take(&job->queue, taken)
-                                               : synth_queue_take_up_to(&job->queue, taken, room, &count);
-        if (answer.code == SYNTH_CLOSED) {
+        synth_code code = room == 1 ? synth_queue_try_take(&job->queue, taken, NULL)
+                                    : synth_queue_take_up_to(&job->queue, taken, room, &count, NULL);
+        if (code == SYNTH_CLOSED) {
             return NULL;
         }
-        if (answer.code == SYNTH_EMPTY) {
+        if (code == SYNTH_EMPTY) {
             sched_yield();
-        } else if (answer.code == SYNTH_DONE) {
+        } else if (code == SYNTH_OK) {
             for (size_t i = 0; i < count; i++) {
                 mark(job, taken[i]);
             }
-        } else if (answer.code != SYNTH_LOST) {
-            must(answer.code, "take");
+        } else if (code != SYNTH_LOST) {
+            must(code, "take");
         }
     }
 }
@@ -129,7 +129,7 @@ static void start_all(struct synth_queue *last, pthread_t *threads)
         jobs[i].first = i < PRODUCERS ? first_of(i) : 0;
         jobs[i].end = i < PRODUCERS ? end_of(i) : 0;
         jobs[i].seen = (unsigned char *)calloc((size_t)(items / 8 + 1), 1);
-        must(jobs[i].seen ? SYNTH_DONE : SYNTH_NO_MEMORY, "memory");
+        must(jobs[i].seen ? SYNTH_OK : SYNTH_NO_MEMORY, "memory");
         must(synth_queue_split(last, &jobs[i].queue), "split");
     }
     for (int i = 0; i < THREADS; i++) {
@@ -139,11 +139,10 @@ static void start_all(struct synth_queue *last, pthread_t *threads)
 
 int main(int count, char **words)
 {
-    struct synth_queue last = {NULL, false};
-    struct synth_closed closed;
+    struct synth_queue last = SYNTH_QUEUE_INIT;
+    struct synth_queue_totals closed;
     pthread_t threads[THREADS];
     uint64_t left[PLACES];
-    bool was_open = false;
     items = count > 1 ? strtoull(words[1], NULL, 10) : 10000000;
     must(synth_queue_new(PLACES, 7, &last), "new");
     start_all(&last, threads);
@@ -151,15 +150,15 @@ int main(int count, char **words)
         must(pthread_join(threads[i], NULL), "the end of a thread");
         must(synth_queue_join(&last, &jobs[i].queue), "join");
         if (i == PRODUCERS - 1) {
-            must(synth_queue_shut(&last, &was_open), "shut");
+            must(synth_queue_shut(&last), "shut");
         }
     }
-    must(synth_queue_close(&last, left, PLACES, &closed), "close");
+    must(synth_queue_finish(&last, left, PLACES, &closed), "finish");
     uint64_t faults = count_faults();
     for (int i = 0; i < THREADS; i++) {
         free(jobs[i].seen);
     }
-    bool agrees = was_open && closed.put == items && closed.taken == items && closed.left == 0;
+    bool agrees = closed.put == items && closed.taken == items && closed.left == 0;
     printf("many: %llu items, %llu faults\n", (unsigned long long)items, (unsigned long long)faults);
     return faults != 0 || !agrees;
 }

@@ -26,9 +26,9 @@ struct job {
 static uint64_t items;
 static struct job jobs[THREADS];
 
-static void must(int32_t code, const char *what)
+static void must(synth_code code, const char *what)
 {
-    if (code != SYNTH_DONE) {
+    if (code != SYNTH_OK) {
         fprintf(stderr, "many_batches: %s: code %d\n", what, (int)code);
         exit(1);
     }
@@ -47,15 +47,14 @@ static uint64_t end_of(int producer)
 /* One try to put items from `next` on. Gives how many were put. */
 static uint64_t put_some(struct job *job, uint64_t next)
 {
-    struct synth_positions at;
     uint64_t run[RUN];
     size_t put = 1, left = (size_t)(job->end - next), most = RUN, length = left < most ? left : most;
     for (size_t i = 0; i < length; i++) {
         run[i] = next + i;
     }
-    int32_t code = job->number % 2 ? synth_batch_try_put_some(&job->queue, run, length, &put, &at)
-                                   : synth_batch_try_put(&job->queue, run, 1, &at);
-    if (code == SYNTH_DONE) {
+    synth_code code = job->number % 2 ? synth_batch_try_put_some(&job->queue, run, length, &put, NULL)
+                                   : synth_batch_try_put(&job->queue, run, 1, NULL);
+    if (code == SYNTH_OK) {
         return put;
     }
     if (code == SYNTH_FULL) {
@@ -94,18 +93,17 @@ static void mark(struct job *job, uint64_t item)
 static void *take_items(void *given)
 {
     struct job *job = (struct job *)given;
-    struct synth_positions at;
     for (;;) {
         uint64_t taken[ROOM];
         size_t count = 0;
-        int32_t code = job->number % 2 ? synth_batch_try_take(&job->queue, taken, ROOM, &count, &at)
-                                       : synth_batch_try_take_some(&job->queue, taken, FEW, &count, &at);
+        synth_code code = job->number % 2 ? synth_batch_try_take(&job->queue, taken, ROOM, &count, NULL)
+                                       : synth_batch_try_take_some(&job->queue, taken, FEW, &count, NULL);
         if (code == SYNTH_CLOSED) {
             return NULL;
         }
         if (code == SYNTH_EMPTY) {
             sched_yield();
-        } else if (code == SYNTH_DONE) {
+        } else if (code == SYNTH_OK) {
             for (size_t i = 0; i < count; i++) {
                 mark(job, taken[i]);
             }
@@ -139,7 +137,7 @@ static void start_all(struct synth_batch *last, pthread_t *threads)
         jobs[i].first = i < PRODUCERS ? first_of(i) : 0;
         jobs[i].end = i < PRODUCERS ? end_of(i) : 0;
         jobs[i].seen = (unsigned char *)calloc((size_t)(items / 8 + 1), 1);
-        must(jobs[i].seen ? SYNTH_DONE : SYNTH_NO_MEMORY, "memory");
+        must(jobs[i].seen ? SYNTH_OK : SYNTH_NO_MEMORY, "memory");
         must(synth_batch_split(last, &jobs[i].queue), "split");
     }
     for (int i = 0; i < THREADS; i++) {
@@ -149,11 +147,10 @@ static void start_all(struct synth_batch *last, pthread_t *threads)
 
 int main(int count, char **words)
 {
-    struct synth_batch last = {NULL, false};
-    struct synth_batch_closed closed;
+    struct synth_batch last = SYNTH_BATCH_INIT;
+    struct synth_batch_totals closed;
     pthread_t threads[THREADS];
     uint64_t left[PLACES];
-    bool was_open = false;
     items = count > 1 ? strtoull(words[1], NULL, 10) : 10000000;
     must(synth_batch_new(PLACES, &last), "new");
     start_all(&last, threads);
@@ -161,15 +158,15 @@ int main(int count, char **words)
         must(pthread_join(threads[i], NULL), "the end of a thread");
         must(synth_batch_join(&last, &jobs[i].queue), "join");
         if (i == PRODUCERS - 1) {
-            must(synth_batch_shut(&last, &was_open), "shut");
+            must(synth_batch_shut(&last), "shut");
         }
     }
-    must(synth_batch_close(&last, left, PLACES, &closed), "close");
+    must(synth_batch_finish(&last, left, PLACES, &closed), "finish");
     uint64_t faults = count_faults();
     for (int i = 0; i < THREADS; i++) {
         free(jobs[i].seen);
     }
-    bool agrees = was_open && closed.put == items && closed.taken == items && closed.left == 0;
+    bool agrees = closed.put == items && closed.taken == items && closed.left == 0;
     printf("many_batches: %llu items, %llu faults\n", (unsigned long long)items, (unsigned long long)faults);
     return faults != 0 || !agrees;
 }

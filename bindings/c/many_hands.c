@@ -19,9 +19,9 @@ struct worker {
     unsigned long steps, raised, delivered, faults;
 };
 
-static void must(int32_t code, const char *what)
+static void must(synth_code code, const char *what)
 {
-    if (code != SYNTH_DONE) {
+    if (code != SYNTH_OK) {
         fprintf(stderr, "many_hands: %s: code %d\n", what, (int)code);
         exit(1);
     }
@@ -43,6 +43,9 @@ static unsigned long bits_of(uint32_t mask)
     return count;
 }
 
+/* How many steps each element has done, in plain memory: whoever takes it sees what was done before it was moved. */
+static uint64_t steps_of[ELEMENTS];
+
 /* How many workers hold each element, as they say themselves. */
 static int holders[ELEMENTS];
 
@@ -59,36 +62,35 @@ static void let_go(struct worker *worker, uint32_t element)
 /* One try to take an element from a queue, or from its stop cell. True where the worker holds it then. */
 static bool take(struct worker *worker, uint32_t *element)
 {
-    struct synth_answer answer = {SYNTH_EMPTY, 0, 0};
+    synth_code code = SYNTH_EMPTY;
     uint32_t started = 0, head = 0;
     switch (below(worker, 5)) {
     case 0:
-        answer = synth_hand_try_next(&worker->hand, element);
+        code = synth_hand_try_next(&worker->hand, element, NULL);
         break;
     case 1:
-        answer = synth_hand_try_free(&worker->hand, element);
+        code = synth_hand_try_free(&worker->hand, element, NULL);
         break;
     case 2:
-        answer = synth_hand_try_wake(&worker->hand, below(worker, WAITS), element);
+        code = synth_hand_try_wake(&worker->hand, below(worker, WAITS), element, NULL);
         break;
     case 3: {
         uint32_t wait = below(worker, WAITS);
         must(synth_hand_notify(&worker->hand, wait, &head), "notify");
-        answer = synth_hand_try_wake_before(&worker->hand, wait, head, element);
+        code = synth_hand_try_wake_before(&worker->hand, wait, head, element, NULL);
         break;
     }
-    default: {
+    default:
         *element = below(worker, ELEMENTS);
-        struct synth_state state = synth_hand_try_start(&worker->hand, *element, &started);
-        answer.code = state.code == SYNTH_DONE && started != SYNTH_START_HELD ? SYNTH_EMPTY : state.code;
+        code = synth_hand_try_start(&worker->hand, *element, &started, NULL);
+        code = code == SYNTH_OK && started != SYNTH_START_HELD ? SYNTH_EMPTY : code;
     }
-    }
-    if (answer.code == SYNTH_DONE) {
+    if (code == SYNTH_OK) {
         hold(worker, *element);
         return true;
     }
-    if (answer.code != SYNTH_EMPTY && answer.code != SYNTH_LOST && answer.code != SYNTH_ALL_WOKEN) {
-        must(answer.code, "take");
+    if (code != SYNTH_EMPTY && code != SYNTH_LOST && code != SYNTH_ALL_WOKEN) {
+        must(code, "take");
     }
     return false;
 }
@@ -102,13 +104,14 @@ static void run(struct worker *worker, uint32_t element)
     must(synth_hand_on(&worker->hand, worker->processor, element), "on");
     must(synth_hand_step_done(&worker->hand, element, &after), "step_done");
     must(synth_hand_off(&worker->hand, worker->processor, &off), "off");
-    worker->faults += after != before + 1 || off != element;
+    worker->faults += after != before + 1 || off != element || steps_of[element] != before;
+    steps_of[element] = after;
     worker->steps++;
-    struct synth_state state = synth_hand_try_deliver(&worker->hand, element, &signals);
-    if (state.code == SYNTH_DONE) {
+    synth_code code = synth_hand_try_deliver(&worker->hand, element, &signals, NULL);
+    if (code == SYNTH_OK) {
         worker->delivered += bits_of(signals);
-    } else if (state.code != SYNTH_LOST) {
-        must(state.code, "deliver");
+    } else if (code != SYNTH_LOST) {
+        must(code, "deliver");
     }
 }
 
@@ -117,20 +120,20 @@ static bool move(struct worker *worker, uint32_t element)
 {
     uint32_t wait = below(worker, WAITS), ticket = 0;
     bool parked = false;
-    int32_t code = synth_hand_try_park(&worker->hand, element, &parked).code;
-    if (code != SYNTH_DONE || parked) {
-        return code == SYNTH_DONE;
+    synth_code code = synth_hand_try_park(&worker->hand, element, &parked, NULL);
+    if (code != SYNTH_OK || parked) {
+        return code == SYNTH_OK;
     }
     switch (below(worker, 4)) {
     case 0:
-        return synth_hand_try_ready(&worker->hand, element).code == SYNTH_DONE;
+        return synth_hand_try_ready(&worker->hand, element, NULL) == SYNTH_OK;
     case 1:
-        return synth_hand_try_retire(&worker->hand, element).code == SYNTH_DONE;
+        return synth_hand_try_retire(&worker->hand, element, NULL) == SYNTH_OK;
     case 2:
-        return synth_hand_try_wait(&worker->hand, element, wait).code == SYNTH_DONE;
+        return synth_hand_try_wait(&worker->hand, element, wait, NULL, NULL) == SYNTH_OK;
     default:
         must(synth_hand_ticket(&worker->hand, wait, &ticket), "ticket");
-        return synth_hand_try_wait_at(&worker->hand, element, wait, ticket).code == SYNTH_DONE;
+        return synth_hand_try_wait_at(&worker->hand, element, wait, ticket, NULL, NULL) == SYNTH_OK;
     }
 }
 
@@ -170,8 +173,8 @@ static void add_up(struct worker *last, struct worker *worker)
     last->faults += worker->faults;
 }
 
-/* What the close tells has to be what the workers counted, and nobody holds an element or has one on a processor. */
-static unsigned long faults_at_end(const struct worker *last, const struct synth_places *places)
+/* What the finish reports has to be what the workers counted, and nobody holds an element or has one on a processor. */
+static unsigned long faults_at_end(const struct worker *last, const struct synth_hand_totals *places)
 {
     unsigned long steps = 0, pending = 0, faults = 0;
     for (int i = 0; i < ELEMENTS; i++) {
@@ -187,7 +190,7 @@ static unsigned long faults_at_end(const struct worker *last, const struct synth
 int main(void)
 {
     struct worker *last = &workers[WORKERS];
-    struct synth_places places;
+    struct synth_hand_totals places;
     pthread_t threads[WORKERS];
     must(synth_hand_new(3, &last->hand), "new");
     for (uint32_t i = 0; i < WORKERS; i++) {
@@ -200,7 +203,7 @@ int main(void)
         must(pthread_join(threads[i], NULL), "the end of a worker");
         add_up(last, &workers[i]);
     }
-    must(synth_hand_close(&last->hand, &places), "close");
+    must(synth_hand_finish(&last->hand, &places), "finish");
     unsigned long faults = last->faults + faults_at_end(last, &places);
     printf("many_hands: %d elements, %lu faults\n", ELEMENTS, faults);
     return faults != 0 || last->steps == 0 || last->delivered == 0;

@@ -1,8 +1,15 @@
 /* Memory that a test refuses: see memory.h. */
 #include "memory.h"
 
+enum { MOST = 256 };
+
 static unsigned long refused, asked;
-static long taken;
+
+/* The blocks that are taken, and how many bytes each was asked for. */
+static struct {
+    void *block;
+    size_t length;
+} blocks[MOST];
 
 #ifdef __cplusplus
 extern "C" {
@@ -30,7 +37,20 @@ unsigned long memory_asked(void)
 
 long memory_taken(void)
 {
+    long taken = 0;
+    for (int i = 0; i < MOST; i++) {
+        taken += blocks[i].block != NULL;
+    }
     return taken;
+}
+
+size_t memory_bytes(void)
+{
+    size_t bytes = 0;
+    for (int i = 0; i < MOST; i++) {
+        bytes += blocks[i].block ? blocks[i].length : 0;
+    }
+    return bytes;
 }
 
 static int is_refused(void)
@@ -39,34 +59,44 @@ static int is_refused(void)
     return asked == refused;
 }
 
-/* Counts a block that was taken. */
-static void *counted(void *block)
+/* Puts a block in the place of another in the list. Null stands for none. */
+static void *replaced(void *old, void *block, size_t length)
 {
-    taken += block != NULL;
+    for (int i = 0; i < MOST; i++) {
+        if (blocks[i].block == old) {
+            blocks[i].block = block;
+            blocks[i].length = length;
+            return block;
+        }
+    }
     return block;
 }
 
 void *__wrap_malloc(size_t length)
 {
-    return is_refused() ? NULL : counted(__real_malloc(length));
+    return is_refused() ? NULL : replaced(NULL, __real_malloc(length), length);
 }
 
 void *__wrap_calloc(size_t count, size_t length)
 {
-    return is_refused() ? NULL : counted(__real_calloc(count, length));
+    return is_refused() ? NULL : replaced(NULL, __real_calloc(count, length), count * length);
 }
 
 void *__wrap_realloc(void *block, size_t length)
 {
+    void *grown;
     if (is_refused()) {
         return NULL;
     }
-    return block ? __real_realloc(block, length) : counted(__real_realloc(block, length));
+    grown = __real_realloc(block, length);
+    return grown ? replaced(block, grown, length) : NULL;
 }
 
 void __wrap_free(void *block)
 {
-    taken -= block != NULL;
+    if (block) {
+        replaced(block, NULL, 0);
+    }
     __real_free(block);
 }
 

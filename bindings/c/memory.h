@@ -16,8 +16,9 @@ void memory_refuse(unsigned long number);
 /* How often memory was asked for since the last `memory_refuse`. */
 unsigned long memory_asked(void);
 
-/* How many blocks are taken and not given back. */
+/* How many blocks are taken and not given back, at most 256, and how many bytes were asked for of all of them. */
 long memory_taken(void);
+size_t memory_bytes(void);
 
 #ifdef __cplusplus
 }

@@ -23,8 +23,7 @@ static void to_batch_calls(struct synth_batch *other)
     struct synth_positions at = {9, 9};
     uint64_t items[PLACES] = {0}, len = 9;
     size_t count = 9;
-    bool was_open = false;
-    struct synth_batch_closed closed;
+    struct synth_batch_totals closed;
     ROW(synth_batch_new(PLACES, other), SYNTH_FULL_HANDLE);
     ROW(synth_batch_split(other, &no_batch), SYNTH_EMPTY_HANDLE);
     ROW(synth_batch_split(&batch, other), SYNTH_FULL_HANDLE);
@@ -32,49 +31,56 @@ static void to_batch_calls(struct synth_batch *other)
     ROW(synth_batch_join(other, &batch), SYNTH_EMPTY_HANDLE);
     ROW(synth_batch_try_put(other, items, 1, &at), SYNTH_EMPTY_HANDLE);
     ROW(synth_batch_try_put_some(other, items, 1, &count, &at), SYNTH_EMPTY_HANDLE);
-    ROW(synth_batch_try_take(other, items, PLACES, &count, &at), SYNTH_EMPTY_HANDLE);
-    ROW(synth_batch_try_take_some(other, items, PLACES, &count, &at), SYNTH_EMPTY_HANDLE);
+    ROW(synth_batch_try_take(other, items, PLACES, &count, &len), SYNTH_EMPTY_HANDLE);
+    ROW(synth_batch_try_take_some(other, items, PLACES, &count, &len), SYNTH_EMPTY_HANDLE);
+    ROW(synth_batch_put(other, items, 1, 9), SYNTH_EMPTY_HANDLE);
+    ROW(synth_batch_put_some(other, items, 1, 9, &count), SYNTH_EMPTY_HANDLE);
+    ROW(synth_batch_take(other, items, PLACES, 9, &count), SYNTH_EMPTY_HANDLE);
+    ROW(synth_batch_take_some(other, items, PLACES, 9, &count), SYNTH_EMPTY_HANDLE);
+    ROW(synth_batch_abandon(other, items, PLACES, &count), SYNTH_EMPTY_HANDLE);
     ROW(synth_batch_len(other, &len), SYNTH_EMPTY_HANDLE);
     ROW(synth_batch_capacity(other, &count), SYNTH_EMPTY_HANDLE);
-    ROW(synth_batch_shut(other, &was_open), SYNTH_EMPTY_HANDLE);
-    ROW(synth_batch_close(other, items, PLACES, &closed), SYNTH_EMPTY_HANDLE);
+    ROW(synth_batch_shut(other), SYNTH_EMPTY_HANDLE);
+    ROW(synth_batch_finish(other, items, PLACES, &closed), SYNTH_EMPTY_HANDLE);
     ROW(synth_batch_free(other), SYNTH_EMPTY_HANDLE);
-    ROW(count == 9 && len == 9 && at.head == 9 && at.tail == 9 && !was_open && other->full, true);
+    ROW(count == 9 && len == 9 && at.head == 9 && at.tail == 9 && other->full, true);
 }
 
 static void to_queue_calls(struct synth_queue *other)
 {
     uint64_t items[PLACES] = {0};
     size_t count = 9;
-    bool was_open = false;
-    struct synth_closed closed;
+    struct synth_queue_totals closed;
     ROW(synth_queue_new(PLACES, 0, other), SYNTH_FULL_HANDLE);
     ROW(synth_queue_split(other, &no_queue), SYNTH_EMPTY_HANDLE);
     ROW(synth_queue_split(&queue, other), SYNTH_FULL_HANDLE);
     ROW(synth_queue_join(&queue, other), SYNTH_EMPTY_HANDLE);
     ROW(synth_queue_join(other, &queue), SYNTH_EMPTY_HANDLE);
-    ROW(synth_queue_try_put(other, items, 1).code, SYNTH_EMPTY_HANDLE);
-    ROW(synth_queue_try_take(other, items).code, SYNTH_EMPTY_HANDLE);
-    ROW(synth_queue_take_up_to(other, items, PLACES, &count).code, SYNTH_EMPTY_HANDLE);
-    ROW(synth_queue_try_take_line(other, items, PLACES, &count).code, SYNTH_EMPTY_HANDLE);
-    ROW(synth_queue_shut(other, &was_open), SYNTH_EMPTY_HANDLE);
-    ROW(synth_queue_close(other, items, PLACES, &closed), SYNTH_EMPTY_HANDLE);
+    ROW(synth_queue_try_put(other, items, 1, NULL), SYNTH_EMPTY_HANDLE);
+    ROW(synth_queue_try_take(other, items, NULL), SYNTH_EMPTY_HANDLE);
+    ROW(synth_queue_take_up_to(other, items, PLACES, &count, NULL), SYNTH_EMPTY_HANDLE);
+    ROW(synth_queue_try_take_line(other, items, PLACES, &count, NULL), SYNTH_EMPTY_HANDLE);
+    ROW(synth_queue_put(other, items, 1, 9), SYNTH_EMPTY_HANDLE);
+    ROW(synth_queue_take(other, items, 9), SYNTH_EMPTY_HANDLE);
+    ROW(synth_queue_abandon(other, items, PLACES, &count), SYNTH_EMPTY_HANDLE);
+    ROW(synth_queue_shut(other), SYNTH_EMPTY_HANDLE);
+    ROW(synth_queue_finish(other, items, PLACES, &closed), SYNTH_EMPTY_HANDLE);
     ROW(synth_queue_free(other), SYNTH_EMPTY_HANDLE);
-    ROW(count == 9 && !was_open && other->full, true);
+    ROW(count == 9 && other->full, true);
 }
 
 static void to_chain_calls(struct synth_chain *other)
 {
-    struct synth_chained closed;
+    struct synth_chain_totals closed;
     uint16_t note = 9;
     ROW(synth_chain_new(0, other), SYNTH_FULL_HANDLE);
     ROW(synth_chain_split(other, &no_chain), SYNTH_EMPTY_HANDLE);
     ROW(synth_chain_split(&chain, other), SYNTH_FULL_HANDLE);
     ROW(synth_chain_join(&chain, other), SYNTH_EMPTY_HANDLE);
     ROW(synth_chain_join(other, &chain), SYNTH_EMPTY_HANDLE);
-    ROW(synth_chain_try_chain(other, 1).code, SYNTH_EMPTY_HANDLE);
+    ROW(synth_chain_try_chain(other, 1, NULL), SYNTH_EMPTY_HANDLE);
     ROW(synth_chain_next(other, &note), SYNTH_EMPTY_HANDLE);
-    ROW(synth_chain_close(other, &closed), SYNTH_EMPTY_HANDLE);
+    ROW(synth_chain_finish(other, &closed), SYNTH_EMPTY_HANDLE);
     ROW(synth_chain_free(other), SYNTH_EMPTY_HANDLE);
     ROW(note == 9 && other->full, true);
 }
@@ -83,7 +89,7 @@ static void to_seat_calls(struct synth_seat *other)
 {
     struct synth_alarm alarm = {0, 0, 0};
     struct synth_alarm alarms[16];
-    struct synth_metered metered;
+    struct synth_seat_totals metered;
     uint64_t before = 9;
     uint32_t number = 9;
     size_t count = 9;
@@ -94,18 +100,18 @@ static void to_seat_calls(struct synth_seat *other)
     ROW(synth_seat_join(&seat, other), SYNTH_EMPTY_HANDLE);
     ROW(synth_seat_join(other, &seat), SYNTH_EMPTY_HANDLE);
     ROW(synth_seat_tick(other, 0, 1, &before), SYNTH_EMPTY_HANDLE);
-    ROW(synth_seat_advance(other, &number).code, SYNTH_EMPTY_HANDLE);
-    ROW(synth_seat_try_set(other, &alarm, &number).code, SYNTH_EMPTY_HANDLE);
+    ROW(synth_seat_try_advance(other, &number), SYNTH_EMPTY_HANDLE);
+    ROW(synth_seat_try_set(other, &alarm, &number), SYNTH_EMPTY_HANDLE);
     ROW(synth_seat_cancel(other, 0, &alarm, &cancelled), SYNTH_EMPTY_HANDLE);
     ROW(synth_seat_due(other, alarms, 16, &count), SYNTH_EMPTY_HANDLE);
-    ROW(synth_seat_close(other, &metered), SYNTH_EMPTY_HANDLE);
+    ROW(synth_seat_finish(other, &metered), SYNTH_EMPTY_HANDLE);
     ROW(synth_seat_free(other), SYNTH_EMPTY_HANDLE);
     ROW(before == 9 && number == 9 && count == 9 && !cancelled && other->full, true);
 }
 
 static void to_hand_calls(struct synth_hand *other)
 {
-    static struct synth_places places;
+    static struct synth_hand_totals places;
     uint32_t number = 9;
     bool is = false;
     ROW(synth_hand_new(0, other), SYNTH_FULL_HANDLE);
@@ -116,10 +122,10 @@ static void to_hand_calls(struct synth_hand *other)
     ROW(synth_hand_holds(other, 0, &is), SYNTH_EMPTY_HANDLE);
     ROW(synth_hand_on(other, 0, 0), SYNTH_EMPTY_HANDLE);
     ROW(synth_hand_off(other, 0, &number), SYNTH_EMPTY_HANDLE);
-    ROW(synth_hand_try_next(other, &number).code, SYNTH_EMPTY_HANDLE);
-    ROW(synth_hand_try_ready(other, 0).code, SYNTH_EMPTY_HANDLE);
+    ROW(synth_hand_try_next(other, &number, NULL), SYNTH_EMPTY_HANDLE);
+    ROW(synth_hand_try_ready(other, 0, NULL), SYNTH_EMPTY_HANDLE);
     ROW(synth_hand_stop(other, 0, &is), SYNTH_EMPTY_HANDLE);
-    ROW(synth_hand_close(other, &places), SYNTH_EMPTY_HANDLE);
+    ROW(synth_hand_finish(other, &places), SYNTH_EMPTY_HANDLE);
     ROW(synth_hand_free(other), SYNTH_EMPTY_HANDLE);
     ROW(number == 9 && !is && other->full, true);
 }
@@ -148,31 +154,31 @@ static void to_line_out_calls(struct synth_line_out *other)
 /* Each object is whole still, so its close succeeds. */
 static void all_close(void)
 {
-    static struct synth_places places;
+    static struct synth_hand_totals places;
     uint64_t left[PLACES];
-    struct synth_batch_closed batch_closed;
-    struct synth_closed closed;
-    struct synth_chained chained;
-    struct synth_metered metered;
+    struct synth_batch_totals batch_closed;
+    struct synth_queue_totals closed;
+    struct synth_chain_totals chained;
+    struct synth_seat_totals metered;
     struct synth_line_totals totals;
-    ROW(synth_batch_close(&batch, left, PLACES, &batch_closed), SYNTH_DONE);
-    ROW(synth_queue_close(&queue, left, PLACES, &closed), SYNTH_DONE);
-    ROW(synth_chain_close(&chain, &chained), SYNTH_DONE);
-    ROW(synth_seat_close(&seat, &metered), SYNTH_DONE);
-    ROW(synth_hand_close(&hand, &places), SYNTH_DONE);
-    ROW(synth_line_finish(&input, &output, &totals), SYNTH_DONE);
+    ROW(synth_batch_finish(&batch, left, PLACES, &batch_closed), SYNTH_OK);
+    ROW(synth_queue_finish(&queue, left, PLACES, &closed), SYNTH_OK);
+    ROW(synth_chain_finish(&chain, &chained), SYNTH_OK);
+    ROW(synth_seat_finish(&seat, &metered), SYNTH_OK);
+    ROW(synth_hand_finish(&hand, &places), SYNTH_OK);
+    ROW(synth_line_finish(&input, &output, &totals), SYNTH_OK);
     ROW(no_batch.full || no_queue.full || no_chain.full || no_seat.full, false);
     ROW(no_hand.full || no_input.full || no_output.full, false);
 }
 
 int main(void)
 {
-    ROW(synth_batch_new(PLACES, &batch), SYNTH_DONE);
-    ROW(synth_queue_new(PLACES, 0, &queue), SYNTH_DONE);
-    ROW(synth_chain_new(0, &chain), SYNTH_DONE);
-    ROW(synth_seat_new(0, &seat), SYNTH_DONE);
-    ROW(synth_hand_new(0, &hand), SYNTH_DONE);
-    ROW(synth_line_new(4, &input, &output), SYNTH_DONE);
+    ROW(synth_batch_new(PLACES, &batch), SYNTH_OK);
+    ROW(synth_queue_new(PLACES, 0, &queue), SYNTH_OK);
+    ROW(synth_chain_new(0, &chain), SYNTH_OK);
+    ROW(synth_seat_new(0, &seat), SYNTH_OK);
+    ROW(synth_hand_new(0, &hand), SYNTH_OK);
+    ROW(synth_line_new(4, &input, &output), SYNTH_OK);
     for (int i = 0; i < KINDS; i++) {
         if (handles[i] != &batch) {
             to_batch_calls((struct synth_batch *)handles[i]);

@@ -8,10 +8,9 @@
 enum { PLACES = 64 };
 
 static struct synth_batch last, other;
-static struct synth_positions at;
 static uint64_t left[PLACES];
 
-static int32_t new_queue(void)
+static synth_code new_queue(void)
 {
     return synth_batch_new(PLACES, &last);
 }
@@ -21,7 +20,7 @@ static void is_empty(void)
     ROW(last.full, false);
 }
 
-static int32_t split_off(void)
+static synth_code split_off(void)
 {
     return synth_batch_split(&last, &other);
 }
@@ -32,8 +31,8 @@ static void passes_one(void)
     uint64_t item = 0, wanted = 4;
     size_t count = 0;
     ROW(other.full, false);
-    ROW(synth_batch_try_put(&last, &wanted, 1, &at), SYNTH_DONE);
-    ROW(synth_batch_try_take(&last, &item, 1, &count, &at), SYNTH_DONE);
+    ROW(synth_batch_try_put(&last, &wanted, 1, NULL), SYNTH_OK);
+    ROW(synth_batch_try_take(&last, &item, 1, &count, NULL), SYNTH_OK);
     ROW(item, wanted);
 }
 
@@ -42,21 +41,20 @@ static void ask_for_none(void)
 {
     uint64_t items[] = {5, 6, 7}, len = 0;
     size_t count = 0;
-    bool was_open = false;
-    struct synth_batch_closed closed;
+    struct synth_batch_totals closed;
     memory_refuse(1);
-    ROW(synth_batch_try_put(&other, items, 3, &at), SYNTH_DONE);
-    ROW(synth_batch_try_put_some(&other, items, 3, &count, &at), SYNTH_DONE);
-    ROW(synth_batch_len(&other, &len), SYNTH_DONE);
-    ROW(synth_batch_capacity(&other, &count), SYNTH_DONE);
-    ROW(synth_batch_try_take(&other, left, 2, &count, &at), SYNTH_SHORT_BUFFER);
-    ROW(synth_batch_try_take_some(&other, left, 2, &count, &at), SYNTH_DONE);
-    ROW(synth_batch_try_take(&last, left, PLACES, &count, &at), SYNTH_DONE);
+    ROW(synth_batch_try_put(&other, items, 3, NULL), SYNTH_OK);
+    ROW(synth_batch_try_put_some(&other, items, 3, &count, NULL), SYNTH_OK);
+    ROW(synth_batch_len(&other, &len), SYNTH_OK);
+    ROW(synth_batch_capacity(&other, &count), SYNTH_OK);
+    ROW(synth_batch_try_take(&other, left, 2, &count, NULL), SYNTH_SHORT_BUFFER);
+    ROW(synth_batch_try_take_some(&other, left, 2, &count, NULL), SYNTH_OK);
+    ROW(synth_batch_try_take(&last, left, PLACES, &count, NULL), SYNTH_OK);
     ROW(count, 4);
-    ROW(synth_batch_shut(&other, &was_open), SYNTH_DONE);
-    ROW(synth_batch_close(&last, left, PLACES, &closed), SYNTH_OPEN);
-    ROW(synth_batch_join(&last, &other), SYNTH_DONE);
-    ROW(synth_batch_close(&last, left, PLACES, &closed), SYNTH_DONE);
+    ROW(synth_batch_shut(&other), SYNTH_OK);
+    ROW(synth_batch_finish(&last, left, PLACES, &closed), SYNTH_OPEN);
+    ROW(synth_batch_join(&last, &other), SYNTH_OK);
+    ROW(synth_batch_finish(&last, left, PLACES, &closed), SYNTH_OK);
     ROW(memory_asked(), 0);
     ROW(memory_taken(), 0);
     memory_refuse(0);
@@ -65,16 +63,16 @@ static void ask_for_none(void)
 /* Handles that are freed give their memory back, the last one that of the queue. A close that is refused gives none. */
 static void free_all(void)
 {
-    struct synth_batch_closed closed;
+    struct synth_batch_totals closed;
     long taken;
-    ROW(synth_batch_new(PLACES, &last), SYNTH_DONE);
-    ROW(synth_batch_split(&last, &other), SYNTH_DONE);
-    ROW(synth_batch_free(&last), SYNTH_DONE);
+    ROW(synth_batch_new(PLACES, &last), SYNTH_OK);
+    ROW(synth_batch_split(&last, &other), SYNTH_OK);
+    ROW(synth_batch_free(&last), SYNTH_OK);
     taken = memory_taken();
     ROW(taken > 0, true);
-    ROW(synth_batch_close(&other, left, PLACES, &closed), SYNTH_OPEN);
+    ROW(synth_batch_finish(&other, left, PLACES, &closed), SYNTH_OPEN);
     ROW(memory_taken(), taken);
-    ROW(synth_batch_free(&other), SYNTH_DONE);
+    ROW(synth_batch_free(&other), SYNTH_OK);
     ROW(memory_taken(), 0);
 }
 

@@ -7,7 +7,7 @@
 static struct synth_line_in input;
 static struct synth_line_out output;
 
-static int32_t new_line(void)
+static synth_code new_line(void)
 {
     return synth_line_new(100, &input, &output);
 }
@@ -22,10 +22,10 @@ static void ask_for_none(void)
     struct synth_line_totals totals;
     uint8_t byte = 0;
     memory_refuse(1);
-    ROW(synth_line_push(&input, 5), SYNTH_DONE);
-    ROW(synth_line_pop(&output, &byte), SYNTH_DONE);
+    ROW(synth_line_push(&input, 5), SYNTH_OK);
+    ROW(synth_line_pop(&output, &byte), SYNTH_OK);
     ROW(synth_line_pop(&output, &byte), SYNTH_EMPTY);
-    ROW(synth_line_finish(&input, &output, &totals), SYNTH_DONE);
+    ROW(synth_line_finish(&input, &output, &totals), SYNTH_OK);
     ROW(memory_asked(), 0);
     ROW(memory_taken(), 0);
     memory_refuse(0);
@@ -34,10 +34,10 @@ static void ask_for_none(void)
 /* Halves that are freed give their memory back, the last one that of the line. */
 static void free_both(void)
 {
-    ROW(new_line(), SYNTH_DONE);
-    ROW(synth_line_free_in(&input), SYNTH_DONE);
+    ROW(new_line(), SYNTH_OK);
+    ROW(synth_line_free_in(&input), SYNTH_OK);
     ROW(memory_taken() > 0, true);
-    ROW(synth_line_free_out(&output), SYNTH_DONE);
+    ROW(synth_line_free_out(&output), SYNTH_OK);
     ROW(memory_taken(), 0);
 }
 

@@ -10,7 +10,7 @@ enum { PLACES = 64 };
 static struct synth_queue last, other;
 static uint64_t left[PLACES];
 
-static int32_t new_queue(void)
+static synth_code new_queue(void)
 {
     return synth_queue_new(PLACES, 0, &last);
 }
@@ -20,7 +20,7 @@ static void is_empty(void)
     ROW(last.full, false);
 }
 
-static int32_t split_off(void)
+static synth_code split_off(void)
 {
     return synth_queue_split(&last, &other);
 }
@@ -30,8 +30,8 @@ static void passes_one(void)
 {
     uint64_t item = 0, wanted = 4;
     ROW(other.full, false);
-    ROW(synth_queue_try_put(&last, &wanted, 1).code, SYNTH_DONE);
-    ROW(synth_queue_try_take(&last, &item).code, SYNTH_DONE);
+    ROW(synth_queue_try_put(&last, &wanted, 1, NULL), SYNTH_OK);
+    ROW(synth_queue_try_take(&last, &item, NULL), SYNTH_OK);
     ROW(item, wanted);
 }
 
@@ -40,17 +40,16 @@ static void ask_for_none(void)
 {
     uint64_t item = 5, line[PLACES];
     size_t count = 0;
-    bool was_open = false;
-    struct synth_closed closed;
+    struct synth_queue_totals closed;
     memory_refuse(1);
-    ROW(synth_queue_try_put(&other, &item, 1).code, SYNTH_DONE);
-    ROW(synth_queue_try_take_line(&other, line, PLACES, &count).code, SYNTH_EMPTY);
-    ROW(synth_queue_take_up_to(&other, line, PLACES, &count).code, SYNTH_DONE);
-    ROW(synth_queue_try_take(&other, &item).code, SYNTH_EMPTY);
-    ROW(synth_queue_shut(&other, &was_open), SYNTH_DONE);
-    ROW(synth_queue_close(&last, left, PLACES, &closed), SYNTH_OPEN);
-    ROW(synth_queue_join(&last, &other), SYNTH_DONE);
-    ROW(synth_queue_close(&last, left, PLACES, &closed), SYNTH_DONE);
+    ROW(synth_queue_try_put(&other, &item, 1, NULL), SYNTH_OK);
+    ROW(synth_queue_try_take_line(&other, line, PLACES, &count, NULL), SYNTH_EMPTY);
+    ROW(synth_queue_take_up_to(&other, line, PLACES, &count, NULL), SYNTH_OK);
+    ROW(synth_queue_try_take(&other, &item, NULL), SYNTH_EMPTY);
+    ROW(synth_queue_shut(&other), SYNTH_OK);
+    ROW(synth_queue_finish(&last, left, PLACES, &closed), SYNTH_OPEN);
+    ROW(synth_queue_join(&last, &other), SYNTH_OK);
+    ROW(synth_queue_finish(&last, left, PLACES, &closed), SYNTH_OK);
     ROW(memory_asked(), 0);
     ROW(memory_taken(), 0);
     memory_refuse(0);
@@ -59,16 +58,16 @@ static void ask_for_none(void)
 /* Handles that are freed give their memory back, the last one that of the queue. A close that is refused gives none. */
 static void free_all(void)
 {
-    struct synth_closed closed;
+    struct synth_queue_totals closed;
     long taken;
-    ROW(synth_queue_new(PLACES, 0, &last), SYNTH_DONE);
-    ROW(synth_queue_split(&last, &other), SYNTH_DONE);
-    ROW(synth_queue_free(&last), SYNTH_DONE);
+    ROW(synth_queue_new(PLACES, 0, &last), SYNTH_OK);
+    ROW(synth_queue_split(&last, &other), SYNTH_OK);
+    ROW(synth_queue_free(&last), SYNTH_OK);
     taken = memory_taken();
     ROW(taken > 0, true);
-    ROW(synth_queue_close(&other, left, PLACES, &closed), SYNTH_OPEN);
+    ROW(synth_queue_finish(&other, left, PLACES, &closed), SYNTH_OPEN);
     ROW(memory_taken(), taken);
-    ROW(synth_queue_free(&other), SYNTH_DONE);
+    ROW(synth_queue_free(&other), SYNTH_OK);
     ROW(memory_taken(), 0);
 }
 

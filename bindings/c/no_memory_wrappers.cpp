@@ -1,6 +1,6 @@
 /*
  * The classes of synthesis.hpp where memory is refused: each allocation of the library in turn, and that of the list
- * which a close answers. What is refused is NoMemory, takes no memory, throws nothing, and leaves all as it was.
+ * which a finish answers. What is refused is NoMemory, takes no memory, throws nothing, and leaves all as it was.
  */
 #include "memory.h"
 #include "rows.h"
@@ -52,10 +52,10 @@ template <class End> void queues()
 {
     End end = refuse_each([] { return End::make(64); }).value();
     End other = refuse_each([&end] { return end.split(); }).value();
-    ROW(other.try_put(7).code, Code::Done);
-    ROW(end.join(std::move(other)), Code::Done);
-    auto closed = refuse_each([&end] { return end.close(); });
-    ROW(closed->left.size() == 1 && closed->left[0] == 7, true);
+    ROW(other.try_put(7).code, Code::Ok);
+    ROW(end.join(std::move(other)), Code::Ok);
+    auto totals = refuse_each([&end] { return end.finish(); });
+    ROW(totals->left.size() == 1 && totals->left[0] == 7, true);
     ROW(end.full(), false);
 }
 

@@ -8,22 +8,22 @@
 #include "rows.h"
 #include "synthesis.h"
 
-static void refuse_each(int32_t (*call)(void), void (*stands)(void))
+static void refuse_each(synth_code (*call)(void), void (*stands)(void))
 {
     unsigned long number = 0;
     long taken = memory_taken();
-    int32_t code;
+    synth_code code;
     do {
         number++;
         memory_refuse(number);
         code = call();
-        if (code != SYNTH_DONE) {
+        if (code != SYNTH_OK) {
             ROW(code, SYNTH_NO_MEMORY);
             ROW(memory_taken(), taken);
             stands();
         }
-    } while (code != SYNTH_DONE && number < 100);
-    ROW(code, SYNTH_DONE);
+    } while (code != SYNTH_OK && number < 100);
+    ROW(code, SYNTH_OK);
     ROW(number > 1, true);
     memory_refuse(0);
 }

@@ -27,16 +27,16 @@ struct worker {
 enum fate { GOES_ON, WAITS, ENDS };
 
 /* Ends the program where a call that has to succeed did not. */
-static void must(int32_t code, const char *what)
+static void must(synth_code code, const char *what)
 {
-    if (code != SYNTH_DONE) {
+    if (code != SYNTH_OK) {
         fprintf(stderr, "scheduler: %s: code %d\n", what, (int)code);
         exit(1);
     }
 }
 
 /* Lets other threads run where a try is to be made again, since one of them was first, or is within a move. */
-static void try_again(int32_t code, const char *what)
+static void try_again(synth_code code, const char *what)
 {
     if (code != SYNTH_LOST && code != SYNTH_EMPTY) {
         must(code, what);
@@ -53,17 +53,17 @@ static uint64_t add(struct worker *worker, uint32_t gauge, uint64_t amount)
 
 static void make_ready(struct worker *worker, uint32_t element)
 {
-    struct synth_moved moved;
-    while ((moved = synth_hand_try_ready(&worker->hand, element)).code != SYNTH_DONE) {
-        try_again(moved.code, "ready");
+    synth_code code;
+    while ((code = synth_hand_try_ready(&worker->hand, element, NULL)) != SYNTH_OK) {
+        try_again(code, "ready");
     }
 }
 
 static void retire(struct worker *worker, uint32_t element)
 {
-    struct synth_moved moved;
-    while ((moved = synth_hand_try_retire(&worker->hand, element)).code != SYNTH_DONE) {
-        try_again(moved.code, "retire");
+    synth_code code;
+    while ((code = synth_hand_try_retire(&worker->hand, element, NULL)) != SYNTH_OK) {
+        try_again(code, "retire");
     }
     add(worker, RETIRED, 1);
 }
@@ -71,13 +71,13 @@ static void retire(struct worker *worker, uint32_t element)
 /* Lets the element wait for the next round. Where a round has ended since the ticket was read it is ready instead. */
 static void let_wait(struct worker *worker, uint32_t element, uint32_t ticket)
 {
-    struct synth_moved moved;
-    while ((moved = synth_hand_try_wait_at(&worker->hand, element, NEXT_ROUND, ticket)).code != SYNTH_DONE) {
-        if (moved.code == SYNTH_MOVED) {
+    synth_code code;
+    while ((code = synth_hand_try_wait_at(&worker->hand, element, NEXT_ROUND, ticket, NULL, NULL)) != SYNTH_OK) {
+        if (code == SYNTH_MOVED) {
             make_ready(worker, element);
             return;
         }
-        try_again(moved.code, "wait");
+        try_again(code, "wait");
     }
 }
 
@@ -87,14 +87,14 @@ static void wake_all(struct worker *worker)
     uint32_t head = 0, element = 0;
     must(synth_hand_notify(&worker->hand, NEXT_ROUND, &head), "notify");
     for (;;) {
-        struct synth_answer answer = synth_hand_try_wake_before(&worker->hand, NEXT_ROUND, head, &element);
-        if (answer.code == SYNTH_ALL_WOKEN) {
+        synth_code code = synth_hand_try_wake_before(&worker->hand, NEXT_ROUND, head, &element, NULL);
+        if (code == SYNTH_ALL_WOKEN) {
             return;
         }
-        if (answer.code == SYNTH_DONE) {
+        if (code == SYNTH_OK) {
             make_ready(worker, element);
         } else {
-            try_again(answer.code, "wake");
+            try_again(code, "wake");
         }
     }
 }
@@ -142,17 +142,17 @@ static void *work(void *given)
     struct worker *worker = (struct worker *)given;
     while (add(worker, RETIRED, 0) < ELEMENTS) {
         uint32_t element = 0;
-        struct synth_answer answer = synth_hand_try_next(&worker->hand, &element);
-        if (answer.code == SYNTH_DONE) {
+        synth_code code = synth_hand_try_next(&worker->hand, &element, NULL);
+        if (code == SYNTH_OK) {
             turn(worker, element);
         } else {
-            try_again(answer.code, "next");
+            try_again(code, "next");
         }
     }
     return NULL;
 }
 
-/* All zeros, so each handle is empty. The last one is the main thread's, which makes the objects and closes them. */
+/* All zeros, so each handle is empty. The last one is the main thread's, which makes the objects and ends them. */
 static struct worker workers[WORKERS + 1];
 
 int main(void)
@@ -163,7 +163,7 @@ int main(void)
     must(synth_seat_new(0, &last->seat), "new");
     for (int i = 0; i < ELEMENTS; i++) {
         uint32_t element = 0;
-        must(synth_hand_try_free(&last->hand, &element).code, "a free element");
+        must(synth_hand_try_free(&last->hand, &element, NULL), "a free element");
         make_ready(last, element);
     }
     for (uint32_t i = 0; i < WORKERS; i++) {
@@ -179,16 +179,16 @@ int main(void)
         last->sum += workers[i].sum;
     }
 
-    /* The last hand closes the table, which tells where each element is and how many steps it has done. */
-    struct synth_places places;
-    struct synth_metered metered;
-    must(synth_hand_close(&last->hand, &places), "close");
-    must(synth_seat_close(&last->seat, &metered), "close");
+    /* The last hand ends the table, and reports where each element is and how many steps it has done. */
+    struct synth_hand_totals places;
+    struct synth_seat_totals meters;
+    must(synth_hand_finish(&last->hand, &places), "finish");
+    must(synth_seat_finish(&last->seat, &meters), "finish");
     int retired = 0;
     for (int i = 0; i < ELEMENTS; i++) {
         retired += places.place[i].kind == SYNTH_PLACE_FREE && places.pc[i] == ROUNDS;
     }
-    printf("did %llu steps, sum %llu\n", (unsigned long long)metered.gauges[STEPS], (unsigned long long)last->sum);
+    printf("did %llu steps, sum %llu\n", (unsigned long long)meters.gauges[STEPS], (unsigned long long)last->sum);
     printf("closed: %d elements are free, each after %d steps\n", retired, ROUNDS);
     return retired != ELEMENTS || last->sum != 10504000;
 }

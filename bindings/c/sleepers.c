@@ -32,43 +32,23 @@ static uint64_t faults;
 static synth_event items = SYNTH_EVENT_INIT;
 static synth_event places = SYNTH_EVENT_INIT;
 
-static void must(int32_t code, const char *what)
+static void must(synth_code code, const char *what)
 {
-    if (code != SYNTH_DONE) {
+    if (code != SYNTH_OK) {
         fprintf(stderr, "sleepers: %s: code %d\n", what, (int)code);
         exit(1);
     }
 }
 
-/* A try to take an item, repeated while another end is first. */
-static int32_t take(struct synth_queue *end, uint64_t *item)
-{
-    int32_t code;
-    do {
-        code = synth_queue_try_take(end, item).code;
-    } while (code == SYNTH_LOST);
-    return code;
-}
-
-/* A try to put an item, repeated while another end is first. */
-static int32_t put(struct synth_queue *end, uint64_t item)
-{
-    int32_t code;
-    do {
-        code = synth_queue_try_put(end, &item, 1).code;
-    } while (code == SYNTH_LOST);
-    return code;
-}
-
 /* Takes an item, and sleeps while there is none. SYNTH_EMPTY: the time is over. */
-static int32_t take_wait(struct synth_queue *end, uint64_t *item, int64_t limit)
+static synth_code take_wait(struct synth_queue *end, uint64_t *item, int64_t limit)
 {
     int64_t deadline = synth_event_deadline(limit);
     bool waited = false, in_time = true;
-    int32_t code;
-    while ((code = take(end, item)) == SYNTH_EMPTY && in_time) {
+    synth_code code;
+    while ((code = synth_queue_take(end, item, UINT32_MAX)) == SYNTH_EMPTY && in_time) {
         uint32_t ticket = synth_event_prepare(&items);
-        if ((code = take(end, item)) != SYNTH_EMPTY) {
+        if ((code = synth_queue_take(end, item, UINT32_MAX)) != SYNTH_EMPTY) {
             synth_event_cancel(&items);
             break;
         }
@@ -78,21 +58,21 @@ static int32_t take_wait(struct synth_queue *end, uint64_t *item, int64_t limit)
     if (waited && code != SYNTH_EMPTY) {
         synth_event_notify_one(&items);
     }
-    if (code == SYNTH_DONE) {
+    if (code == SYNTH_OK) {
         synth_event_notify_one(&places);
     }
     return code;
 }
 
 /* Puts an item, and sleeps while there is no place for it. SYNTH_FULL: the time is over. */
-static int32_t put_wait(struct synth_queue *end, uint64_t item, int64_t limit)
+static synth_code put_wait(struct synth_queue *end, uint64_t item, int64_t limit)
 {
     int64_t deadline = synth_event_deadline(limit);
     bool waited = false, in_time = true;
-    int32_t code;
-    while ((code = put(end, item)) == SYNTH_FULL && in_time) {
+    synth_code code;
+    while ((code = synth_queue_put(end, &item, 1, UINT32_MAX)) == SYNTH_FULL && in_time) {
         uint32_t ticket = synth_event_prepare(&places);
-        if ((code = put(end, item)) != SYNTH_FULL) {
+        if ((code = synth_queue_put(end, &item, 1, UINT32_MAX)) != SYNTH_FULL) {
             synth_event_cancel(&places);
             break;
         }
@@ -102,7 +82,7 @@ static int32_t put_wait(struct synth_queue *end, uint64_t item, int64_t limit)
     if (waited && code != SYNTH_FULL) {
         synth_event_notify_one(&places);
     }
-    if (code == SYNTH_DONE) {
+    if (code == SYNTH_OK) {
         synth_event_notify_one(&items);
     }
     return code;
@@ -118,8 +98,8 @@ static void *put_items(void *given)
 {
     struct job *job = (struct job *)given;
     for (uint64_t item = job->first; item < job->end;) {
-        int32_t code = put_wait(&job->queue, item, limit_of(job->number));
-        if (code == SYNTH_DONE) {
+        synth_code code = put_wait(&job->queue, item, limit_of(job->number));
+        if (code == SYNTH_OK) {
             item++;
         } else if (code != SYNTH_FULL) {
             must(code, "put");
@@ -143,7 +123,7 @@ static void take_more(struct job *job)
 {
     uint64_t taken[ROOM];
     size_t count = 0;
-    if (synth_queue_take_up_to(&job->queue, taken, ROOM, &count).code == SYNTH_DONE) {
+    if (synth_queue_take_up_to(&job->queue, taken, ROOM, &count, NULL) == SYNTH_OK) {
         synth_event_notify_one(&places);
     }
     for (size_t i = 0; i < count; i++) {
@@ -156,11 +136,11 @@ static void *take_items(void *given)
     struct job *job = (struct job *)given;
     for (;;) {
         uint64_t item = 0;
-        int32_t code = take_wait(&job->queue, &item, limit_of(job->number));
+        synth_code code = take_wait(&job->queue, &item, limit_of(job->number));
         if (code == SYNTH_CLOSED) {
             return NULL;
         }
-        if (code == SYNTH_DONE) {
+        if (code == SYNTH_OK) {
             mark(job, item);
         } else if (code != SYNTH_EMPTY) {
             must(code, "take");
@@ -197,8 +177,7 @@ static uint64_t not_taken_once(void)
 
 static void shut(struct synth_queue *queue)
 {
-    bool was_open = false;
-    must(synth_queue_shut(queue, &was_open), "shut");
+    must(synth_queue_shut(queue), "shut");
     synth_event_notify_all(&items);
     synth_event_notify_all(&places);
 }
@@ -210,7 +189,7 @@ static void start_jobs(struct synth_queue *last, pthread_t *threads)
         jobs[i].first = i < PRODUCERS ? number_of_items / PRODUCERS * (uint64_t)i : 0;
         jobs[i].end = i < PRODUCERS - 1 ? number_of_items / PRODUCERS * (uint64_t)(i + 1) : number_of_items;
         jobs[i].seen = (unsigned char *)calloc((size_t)(number_of_items / 8 + 1), 1);
-        must(jobs[i].seen ? SYNTH_DONE : SYNTH_NO_MEMORY, "memory");
+        must(jobs[i].seen ? SYNTH_OK : SYNTH_NO_MEMORY, "memory");
         must(synth_queue_split(last, &jobs[i].queue), "split");
     }
     for (int i = 0; i < THREADS; i++) {
@@ -221,8 +200,8 @@ static void start_jobs(struct synth_queue *last, pthread_t *threads)
 /* Producers and takers over one queue. */
 static void pass_items(void)
 {
-    struct synth_queue last = {NULL, false};
-    struct synth_closed closed;
+    struct synth_queue last = SYNTH_QUEUE_INIT;
+    struct synth_queue_totals totals;
     pthread_t threads[THREADS];
     uint64_t left[PLACES];
     must(synth_queue_new(PLACES, 0, &last), "new");
@@ -237,8 +216,8 @@ static void pass_items(void)
         must(synth_queue_join(&last, &jobs[i].queue), "join");
         faults += jobs[i].twice;
     }
-    must(synth_queue_close(&last, left, PLACES, &closed), "close");
-    faults += not_taken_once() + (closed.taken != number_of_items) + closed.left;
+    must(synth_queue_finish(&last, left, PLACES, &totals), "finish");
+    faults += not_taken_once() + (totals.taken != number_of_items) + totals.left;
     faults += atomic_load(&items.waiters) + atomic_load(&places.waiters);
     for (int i = 0; i < THREADS; i++) {
         free(jobs[i].seen);
@@ -347,8 +326,9 @@ enum { TAKERS_OF_ONE = 3, YIELDS = 1000, TIMES = 20 };
 
 static void pass_wake_on(void)
 {
-    struct synth_queue last = {NULL, false}, queues[TAKERS_OF_ONE] = {{NULL, false}, {NULL, false}, {NULL, false}};
-    struct synth_closed closed;
+    struct synth_queue last = SYNTH_QUEUE_INIT;
+    struct synth_queue queues[TAKERS_OF_ONE] = {SYNTH_QUEUE_INIT, SYNTH_QUEUE_INIT, SYNTH_QUEUE_INIT};
+    struct synth_queue_totals totals;
     pthread_t threads[TAKERS_OF_ONE];
     uint64_t run[TAKERS_OF_ONE] = {1, 2, 3}, left[PLACES];
     must(synth_queue_new(PLACES, 0, &last), "new");
@@ -359,14 +339,14 @@ static void pass_wake_on(void)
     for (int yields = 0; yields < YIELDS || atomic_load(&items.waiters) < TAKERS_OF_ONE; yields++) {
         sched_yield();
     }
-    must(synth_queue_try_put(&last, run, TAKERS_OF_ONE).code, "put");
+    must(synth_queue_try_put(&last, run, TAKERS_OF_ONE, NULL), "put");
     synth_event_notify_one(&items);
     for (int i = 0; i < TAKERS_OF_ONE; i++) {
         end(threads[i]);
         must(synth_queue_join(&last, &queues[i]), "join");
     }
-    must(synth_queue_close(&last, left, PLACES, &closed), "close");
-    faults += closed.left + atomic_load(&items.waiters);
+    must(synth_queue_finish(&last, left, PLACES, &totals), "finish");
+    faults += totals.left + atomic_load(&items.waiters);
 }
 
 static void wait_in_vain(void)
@@ -396,8 +376,8 @@ static void wait_in_vain(void)
 /* An empty queue, and a full one, whose time is over. */
 static void queue_in_vain(void)
 {
-    struct synth_queue queue = {NULL, false};
-    struct synth_closed closed;
+    struct synth_queue queue = SYNTH_QUEUE_INIT;
+    struct synth_queue_totals totals;
     uint64_t left[PLACES], item = 0;
     must(synth_queue_new(PLACES, 0, &queue), "new");
     faults += take_wait(&queue, &item, 1000000) != SYNTH_EMPTY;
@@ -406,8 +386,8 @@ static void queue_in_vain(void)
     }
     faults += put_wait(&queue, 7, 1000000) != SYNTH_FULL;
     must(take_wait(&queue, &item, 0), "take");
-    must(synth_queue_close(&queue, left, PLACES, &closed), "close");
-    faults += item != 7 || closed.left != PLACES - 1;
+    must(synth_queue_finish(&queue, left, PLACES, &totals), "finish");
+    faults += item != 7 || totals.left != PLACES - 1;
 }
 
 int main(int count, char **words)

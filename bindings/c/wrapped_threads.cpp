@@ -44,7 +44,7 @@ void notify(synthesis::Event &event)
 
 void must(Code code, const char *what)
 {
-    if (code != Code::Done) {
+    if (code != Code::Ok) {
         std::fprintf(stderr, "wrapped_threads: %s: %s\n", what, name(code));
         std::exit(1);
     }
@@ -158,12 +158,12 @@ void pass_boxes(std::uint64_t items)
         threads[i].join();
         must(last.join(std::move(ends[i])), "join");
         if (i == PRODUCERS - 1) {
-            must(last.shut().code(), "shut");
+            must(last.shut(), "shut");
             events.notify_all();
         }
     }
-    const auto closed = last.close();
-    must(closed.code(), "close");
+    const auto totals = last.finish();
+    must(totals.code(), "finish");
     for (std::uint64_t sum : sums) {
         faults += sum;
     }
@@ -171,7 +171,7 @@ void pass_boxes(std::uint64_t items)
     for (const Box &box : boxes) {
         faults += box.number != 0;
     }
-    faults += (closed->put != items) + (closed->taken != items) + closed->left.size();
+    faults += (totals->put != items) + (totals->taken != items) + totals->left.size();
     faults += events.items.raw()->waiters + events.places.raw()->waiters;
 }
 
@@ -294,16 +294,16 @@ void pass_batches(std::uint64_t items)
         must(last.join(std::move(ends[i])), "join");
         if (i == PRODUCERS - 1) {
             shut_word = 1;
-            must(last.shut().code(), "shut");
+            must(last.shut(), "shut");
             events.notify_all();
         }
     }
-    const auto closed = last.close();
-    must(closed.code(), "close");
+    const auto totals = last.finish();
+    must(totals.code(), "finish");
     for (const Piece &piece : pieces) {
         faults += piece.taken != 1;
     }
-    faults += (closed->put != items) + (closed->taken != items) + closed->left.size();
+    faults += (totals->put != items) + (totals->taken != items) + totals->left.size();
     faults += events.items.raw()->waiters + events.places.raw()->waiters;
 }
 
@@ -320,10 +320,10 @@ void pass_shut()
         faults += shut_word != 1;
     });
     shut_word = 1;
-    must(last.shut().code(), "shut");
+    must(last.shut(), "shut");
     putter.join();
     must(last.join(std::move(other)), "join");
-    faults += !last.close().ok();
+    faults += !last.finish().ok();
 }
 
 void wait_for_waiters(synthesis::Event &event, std::uint32_t count)
@@ -350,8 +350,8 @@ void pass_wake_on()
         threads[i].join();
         must(last.join(std::move(ends[i])), "join");
     }
-    const auto closed = last.close();
-    faults += !closed || !closed->left.empty();
+    const auto totals = last.finish();
+    faults += !totals || !totals->left.empty();
 }
 
 /* A long put waits for places, and then a short one: one place is enough for the short one. Then a taker waits. */
@@ -380,8 +380,8 @@ void pass_places_on()
     taker.join();
     must(last.join(std::move(first)), "join");
     must(last.join(std::move(second)), "join");
-    const auto closed = last.close();
-    faults += !closed || closed->taken != 11 || !closed->left.empty();
+    const auto totals = last.finish();
+    faults += !totals || totals->taken != 11 || !totals->left.empty();
 }
 
 /* Whoever holds an element has its word. */
@@ -423,7 +423,7 @@ void pass_elements(std::uint64_t turns)
     for (std::uint64_t word : words) {
         sum += word;
     }
-    faults += (sum != WORKERS * turns) + !last.close().ok();
+    faults += (sum != WORKERS * turns) + !last.finish().ok();
 }
 
 /* What is sent beside each byte. */

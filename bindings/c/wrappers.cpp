@@ -65,22 +65,22 @@ bool passes_a_thousand(std::uint64_t &sum)
     synthesis::QueueEnd other = end.split().value();
     std::thread putter([&other, &events] {
         for (std::uint64_t item = 0; item < 1000 && other.put_wait(item, events); item++) {}
-        if (other.shut().ok()) events.notify_all();
+        if (other.shut() == synthesis::Code::Ok) events.notify_all();
     });
     while (auto taken = end.take_wait(events, std::chrono::seconds(9))) sum += *taken.item;
     putter.join();
-    if (end.join(std::move(other)) != synthesis::Code::Done) return false;
-    auto closed = end.close();
-    return closed.ok() && closed->put == 1000 && closed->taken == 1000 && closed->left.empty();
+    if (end.join(std::move(other)) != synthesis::Code::Ok) return false;
+    auto totals = end.finish();
+    return totals.ok() && totals->put == 1000 && totals->taken == 1000 && totals->left.empty();
 }
 
 /* The code of the C header that has this name here. The compiler refuses a switch that lacks a code. */
-std::string_view name_of(synth_code code)
+std::string_view name_of(synth_codes code)
 {
     switch (code) {
 #define CODE(cxx, c)                                                                                                   \
     case SYNTH_##c: static_assert(static_cast<int>(Code::cxx) == SYNTH_##c); return "SYNTH_" #c
-        CODE(Done, DONE);
+        CODE(Ok, OK);
         CODE(NoItems, NO_ITEMS);
         CODE(TooLong, TOO_LONG);
         CODE(Closed, CLOSED);
@@ -117,10 +117,15 @@ std::string_view name_of(synth_code code)
 void codes()
 {
     for (int code = SYNTH_BAD_NUMBER; code <= SYNTH_NOT_RUNNING; code++) {
-        ROW(name(static_cast<Code>(code)) == name_of(static_cast<synth_code>(code)), true);
+        ROW(name(static_cast<Code>(code)) == name_of(static_cast<synth_codes>(code)), true);
     }
     ROW(name(static_cast<Code>(SYNTH_BAD_NUMBER - 1)) == std::string_view("not a code"), true);
     ROW(name(static_cast<Code>(99)) == std::string_view("not a code"), true);
+    for (int code = SYNTH_BAD_NUMBER - 1; code <= SYNTH_NOT_RUNNING + 1; code++) {
+        ROW(name(static_cast<Code>(code)) == std::string_view(synth_code_name(code)), true);
+        const bool has_text = synth_code_text(code) != std::string_view("not a code");
+        ROW(has_text, name(static_cast<Code>(code)) != std::string_view("not a code"));
+    }
 }
 
 void views()
@@ -151,7 +156,7 @@ void expected_values()
 {
     synthesis::Expected<int> value(5), refusal(Code::NoMemory);
     ROW(value.ok() && value && *value == 5 && value.value() == 5 && value.value_or(6) == 5, true);
-    ROW(value.code(), Code::Done);
+    ROW(value.code(), Code::Ok);
     ROW(refusal.ok() || refusal, false);
     ROW(refusal.code(), Code::NoMemory);
     ROW(refusal.value_or(6), 6);
@@ -192,9 +197,9 @@ void empty_batch()
     ROW(none.take_wait(room, events).code, Code::EmptyHandle);
     ROW(none.len().code(), Code::EmptyHandle);
     ROW(none.capacity().code(), Code::EmptyHandle);
-    ROW(none.shut().code(), Code::EmptyHandle);
-    ROW(none.close(room).code(), Code::EmptyHandle);
-    ROW(none.close().code(), Code::EmptyHandle);
+    ROW(none.shut(), Code::EmptyHandle);
+    ROW(none.finish(room).code(), Code::EmptyHandle);
+    ROW(none.finish().code(), Code::EmptyHandle);
     none.free();
     ROW(room[0], 99);
 }
@@ -230,18 +235,18 @@ void batch_puts()
     ROW(end.try_put_some({1}).full->head, 10);
     ROW(end.try_put_some({1}).count, 0);
     ROW(end.len().value(), 8);
-    ROW(end.shut().value(), true);
-    ROW(end.shut().value(), false);
+    ROW(end.shut(), Code::Ok);
+    ROW(end.shut(), Code::Closed);
     auto closed_put = end.try_put(1);
     ROW(closed_put.code, Code::Closed);
     ROW(closed_put || closed_put.position || closed_put.full || closed_put.lost, false);
     ROW(end.try_put_some({1}).code, Code::Closed);
-    ROW(end.close(View<std::uint64_t>(room, 7)).code(), Code::ShortBuffer);
-    auto closed = end.close(room);
-    ROW(closed && closed->put == 10 && closed->taken == 2 && closed->left == 8, true);
+    ROW(end.finish(View<std::uint64_t>(room, 7)).code(), Code::ShortBuffer);
+    auto totals = end.finish(room);
+    ROW(totals && totals->put == 10 && totals->taken == 2 && totals->left == 8, true);
     ROW(room[0] == 1 && room[2] == 3 && room[3] == 4 && room[4] == 1 && room[5] == 21 && room[7] == 23, true);
     ROW(end.full(), false);
-    ROW(end.close(room).code(), Code::EmptyHandle);
+    ROW(end.finish(room).code(), Code::EmptyHandle);
 }
 
 void batch_takings()
@@ -253,9 +258,9 @@ void batch_takings()
     ROW(none.code, Code::Empty);
     ROW(!none && none.count == 0 && !none.lost && !none.oldest && none.empty && none.empty->tail == 0, true);
     ROW(end.try_take_some(room).code, Code::Empty);
-    ROW(other.try_put({1, 2, 3}).code, Code::Done);
-    ROW(other.try_put({4, 5}).code, Code::Done);
-    ROW(other.try_put({6}).code, Code::Done);
+    ROW(other.try_put({1, 2, 3}).code, Code::Ok);
+    ROW(other.try_put({4, 5}).code, Code::Ok);
+    ROW(other.try_put({6}).code, Code::Ok);
     auto too_short = end.try_take(view.first(2));
     ROW(too_short.code, Code::ShortBuffer);
     ROW(!too_short && too_short.count == 0 && !too_short.empty && !too_short.lost && too_short.oldest, true);
@@ -272,25 +277,59 @@ void batch_takings()
     ROW(rest && rest.count == 2 && room[0] == 5 && room[1] == 6, true);
     ROW(end.try_take(room).empty->tail, 6);
     ROW(end.try_take_some(room).empty->tail, 6);
-    ROW(end.try_put({7, 8, 9}).code, Code::Done);
+    ROW(end.try_put({7, 8, 9}).code, Code::Ok);
     ROW(end.try_take_some(room).count, 3);
-    ROW(end.try_put({10, 11}).code, Code::Done);
-    ROW(end.close().code(), Code::Open);
-    ROW(end.full() && end.join(std::move(other)) == Code::Done, true);
+    ROW(end.try_put({10, 11}).code, Code::Ok);
+    ROW(end.finish().code(), Code::Open);
+    ROW(end.full() && end.join(std::move(other)) == Code::Ok, true);
     ROW(other.full(), false);
-    ROW(end.shut().value(), true);
+    ROW(end.shut(), Code::Ok);
     ROW(end.try_take(view.first(1)).code, Code::ShortBuffer);
-    auto closed = end.close();
-    ROW(closed && closed->put == 11 && closed->taken == 9, true);
-    ROW(closed->left == std::vector<std::uint64_t>({10, 11}), true);
+    auto totals = end.finish();
+    ROW(totals && totals->put == 11 && totals->taken == 9, true);
+    ROW(totals->left == std::vector<std::uint64_t>({10, 11}), true);
     BatchEnd shut = BatchEnd::make(8).value();
-    ROW(shut.shut().ok(), true);
+    ROW(shut.shut(), Code::Ok);
     auto over = shut.try_take(room);
     ROW(over.code, Code::Closed);
     ROW(over || over.count != 0 || over.empty || over.lost || over.oldest, false);
     ROW(shut.try_take_some({}).code, Code::Closed);
-    auto all = shut.close();
+    auto all = shut.finish();
     ROW(all && all->put == 0 && all->taken == 0 && all->left.empty(), true);
+}
+
+/* Queues of which an end was freed are given up. */
+void abandoned()
+{
+    std::uint64_t room[4] = {};
+    ROW(BatchEnd().abandon(room).code(), Code::EmptyHandle);
+    ROW(QueueEnd().abandon(room).code(), Code::EmptyHandle);
+    BatchEnd batch = BatchEnd::make(8).value(), lost = batch.split().value();
+    ROW(lost.try_put({1, 2, 3, 4, 5}).code, Code::Ok);
+    lost.free();
+    ROW(batch.finish().code(), Code::Open);
+    ROW(batch.abandon(room).value(), 4);
+    ROW(room[0] == 1 && room[3] == 4 && !batch.full(), true);
+    QueueEnd queue = QueueEnd::make(64).value(), other = queue.split().value();
+    ROW(other.try_put({6, 7}).code, Code::Ok);
+    ROW(queue.abandon(room).value(), 2);
+    ROW(room[0] == 6 && room[1] == 7 && !queue.full(), true);
+    ROW(other.shut(), Code::Closed);
+    ROW(other.abandon({}).value(), 0);
+    ROW(other.full(), false);
+}
+
+/* The calls that take a const end. */
+void of_const_ends()
+{
+    BatchEnd end = BatchEnd::make(8).value();
+    const BatchEnd &batch = end;
+    ROW(batch.len().value() == 0 && batch.capacity().value() == 8 && batch.raw()->full, true);
+    Hand mine = Hand::make().value();
+    const Hand &hand = mine;
+    ROW(hand.holds(0).value() || !hand.serves(7).value() || hand.ticket(2).value() != 0, false);
+    ROW(hand.on_processor(0).code(), Code::Vacant);
+    ROW(hand.pc(0).code(), Code::NotHeld);
 }
 
 /* Answers that one thread doesn't get: of a race, and of a queue after 146 years. */
@@ -305,13 +344,13 @@ void batch_answers()
     ROW(spent.code, Code::Spent);
     ROW(spent || spent.count != 0 || spent.position || spent.full || spent.lost, false);
     ROW(synthesis::detail::batch_put_answer(SYNTH_FULL, 3, at).full->tail, 6000000000);
-    ROW(number_in(synthesis::detail::batch_put_answer(SYNTH_DONE, 3, at).position), 5000000000);
-    const auto lost_take = synthesis::detail::batch_take_answer(SYNTH_LOST, nullptr, 3, at);
+    ROW(number_in(synthesis::detail::batch_put_answer(SYNTH_OK, 3, at).position), 5000000000);
+    const auto lost_take = synthesis::detail::batch_take_answer(SYNTH_LOST, 3, at.tail);
     ROW(lost_take.code, Code::Lost);
     ROW(!lost_take && lost_take.count == 0 && !lost_take.empty && !lost_take.oldest && lost_take.lost, true);
     ROW(lost_take.lost->tail, 6000000000);
-    ROW(synthesis::detail::batch_take_answer(SYNTH_EMPTY, nullptr, 3, at).empty->tail, 6000000000);
-    ROW(synthesis::detail::batch_take_answer(SYNTH_SHORT_BUFFER, nullptr, 3, at).oldest->tail, 6000000000);
+    ROW(synthesis::detail::batch_take_answer(SYNTH_EMPTY, 3, at.tail).empty->tail, 6000000000);
+    ROW(synthesis::detail::batch_take_answer(SYNTH_SHORT_BUFFER, 3, at.tail).oldest->tail, 6000000000);
 }
 
 /* Moves of an end: each queue goes with its last end, which valgrind sees. */
@@ -319,7 +358,7 @@ void batch_moves()
 {
     BatchEnd a = BatchEnd::make(8).value(), b = BatchEnd::make(16).value();
     std::uint64_t room[16];
-    ROW(a.try_put(1).code, Code::Done);
+    ROW(a.try_put(1).code, Code::Ok);
     BatchEnd moved(std::move(a));
     ROW(moved.full() && !a.full(), true);
     b = std::move(moved);
@@ -333,13 +372,13 @@ void batch_moves()
     ROW(a.full() && b.full(), true);
     b = BatchEnd();
     ROW(b.full(), false);
-    ROW(a.close().code(), Code::Open);
+    ROW(a.finish().code(), Code::Open);
     BatchEnd stranger = BatchEnd::make(8).value();
     ROW(a.join(std::move(stranger)), Code::OtherObject);
     ROW(stranger.full(), true);
     BatchEnd adopted = BatchEnd::adopt(stranger.release());
     ROW(adopted.full() && !stranger.full(), true);
-    ROW(synth_batch_free(adopted.raw()), SYNTH_DONE);
+    ROW(synth_batch_free(adopted.raw()), SYNTH_OK);
     ROW(adopted.full(), false);
     std::array<BatchEnd, 64> chain;
     std::size_t last = 0;
@@ -368,7 +407,7 @@ void batch_waits()
     ROW(end.take_wait(View<std::uint64_t>(room).first(2), events).oldest->count, 3);
     ROW(end.take_wait(room, events, 0s).count == 3 && room[2] == 3, true);
     ROW(end.put_wait(three, events).count, 3);
-    ROW(end.shut().ok(), true);
+    ROW(end.shut(), Code::Ok);
     ROW(end.put_wait(three, events).code, Code::Closed);
     ROW(end.take_wait(room, events).count, 3);
     ROW(end.take_wait(room, events).code, Code::Closed);
@@ -390,9 +429,9 @@ void empty_queue()
     ROW(none.try_take().code, Code::EmptyHandle);
     ROW(none.take_up_to(room).code, Code::EmptyHandle);
     ROW(none.try_take_line(room).code, Code::EmptyHandle);
-    ROW(none.shut().code(), Code::EmptyHandle);
-    ROW(none.close(room).code(), Code::EmptyHandle);
-    ROW(none.close().code(), Code::EmptyHandle);
+    ROW(none.shut(), Code::EmptyHandle);
+    ROW(none.finish(room).code(), Code::EmptyHandle);
+    ROW(none.finish().code(), Code::EmptyHandle);
     none.free();
     ROW(room[0], 99);
 }
@@ -414,13 +453,13 @@ void queue_puts()
     ROW(full.full->head == 8 && full.full->tail == 5, true);
     ROW(number_in(end.try_put(4).position), 8);
     ROW(number_in(end.try_put(true).position), 9);
-    ROW(end.shut().value(), true);
-    ROW(end.shut().value(), false);
+    ROW(end.shut(), Code::Ok);
+    ROW(end.shut(), Code::Closed);
     ROW(end.try_put(1).code, Code::Closed);
     std::uint64_t room[64];
-    ROW(end.close(View<std::uint64_t>(room, 63)).code(), Code::ShortBuffer);
-    auto closed = end.close(room);
-    ROW(closed && closed->first == 5 && closed->put == 5 && closed->taken == 0 && closed->left == 5, true);
+    ROW(end.finish(View<std::uint64_t>(room, 63)).code(), Code::ShortBuffer);
+    auto totals = end.finish(room);
+    ROW(totals && totals->first == 5 && totals->put == 5 && totals->taken == 0 && totals->left == 5, true);
     ROW(room[0] == 1 && room[1] == 10 && room[2] == 3 && room[3] == 4 && room[4] == 1, true);
     ROW(end.full(), false);
     end = QueueEnd::make(64, UINT32_MAX - 1).value();
@@ -439,7 +478,7 @@ void queue_takings()
     ROW(no_run.count == 0 && !no_run.stopped_at && no_run.empty && no_run.empty->tail == 3, true);
     ROW(end.take_up_to({}).code, Code::ShortBuffer);
     ROW(end.try_take_line(View<std::uint64_t>(room.data(), 255)).code, Code::ShortBuffer);
-    ROW(end.try_put({1, 2, 10, 4, 5, 6}).code, Code::Done);
+    ROW(end.try_put({1, 2, 10, 4, 5, 6}).code, Code::Ok);
     auto one = other.try_take();
     ROW(one && !one.empty && number_in(one.item) == 1, true);
     auto line = other.try_take_line(room);
@@ -449,16 +488,16 @@ void queue_takings()
     ROW(whole && whole.count == 1 && room[0] == 4 && !whole.stopped_at, true);
     auto part = end.take_up_to(room);
     ROW(part && part.count == 2 && room[1] == 6 && number_in(part.stopped_at) == 9, true);
-    ROW(end.try_put(7).code, Code::Done);
-    ROW(end.close().code(), Code::Open);
-    ROW(end.join(std::move(other)), Code::Done);
+    ROW(end.try_put(7).code, Code::Ok);
+    ROW(end.finish().code(), Code::Open);
+    ROW(end.join(std::move(other)), Code::Ok);
     ROW(other.full(), false);
-    ROW(end.shut().value(), true);
-    auto closed = end.close();
-    ROW(closed && closed->first == 3 && closed->put == 7 && closed->taken == 6, true);
-    ROW(closed->left.size() == 1 && closed->left[0] == 7, true);
+    ROW(end.shut(), Code::Ok);
+    auto totals = end.finish();
+    ROW(totals && totals->first == 3 && totals->put == 7 && totals->taken == 6, true);
+    ROW(totals->left.size() == 1 && totals->left[0] == 7, true);
     QueueEnd shut = QueueEnd::make(64).value();
-    ROW(shut.shut().ok(), true);
+    ROW(shut.shut(), Code::Ok);
     ROW(shut.try_take().code, Code::Closed);
     ROW(shut.take_up_to(room).code, Code::Closed);
 }
@@ -467,7 +506,7 @@ void queue_takings()
 void moves()
 {
     QueueEnd a = QueueEnd::make(64).value(), b = QueueEnd::make(64, 9).value();
-    ROW(a.try_put(1).code, Code::Done);
+    ROW(a.try_put(1).code, Code::Ok);
     QueueEnd moved(std::move(a));
     ROW(moved.full() && !a.full(), true);
     b = std::move(moved);
@@ -481,7 +520,7 @@ void moves()
     ROW(a.full() && b.full(), true);
     b = QueueEnd();
     ROW(b.full(), false);
-    ROW(a.close().code(), Code::Open);
+    ROW(a.finish().code(), Code::Open);
     QueueEnd stranger = QueueEnd::make(64).value();
     ROW(a.join(std::move(stranger)), Code::OtherObject);
     ROW(stranger.full(), true);
@@ -491,7 +530,7 @@ void moves()
     ROW(ends[0].full() && !ends[1].full() && ends[3].full(), true);
     QueueEnd adopted = QueueEnd::adopt(ends[3].release());
     ROW(adopted.full() && !ends[3].full(), true);
-    ROW(synth_queue_free(adopted.raw()), SYNTH_DONE);
+    ROW(synth_queue_free(adopted.raw()), SYNTH_OK);
     ROW(adopted.full(), false);
 }
 
@@ -504,13 +543,13 @@ struct Pair {
 void queue_of_values()
 {
     auto colours = QueueOf<Colour>::make(64).value();
-    ROW(colours.try_put(Colour::Blue).code, Code::Done);
+    ROW(colours.try_put(Colour::Blue).code, Code::Ok);
     ROW(colours.try_take().item == Colour::Blue, true);
     ROW(QueueOf<Colour>::make(1).code(), Code::BadNumber);
     auto pairs = QueueOf<Pair>::make(256).value();
     auto other = pairs.split().value();
     const std::vector<Pair> three = {{-1, -2}, {3, 4}, {5, 6}};
-    ROW(other.try_put(three).code, Code::Done);
+    ROW(other.try_put(three).code, Code::Ok);
     ROW(other.try_put(View<const Pair>()).code, Code::NoItems);
     ROW(other.try_put(std::vector<Pair>(257)).code, Code::TooLong);
     ROW(other.try_put(std::vector<Pair>(2000000)).code, Code::TooLong);
@@ -519,23 +558,23 @@ void queue_of_values()
     std::array<Pair, 300> room = {};
     auto run = pairs.take_up_to(View<Pair>(room).first(1));
     ROW(run.count == 1 && room[0].left == 3 && room[0].right == 4, true);
-    ROW(pairs.shut().value(), true);
-    ROW(pairs.close().code(), Code::Open);
-    ROW(pairs.join(std::move(other)), Code::Done);
+    ROW(pairs.shut(), Code::Ok);
+    ROW(pairs.finish().code(), Code::Open);
+    ROW(pairs.join(std::move(other)), Code::Ok);
     ROW(other.full() || other.try_take().item, false);
     ROW(other.try_put(three).code, Code::EmptyHandle);
     ROW(other.try_put(std::vector<Pair>(257)).code, Code::EmptyHandle);
-    auto closed = pairs.close();
-    ROW(closed && closed->put == 3 && closed->left.size() == 1 && closed->left[0].right == 6, true);
+    auto totals = pairs.finish();
+    ROW(totals && totals->put == 3 && totals->left.size() == 1 && totals->left[0].right == 6, true);
     int number = 7;
     auto pointers = QueueOf<int *>::make(64).value();
-    ROW(pointers.try_put(&number).code, Code::Done);
+    ROW(pointers.try_put(&number).code, Code::Ok);
     ROW(*pointers.try_take().item.value() == 7, true);
     ROW(pointers.take_up_to({}).code, Code::ShortBuffer);
     auto words = QueueOf<std::uint64_t>::make(64).value();
     ROW(words.try_put({}).code, Code::NoItems);
-    ROW(words.try_put({1, 2}).code, Code::Done);
-    ROW(words.try_put({3}).code, Code::Done);
+    ROW(words.try_put({1, 2}).code, Code::Ok);
+    ROW(words.try_put({3}).code, Code::Ok);
     ROW(number_in(words.try_take().item), 1);
     ROW(number_in(words.end().try_take().item), 2);
 }
@@ -552,27 +591,27 @@ void seats()
     ROW(seat.try_set({0, 64, 0}).code, Code::BadNumber);
     auto due = seat.due();
     ROW(due && due->size() == 1 && (*due)[0].element == 63 && due->begin()->signal == 15, true);
-    auto clock = seat.advance();
+    auto clock = seat.try_advance();
     ROW(clock && number_in(clock.clock) == UINT32_MAX && !clock.found, true);
-    ROW(seat.advance().code, Code::Spent);
+    ROW(seat.try_advance().code, Code::Spent);
     ROW(seat.cancel(0, first).value(), true);
     ROW(seat.cancel(0, first).value(), false);
     for (std::uint32_t i = 0; i < 16; i++) {
         ROW(number_in(other.try_set(second).slot), i);
     }
     ROW(other.try_set(second).code, Code::NoRoom);
-    ROW(seat.close().code(), Code::Open);
-    ROW(seat.join(std::move(other)), Code::Done);
-    auto closed = seat.close();
-    ROW(closed && closed->gauges[2] == 6 && closed->clock == UINT32_MAX && closed->alarms.size() == 16, true);
+    ROW(seat.finish().code(), Code::Open);
+    ROW(seat.join(std::move(other)), Code::Ok);
+    auto totals = seat.finish();
+    ROW(totals && totals->gauges[2] == 6 && totals->clock == UINT32_MAX && totals->alarms.size() == 16, true);
     std::size_t alarms = 0;
-    for (const synthesis::Alarm &alarm : closed->alarms) {
+    for (const synthesis::Alarm &alarm : totals->alarms) {
         alarms += alarm.element == 63;
     }
     ROW(alarms, 16);
     ROW(seat.tick(0, 0).code(), Code::EmptyHandle);
     ROW(seat.due().code(), Code::EmptyHandle);
-    ROW(seat.close().code(), Code::EmptyHandle);
+    ROW(seat.finish().code(), Code::EmptyHandle);
 }
 
 void chains()
@@ -587,13 +626,13 @@ void chains()
     const auto left = other.try_chain(2);
     ROW(left && !left.is_runner() && !left.full && !left.lost, true);
     ROW(other.serve(serve), Code::NotRunning);
-    ROW(end.close().code(), Code::Running);
-    ROW(end.serve(serve), Code::Done);
+    ROW(end.finish().code(), Code::Running);
+    ROW(end.serve(serve), Code::Ok);
     ROW(served == std::vector<std::uint16_t>({1, 2}), true);
-    ROW(end.close().code(), Code::Open);
-    ROW(end.join(std::move(other)), Code::Done);
-    const auto closed = end.close();
-    ROW(closed && closed->put == 2 && closed->run == 2, true);
+    ROW(end.finish().code(), Code::Open);
+    ROW(end.join(std::move(other)), Code::Ok);
+    const auto totals = end.finish();
+    ROW(totals && totals->put == 2 && totals->run == 2, true);
     ROW(end.try_chain(1).code, Code::EmptyHandle);
     ROW(end.next(note), Code::EmptyHandle);
 }
@@ -603,8 +642,8 @@ void lines()
     ROW(synthesis::make_line(0).code(), Code::BadNumber);
     auto [in, out] = synthesis::make_line(2).value();
     ROW(out.pop().code(), Code::Empty);
-    ROW(in.push(0), Code::Done);
-    ROW(in.push(105), Code::Done);
+    ROW(in.push(0), Code::Ok);
+    ROW(in.push(105), Code::Ok);
     ROW(in.push(33), Code::Full);
     auto byte = out.pop();
     ROW(byte && *byte == 0, true);
@@ -633,11 +672,11 @@ void hands()
     }
     ROW(hand.holds(0).value(), true);
     ROW(other.holds(0).value(), false);
-    ROW(hand.try_ready(0).code, Code::Done);
+    ROW(hand.try_ready(0).code, Code::Ok);
     ROW(hand.try_ready(0).code, Code::NotHeld);
     ROW(number_in(other.try_next().element), 0);
     ROW(other.on_processor(3).code(), Code::Vacant);
-    ROW(other.on(3, 0), Code::Done);
+    ROW(other.on(3, 0), Code::Ok);
     ROW(other.on(3, 1), Code::NotHeld);
     auto on = other.on_processor(3);
     ROW(on && *on == 0, true);
@@ -646,12 +685,12 @@ void hands()
     ROW(hand.pc(0).code(), Code::NotHeld);
     auto off = other.off(3);
     ROW(off && *off == 0, true);
-    ROW(other.try_retire(0).code, Code::Done);
+    ROW(other.try_retire(0).code, Code::Ok);
     ROW(hand.try_next().code, Code::Empty);
     ROW(other.split(1u << 3).value().on(3, 0), Code::NotHeld);
 }
 
-/* Tickets, signals, stop cells and the close. */
+/* Tickets, signals, stop cells and the finish. */
 void hands_wait()
 {
     Hand hand = Hand::make(100).value();
@@ -659,12 +698,12 @@ void hands_wait()
         ROW(number_in(hand.try_free().element), i);
     }
     const std::uint32_t ticket = hand.ticket(2).value();
-    ROW(hand.try_wait_at(0, 2, ticket).code, Code::Done);
+    ROW(hand.try_wait_at(0, 2, ticket).code, Code::Ok);
     ROW(hand.notify(2).value(), 101);
     auto moved = hand.try_wait_at(1, 2, ticket);
     ROW(moved.code, Code::Moved);
     ROW(!moved && !moved.lost && number_in(moved.notifies) == 1, true);
-    ROW(hand.try_wait(1, 2).code, Code::Done);
+    ROW(hand.try_wait(1, 2).code, Code::Ok);
     ROW(number_in(hand.try_wake_before(2, 101).element), 0);
     ROW(hand.try_wake_before(2, 101).code, Code::AllWoken);
     ROW(number_in(hand.try_wake(2).element), 1);
@@ -680,16 +719,16 @@ void hands_wait()
     ROW(hand.try_start(2).value == synthesis::Started::Held, true);
     ROW(hand.step_done(3).value(), 1);
     ROW(hand.stop(3).value() && hand.try_park(3).ok(), true);
-    ROW(hand.signal(3, 15).value() && hand.on(7, 2) == Code::Done && hand.try_wait(0, 9).code == Code::Done, true);
-    auto closed = hand.close();
-    ROW(closed && closed->places[0].kind == synthesis::PlaceKind::Wait && number_in(closed->places[0].wait) == 9, true);
-    ROW(closed->places[0].processor || closed->places[1].wait, false);
-    ROW(closed->places[1].kind, synthesis::PlaceKind::Held);
-    ROW(number_in(closed->places[2].processor), 7);
-    ROW(closed->places[3].kind, synthesis::PlaceKind::Stopped);
-    ROW(closed->places[63].kind, synthesis::PlaceKind::Free);
-    ROW(closed->stops == 1u << 3 && closed->pending[3] == 1u << 15 && closed->pc[3] == 1, true);
-    ROW(hand.close().code(), Code::EmptyHandle);
+    ROW(hand.signal(3, 15).value() && hand.on(7, 2) == Code::Ok && hand.try_wait(0, 9).code == Code::Ok, true);
+    auto totals = hand.finish();
+    ROW(totals && totals->places[0].kind == synthesis::PlaceKind::Wait && number_in(totals->places[0].wait) == 9, true);
+    ROW(totals->places[0].processor || totals->places[1].wait, false);
+    ROW(totals->places[1].kind, synthesis::PlaceKind::Held);
+    ROW(number_in(totals->places[2].processor), 7);
+    ROW(totals->places[3].kind, synthesis::PlaceKind::Stopped);
+    ROW(totals->places[63].kind, synthesis::PlaceKind::Free);
+    ROW(totals->stops == 1u << 3 && totals->pending[3] == 1u << 15 && totals->pc[3] == 1, true);
+    ROW(hand.finish().code(), Code::EmptyHandle);
 }
 
 /* Waits whose time is over, by a clock that is not ours; and tickets. */
@@ -702,11 +741,11 @@ void waits_in_vain()
     ROW(std::chrono::steady_clock::now() - begun >= 20ms, true);
     ROW(end.take_wait(events, -1s).code, Code::Empty);
     for (int i = 0; i < 64; i++) {
-        ROW(end.put_wait(7, events).code, Code::Done);
+        ROW(end.put_wait(7, events).code, Code::Ok);
     }
     ROW(end.put_wait(8, events, 1500us).code, Code::Full);
     ROW(number_in(end.take_wait(events, 0s).item), 7);
-    ROW(end.shut().ok(), true);
+    ROW(end.shut(), Code::Ok);
     ROW(end.put_wait(8, events).code, Code::Closed);
     ROW(QueueEnd().take_wait(events).code, Code::EmptyHandle);
     synthesis::Event event;
@@ -735,8 +774,8 @@ void repeated_tries()
     const auto lost_twice = [&tries] { return synthesis::SetAnswer{++tries < 3 ? Code::Lost : Code::NoRoom, {}, {}}; };
     ROW(synthesis::repeat(lost_twice).code, Code::NoRoom);
     ROW(tries, 3);
-    const auto refused = [&tries] { return synthesis::SetAnswer{++tries < 5 ? Code::NoRoom : Code::Done, {}, {}}; };
-    ROW(event.wait_while(Code::NoRoom, {}, refused).code, Code::Done);
+    const auto refused = [&tries] { return synthesis::SetAnswer{++tries < 5 ? Code::NoRoom : Code::Ok, {}, {}}; };
+    ROW(event.wait_while(Code::NoRoom, {}, refused).code, Code::Ok);
     ROW(tries, 5);
     tries = 0;
     ROW(event.wait_while(Code::NoRoom, 1ms, refused).code, Code::NoRoom);
@@ -759,6 +798,8 @@ int main()
     batch_puts();
     batch_takings();
     batch_answers();
+    abandoned();
+    of_const_ends();
     batch_moves();
     batch_waits();
     empty_queue();

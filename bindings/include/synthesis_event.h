@@ -13,36 +13,37 @@
  *
  * After each prepare the same thread makes one cancel or one wait. A wait may return though nothing was put: look
  * again. The two functions below sleep while a queue is empty or full, and return the code of the last try. SYNTH_EMPTY
- * and SYNTH_FULL mean that the time is over. `take` and `put` are a try that is repeated while it is SYNTH_LOST.
- * `items` and `places` are two events of the queue.
+ * and SYNTH_FULL mean that the time is over. `items` and `places` are two events of the queue.
  *
- *     int32_t take_wait(struct synth_queue *end, uint64_t *item, int64_t limit)
+ *     synth_code take_wait(struct synth_queue *end, uint64_t *item, int64_t limit)
  *     {
  *         int64_t deadline = synth_event_deadline(limit);
  *         bool waited = false, in_time = true;
- *         int32_t code;
- *         while ((code = take(end, item)) == SYNTH_EMPTY && in_time) {
+ *         synth_code code;
+ *         while ((code = synth_queue_take(end, item, UINT32_MAX)) == SYNTH_EMPTY && in_time) {
  *             uint32_t ticket = synth_event_prepare(&items);
- *             if ((code = take(end, item)) != SYNTH_EMPTY) { synth_event_cancel(&items); break; }
+ *             code = synth_queue_take(end, item, UINT32_MAX);
+ *             if (code != SYNTH_EMPTY) { synth_event_cancel(&items); break; }
  *             waited = true, in_time = synth_event_wait_until(&items, ticket, deadline);
  *         }
  *         if (waited && code != SYNTH_EMPTY) synth_event_notify_one(&items);
- *         if (code == SYNTH_DONE) synth_event_notify_one(&places);
+ *         if (code == SYNTH_OK) synth_event_notify_one(&places);
  *         return code;
  *     }
  *
- *     int32_t put_wait(struct synth_queue *end, uint64_t item, int64_t limit)
+ *     synth_code put_wait(struct synth_queue *end, uint64_t item, int64_t limit)
  *     {
  *         int64_t deadline = synth_event_deadline(limit);
  *         bool waited = false, in_time = true;
- *         int32_t code;
- *         while ((code = put(end, item)) == SYNTH_FULL && in_time) {
+ *         synth_code code;
+ *         while ((code = synth_queue_put(end, &item, 1, UINT32_MAX)) == SYNTH_FULL && in_time) {
  *             uint32_t ticket = synth_event_prepare(&places);
- *             if ((code = put(end, item)) != SYNTH_FULL) { synth_event_cancel(&places); break; }
+ *             code = synth_queue_put(end, &item, 1, UINT32_MAX);
+ *             if (code != SYNTH_FULL) { synth_event_cancel(&places); break; }
  *             waited = true, in_time = synth_event_wait_until(&places, ticket, deadline);
  *         }
  *         if (waited && code != SYNTH_FULL) synth_event_notify_one(&places);
- *         if (code == SYNTH_DONE) synth_event_notify_one(&items);
+ *         if (code == SYNTH_OK) synth_event_notify_one(&items);
  *         return code;
  *     }
  *

@@ -1,6 +1,6 @@
 /* Makes chains with a mark of their own: see mark.h. */
 #include "mark.h"
-#include "synthesis.h"
+#include "synthesis/raw.h"
 
 int32_t synth_raw_chain_new_marked(uint32_t first, uint64_t mark, struct synth_chain *chain);
 

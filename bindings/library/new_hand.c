@@ -1,6 +1,6 @@
 /* Makes thread elements with a mark of their own: see mark.h. */
 #include "mark.h"
-#include "synthesis.h"
+#include "synthesis/raw.h"
 
 int32_t synth_raw_hand_new_marked(uint32_t first, uint64_t mark, struct synth_hand *hand);
 

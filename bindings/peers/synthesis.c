@@ -16,29 +16,29 @@ static unsigned made;
 static bool make_queue(unsigned ends)
 {
     made = ends;
-    bool is_made = synth_queue_new(PLACES, 0, &putters[0].queue) == SYNTH_DONE;
+    bool is_made = synth_queue_new(PLACES, 0, &putters[0].queue) == SYNTH_OK;
     for (unsigned i = 0; is_made && i < ends; i++) {
-        is_made = (i == 0 || synth_queue_split(&putters[0].queue, &putters[i].queue) == SYNTH_DONE) &&
-                  synth_queue_split(&putters[0].queue, &takers[i].queue) == SYNTH_DONE;
+        is_made = (i == 0 || synth_queue_split(&putters[0].queue, &putters[i].queue) == SYNTH_OK) &&
+                  synth_queue_split(&putters[0].queue, &takers[i].queue) == SYNTH_OK;
     }
     return is_made;
 }
 
 static void drop_queue(void)
 {
-    struct synth_closed closed;
+    struct synth_queue_totals totals;
     uint64_t left[PLACES];
     for (unsigned i = 0; i < made; i++) {
-        must(i == 0 || synth_queue_join(&putters[0].queue, &putters[i].queue) == SYNTH_DONE, "ends can't be joined");
-        must(synth_queue_join(&putters[0].queue, &takers[i].queue) == SYNTH_DONE, "ends can't be joined");
+        must(i == 0 || synth_queue_join(&putters[0].queue, &putters[i].queue) == SYNTH_OK, "ends can't be joined");
+        must(synth_queue_join(&putters[0].queue, &takers[i].queue) == SYNTH_OK, "ends can't be joined");
     }
-    must(synth_queue_close(&putters[0].queue, left, PLACES, &closed) == SYNTH_DONE, "the queue can't be closed");
-    must(closed.put == closed.taken && closed.left == 0, "the close tells of other items");
+    must(synth_queue_finish(&putters[0].queue, left, PLACES, &totals) == SYNTH_OK, "the queue can't be finished");
+    must(totals.put == totals.taken && totals.left == 0, "the finish reports other items");
 }
 
 static size_t put_some(unsigned end, const uint64_t *items, size_t count)
 {
-    return synth_queue_try_put(&putters[end].queue, items, count).code == SYNTH_DONE ? count : 0;
+    return synth_queue_try_put(&putters[end].queue, items, count, NULL) == SYNTH_OK ? count : 0;
 }
 
 static size_t take_some(unsigned end, uint64_t *items, size_t most)
@@ -46,12 +46,12 @@ static size_t take_some(unsigned end, uint64_t *items, size_t most)
     struct synth_queue *taker = &takers[end].queue;
     size_t count = 0;
 #ifdef ONE_BY_ONE
-    return synth_queue_take_up_to(taker, items, most, &count).code == SYNTH_DONE ? count : 0;
+    return synth_queue_take_up_to(taker, items, most, &count, NULL) == SYNTH_OK ? count : 0;
 #else
     if (most == 1) {
-        return synth_queue_try_take(taker, items).code == SYNTH_DONE;
+        return synth_queue_try_take(taker, items, NULL) == SYNTH_OK;
     }
-    return synth_queue_try_take_line(taker, items, PLACES, &count).code == SYNTH_DONE ? count : 0;
+    return synth_queue_try_take_line(taker, items, PLACES, &count, NULL) == SYNTH_OK ? count : 0;
 #endif
 }
 

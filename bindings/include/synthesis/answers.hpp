@@ -15,7 +15,7 @@ namespace synthesis {
 
 /// What a call answered: the codes of synthesis.h, which has the meaning of each.
 enum class [[nodiscard]] Code : std::int32_t {
-    Done = SYNTH_DONE,
+    Ok = SYNTH_OK,
     NoItems = SYNTH_NO_ITEMS,
     TooLong = SYNTH_TOO_LONG,
     Closed = SYNTH_CLOSED,
@@ -50,7 +50,7 @@ enum class [[nodiscard]] Code : std::int32_t {
 [[nodiscard]] constexpr const char *name(Code code) noexcept
 {
     switch (code) {
-    case Code::Done: return "SYNTH_DONE";
+    case Code::Ok: return "SYNTH_OK";
     case Code::NoItems: return "SYNTH_NO_ITEMS";
     case Code::TooLong: return "SYNTH_TOO_LONG";
     case Code::Closed: return "SYNTH_CLOSED";
@@ -86,8 +86,8 @@ enum class [[nodiscard]] Code : std::int32_t {
 /// A value, or the code of a refusal.
 template <class T> class [[nodiscard]] Expected {
 public:
-    Expected(T value) noexcept : code_(Code::Done), value_(std::move(value)) {}
-    /// A refusal: any code but Done.
+    Expected(T value) noexcept : code_(Code::Ok), value_(std::move(value)) {}
+    /// A refusal: any code but Ok.
     Expected(Code refusal) noexcept : code_(refusal) {}
 
     [[nodiscard]] Code code() const noexcept { return code_; }
@@ -126,22 +126,22 @@ private:
     std::optional<T> value_;
 };
 
-/// The head and the tail that a put found when there was no room for its items.
+/// The head that a put found when there was no room for its items, and the first position whose place wasn't free.
 struct Full {
-    std::uint32_t head;
-    std::uint32_t tail;
+    std::uint64_t head;
+    std::uint64_t tail;
 };
 /// The head that was found, since another end put first.
 struct LostPut {
-    std::uint32_t head;
+    std::uint64_t head;
 };
-/// The tail that was found. The place of this position was not raised.
+/// The tail that was found. The item of this position was not published.
 struct Empty {
-    std::uint32_t tail;
+    std::uint64_t tail;
 };
 /// The tail that was found, since another end took first.
 struct LostTake {
-    std::uint32_t tail;
+    std::uint64_t tail;
 };
 
 /// Consecutive elements that somebody else owns: `View<const std::uint64_t>` to be read, `View<std::uint64_t>` to be
@@ -178,10 +178,10 @@ private:
     std::size_t size_ = 0;
 };
 
-/// The code of an answer, of this namespace or of synthesis.h.
+/// The code of an answer.
 template <class Answer> [[nodiscard]] constexpr Code code_of(const Answer &answer) noexcept
 {
-    return static_cast<Code>(answer.code);
+    return answer.code;
 }
 
 /// Repeats a try while it is Lost. Each time another end was first.

@@ -8,23 +8,6 @@
 
 namespace synthesis {
 
-/// The head that a put of a batch found when there was no room, and the first position whose place wasn't given back.
-struct BatchFull {
-    std::uint64_t head;
-    std::uint64_t tail;
-};
-/// The head that was found, since another end put first.
-struct BatchLostPut {
-    std::uint64_t head;
-};
-/// The tail that was found. Nothing was published there.
-struct BatchEmpty {
-    std::uint64_t tail;
-};
-/// The tail that was found, since another end took first.
-struct BatchLostTake {
-    std::uint64_t tail;
-};
 /// The oldest batch, or what is left of it, for which the buffer has no room.
 struct OldestBatch {
     std::uint64_t tail; ///< the position of its first item
@@ -35,30 +18,30 @@ struct OldestBatch {
 struct [[nodiscard]] BatchPutAnswer {
     Code code;
     std::size_t count;                     ///< how many items were put: 0 after a refusal
-    std::optional<std::uint64_t> position; ///< of the first item, if it is Done
-    std::optional<BatchFull> full;
-    std::optional<BatchLostPut> lost;
+    std::optional<std::uint64_t> position; ///< of the first item, if it is Ok
+    std::optional<Full> full;
+    std::optional<LostPut> lost;
 
-    explicit operator bool() const noexcept { return code == Code::Done; }
+    explicit operator bool() const noexcept { return code == Code::Ok; }
 };
 
 /// The answer of a taking of batches, whose items are then the first ones of the buffer.
 struct [[nodiscard]] BatchTakeAnswer {
     Code code;
     std::size_t count; ///< how many items were taken: 0 after a refusal
-    std::optional<BatchEmpty> empty;
-    std::optional<BatchLostTake> lost;
+    std::optional<Empty> empty;
+    std::optional<LostTake> lost;
     std::optional<OldestBatch> oldest; ///< if it is ShortBuffer
 
-    explicit operator bool() const noexcept { return code == Code::Done; }
+    explicit operator bool() const noexcept { return code == Code::Ok; }
 };
 
 /// What a batch queue had at its end, by its numbers alone: how many items were put; how many were taken, which are the
 /// first ones of those put; and how many were left, all others, which are in the caller's buffer.
-using BatchNumbers = synth_batch_closed;
+using BatchNumbers = synth_batch_totals;
 
 /// What a batch queue had at its end.
-struct BatchClosed {
+struct BatchTotals {
     std::uint64_t put;
     std::uint64_t taken;
     std::vector<std::uint64_t> left; ///< the items left, in their order
@@ -66,37 +49,31 @@ struct BatchClosed {
 
 namespace detail {
 
-inline BatchPutAnswer batch_put_answer(std::int32_t code, std::size_t count, const synth_positions &at) noexcept
+inline BatchPutAnswer batch_put_answer(synth_code code, std::size_t count, const synth_positions &at) noexcept
 {
     BatchPutAnswer put = {as_code(code), 0, {}, {}, {}};
-    if (code == SYNTH_DONE) {
+    if (code == SYNTH_OK) {
         put.count = count;
         put.position = at.head;
     } else if (code == SYNTH_FULL) {
-        put.full = BatchFull{at.head, at.tail};
+        put.full = Full{at.head, at.tail};
     } else if (code == SYNTH_LOST) {
-        put.lost = BatchLostPut{at.head};
-    } else if (code == SYNTH_CLOSED) {
-        acquire(Carrier::Shut, 0);
+        put.lost = LostPut{at.head};
     }
     return put;
 }
 
-inline BatchTakeAnswer batch_take_answer(std::int32_t code, const std::uint64_t *items, std::size_t count,
-                                         const synth_positions &at) noexcept
+inline BatchTakeAnswer batch_take_answer(synth_code code, std::size_t count, std::uint64_t tail) noexcept
 {
     BatchTakeAnswer take = {as_code(code), 0, {}, {}, {}};
-    if (code == SYNTH_DONE) {
-        acquire_all(items, count);
+    if (code == SYNTH_OK) {
         take.count = count;
     } else if (code == SYNTH_EMPTY) {
-        take.empty = BatchEmpty{at.tail};
+        take.empty = Empty{tail};
     } else if (code == SYNTH_LOST) {
-        take.lost = BatchLostTake{at.tail};
+        take.lost = LostTake{tail};
     } else if (code == SYNTH_SHORT_BUFFER) {
-        take.oldest = OldestBatch{at.tail, count};
-    } else if (code == SYNTH_CLOSED) {
-        acquire(Carrier::Shut, 0);
+        take.oldest = OldestBatch{tail, count};
     }
     return take;
 }
@@ -137,8 +114,7 @@ public:
     BatchPutAnswer try_put(View<const std::uint64_t> items) noexcept
     {
         synth_positions at = {};
-        detail::release_all(items.data(), items.size());
-        const std::int32_t code = synth_batch_try_put(raw(), items.data(), items.size(), &at);
+        const synth_code code = synth_batch_try_put(raw(), items.data(), items.size(), &at);
         return detail::batch_put_answer(code, items.size(), at);
     }
     BatchPutAnswer try_put(std::initializer_list<std::uint64_t> items) noexcept
@@ -159,8 +135,7 @@ public:
     {
         std::size_t put = 0;
         synth_positions at = {};
-        detail::release_all(items.data(), items.size());
-        const std::int32_t code = synth_batch_try_put_some(raw(), items.data(), items.size(), &put, &at);
+        const synth_code code = synth_batch_try_put_some(raw(), items.data(), items.size(), &put, &at);
         return detail::batch_put_answer(code, put, at);
     }
     BatchPutAnswer try_put_some(std::initializer_list<std::uint64_t> items) noexcept
@@ -173,9 +148,9 @@ public:
     BatchTakeAnswer try_take(View<std::uint64_t> buffer) noexcept
     {
         std::size_t count = 0;
-        synth_positions at = {};
-        const std::int32_t code = synth_batch_try_take(raw(), buffer.data(), buffer.size(), &count, &at);
-        return detail::batch_take_answer(code, buffer.data(), count, at);
+        std::uint64_t tail = 0;
+        const synth_code code = synth_batch_try_take(raw(), buffer.data(), buffer.size(), &count, &tail);
+        return detail::batch_take_answer(code, count, tail);
     }
 
     /// One try to take as many items as the buffer has room for, where need be the first ones of a batch. Its others
@@ -184,47 +159,41 @@ public:
     BatchTakeAnswer try_take_some(View<std::uint64_t> buffer) noexcept
     {
         std::size_t count = 0;
-        synth_positions at = {};
-        const std::int32_t code = synth_batch_try_take_some(raw(), buffer.data(), buffer.size(), &count, &at);
-        return detail::batch_take_answer(code, buffer.data(), count, at);
+        std::uint64_t tail = 0;
+        const synth_code code = synth_batch_try_take_some(raw(), buffer.data(), buffer.size(), &count, &tail);
+        return detail::batch_take_answer(code, count, tail);
     }
 
     /// A hint of how many items are in the queue, published or not. Other ends change it meanwhile. EmptyHandle.
-    Expected<std::uint64_t> len() noexcept
+    Expected<std::uint64_t> len() const noexcept
     {
         std::uint64_t count = 0;
-        const std::int32_t code = synth_batch_len(raw(), &count);
+        const synth_code code = synth_batch_len(raw(), &count);
         return detail::value_of(code, count);
     }
 
     /// How many places the queue has. EmptyHandle.
-    Expected<std::size_t> capacity() noexcept
+    Expected<std::size_t> capacity() const noexcept
     {
         std::size_t places = 0;
-        const std::int32_t code = synth_batch_capacity(raw(), &places);
+        const synth_code code = synth_batch_capacity(raw(), &places);
         return detail::value_of(code, places);
     }
 
-    /// Shuts the queue for puts, for good. The value is whether it was open: true for one call alone. EmptyHandle.
-    Expected<bool> shut() noexcept
-    {
-        bool was_open = false;
-        detail::release(detail::Carrier::Shut, 0);
-        const std::int32_t code = synth_batch_shut(raw(), &was_open);
-        return detail::value_of(code, was_open);
-    }
+    /// Shuts the queue for puts, for good: Ok, of one call alone. EmptyHandle; Closed: it was shut already.
+    Code shut() noexcept { return detail::as_code(synth_batch_shut(raw())); }
 
-    /// Closes the queue by an end to which all others were joined, and empties it. The items left become the first ones
+    /// Ends the queue by an end to which all others were joined, and empties it. The items left become the first ones
     /// of the buffer. EmptyHandle; ShortBuffer: it has less room than the queue has places; Open.
-    Expected<BatchNumbers> close(View<std::uint64_t> buffer) noexcept
+    Expected<BatchNumbers> finish(View<std::uint64_t> buffer) noexcept
     {
-        synth_batch_closed closed = {};
-        const std::int32_t code = synth_batch_close(raw(), buffer.data(), buffer.size(), &closed);
-        return detail::value_of(code, closed);
+        synth_batch_totals totals = {};
+        const synth_code code = synth_batch_finish(raw(), buffer.data(), buffer.size(), &totals);
+        return detail::value_of(code, totals);
     }
     /// The same, with the items left in a list. EmptyHandle; NoMemory: none for the list, of as many items as the queue
     /// has places, and the end is still full; Open.
-    Expected<BatchClosed> close() noexcept
+    Expected<BatchTotals> finish() noexcept
     {
         const Expected<std::size_t> places = capacity();
         std::vector<std::uint64_t> left;
@@ -234,12 +203,21 @@ public:
         if (!detail::has_grown(left, *places)) {
             return Code::NoMemory;
         }
-        const Expected<BatchNumbers> closed = close(left);
-        if (!closed) {
-            return closed.code();
+        const Expected<BatchNumbers> totals = finish(left);
+        if (!totals) {
+            return totals.code();
         }
-        left.resize(closed->left);
-        return BatchClosed{closed->put, closed->taken, std::move(left)};
+        left.resize(totals->left);
+        return BatchTotals{totals->put, totals->taken, std::move(left)};
+    }
+
+    /// Gives the queue up, of which an end was lost or freed: shuts it, takes what can be taken into the buffer, as
+    /// much as has room, and frees this end. The value is how many items it took: no account of the queue. EmptyHandle.
+    Expected<std::size_t> abandon(View<std::uint64_t> buffer) noexcept
+    {
+        std::size_t count = 0;
+        const synth_code code = synth_batch_abandon(raw(), buffer.data(), buffer.size(), &count);
+        return detail::value_of(code, count);
     }
 
     /// Puts the items as one batch, and sleeps while there is no room. Full: the time is over; else as try_put, and

@@ -19,7 +19,7 @@ struct [[nodiscard]] ChainAnswer {
 };
 
 /// What a chain had at its end: how many notes were chained, and handed out.
-using Chained = synth_chained;
+using ChainTotals = synth_chain_totals;
 
 /// An end of a chain of 32 places. A note of 16 bits stands for a procedure and what it works on.
 ///
@@ -27,10 +27,8 @@ using Chained = synth_chained;
 /// of a chain run at once. An end is used by one thread at a time; `split` makes one for another thread. What a thread
 /// did before it chained a note is visible to the procedure of the note, and what a procedure did to those after it.
 ///
-///     if (end.try_chain(note).is_runner() && end.serve(procedure) != synthesis::Code::Done) ..
+///     if (end.try_chain(note).is_runner() && end.serve(procedure) != synthesis::Code::Ok) ..
 class ChainEnd : public detail::Joined<ChainEnd, synth_chain, synth_chain_free, synth_chain_join> {
-    using Carrier = detail::Carrier;
-
 public:
     ChainEnd() noexcept = default;
 
@@ -49,31 +47,22 @@ public:
     /// One try to chain a note: Run or Left. EmptyHandle; Spent; Full; Lost.
     ChainAnswer try_chain(std::uint16_t note) noexcept
     {
-        detail::release(Carrier::Note, note);
-        const synth_answer answer = synth_chain_try_chain(raw(), note);
-        detail::acquire(Carrier::Turn, 0);
-        ChainAnswer chained = {code_of(answer), {}, {}};
-        if (answer.code == SYNTH_FULL) {
-            chained.full = Full{answer.head, answer.tail};
-        } else if (answer.code == SYNTH_LOST) {
-            chained.lost = LostPut{answer.head};
+        synth_positions at = {};
+        const synth_code code = synth_chain_try_chain(raw(), note, &at);
+        ChainAnswer chained = {detail::as_code(code), {}, {}};
+        if (code == SYNTH_FULL) {
+            chained.full = Full{at.head, at.tail};
+        } else if (code == SYNTH_LOST) {
+            chained.lost = LostPut{at.head};
         }
         return chained;
     }
 
-    /// The next note, of an end that runs notes. Done: no note is left, and the end runs none from now on; Again: call
+    /// The next note, of an end that runs notes. Ok: no note is left, and the end runs none from now on; Again: call
     /// again; EmptyHandle; NotRunning.
-    Code next(std::uint16_t &note) noexcept
-    {
-        detail::release(Carrier::Turn, 0);
-        const Code code = detail::as_code(synth_chain_next(raw(), &note));
-        if (code == Code::Note) {
-            detail::acquire(Carrier::Note, note);
-        }
-        return code;
-    }
+    Code next(std::uint16_t &note) noexcept { return detail::as_code(synth_chain_next(raw(), &note)); }
 
-    /// Calls the procedure with each note, until none is left. Done; EmptyHandle; NotRunning.
+    /// Calls the procedure with each note, until none is left. Ok; EmptyHandle; NotRunning.
     template <class Procedure> Code serve(Procedure procedure) noexcept(noexcept(procedure(std::uint16_t{})))
     {
         std::uint16_t note = 0;
@@ -87,12 +76,12 @@ public:
         return code;
     }
 
-    /// Closes the chain by an end to which all others were joined, and empties it. EmptyHandle; Running; Open.
-    Expected<Chained> close() noexcept
+    /// Ends the chain by an end to which all others were joined, and empties it. EmptyHandle; Running; Open.
+    Expected<ChainTotals> finish() noexcept
     {
-        synth_chained closed = {};
-        const std::int32_t code = synth_chain_close(raw(), &closed);
-        return detail::value_of(code, closed);
+        synth_chain_totals totals = {};
+        const synth_code code = synth_chain_finish(raw(), &totals);
+        return detail::value_of(code, totals);
     }
 };
 

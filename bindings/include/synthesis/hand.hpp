@@ -10,16 +10,16 @@ namespace synthesis {
 /// The answer of a taking of an element, which the hand then holds.
 struct [[nodiscard]] ElementAnswer {
     Code code;
-    std::optional<std::uint32_t> element; ///< if it is Done
+    std::optional<std::uint32_t> element; ///< if it is Ok
     std::optional<LostTake> lost;
 
-    explicit operator bool() const noexcept { return code == Code::Done; }
+    explicit operator bool() const noexcept { return code == Code::Ok; }
 };
 
 /// The head and the number of notifies that a move found, since another hand was first.
 struct LostMove {
     std::uint32_t head;
-    std::uint32_t notifies;
+    std::optional<std::uint32_t> notifies; ///< of a wait queue
 };
 
 /// The answer of a move of an element.
@@ -28,23 +28,20 @@ struct [[nodiscard]] MoveAnswer {
     std::optional<LostMove> lost;
     std::optional<std::uint32_t> notifies; ///< how many were found, if it is Moved
 
-    explicit operator bool() const noexcept { return code == Code::Done; }
+    explicit operator bool() const noexcept { return code == Code::Ok; }
 };
 
-/// The state of an element, as it was found.
-struct ElementState {
-    std::uint16_t pending; ///< the pending signals, bit s for signal s
-    bool is_stopping;      ///< its stop bit is set
-    bool is_parked;        ///< it stands in its stop cell
-};
+/// The state of an element, as it was found: its pending signals, bit s for signal s; whether its stop bit is set; and
+/// whether it is in its stop cell.
+using ElementState = synth_element_state;
 
 /// The answer of a try at an element's state. It isn't to be taken for its value, so it has no operator bool.
 template <class T> struct [[nodiscard]] StateAnswer {
     Code code;
-    std::optional<T> value;            ///< if it is Done
+    std::optional<T> value;            ///< if it is Ok
     std::optional<ElementState> found; ///< if it is Lost: another hand changed the state first
 
-    [[nodiscard]] bool ok() const noexcept { return code == Code::Done; }
+    [[nodiscard]] bool ok() const noexcept { return code == Code::Ok; }
 };
 
 /// What a start did.
@@ -72,7 +69,7 @@ struct Place {
 };
 
 /// The elements at the table's end, each list by their numbers.
-struct Places {
+struct HandTotals {
     std::array<Place, 64> places;
     std::array<std::uint64_t, 64> pc;      ///< how many steps each has done
     std::array<std::uint16_t, 64> pending; ///< the pending signals of each, bit s for signal s
@@ -81,36 +78,28 @@ struct Places {
 
 namespace detail {
 
-inline ElementAnswer element_answer(const synth_answer &answer, std::uint32_t element) noexcept
+inline ElementAnswer element_answer(synth_code code, std::uint32_t element, std::uint32_t tail) noexcept
 {
-    if (answer.code == SYNTH_DONE) {
-        acquire(Carrier::Element, element);
-    }
-    return {as_code(answer.code), only_if<std::uint32_t>(answer.code == SYNTH_DONE, element),
-            only_if<LostTake>(answer.code == SYNTH_LOST, answer.tail)};
+    return {as_code(code), only_if<std::uint32_t>(code == SYNTH_OK, element),
+            only_if<LostTake>(code == SYNTH_LOST, tail)};
 }
 
-inline MoveAnswer move_answer(const synth_moved &answer) noexcept
+/// The answer of a move to an element queue, which has notifies if it is a wait queue.
+inline MoveAnswer move_answer(synth_code code, std::uint32_t head, std::optional<std::uint32_t> notifies) noexcept
 {
-    MoveAnswer moved = {as_code(answer.code), {}, {}};
-    if (answer.code == SYNTH_LOST) {
-        moved.lost = LostMove{answer.head, answer.notifies};
-    } else if (answer.code == SYNTH_MOVED) {
-        moved.notifies = answer.notifies;
+    MoveAnswer moved = {as_code(code), {}, {}};
+    if (code == SYNTH_LOST) {
+        moved.lost = LostMove{head, notifies};
+    } else if (code == SYNTH_MOVED) {
+        moved.notifies = notifies;
     }
     return moved;
 }
 
-template <class T> StateAnswer<T> state_answer(const synth_state &answer, T value) noexcept
+template <class T> StateAnswer<T> state_answer(synth_code code, T value, const ElementState &found) noexcept
 {
-    StateAnswer<T> state = {as_code(answer.code), {}, {}};
-    if (answer.code == SYNTH_DONE) {
-        state.value = value;
-    } else if (answer.code == SYNTH_LOST) {
-        state.found = ElementState{static_cast<std::uint16_t>(answer.word & 0xffffu), (answer.word >> 16 & 1u) != 0,
-                                   (answer.word >> 17 & 1u) != 0};
-    }
-    return state;
+    return {as_code(code), code == SYNTH_OK ? std::optional<T>(value) : std::nullopt,
+            code == SYNTH_LOST ? std::optional<ElementState>(found) : std::nullopt};
 }
 
 inline Place place_of(const synth_place &place) noexcept
@@ -130,8 +119,6 @@ inline Place place_of(const synth_place &place) noexcept
 /// the element; what it did before a stop or a signal to whoever then parks the element or takes its signals; what it
 /// did before a notify to whoever then reads a ticket of the queue, or is answered Moved.
 class Hand : public detail::Joined<Hand, synth_hand, synth_hand_free, synth_hand_join> {
-    using Carrier = detail::Carrier;
-
 public:
     Hand() noexcept = default;
 
@@ -150,26 +137,26 @@ public:
     }
 
     /// Whether this hand holds the element. EmptyHandle; BadNumber.
-    Expected<bool> holds(std::uint32_t element) noexcept
+    Expected<bool> holds(std::uint32_t element) const noexcept
     {
         bool held = false;
-        const std::int32_t code = synth_hand_holds(raw(), element, &held);
+        const synth_code code = synth_hand_holds(raw(), element, &held);
         return detail::value_of(code, held);
     }
 
     /// Whether this hand serves the processor. EmptyHandle; BadNumber.
-    Expected<bool> serves(std::uint32_t processor) noexcept
+    Expected<bool> serves(std::uint32_t processor) const noexcept
     {
         bool served = false;
-        const std::int32_t code = synth_hand_serves(raw(), processor, &served);
+        const synth_code code = synth_hand_serves(raw(), processor, &served);
         return detail::value_of(code, served);
     }
 
     /// The element that this hand has on the processor. EmptyHandle; BadNumber; Vacant.
-    Expected<std::uint32_t> on_processor(std::uint32_t processor) noexcept
+    Expected<std::uint32_t> on_processor(std::uint32_t processor) const noexcept
     {
         std::uint32_t element = 0;
-        const std::int32_t code = synth_hand_on_processor(raw(), processor, &element);
+        const synth_code code = synth_hand_on_processor(raw(), processor, &element);
         return detail::value_of(code, element);
     }
 
@@ -183,15 +170,15 @@ public:
     Expected<std::uint32_t> off(std::uint32_t processor) noexcept
     {
         std::uint32_t element = 0;
-        const std::int32_t code = synth_hand_off(raw(), processor, &element);
+        const synth_code code = synth_hand_off(raw(), processor, &element);
         return detail::value_of(code, element);
     }
 
     /// How many steps an element has done. EmptyHandle; BadNumber; NotHeld.
-    Expected<std::uint64_t> pc(std::uint32_t element) noexcept
+    Expected<std::uint64_t> pc(std::uint32_t element) const noexcept
     {
         std::uint64_t steps = 0;
-        const std::int32_t code = synth_hand_pc(raw(), element, &steps);
+        const synth_code code = synth_hand_pc(raw(), element, &steps);
         return detail::value_of(code, steps);
     }
 
@@ -199,7 +186,7 @@ public:
     Expected<std::uint64_t> step_done(std::uint32_t element) noexcept
     {
         std::uint64_t steps = 0;
-        const std::int32_t code = synth_hand_step_done(raw(), element, &steps);
+        const synth_code code = synth_hand_step_done(raw(), element, &steps);
         return detail::value_of(code, steps);
     }
 
@@ -207,88 +194,93 @@ public:
     ElementAnswer try_next() noexcept
     {
         std::uint32_t element = 0;
-        const synth_answer answer = synth_hand_try_next(raw(), &element);
-        return detail::element_answer(answer, element);
+        std::uint32_t tail = 0;
+        const synth_code code = synth_hand_try_next(raw(), &element, &tail);
+        return detail::element_answer(code, element, tail);
     }
 
     /// The same of the free elements.
     ElementAnswer try_free() noexcept
     {
         std::uint32_t element = 0;
-        const synth_answer answer = synth_hand_try_free(raw(), &element);
-        return detail::element_answer(answer, element);
+        std::uint32_t tail = 0;
+        const synth_code code = synth_hand_try_free(raw(), &element, &tail);
+        return detail::element_answer(code, element, tail);
     }
 
     /// The same of a wait queue. EmptyHandle; BadNumber; Empty; Lost.
     ElementAnswer try_wake(std::uint32_t wait) noexcept
     {
         std::uint32_t element = 0;
-        const synth_answer answer = synth_hand_try_wake(raw(), wait, &element);
-        return detail::element_answer(answer, element);
+        std::uint32_t tail = 0;
+        const synth_code code = synth_hand_try_wake(raw(), wait, &element, &tail);
+        return detail::element_answer(code, element, tail);
     }
 
     /// As try_wake, as long as a place is left that was claimed before `head`, which a notify gave. AllWoken: none is.
     ElementAnswer try_wake_before(std::uint32_t wait, std::uint32_t head) noexcept
     {
         std::uint32_t element = 0;
-        const synth_answer answer = synth_hand_try_wake_before(raw(), wait, head, &element);
-        return detail::element_answer(answer, element);
+        std::uint32_t tail = 0;
+        const synth_code code = synth_hand_try_wake_before(raw(), wait, head, &element, &tail);
+        return detail::element_answer(code, element, tail);
     }
 
     /// Counts one more notify of a wait queue. The value is the head for try_wake_before. EmptyHandle; BadNumber.
     Expected<std::uint32_t> notify(std::uint32_t wait) noexcept
     {
         std::uint32_t head = 0;
-        detail::release(Carrier::Wait, wait);
-        const std::int32_t code = synth_hand_notify(raw(), wait, &head);
+        const synth_code code = synth_hand_notify(raw(), wait, &head);
         return detail::value_of(code, head);
     }
 
     /// A ticket for a wait. Read it before the look for what the element waits for. EmptyHandle; BadNumber.
-    Expected<std::uint32_t> ticket(std::uint32_t wait) noexcept
+    Expected<std::uint32_t> ticket(std::uint32_t wait) const noexcept
     {
         std::uint32_t ticket = 0;
-        const std::int32_t code = synth_hand_ticket(raw(), wait, &ticket);
-        detail::acquire(Carrier::Wait, wait);
+        const synth_code code = synth_hand_ticket(raw(), wait, &ticket);
         return detail::value_of(code, ticket);
     }
 
     /// One try to put an element into the ready ring. EmptyHandle; BadNumber; NotHeld; Spent; Lost.
     MoveAnswer try_ready(std::uint32_t element) noexcept
     {
-        detail::release(Carrier::Element, element);
-        return detail::move_answer(synth_hand_try_ready(raw(), element));
+        std::uint32_t head = 0;
+        const synth_code code = synth_hand_try_ready(raw(), element, &head);
+        return detail::move_answer(code, head, std::nullopt);
     }
 
     /// The same, after the free elements.
     MoveAnswer try_retire(std::uint32_t element) noexcept
     {
-        detail::release(Carrier::Element, element);
-        return detail::move_answer(synth_hand_try_retire(raw(), element));
+        std::uint32_t head = 0;
+        const synth_code code = synth_hand_try_retire(raw(), element, &head);
+        return detail::move_answer(code, head, std::nullopt);
     }
 
     /// The same, into a wait queue; no ticket guards it against a lost wake.
     MoveAnswer try_wait(std::uint32_t element, std::uint32_t wait) noexcept
     {
-        detail::release(Carrier::Element, element);
-        return detail::move_answer(synth_hand_try_wait(raw(), element, wait));
+        std::uint32_t head = 0;
+        std::uint32_t notifies = 0;
+        const synth_code code = synth_hand_try_wait(raw(), element, wait, &head, &notifies);
+        return detail::move_answer(code, head, notifies);
     }
 
     /// The same, if the ticket is the number of notifies still. Moved: look again.
     MoveAnswer try_wait_at(std::uint32_t element, std::uint32_t wait, std::uint32_t ticket) noexcept
     {
-        detail::release(Carrier::Element, element);
-        const synth_moved answer = synth_hand_try_wait_at(raw(), element, wait, ticket);
-        detail::acquire(Carrier::Wait, wait);
-        return detail::move_answer(answer);
+        std::uint32_t head = 0;
+        std::uint32_t notifies = 0;
+        const synth_code code = synth_hand_try_wait_at(raw(), element, wait, ticket, &head, &notifies);
+        return detail::move_answer(code, head, notifies);
     }
 
     /// Sets the stop bit of an element. The value is whether it was clear. EmptyHandle; BadNumber.
     Expected<bool> stop(std::uint32_t element) noexcept
     {
         bool was_clear = false;
-        detail::release(Carrier::Element, element);
-        const std::int32_t code = synth_hand_stop(raw(), element, &was_clear);
+        const synth_code code = synth_hand_stop(raw(), element, &was_clear);
         return detail::value_of(code, was_clear);
     }
 
@@ -296,9 +288,9 @@ public:
     StateAnswer<Started> try_start(std::uint32_t element) noexcept
     {
         std::uint32_t started = 0;
-        const synth_state answer = synth_hand_try_start(raw(), element, &started);
-        detail::acquire(Carrier::Element, element);
-        return detail::state_answer(answer, static_cast<Started>(started));
+        ElementState found = {};
+        const synth_code code = synth_hand_try_start(raw(), element, &started, &found);
+        return detail::state_answer(code, static_cast<Started>(started), found);
     }
 
     /// One try to put an element into its stop cell, if its stop bit is set. The value is whether it stands there.
@@ -306,18 +298,16 @@ public:
     StateAnswer<bool> try_park(std::uint32_t element) noexcept
     {
         bool parked = false;
-        detail::release(Carrier::Element, element);
-        const synth_state answer = synth_hand_try_park(raw(), element, &parked);
-        detail::acquire(Carrier::Element, element);
-        return detail::state_answer(answer, parked);
+        ElementState found = {};
+        const synth_code code = synth_hand_try_park(raw(), element, &parked, &found);
+        return detail::state_answer(code, parked, found);
     }
 
     /// Makes a signal of an element pending. The value is whether it was not pending before. EmptyHandle; BadNumber.
     Expected<bool> signal(std::uint32_t element, std::uint32_t signal) noexcept
     {
         bool raised = false;
-        detail::release(Carrier::Element, element);
-        const std::int32_t code = synth_hand_signal(raw(), element, signal, &raised);
+        const synth_code code = synth_hand_signal(raw(), element, signal, &raised);
         return detail::value_of(code, raised);
     }
 
@@ -325,27 +315,27 @@ public:
     StateAnswer<std::uint16_t> try_deliver(std::uint32_t element) noexcept
     {
         std::uint32_t signals = 0;
-        const synth_state answer = synth_hand_try_deliver(raw(), element, &signals);
-        detail::acquire(Carrier::Element, element);
-        return detail::state_answer(answer, static_cast<std::uint16_t>(signals));
+        ElementState found = {};
+        const synth_code code = synth_hand_try_deliver(raw(), element, &signals, &found);
+        return detail::state_answer(code, static_cast<std::uint16_t>(signals), found);
     }
 
-    /// Closes the table by a hand to which all others were joined, and empties it. EmptyHandle; Open.
-    Expected<Places> close() noexcept
+    /// Ends the table by a hand to which all others were joined, and empties it. EmptyHandle; Open.
+    Expected<HandTotals> finish() noexcept
     {
-        synth_places closed = {};
-        Places places = {};
-        const std::int32_t code = synth_hand_close(raw(), &closed);
-        if (code != SYNTH_DONE) {
+        synth_hand_totals given = {};
+        HandTotals totals = {};
+        const synth_code code = synth_hand_finish(raw(), &given);
+        if (code != SYNTH_OK) {
             return detail::as_code(code);
         }
-        for (std::size_t i = 0; i < places.places.size(); i++) {
-            places.places[i] = detail::place_of(closed.place[i]);
-            places.pc[i] = closed.pc[i];
-            places.pending[i] = closed.pending[i];
+        for (std::size_t i = 0; i < totals.places.size(); i++) {
+            totals.places[i] = detail::place_of(given.place[i]);
+            totals.pc[i] = given.pc[i];
+            totals.pending[i] = given.pending[i];
         }
-        places.stops = closed.stops;
-        return places;
+        totals.stops = given.stops;
+        return totals;
     }
 };
 

@@ -17,7 +17,6 @@ public:
     /// Pushes one byte after all others. EmptyHandle; Full.
     Code push(std::uint8_t byte) noexcept
     {
-        detail::release(detail::Carrier::Byte, 0);
         return detail::as_code(synth_line_push(raw(), byte));
     }
 };
@@ -31,8 +30,7 @@ public:
     Expected<std::uint8_t> pop() noexcept
     {
         std::uint8_t byte = 0;
-        const std::int32_t code = synth_line_pop(raw(), &byte);
-        detail::acquire(detail::Carrier::Byte, 0);
+        const synth_code code = synth_line_pop(raw(), &byte);
         return detail::value_of(code, byte);
     }
 };
@@ -50,16 +48,16 @@ using LineTotals = synth_line_totals;
 inline Expected<Line> make_line(std::size_t room) noexcept
 {
     Line line;
-    const std::int32_t code = synth_line_new(room, line.in.raw(), line.out.raw());
+    const synth_code code = synth_line_new(room, line.in.raw(), line.out.raw());
     return detail::value_of(code, std::move(line));
 }
 
 /// Ends a line whose halves are both this thread's, and empties them. The bytes left go with the line. Unless the code
-/// is Done, both keep their handles. EmptyHandle: either one; OtherObject: they are of two lines.
+/// is Ok, both keep their handles. EmptyHandle: either one; OtherObject: they are of two lines.
 inline Expected<LineTotals> finish(LineIn &&in, LineOut &&out) noexcept
 {
     synth_line_totals totals = {};
-    const std::int32_t code = synth_line_finish(in.raw(), out.raw(), &totals);
+    const synth_code code = synth_line_finish(in.raw(), out.raw(), &totals);
     return detail::value_of(code, totals);
 }
 

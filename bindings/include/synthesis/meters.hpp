@@ -32,26 +32,26 @@ private:
 /// The answer of a move of the clock.
 struct [[nodiscard]] AdvanceAnswer {
     Code code;
-    std::optional<std::uint32_t> clock; ///< the clock after, if it is Done
+    std::optional<std::uint32_t> clock; ///< the clock after, if it is Ok
     std::optional<std::uint32_t> found; ///< the clock found, if it is Lost
 
-    explicit operator bool() const noexcept { return code == Code::Done; }
+    explicit operator bool() const noexcept { return code == Code::Ok; }
 };
 
 /// The answer of a try to set an alarm.
 struct [[nodiscard]] SetAnswer {
     Code code;
-    std::optional<std::uint32_t> slot;      ///< by which it can be cancelled, if it is Done
+    std::optional<std::uint32_t> slot;      ///< by which it can be cancelled, if it is Ok
     std::optional<std::uint32_t> lost_slot; ///< which another seat took first, if it is Lost
 
-    explicit operator bool() const noexcept { return code == Code::Done; }
+    explicit operator bool() const noexcept { return code == Code::Ok; }
 };
 
 /// The meters at their end.
-struct Metered {
+struct SeatTotals {
     std::array<std::uint64_t, 8> gauges;
     std::uint32_t clock;
-    Alarms alarms; ///< those that stand
+    Alarms alarms; ///< those that were set still
 };
 
 /// A seat at meters: eight gauges, a clock, and sixteen slots for alarms, which any number of threads share.
@@ -79,39 +79,33 @@ public:
     Expected<std::uint64_t> tick(std::uint32_t gauge, std::uint64_t amount) noexcept
     {
         std::uint64_t before = 0;
-        detail::release(detail::Carrier::Gauge, gauge);
-        const std::int32_t code = synth_seat_tick(raw(), gauge, amount, &before);
-        detail::acquire(detail::Carrier::Gauge, gauge);
+        const synth_code code = synth_seat_tick(raw(), gauge, amount, &before);
         return detail::value_of(code, before);
     }
 
     /// One try to move the clock on by one tick. EmptyHandle; Spent; Lost.
-    AdvanceAnswer advance() noexcept
+    AdvanceAnswer try_advance() noexcept
     {
         std::uint32_t clock = 0;
-        detail::release(detail::Carrier::Clock, 0);
-        const synth_answer answer = synth_seat_advance(raw(), &clock);
-        detail::acquire(detail::Carrier::Clock, 0);
-        return {detail::as_code(answer.code), detail::only_if<std::uint32_t>(answer.code == SYNTH_DONE, clock),
-                detail::only_if<std::uint32_t>(answer.code == SYNTH_LOST, answer.head)};
+        const synth_code code = synth_seat_try_advance(raw(), &clock);
+        return {detail::as_code(code), detail::only_if<std::uint32_t>(code == SYNTH_OK, clock),
+                detail::only_if<std::uint32_t>(code == SYNTH_LOST, clock)};
     }
 
     /// One try to set an alarm in the first empty slot. EmptyHandle; BadNumber; NoRoom; Lost.
     SetAnswer try_set(const Alarm &alarm) noexcept
     {
         std::uint32_t slot = 0;
-        detail::release(detail::Carrier::Alarm, word_of(alarm));
-        const synth_answer answer = synth_seat_try_set(raw(), &alarm, &slot);
-        return {detail::as_code(answer.code), detail::only_if<std::uint32_t>(answer.code == SYNTH_DONE, slot),
-                detail::only_if<std::uint32_t>(answer.code == SYNTH_LOST, answer.head)};
+        const synth_code code = synth_seat_try_set(raw(), &alarm, &slot);
+        return {detail::as_code(code), detail::only_if<std::uint32_t>(code == SYNTH_OK, slot),
+                detail::only_if<std::uint32_t>(code == SYNTH_LOST, slot)};
     }
 
     /// Takes this alarm out of this slot. The value is whether it stood there. EmptyHandle; BadNumber.
     Expected<bool> cancel(std::uint32_t slot, const Alarm &alarm) noexcept
     {
         bool cancelled = false;
-        const std::int32_t code = synth_seat_cancel(raw(), slot, &alarm, &cancelled);
-        detail::acquire(detail::Carrier::Alarm, word_of(alarm));
+        const synth_code code = synth_seat_cancel(raw(), slot, &alarm, &cancelled);
         return detail::value_of(code, cancelled);
     }
 
@@ -119,34 +113,24 @@ public:
     Expected<Alarms> due() noexcept
     {
         Alarms alarms;
-        const std::int32_t code = synth_seat_due(raw(), alarms.alarms_.data(), Alarms::most, &alarms.size_);
-        detail::acquire(detail::Carrier::Clock, 0);
-        for (const Alarm &alarm : alarms) {
-            detail::acquire(detail::Carrier::Alarm, word_of(alarm));
-        }
+        const synth_code code = synth_seat_due(raw(), alarms.alarms_.data(), Alarms::most, &alarms.size_);
         return detail::value_of(code, alarms);
     }
 
-    /// Closes the meters by a seat to which all others were joined, and empties it. EmptyHandle; Open.
-    Expected<Metered> close() noexcept
+    /// Ends the meters by a seat to which all others were joined, and empties it. EmptyHandle; Open.
+    Expected<SeatTotals> finish() noexcept
     {
-        synth_metered closed = {};
-        Metered metered = {};
-        const std::int32_t code = synth_seat_close(raw(), &closed);
-        if (code != SYNTH_DONE) {
+        synth_seat_totals given = {};
+        SeatTotals totals = {};
+        const synth_code code = synth_seat_finish(raw(), &given);
+        if (code != SYNTH_OK) {
             return detail::as_code(code);
         }
-        std::memcpy(metered.gauges.data(), closed.gauges, sizeof closed.gauges);
-        std::memcpy(metered.alarms.alarms_.data(), closed.alarm, sizeof closed.alarm);
-        metered.alarms.size_ = closed.alarms;
-        metered.clock = closed.clock;
-        return metered;
-    }
-
-private:
-    static constexpr std::uint64_t word_of(const Alarm &alarm) noexcept
-    {
-        return (std::uint64_t{alarm.due} * 64 + alarm.element) * 16 + alarm.signal;
+        std::memcpy(totals.gauges.data(), given.gauges, sizeof given.gauges);
+        std::memcpy(totals.alarms.alarms_.data(), given.alarm, sizeof given.alarm);
+        totals.alarms.size_ = given.alarms;
+        totals.clock = given.clock;
+        return totals;
     }
 };
 

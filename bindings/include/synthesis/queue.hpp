@@ -11,21 +11,21 @@ namespace synthesis {
 /// The answer of a put.
 struct [[nodiscard]] PutAnswer {
     Code code;
-    std::optional<std::uint32_t> position; ///< of the first item, if it is Done
+    std::optional<std::uint64_t> position; ///< of the first item, if it is Ok
     std::optional<Full> full;
     std::optional<LostPut> lost;
 
-    explicit operator bool() const noexcept { return code == Code::Done; }
+    explicit operator bool() const noexcept { return code == Code::Ok; }
 };
 
 /// The answer of a taking of one item.
 template <class T> struct [[nodiscard]] TakeAnswerOf {
     Code code;
-    std::optional<T> item; ///< if it is Done
+    std::optional<T> item; ///< if it is Ok
     std::optional<Empty> empty;
     std::optional<LostTake> lost;
 
-    explicit operator bool() const noexcept { return code == Code::Done; }
+    explicit operator bool() const noexcept { return code == Code::Ok; }
 };
 using TakeAnswer = TakeAnswerOf<std::uint64_t>;
 
@@ -35,69 +35,50 @@ struct [[nodiscard]] RunAnswer {
     std::size_t count; ///< how many were taken: 0 after a refusal
     std::optional<Empty> empty;
     std::optional<LostTake> lost;
-    std::optional<std::uint32_t> stopped_at; ///< if it is Done: the tail that the next try found, which was refused
+    std::optional<std::uint64_t> stopped_at; ///< if it is Ok: the tail that the next try found, which was refused
 
-    explicit operator bool() const noexcept { return code == Code::Done; }
+    explicit operator bool() const noexcept { return code == Code::Ok; }
 };
 
-/// What a queue had at its end, by its numbers alone.
-struct ClosedNumbers {
-    std::uint32_t first; ///< its first position
-    std::uint32_t put;   ///< how many items were put
-    std::uint32_t taken; ///< how many were taken: the first ones of those put
-    std::size_t left;    ///< how many were left: all others, which are in the caller's buffer
-};
+/// What a queue had at its end, by its numbers alone: its first position; how many items were put; how many were taken,
+/// which are the first ones of those put; and how many were left, all others, which are in the caller's buffer.
+using QueueNumbers = synth_queue_totals;
 
 /// What a queue had at its end.
-template <class T> struct ClosedOf {
+template <class T> struct QueueTotalsOf {
     std::uint32_t first;
     std::uint32_t put;
     std::uint32_t taken;
     std::vector<T> left; ///< the items left, in their order
 };
-using Closed = ClosedOf<std::uint64_t>;
+using QueueTotals = QueueTotalsOf<std::uint64_t>;
 
 namespace detail {
 
-inline PutAnswer put_answer(const synth_answer &answer) noexcept
+inline PutAnswer put_answer(synth_code code, const synth_positions &at) noexcept
 {
-    PutAnswer put = {as_code(answer.code), {}, {}, {}};
-    if (answer.code == SYNTH_DONE) {
-        put.position = answer.head;
-    } else if (answer.code == SYNTH_FULL) {
-        put.full = Full{answer.head, answer.tail};
-    } else if (answer.code == SYNTH_LOST) {
-        put.lost = LostPut{answer.head};
-    } else if (answer.code == SYNTH_CLOSED) {
-        acquire(Carrier::Shut, 0);
+    PutAnswer put = {as_code(code), {}, {}, {}};
+    if (code == SYNTH_OK) {
+        put.position = at.head;
+    } else if (code == SYNTH_FULL) {
+        put.full = Full{at.head, at.tail};
+    } else if (code == SYNTH_LOST) {
+        put.lost = LostPut{at.head};
     }
     return put;
 }
 
-inline TakeAnswer take_answer(const synth_answer &answer, std::uint64_t item) noexcept
+inline TakeAnswer take_answer(synth_code code, std::uint64_t item, std::uint64_t tail) noexcept
 {
-    TakeAnswer take = {as_code(answer.code), {}, {}, {}};
-    if (answer.code == SYNTH_DONE) {
-        acquire(Carrier::Item, item);
-        take.item = item;
-    } else if (answer.code == SYNTH_EMPTY) {
-        take.empty = Empty{answer.tail};
-    } else if (answer.code == SYNTH_LOST) {
-        take.lost = LostTake{answer.tail};
-    } else if (answer.code == SYNTH_CLOSED) {
-        acquire(Carrier::Shut, 0);
-    }
-    return take;
+    return {as_code(code), only_if<std::uint64_t>(code == SYNTH_OK, item), only_if<Empty>(code == SYNTH_EMPTY, tail),
+            only_if<LostTake>(code == SYNTH_LOST, tail)};
 }
 
-inline RunAnswer run_answer(const synth_answer &answer, const std::uint64_t *items, std::size_t count) noexcept
+inline RunAnswer run_answer(synth_code code, std::size_t count, std::uint64_t tail) noexcept
 {
-    if (answer.code == SYNTH_DONE) {
-        acquire_all(items, count);
-        return {Code::Done, count, {}, {}, only_if<std::uint32_t>(answer.tail != 0, answer.tail)};
-    }
-    const TakeAnswer refused = take_answer(answer, 0);
-    return {refused.code, 0, refused.empty, refused.lost, {}};
+    return {as_code(code), code == SYNTH_OK ? count : 0, only_if<Empty>(code == SYNTH_EMPTY, tail),
+            only_if<LostTake>(code == SYNTH_LOST, tail),
+            only_if<std::uint64_t>(code == SYNTH_OK && tail != 0, tail)};
 }
 
 } // namespace detail
@@ -113,7 +94,7 @@ inline RunAnswer run_answer(const synth_answer &answer, const std::uint64_t *ite
 /// items after its own.
 class QueueEnd : public detail::Joined<QueueEnd, synth_queue, synth_queue_free, synth_queue_join> {
 public:
-    /// Room enough for try_take_line and close of any queue.
+    /// Room enough for try_take_line and finish of any queue.
     static constexpr std::size_t most_places = 256;
 
     QueueEnd() noexcept = default;
@@ -133,8 +114,9 @@ public:
     /// One try to put the items, in their order. EmptyHandle; NoItems; TooLong; Closed; Spent; Full; Lost.
     PutAnswer try_put(View<const std::uint64_t> items) noexcept
     {
-        detail::release_all(items.data(), items.size());
-        return detail::put_answer(synth_queue_try_put(raw(), items.data(), items.size()));
+        synth_positions at = {};
+        const synth_code code = synth_queue_try_put(raw(), items.data(), items.size(), &at);
+        return detail::put_answer(code, at);
     }
     PutAnswer try_put(std::initializer_list<std::uint64_t> items) noexcept
     {
@@ -152,8 +134,9 @@ public:
     TakeAnswer try_take() noexcept
     {
         std::uint64_t item = 0;
-        const synth_answer answer = synth_queue_try_take(raw(), &item);
-        return detail::take_answer(answer, item);
+        std::uint64_t tail = 0;
+        const synth_code code = synth_queue_try_take(raw(), &item, &tail);
+        return detail::take_answer(code, item, tail);
     }
 
     /// Takes the first items left, one by one, until one is refused or the buffer is full. EmptyHandle; ShortBuffer: it
@@ -161,8 +144,9 @@ public:
     RunAnswer take_up_to(View<std::uint64_t> buffer) noexcept
     {
         std::size_t count = 0;
-        const synth_answer answer = synth_queue_take_up_to(raw(), buffer.data(), buffer.size(), &count);
-        return detail::run_answer(answer, buffer.data(), count);
+        std::uint64_t tail = 0;
+        const synth_code code = synth_queue_take_up_to(raw(), buffer.data(), buffer.size(), &count, &tail);
+        return detail::run_answer(code, count, tail);
     }
 
     /// One try to take a line by one taking: the items up to and with the first that is 10, or as many as there are
@@ -170,82 +154,65 @@ public:
     RunAnswer try_take_line(View<std::uint64_t> buffer) noexcept
     {
         std::size_t count = 0;
-        const synth_answer answer = synth_queue_try_take_line(raw(), buffer.data(), buffer.size(), &count);
-        return detail::run_answer(answer, buffer.data(), count);
+        std::uint64_t tail = 0;
+        const synth_code code = synth_queue_try_take_line(raw(), buffer.data(), buffer.size(), &count, &tail);
+        return detail::run_answer(code, count, tail);
     }
 
-    /// Shuts the queue for puts, for good. The value is whether it was open: true for one call alone. EmptyHandle.
-    Expected<bool> shut() noexcept
-    {
-        bool was_open = false;
-        detail::release(detail::Carrier::Shut, 0);
-        const std::int32_t code = synth_queue_shut(raw(), &was_open);
-        return detail::value_of(code, was_open);
-    }
+    /// Shuts the queue for puts, for good: Ok, of one call alone. EmptyHandle; Closed: it was shut already.
+    Code shut() noexcept { return detail::as_code(synth_queue_shut(raw())); }
 
-    /// Closes the queue by an end to which all others were joined, and empties it. The items left become the first ones
+    /// Ends the queue by an end to which all others were joined, and empties it. The items left become the first ones
     /// of the buffer. EmptyHandle; ShortBuffer: it has less room than the queue has places; Open.
-    Expected<ClosedNumbers> close(View<std::uint64_t> buffer) noexcept
+    Expected<QueueNumbers> finish(View<std::uint64_t> buffer) noexcept
     {
-        synth_closed closed = {};
-        const std::int32_t code = synth_queue_close(raw(), buffer.data(), buffer.size(), &closed);
-        return detail::value_of(code, ClosedNumbers{closed.first, closed.put, closed.taken, closed.left});
+        synth_queue_totals totals = {};
+        const synth_code code = synth_queue_finish(raw(), buffer.data(), buffer.size(), &totals);
+        return detail::value_of(code, totals);
     }
     /// The same, with the items left in a list. NoMemory: none for the list, and the end is still full. EmptyHandle;
     /// Open.
-    Expected<Closed> close() noexcept
+    Expected<QueueTotals> finish() noexcept
     {
         std::vector<std::uint64_t> left;
         if (!detail::has_grown(left, most_places)) {
             return Code::NoMemory;
         }
-        const Expected<ClosedNumbers> closed = close(left);
-        if (!closed) {
-            return closed.code();
+        const Expected<QueueNumbers> totals = finish(left);
+        if (!totals) {
+            return totals.code();
         }
-        left.resize(closed->left);
-        return Closed{closed->first, closed->put, closed->taken, std::move(left)};
+        left.resize(totals->left);
+        return QueueTotals{totals->first, totals->put, totals->taken, std::move(left)};
+    }
+
+    /// Gives the queue up, of which an end was lost or freed: shuts it, takes what can be taken into the buffer, as
+    /// much as has room, and frees this end. The value is how many items it took: no account of the queue. EmptyHandle.
+    Expected<std::size_t> abandon(View<std::uint64_t> buffer) noexcept
+    {
+        std::size_t count = 0;
+        const synth_code code = synth_queue_abandon(raw(), buffer.data(), buffer.size(), &count);
+        return detail::value_of(code, count);
     }
 
     /// Puts an item, and sleeps while there is no room. Full: the time is over; else as try_put, and never Lost.
     PutAnswer put_wait(std::uint64_t item, QueueEvents &events, Limit limit = {}) noexcept
     {
-        detail::release(detail::Carrier::Item, item);
-        const auto answer = events.places.wait_while(Code::Full, limit, [this, item]() noexcept { return put(item); });
-        if (answer.code == SYNTH_DONE) {
+        const auto put = [&]() noexcept { return repeat([&]() noexcept { return try_put(item); }); };
+        const PutAnswer answer = events.places.wait_while(Code::Full, limit, put);
+        if (answer) {
             events.items.notify_one();
         }
-        return detail::put_answer(answer);
+        return answer;
     }
 
     /// Takes an item, and sleeps while there is none. Empty: the time is over; else as try_take, and never Lost.
     TakeAnswer take_wait(QueueEvents &events, Limit limit = {}) noexcept
     {
-        std::uint64_t item = 0;
-        const auto answer = events.items.wait_while(Code::Empty, limit, [&]() noexcept { return take(item); });
-        if (answer.code == SYNTH_DONE) {
+        const auto take = [&]() noexcept { return repeat([&]() noexcept { return try_take(); }); };
+        const TakeAnswer answer = events.items.wait_while(Code::Empty, limit, take);
+        if (answer) {
             events.places.notify_one();
-        }
-        return detail::take_answer(answer, item);
-    }
-
-private:
-    /// Tries to put an item until no other end was first.
-    synth_answer put(std::uint64_t item) noexcept
-    {
-        synth_answer answer = synth_queue_try_put(raw(), &item, 1);
-        while (answer.code == SYNTH_LOST) {
-            answer = synth_queue_try_put(raw(), &item, 1);
-        }
-        return answer;
-    }
-
-    /// Tries to take an item until no other end was first.
-    synth_answer take(std::uint64_t &item) noexcept
-    {
-        synth_answer answer = synth_queue_try_take(raw(), &item);
-        while (answer.code == SYNTH_LOST) {
-            answer = synth_queue_try_take(raw(), &item);
         }
         return answer;
     }

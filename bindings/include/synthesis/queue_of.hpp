@@ -65,24 +65,24 @@ public:
         return answer;
     }
 
-    Expected<bool> shut() noexcept { return end_.shut(); }
+    Code shut() noexcept { return end_.shut(); }
 
-    Expected<ClosedOf<T>> close() noexcept
+    Expected<QueueTotalsOf<T>> finish() noexcept
     {
         std::vector<T> left;
         std::array<std::uint64_t, QueueEnd::most_places> words;
         if (!detail::has_grown(left, words.size())) {
             return Code::NoMemory;
         }
-        const Expected<ClosedNumbers> closed = end_.close(words);
-        if (!closed) {
-            return closed.code();
+        const Expected<QueueNumbers> totals = end_.finish(words);
+        if (!totals) {
+            return totals.code();
         }
-        left.resize(closed->left);
+        left.resize(totals->left);
         for (std::size_t i = 0; i < left.size(); i++) {
             left[i] = value_of(words[i]);
         }
-        return ClosedOf<T>{closed->first, closed->put, closed->taken, std::move(left)};
+        return QueueTotalsOf<T>{totals->first, totals->put, totals->taken, std::move(left)};
     }
 
     PutAnswer put_wait(T value, QueueEvents &events, Limit limit = {}) noexcept

@@ -1,0 +1,162 @@
+/*
+ * What a `new` and a `split` take of memory: at most what the head of synthesis.h says, and no less than nine tenths of
+ * it. And that a try writes nothing to its handle, so that handles may lie side by side: it is made on handles in
+ * memory that can't be written to. Status 1: it isn't so. A write to a handle ends the program.
+ */
+#ifndef _DEFAULT_SOURCE
+#define _DEFAULT_SOURCE
+#endif
+#include "memory.h"
+#include "rows.h"
+#include "synthesis.h"
+#include <sys/mman.h>
+
+/* The bytes that the head of synthesis.h names. */
+enum { PER_PLACE = 16, BATCH = 600, QUEUE = 350, CHAIN = 650, METERS = 410, LINE = 650, ELEMENTS = 16400, SPLIT = 120 };
+
+static size_t taken_before;
+
+/* The call was done, and took about so many bytes. */
+static void takes(synth_code code, size_t at_most)
+{
+    size_t bytes = memory_bytes() - taken_before;
+    taken_before = memory_bytes();
+    ROW(code, SYNTH_OK);
+    if (bytes > at_most || bytes * 10 < at_most * 9) {
+        ROW(bytes, at_most);
+    }
+}
+
+/* One handle of each kind and one more, and room for the rest of a page. */
+struct handles {
+    struct synth_batch batch, batch_part;
+    struct synth_queue queue, queue_part;
+    struct synth_chain chain, chain_part;
+    struct synth_seat seat, seat_part;
+    struct synth_hand hand, hand_part;
+    struct synth_line_in input;
+    struct synth_line_out output;
+};
+
+static void make_all(struct handles *all)
+{
+    takes(synth_batch_new(64, &all->batch), BATCH + 64 * PER_PLACE);
+    takes(synth_batch_split(&all->batch, &all->batch_part), SPLIT);
+    takes(synth_queue_new(64, 0, &all->queue), QUEUE + 64 * PER_PLACE);
+    takes(synth_queue_split(&all->queue, &all->queue_part), SPLIT);
+    takes(synth_chain_new(0, &all->chain), CHAIN);
+    takes(synth_chain_split(&all->chain, &all->chain_part), SPLIT);
+    takes(synth_seat_new(0, &all->seat), METERS);
+    takes(synth_seat_split(&all->seat, &all->seat_part), SPLIT);
+    takes(synth_hand_new(0, &all->hand), ELEMENTS);
+    takes(synth_hand_split(&all->hand, 1, &all->hand_part), SPLIT);
+    takes(synth_line_new(1, &all->input, &all->output), LINE);
+}
+
+static void free_all(struct handles *all)
+{
+    ROW(synth_batch_join(&all->batch, &all->batch_part), SYNTH_OK);
+    ROW(synth_batch_free(&all->batch), SYNTH_OK);
+    ROW(synth_queue_join(&all->queue, &all->queue_part), SYNTH_OK);
+    ROW(synth_queue_free(&all->queue), SYNTH_OK);
+    ROW(synth_chain_free(&all->chain), SYNTH_OK);
+    ROW(synth_chain_free(&all->chain_part), SYNTH_OK);
+    ROW(synth_seat_free(&all->seat), SYNTH_OK);
+    ROW(synth_seat_free(&all->seat_part), SYNTH_OK);
+    ROW(synth_hand_free(&all->hand), SYNTH_OK);
+    ROW(synth_hand_free(&all->hand_part), SYNTH_OK);
+    ROW(synth_line_finish(&all->input, &all->output, NULL), SYNTH_OK);
+    ROW(memory_taken(), 0);
+    taken_before = 0;
+}
+
+static void large_ones(struct handles *all)
+{
+    takes(synth_batch_new(4096, &all->batch), BATCH + 4096 * PER_PLACE);
+    takes(synth_queue_new(256, 0, &all->queue), QUEUE + 256 * PER_PLACE);
+    takes(synth_line_new(65536, &all->input, &all->output), LINE + 65536);
+    ROW(synth_batch_free(&all->batch), SYNTH_OK);
+    ROW(synth_queue_free(&all->queue), SYNTH_OK);
+    ROW(synth_line_finish(&all->input, &all->output, NULL), SYNTH_OK);
+}
+
+/* Each call of queues, lines, chains and meters that takes and frees no memory. */
+static void use_all(struct handles *all)
+{
+    const struct synth_alarm alarm = {0, 1, 2};
+    struct synth_alarm alarms[16];
+    uint64_t items[64] = {1, 10};
+    ROW(synth_batch_try_put(&all->batch, items, 2, NULL), SYNTH_OK);
+    ROW(synth_batch_try_put_some(&all->batch, items, 2, NULL, NULL), SYNTH_OK);
+    ROW(synth_batch_try_take(&all->batch_part, items, 2, NULL, NULL), SYNTH_OK);
+    ROW(synth_batch_try_take_some(&all->batch_part, items, 1, NULL, NULL), SYNTH_OK);
+    ROW(synth_batch_len(&all->batch, NULL), SYNTH_OK);
+    ROW(synth_batch_capacity(&all->batch, NULL), SYNTH_OK);
+    ROW(synth_batch_shut(&all->batch), SYNTH_OK);
+    ROW(synth_queue_try_put(&all->queue, items, 2, NULL), SYNTH_OK);
+    ROW(synth_queue_try_take_line(&all->queue, items, 64, NULL, NULL), SYNTH_OK);
+    ROW(synth_queue_try_put(&all->queue, items, 2, NULL), SYNTH_OK);
+    ROW(synth_queue_try_take(&all->queue_part, NULL, NULL), SYNTH_OK);
+    ROW(synth_queue_take_up_to(&all->queue_part, items, 2, NULL, NULL), SYNTH_OK);
+    ROW(synth_queue_shut(&all->queue), SYNTH_OK);
+    ROW(synth_chain_try_chain(&all->chain, 4, NULL), SYNTH_RUN);
+    ROW(synth_chain_try_chain(&all->chain_part, 5, NULL), SYNTH_LEFT);
+    ROW(synth_chain_next(&all->chain, NULL), SYNTH_NOTE);
+    ROW(synth_chain_next(&all->chain, NULL), SYNTH_NOTE);
+    ROW(synth_chain_next(&all->chain, NULL), SYNTH_OK);
+    ROW(synth_seat_tick(&all->seat, 0, 1, NULL), SYNTH_OK);
+    ROW(synth_seat_try_set(&all->seat, &alarm, NULL), SYNTH_OK);
+    ROW(synth_seat_try_set(&all->seat, &alarm, NULL), SYNTH_OK);
+    ROW(synth_seat_cancel(&all->seat, 0, &alarm, NULL), SYNTH_OK);
+    ROW(synth_seat_try_advance(&all->seat_part, NULL), SYNTH_OK);
+    ROW(synth_seat_due(&all->seat, alarms, 16, NULL), SYNTH_OK);
+    ROW(synth_line_push(&all->input, 1), SYNTH_OK);
+    ROW(synth_line_pop(&all->output, NULL), SYNTH_OK);
+}
+
+/* The same of thread elements. */
+static void use_hands(struct synth_hand *hand)
+{
+    ROW(synth_hand_try_free(hand, NULL, NULL), SYNTH_OK);
+    ROW(synth_hand_holds(hand, 0, NULL), SYNTH_OK);
+    ROW(synth_hand_serves(hand, 0, NULL), SYNTH_OK);
+    ROW(synth_hand_on(hand, 1, 0), SYNTH_OK);
+    ROW(synth_hand_on_processor(hand, 1, NULL), SYNTH_OK);
+    ROW(synth_hand_pc(hand, 0, NULL), SYNTH_OK);
+    ROW(synth_hand_step_done(hand, 0, NULL), SYNTH_OK);
+    ROW(synth_hand_off(hand, 1, NULL), SYNTH_OK);
+    ROW(synth_hand_try_ready(hand, 0, NULL), SYNTH_OK);
+    ROW(synth_hand_try_next(hand, NULL, NULL), SYNTH_OK);
+    ROW(synth_hand_ticket(hand, 1, NULL), SYNTH_OK);
+    ROW(synth_hand_try_wait(hand, 0, 1, NULL, NULL), SYNTH_OK);
+    ROW(synth_hand_try_wake(hand, 1, NULL, NULL), SYNTH_OK);
+    ROW(synth_hand_try_wait_at(hand, 0, 1, 0, NULL, NULL), SYNTH_OK);
+    ROW(synth_hand_notify(hand, 1, NULL), SYNTH_OK);
+    ROW(synth_hand_try_wake_before(hand, 1, 2, NULL, NULL), SYNTH_OK);
+    ROW(synth_hand_signal(hand, 0, 5, NULL), SYNTH_OK);
+    ROW(synth_hand_try_deliver(hand, 0, NULL, NULL), SYNTH_OK);
+    ROW(synth_hand_stop(hand, 0, NULL), SYNTH_OK);
+    ROW(synth_hand_try_park(hand, 0, NULL, NULL), SYNTH_OK);
+    ROW(synth_hand_try_start(hand, 0, NULL, NULL), SYNTH_OK);
+    ROW(synth_hand_try_retire(hand, 0, NULL), SYNTH_OK);
+}
+
+int main(void)
+{
+    void *page = mmap(NULL, sizeof(struct handles), PROT_READ | PROT_WRITE, MAP_PRIVATE | MAP_ANONYMOUS, -1, 0);
+    struct handles *all = (struct handles *)page;
+    if (page == MAP_FAILED) {
+        perror("sizes");
+        return 1;
+    }
+    large_ones(all);
+    taken_before = memory_bytes();
+    make_all(all);
+    ROW(mprotect(page, sizeof *all, PROT_READ), 0);
+    use_all(all);
+    use_hands(&all->hand);
+    ROW(mprotect(page, sizeof *all, PROT_READ | PROT_WRITE), 0);
+    free_all(all);
+    munmap(page, sizeof *all);
+    return rows_end("sizes");
+}

@@ -7,7 +7,7 @@
 //! word points to. Whoever receives an item sees all that was done before it was sent.
 //!
 //! The `try_` calls are lock-free as long as no half is used by two threads at once: so clone it for each thread. The
-//! other calls sleep on an [`Event`] while the channel is full or empty. If nobody sleeps, this costs a call one load.
+//! other calls sleep on an [`Event`](crate::Event) while the channel is full or empty. If nobody sleeps, this costs a call one load.
 //! What a call does to the queue is proved, on the library's side of it. The words, the sleeps and the counts of halves
 //! are this crate's, and are only tested.
 

@@ -138,10 +138,13 @@ fn a_panic_of_a_procedure_leaves_the_turn_to_others() {
     let mut other = end.split().unwrap();
     let thread = thread::spawn(move || {
         for note in other.try_chain(7).unwrap().unwrap() {
-            panic!("procedure {note}");
+            assert_ne!(note, 7, "procedure {note}");
         }
     });
-    assert_eq!(thread.join().unwrap_err().downcast_ref::<String>().unwrap(), "procedure 7");
+    assert_eq!(
+        thread.join().unwrap_err().downcast_ref::<String>().unwrap().lines().next(),
+        Some("assertion `left != right` failed: procedure 7")
+    );
     assert!(end.try_chain(8).unwrap().is_none());
     assert!(end.take_over().unwrap().eq([8]));
     assert_eq!(end.close().unwrap().run, 2);

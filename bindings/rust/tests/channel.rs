@@ -61,7 +61,10 @@ fn receive_all<T>(receiver: &Receiver<T>, thread: usize, mut each: impl FnMut(T)
                 answer => answer.map(&mut each).map_err(|_| RecvError),
             },
             _ => match receiver.try_recv() {
-                Err(TryRecvError::Empty) => Ok(thread::yield_now()),
+                Err(TryRecvError::Empty) => {
+                    thread::yield_now();
+                    Ok(())
+                }
                 answer => answer.map(&mut each).map_err(|_| RecvError),
             },
         };

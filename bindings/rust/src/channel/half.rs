@@ -11,6 +11,10 @@ use std::iter;
 use std::marker::PhantomData;
 use std::sync::atomic::{AtomicBool, AtomicUsize, Ordering};
 use std::sync::{Arc, Mutex, MutexGuard, PoisonError};
+use std::time::Duration;
+
+/// So many short waits come before a sleep, each twice as long as the one before. All take about a microsecond.
+const SHORT_WAITS: u32 = 5;
 
 /// What all halves of a channel share. No call takes its lock except a clone, a drop, and a call on a half that another
 /// thread uses at the same moment.
@@ -91,6 +95,19 @@ impl<T> Shared<T> {
         split_error(raw::synth_raw_batch_split(&mut handles.rest, &mut handle)).ok()?;
         Some(handle)
     }
+}
+
+/// Looks until there is something, and sleeps on the event after a few short waits, which are cheaper than a sleep if
+/// another thread is just at work. `None` if the time is over.
+pub(super) fn wait<R>(event: &Event, limit: Option<Duration>, mut look: impl FnMut() -> Option<R>) -> Option<R> {
+    for round in 0..SHORT_WAITS {
+        let found = look();
+        if found.is_some() {
+            return found;
+        }
+        (0..1 << round).for_each(|_| hint::spin_loop());
+    }
+    event.wait_for(limit, look)
 }
 
 impl<T> Half<T> {

@@ -1,7 +1,7 @@
 //! The half that receives.
 
 use super::errors::{RecvError, RecvTimeoutError, TryRecvError};
-use super::half::{Half, NotTaken};
+use super::half::{wait, Half, NotTaken};
 use super::iter::{IntoIter, Iter, TryIter};
 use super::word::{drop_all, unpack, Burst, Word, BURST};
 use crate::ends::SplitError;
@@ -90,7 +90,7 @@ impl<T> Receiver<T> {
     }
 
     fn recv_for(&self, limit: Option<Duration>) -> Result<T, RecvTimeoutError> {
-        let taken = self.half.shared.items.wait_for(limit, || match self.take() {
+        let taken = wait(&self.half.shared.items, limit, || match self.take() {
             Err(NotTaken::Empty) => None,
             answer => Some(answer.ok()),
         });
@@ -147,7 +147,7 @@ impl<T> Receiver<T> {
     /// # thread.join().unwrap().unwrap();
     /// ```
     pub fn recv_many(&self, items: &mut Vec<T>, most: usize) -> Result<usize, RecvError> {
-        let taken = self.half.shared.items.wait_for(None, || match self.try_recv_many(items, most) {
+        let taken = wait(&self.half.shared.items, None, || match self.try_recv_many(items, most) {
             Err(TryRecvError::Empty) => None,
             answer => Some(answer),
         });

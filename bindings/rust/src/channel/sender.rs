@@ -1,7 +1,7 @@
 //! The half that sends.
 
 use super::errors::{SendError, SendTimeoutError, TrySendError};
-use super::half::{Half, NotPut};
+use super::half::{wait, Half, NotPut};
 use super::word::{pack, unpack, Word, BURST};
 use crate::ends::SplitError;
 use std::fmt;
@@ -117,7 +117,7 @@ impl<T> Sender<T> {
 
     fn send_for(&self, item: T, limit: Option<Duration>) -> Result<(), SendTimeoutError<T>> {
         let word = pack(item);
-        let put = self.half.shared.room.wait_for(limit, || match self.half.put(&[word]) {
+        let put = wait(&self.half.shared.room, limit, || match self.half.put(&[word]) {
             Err(NotPut::Full) => None,
             answer => Some(answer.is_ok()),
         });
@@ -185,7 +185,7 @@ impl<T> Sender<T> {
             sent += words.len();
             let mut left = &words[..];
             while !left.is_empty() {
-                let put = self.half.shared.room.wait_for(None, || match self.half.put_some(left) {
+                let put = wait(&self.half.shared.room, None, || match self.half.put_some(left) {
                     Err(NotPut::Full) => None,
                     answer => Some(answer.unwrap_or(0)),
                 });

@@ -106,6 +106,11 @@
 //! copy of the library gives.
 #![deny(missing_docs)]
 
+/// The code of README.md is tested.
+#[cfg(doctest)]
+#[doc = include_str!("../README.md")]
+struct Readme;
+
 pub mod batch;
 pub mod chain;
 pub mod channel;

@@ -9,7 +9,7 @@ use std::sync::{Arc, Mutex};
 use std::task::{Context, Poll, Wake, Waker};
 use std::thread::{self, JoinHandle};
 use synthesis_kernel::channel::SendError;
-use synthesis_kernel::{channel, Receiver, Sender};
+use synthesis_kernel::{Receiver, Sender, channel};
 
 const WORKERS: usize = 4;
 const TASKS: u64 = 1000;

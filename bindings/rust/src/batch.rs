@@ -1,6 +1,6 @@
 //! Batch queues: any number of producers and takers, by bursts.
 
-use crate::ends::{joined, CloseError, JoinError, OutOfMemory, Share, SplitError};
+use crate::ends::{CloseError, JoinError, OutOfMemory, Share, SplitError, joined};
 use crate::raw;
 use crate::words::says;
 use std::hint;

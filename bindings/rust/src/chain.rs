@@ -1,6 +1,6 @@
 //! Chains of deferred procedures.
 
-use crate::ends::{joined, made, CloseError, Handle, JoinError, OutOfMemory, Share, SplitError};
+use crate::ends::{CloseError, Handle, JoinError, OutOfMemory, Share, SplitError, joined, made};
 use crate::raw;
 use crate::words::says;
 use std::iter::FusedIterator;

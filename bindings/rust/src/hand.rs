@@ -12,7 +12,7 @@ pub use processors::{NotHeldError, OffError, OnError, StepError};
 pub use states::{Signalled, StartError, Started, StateError, StateWord};
 pub use takings::TakeError;
 
-use crate::ends::{self, joined, Handle, JoinError, OutOfMemory, Share};
+use crate::ends::{self, Handle, JoinError, OutOfMemory, Share, joined};
 use crate::names::{Element, Processor, Processors};
 use crate::raw;
 use crate::words::says;

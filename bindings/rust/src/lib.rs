@@ -126,11 +126,11 @@ mod words;
 
 pub use batch::BatchEnd;
 pub use chain::ChainEnd;
-pub use channel::{channel, Receiver, Sender};
+pub use channel::{Receiver, Sender, channel};
 pub use ends::{CloseError, JoinError, OutOfMemory, SplitError};
 pub use event::{Event, EventTicket};
 pub use hand::Hand;
-pub use line::{line, LineIn, LineOut};
+pub use line::{LineIn, LineOut, line};
 pub use meters::MeterSeat;
 pub use names::{Element, Gauge, OutOfRange, Processor, Processors, Signal, WaitNumber};
 pub use queue::QueueEnd;

@@ -1,6 +1,6 @@
 //! Meters: gauges, a clock and alarms.
 
-use crate::ends::{joined, made, CloseError, JoinError, OutOfMemory, Share, SplitError};
+use crate::ends::{CloseError, JoinError, OutOfMemory, Share, SplitError, joined, made};
 use crate::names::{Element, Gauge, Signal};
 use crate::raw;
 use crate::words::says;

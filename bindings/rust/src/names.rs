@@ -16,11 +16,7 @@ macro_rules! number {
             #[doc = concat!("The one of this number, if it is below ", stringify!($end), ".")]
             #[must_use]
             pub const fn new(number: u8) -> Option<Self> {
-                if number < $end {
-                    Some($name { number })
-                } else {
-                    None
-                }
+                if number < $end { Some($name { number }) } else { None }
             }
 
             /// The number.

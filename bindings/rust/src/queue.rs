@@ -4,7 +4,7 @@ mod waits;
 
 pub use waits::QueueEvents;
 
-use crate::ends::{joined, made, CloseError, JoinError, OutOfMemory, Share, SplitError};
+use crate::ends::{CloseError, JoinError, OutOfMemory, Share, SplitError, joined, made};
 use crate::raw;
 use crate::words::says;
 

@@ -305,7 +305,7 @@ unsafe extern "C" {
     pub(crate) safe fn synth_raw_seat_try_set(seat: &mut Seat, alarm: &Alarm, slot: &mut u32) -> Answer;
     pub(crate) safe fn synth_raw_seat_cancel(seat: &mut Seat, slot: u32, alarm: &Alarm, cancelled: &mut bool) -> i32;
     pub(crate) unsafe fn synth_raw_seat_due(seat: &mut Seat, alarms: *mut Alarm, room: usize, count: &mut usize)
-        -> i32;
+    -> i32;
     pub(crate) safe fn synth_raw_seat_close(seat: &mut Seat, metered: &mut Metered) -> i32;
     pub(crate) safe fn synth_raw_seat_free(seat: &mut Seat) -> i32;
 

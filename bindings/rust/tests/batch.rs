@@ -2,8 +2,8 @@
 
 use std::error::Error;
 use std::thread;
-use synthesis_kernel::batch::{BatchEnd, NewError, PutError, TakeError};
 use synthesis_kernel::CloseError;
+use synthesis_kernel::batch::{BatchEnd, NewError, PutError, TakeError};
 
 const PRODUCERS: u64 = 3;
 const ITEMS: u64 = 30_000;

@@ -3,8 +3,8 @@
 use std::cell::UnsafeCell;
 use std::sync::Arc;
 use std::thread;
-use synthesis_kernel::chain::{ChainEnd, ChainError};
 use synthesis_kernel::CloseError;
+use synthesis_kernel::chain::{ChainEnd, ChainError};
 
 const TOP_HALVES: usize = 4;
 const NOTES: usize = 50_000;

@@ -2,16 +2,16 @@
 
 use std::collections::HashSet;
 use std::fmt::Debug;
-use std::panic::{catch_unwind, AssertUnwindSafe};
-use std::sync::atomic::{AtomicUsize, Ordering::SeqCst};
+use std::panic::{AssertUnwindSafe, catch_unwind};
 use std::sync::Arc;
+use std::sync::atomic::{AtomicUsize, Ordering::SeqCst};
 use std::thread;
 use std::time::{Duration, Instant};
 use synthesis_kernel::batch::NewError;
 use synthesis_kernel::channel::{
-    try_channel, RecvError, RecvTimeoutError, SendError, SendTimeoutError, TryRecvError, TrySendError,
+    RecvError, RecvTimeoutError, SendError, SendTimeoutError, TryRecvError, TrySendError, try_channel,
 };
-use synthesis_kernel::{channel, Receiver, Sender};
+use synthesis_kernel::{Receiver, Sender, channel};
 
 const THREADS: usize = 4;
 const ITEMS: usize = 250_000;

@@ -3,8 +3,8 @@
 use std::sync::atomic::{AtomicU32, Ordering::SeqCst};
 use std::thread;
 use std::time::{Duration, Instant};
-use synthesis_kernel::queue::{PutError, QueueEnd, QueueEvents, TakeError};
 use synthesis_kernel::Event;
+use synthesis_kernel::queue::{PutError, QueueEnd, QueueEvents, TakeError};
 
 const PRODUCERS: u64 = 3;
 const TAKERS: u64 = 3;

@@ -2,7 +2,7 @@
 
 use std::io::{ErrorKind, Read, Write};
 use std::thread;
-use synthesis_kernel::line::{finish, line, NewError};
+use synthesis_kernel::line::{NewError, finish, line};
 
 const BYTES: usize = 100_000;
 

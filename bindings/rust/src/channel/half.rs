@@ -1,8 +1,8 @@
 //! What both halves of a channel have in common: the queue, and who is asleep.
 
-use super::word::{drop_all, unpack, Word};
+use super::word::{Word, drop_all, unpack};
 use crate::batch::NewError;
-use crate::ends::{split_error, SplitError};
+use crate::ends::{SplitError, split_error};
 use crate::event::Event;
 use crate::raw;
 use std::cell::UnsafeCell;

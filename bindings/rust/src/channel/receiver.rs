@@ -1,15 +1,15 @@
 //! The half that receives.
 
 use super::errors::{RecvError, RecvTimeoutError, TryRecvError};
-use super::half::{wait, Half, NotTaken};
+use super::half::{Half, NotTaken, wait};
 use super::iter::{IntoIter, Iter, TryIter};
-use super::word::{drop_all, unpack, Burst, Word, BURST};
+use super::word::{BURST, Burst, Word, drop_all, unpack};
 use crate::ends::SplitError;
 use std::fmt;
 use std::iter;
 use std::panic::{RefUnwindSafe, UnwindSafe};
-use std::sync::atomic::Ordering::SeqCst;
 use std::sync::Arc;
+use std::sync::atomic::Ordering::SeqCst;
 use std::time::Duration;
 
 /// The half of a channel that receives. It is cloned for more threads: each item is received once.

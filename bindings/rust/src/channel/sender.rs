@@ -1,13 +1,13 @@
 //! The half that sends.
 
 use super::errors::{SendError, SendTimeoutError, TrySendError};
-use super::half::{wait, Half, NotPut};
-use super::word::{pack, unpack, Word, BURST};
+use super::half::{Half, NotPut, wait};
+use super::word::{BURST, Word, pack, unpack};
 use crate::ends::SplitError;
 use std::fmt;
 use std::panic::{RefUnwindSafe, UnwindSafe};
-use std::sync::atomic::Ordering::SeqCst;
 use std::sync::Arc;
+use std::sync::atomic::Ordering::SeqCst;
 use std::time::Duration;
 
 /// The half of a channel that sends. It is cloned for more threads.

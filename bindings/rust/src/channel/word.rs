@@ -5,7 +5,7 @@
 //! and a pointer comes back as it was.
 
 use std::marker::PhantomData;
-use std::mem::{align_of, size_of, MaybeUninit};
+use std::mem::{MaybeUninit, align_of, size_of};
 
 /// A word of the queue.
 pub(super) type Word = MaybeUninit<u64>;
@@ -104,7 +104,7 @@ pub(super) fn drop_all<T>(items: impl Iterator<Item = T>) {
 
 #[cfg(test)]
 mod tests {
-    use super::{is_inline, pack, unpack, Burst, Word};
+    use super::{Burst, Word, is_inline, pack, unpack};
     use std::fmt::Debug;
     use std::sync::Arc;
 

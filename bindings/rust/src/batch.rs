@@ -176,6 +176,15 @@ impl BatchEnd {
     }
 
     /// A new end, for another thread.
+    ///
+    /// ```
+    /// # use synthesis_kernel::BatchEnd;
+    /// let end = BatchEnd::new(64)?;
+    /// let mut other = end.split()?;
+    /// std::thread::spawn(move || other.try_put(&[1])).join().unwrap()?;
+    /// assert_eq!(end.close()?.left, [1]);
+    /// # Ok::<(), Box<dyn std::error::Error>>(())
+    /// ```
     pub fn split(&self) -> Result<BatchEnd, SplitError> {
         Ok(BatchEnd { share: self.share.split()?, capacity: self.capacity })
     }
@@ -196,6 +205,16 @@ impl BatchEnd {
     }
 
     /// One try to put the items as one batch: all of them or none. Gives the position of the first one.
+    ///
+    /// ```
+    /// # use synthesis_kernel::batch::{BatchEnd, PutError};
+    /// let mut end = BatchEnd::new(4)?;
+    /// assert_eq!(end.try_put(&[1, 2, 3]), Ok(0));
+    /// assert_eq!(end.try_put(&[4]), Ok(3));
+    /// assert_eq!(end.try_put(&[5]), Err(PutError::Full { head: 4, free: 0 }));
+    /// assert_eq!(end.try_put(&[0; 5]), Err(PutError::TooLong));
+    /// # Ok::<(), Box<dyn std::error::Error>>(())
+    /// ```
     pub fn try_put(&mut self, items: &[u64]) -> Result<u64, PutError> {
         let mut at = raw::Positions::default();
         // SAFETY: the pointer leads to as many items as the number says, which are only read.

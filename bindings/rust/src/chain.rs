@@ -129,18 +129,46 @@ says!(ChainError {
 
 impl ChainEnd {
     /// An empty chain, whose first position is `first`, by its only end.
+    ///
+    /// ```
+    /// # use synthesis_kernel::chain::{ChainEnd, ChainError};
+    /// let mut end = ChainEnd::new(u32::MAX)?;
+    /// assert_eq!(end.try_chain(10).unwrap_err(), ChainError::Spent);
+    /// # Ok::<(), Box<dyn std::error::Error>>(())
+    /// ```
     pub fn new(first: u32) -> Result<ChainEnd, OutOfMemory> {
         let raw = made(|chain| raw::synth_raw_chain_new(first, chain))?;
         Ok(ChainEnd { share: Share::new(ChainHandle { raw, runs: false })? })
     }
 
     /// A new end, for another thread. It runs no notes.
+    ///
+    /// ```
+    /// # use synthesis_kernel::ChainEnd;
+    /// let end = ChainEnd::new(0)?;
+    /// let mut other = end.split()?;
+    /// std::thread::spawn(move || other.try_chain(10).unwrap().map(Iterator::count)).join().unwrap();
+    /// assert_eq!(end.close()?.run, 1);
+    /// # Ok::<(), Box<dyn std::error::Error>>(())
+    /// ```
     pub fn split(&self) -> Result<ChainEnd, SplitError> {
         Ok(ChainEnd { share: self.share.split()? })
     }
 
     /// Joins another end of the chain to this one. If that one runs notes, this one runs them from now on: see
     /// [`turn`](ChainEnd::turn). An end of another chain comes back.
+    ///
+    /// ```
+    /// # use synthesis_kernel::ChainEnd;
+    /// let mut end = ChainEnd::new(0)?;
+    /// let mut other = end.split()?;
+    /// drop(other.try_chain(10)?);
+    /// end.join(other)?;
+    /// assert!(end.turn().expect("the other end ran notes").eq([10]));
+    /// let stranger = ChainEnd::new(0)?;
+    /// assert!(end.join(stranger).unwrap_err().into_inner().close().is_ok());
+    /// # Ok::<(), Box<dyn std::error::Error>>(())
+    /// ```
     pub fn join(&mut self, other: ChainEnd) -> Result<(), JoinError<ChainEnd>> {
         joined(self.share.join(other.share), |share| ChainEnd { share })
     }
@@ -164,6 +192,16 @@ impl ChainEnd {
 
     /// One try to chain a note. The end that finds nobody running gets the turn. Otherwise the end that runs notes,
     /// which may be this one, is given this note too.
+    ///
+    /// ```
+    /// # use synthesis_kernel::ChainEnd;
+    /// let mut end = ChainEnd::new(0)?;
+    /// let mut other = end.split()?;
+    /// let turn = end.try_chain(10)?.expect("nobody runs notes");
+    /// assert!(other.try_chain(20)?.is_none());
+    /// assert!(turn.eq([10, 20]));
+    /// # Ok::<(), Box<dyn std::error::Error>>(())
+    /// ```
     pub fn try_chain(&mut self, note: u16) -> Result<Option<Turn<'_>>, ChainError> {
         let handle = self.share.handle();
         let answer = raw::synth_raw_chain_try_chain(&mut handle.raw, note);
@@ -187,6 +225,16 @@ impl ChainEnd {
 
     /// Closes the chain, and returns what became of its notes. The end comes back if other ends exist, or if it runs
     /// notes, which it may have taken over from dropped ends.
+    ///
+    /// ```
+    /// # use synthesis_kernel::{ChainEnd, CloseError};
+    /// let mut end = ChainEnd::new(0)?;
+    /// drop(end.try_chain(10)?);
+    /// let CloseError::Running(mut end) = end.close().unwrap_err() else { panic!() };
+    /// end.turn().expect("it runs notes").for_each(drop);
+    /// assert_eq!(end.close()?.put, 1);
+    /// # Ok::<(), Box<dyn std::error::Error>>(())
+    /// ```
     pub fn close(mut self) -> Result<Closed, CloseError<ChainEnd>> {
         // An end that is the last one takes over what all others had. Nobody else has a turn then.
         if self.share.is_last() {

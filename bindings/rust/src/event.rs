@@ -89,6 +89,18 @@ impl Event {
     }
 
     /// Announces a waiter. Look again after this.
+    ///
+    /// ```
+    /// # use synthesis_kernel::Event;
+    /// # let look = || true;
+    /// let event = Event::new();
+    /// let ticket = event.prepare();
+    /// if look() {
+    ///     ticket.cancel();
+    /// } else {
+    ///     ticket.wait();
+    /// }
+    /// ```
     pub fn prepare(&self) -> EventTicket<'_> {
         let notifies = self.lock();
         self.tickets.fetch_add(1, SeqCst);
@@ -108,6 +120,14 @@ impl Event {
     }
 
     /// Wakes all who wait. One load, if there are none.
+    ///
+    /// ```
+    /// # use synthesis_kernel::Event;
+    /// let event = Event::new();
+    /// let tickets = [event.prepare(), event.prepare()];
+    /// event.notify_all();
+    /// tickets.into_iter().for_each(|ticket| ticket.wait());
+    /// ```
     #[inline]
     pub fn notify_all(&self) {
         if self.tickets.load(SeqCst) != 0 {

@@ -197,6 +197,19 @@ impl Hand {
 
     /// Joins a hand of the same table to this one, which then has all that both had: elements, processors, and what is
     /// on them. A hand of another table comes back.
+    ///
+    /// ```
+    /// # use synthesis_kernel::Hand;
+    /// # use synthesis_kernel::Processor;
+    /// let processor = Processor::new(3).unwrap();
+    /// let mut hand = Hand::new()?;
+    /// let other = hand.split(processor)?;
+    /// hand.join(other)?;
+    /// assert!(hand.serves(processor));
+    /// let stranger = Hand::new()?;
+    /// assert!(hand.join(stranger).unwrap_err().into_inner().close().is_ok());
+    /// # Ok::<(), Box<dyn std::error::Error>>(())
+    /// ```
     pub fn join(&mut self, other: Hand) -> Result<(), JoinError<Hand>> {
         joined(self.share.join(other.share), |share| Hand { share })
     }
@@ -221,6 +234,16 @@ impl Hand {
     }
 
     /// Whether the hand holds the element.
+    ///
+    /// ```
+    /// # use synthesis_kernel::Hand;
+    /// let mut hand = Hand::new()?;
+    /// let element = hand.try_free()?;
+    /// assert!(hand.holds(element));
+    /// hand.try_ready(element)?;
+    /// assert!(!hand.holds(element));
+    /// # Ok::<(), Box<dyn std::error::Error>>(())
+    /// ```
     pub fn holds(&mut self, element: Element) -> bool {
         let mut held = false;
         match raw::synth_raw_hand_holds(&mut self.share.handle().0, element.raw(), &mut held) {

@@ -123,6 +123,14 @@ fn other_dropped(dropped: &mut Arc<Mutex<Dropped>>) -> Option<&mut Dropped> {
 impl LineIn {
     /// Pushes one byte after all others, or returns it if no place of the line is free. None is refused before as many
     /// bytes were pushed as the line has room for.
+    ///
+    /// ```
+    /// let (mut input, mut output) = synthesis_kernel::line(1)?;
+    /// assert_eq!(input.push(7), Ok(()));
+    /// assert_eq!(input.push(8), Err(8));
+    /// assert_eq!((output.pop(), output.pop()), (Some(7), None));
+    /// # Ok::<(), Box<dyn std::error::Error>>(())
+    /// ```
     pub fn push(&mut self, byte: u8) -> Result<(), u8> {
         match raw::synth_raw_line_push(&mut self.handle, byte) {
             raw::OK => Ok(()),
@@ -132,6 +140,14 @@ impl LineIn {
     }
 
     /// Whether the other half was dropped, so that nobody pops any more.
+    ///
+    /// ```
+    /// let (mut input, output) = synthesis_kernel::line(1)?;
+    /// assert!(!input.is_closed());
+    /// drop(output);
+    /// assert!(input.is_closed());
+    /// # Ok::<(), Box<dyn std::error::Error>>(())
+    /// ```
     pub fn is_closed(&mut self) -> bool {
         other_dropped(&mut self.dropped).is_some()
     }

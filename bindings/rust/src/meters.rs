@@ -130,16 +130,44 @@ impl MeterSeat {
     }
 
     /// A new end, for another thread.
+    ///
+    /// ```
+    /// # use synthesis_kernel::MeterSeat;
+    /// let seat = MeterSeat::new(5)?;
+    /// let mut other = seat.split()?;
+    /// std::thread::spawn(move || other.advance()).join().unwrap()?;
+    /// assert_eq!(seat.close()?.clock, 6);
+    /// # Ok::<(), Box<dyn std::error::Error>>(())
+    /// ```
     pub fn split(&self) -> Result<MeterSeat, SplitError> {
         Ok(MeterSeat { share: self.share.split()? })
     }
 
     /// Joins an end of the same meters to this one. A drop does the same. An end of other meters comes back.
+    ///
+    /// ```
+    /// # use synthesis_kernel::MeterSeat;
+    /// let mut seat = MeterSeat::new(0)?;
+    /// let other = seat.split()?;
+    /// seat.join(other)?;
+    /// let stranger = MeterSeat::new(0)?;
+    /// assert!(seat.join(stranger).unwrap_err().into_inner().close().is_ok());
+    /// # Ok::<(), Box<dyn std::error::Error>>(())
+    /// ```
     pub fn join(&mut self, other: MeterSeat) -> Result<(), JoinError<MeterSeat>> {
         joined(self.share.join(other.share), |share| MeterSeat { share })
     }
 
     /// Adds `amount` to the gauge, modulo 2^64, by one step, and gives the gauge's value before.
+    ///
+    /// ```
+    /// # use synthesis_kernel::MeterSeat;
+    /// # use synthesis_kernel::Gauge;
+    /// let gauge = Gauge::new(7).unwrap();
+    /// let mut seat = MeterSeat::new(0)?;
+    /// assert_eq!((seat.tick(gauge, 5), seat.tick(gauge, 1)), (0, 5));
+    /// # Ok::<(), Box<dyn std::error::Error>>(())
+    /// ```
     pub fn tick(&mut self, gauge: Gauge, amount: u64) -> u64 {
         let mut before = 0;
         match raw::synth_raw_seat_tick(self.share.handle(), gauge.raw(), amount, &mut before) {
@@ -149,6 +177,14 @@ impl MeterSeat {
     }
 
     /// One try to move the clock on by one tick. Gives the clock after.
+    ///
+    /// ```
+    /// # use synthesis_kernel::meters::{AdvanceError, MeterSeat};
+    /// let mut seat = MeterSeat::new(u32::MAX - 1)?;
+    /// assert_eq!(seat.advance(), Ok(u32::MAX));
+    /// assert_eq!(seat.advance(), Err(AdvanceError::Spent));
+    /// # Ok::<(), Box<dyn std::error::Error>>(())
+    /// ```
     pub fn advance(&mut self) -> Result<u32, AdvanceError> {
         let mut clock = 0;
         let answer = raw::synth_raw_seat_advance(self.share.handle(), &mut clock);
@@ -174,6 +210,18 @@ impl MeterSeat {
 
     /// Takes this alarm out of this slot, by one step. Returns true if it was there; otherwise it was fired or cancelled
     /// before, or never was there. Two alarms that are equal can't be told apart.
+    ///
+    /// ```
+    /// # use synthesis_kernel::meters::{Alarm, MeterSeat};
+    /// # use synthesis_kernel::{Element, Signal};
+    /// let alarm = Alarm { due: 1, element: Element::new(9).unwrap(), signal: Signal::new(3).unwrap() };
+    /// let mut seat = MeterSeat::new(0)?;
+    /// let slot = seat.try_set(alarm)?;
+    /// assert_eq!(slot.number(), 0);
+    /// assert!(seat.cancel(slot, alarm));
+    /// assert!(!seat.cancel(slot, alarm));
+    /// # Ok::<(), Box<dyn std::error::Error>>(())
+    /// ```
     pub fn cancel(&mut self, slot: Slot, alarm: Alarm) -> bool {
         let mut cancelled = false;
         match raw::synth_raw_seat_cancel(self.share.handle(), slot.number, &alarm.raw(), &mut cancelled) {
@@ -184,6 +232,17 @@ impl MeterSeat {
 
     /// Looks at the clock once, and then takes out each alarm that is due at it, in the order of the slots. One that
     /// another end takes first is passed over.
+    ///
+    /// ```
+    /// # use synthesis_kernel::meters::{Alarm, MeterSeat};
+    /// # use synthesis_kernel::{Element, Signal};
+    /// let alarm = Alarm { due: 0, element: Element::new(9).unwrap(), signal: Signal::new(3).unwrap() };
+    /// let mut seat = MeterSeat::new(0)?;
+    /// seat.try_set(alarm)?;
+    /// assert!(seat.due().eq([alarm]));
+    /// assert_eq!(seat.due().len(), 0);
+    /// # Ok::<(), Box<dyn std::error::Error>>(())
+    /// ```
     pub fn due(&mut self) -> impl ExactSizeIterator<Item = Alarm> {
         let (mut alarms, mut count) = ([raw::Alarm::default(); 16], 0);
         // SAFETY: the pointer leads to room for as many alarms as the number says, and nobody else has it.
@@ -196,6 +255,16 @@ impl MeterSeat {
     }
 
     /// Closes the meters, and returns them. If other ends exist, this one comes back.
+    ///
+    /// ```
+    /// # use synthesis_kernel::MeterSeat;
+    /// let seat = MeterSeat::new(3)?;
+    /// let other = seat.split()?;
+    /// let seat = seat.close().unwrap_err().into_inner();
+    /// drop(other);
+    /// assert_eq!(seat.close()?.clock, 3);
+    /// # Ok::<(), Box<dyn std::error::Error>>(())
+    /// ```
     pub fn close(mut self) -> Result<Closed, CloseError<MeterSeat>> {
         let Some(handle) = self.share.whole() else { return Err(CloseError::Open(self)) };
         let mut numbers = raw::Metered::default();

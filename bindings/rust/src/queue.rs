@@ -136,6 +136,15 @@ impl<const N: usize> QueueEnd<N> {
     }
 
     /// A new end, for another thread.
+    ///
+    /// ```
+    /// # use synthesis_kernel::QueueEnd;
+    /// let end = QueueEnd::<64>::new(0)?;
+    /// let mut other = end.split()?;
+    /// std::thread::spawn(move || other.try_put(&[1])).join().unwrap()?;
+    /// assert_eq!(end.close()?.left, [1]);
+    /// # Ok::<(), Box<dyn std::error::Error>>(())
+    /// ```
     pub fn split(&self) -> Result<QueueEnd<N>, SplitError> {
         Ok(QueueEnd { share: self.share.split()? })
     }
@@ -155,6 +164,14 @@ impl<const N: usize> QueueEnd<N> {
     }
 
     /// One try to put a run of items, with no other end's item between them. Gives the position of the first one.
+    ///
+    /// ```
+    /// # use synthesis_kernel::queue::{PutError, QueueEnd};
+    /// let mut end = QueueEnd::<64>::new(0)?;
+    /// assert_eq!(end.try_put(&[1; 60]), Ok(0));
+    /// assert_eq!(end.try_put(&[2; 5]), Err(PutError::Full { head: 60, tail: 0 }));
+    /// # Ok::<(), Box<dyn std::error::Error>>(())
+    /// ```
     pub fn try_put(&mut self, items: &[u64]) -> Result<u32, PutError> {
         // SAFETY: the pointer leads to as many items as the number says, which are only read.
         let answer = unsafe { raw::synth_raw_queue_try_put(self.share.handle(), items.as_ptr(), items.len()) };
@@ -214,6 +231,16 @@ impl<const N: usize> QueueEnd<N> {
     /// One try to take a line: the items up to and with the first 10, or N raised items without one. They stand at
     /// the front of `line`, and their number is the answer. All of them come by one taking, so no other end's item
     /// lies between them.
+    ///
+    /// ```
+    /// # use synthesis_kernel::queue::{QueueEnd, TakeError};
+    /// let mut end = QueueEnd::<64>::new(0)?;
+    /// end.try_put(b"one\ntw".map(u64::from).as_slice())?;
+    /// let mut line = [0; 64];
+    /// assert_eq!(end.try_take_line(&mut line), Ok(4));
+    /// assert_eq!(end.try_take_line(&mut line), Err(TakeError::Empty { at: 6 }));
+    /// # Ok::<(), Box<dyn std::error::Error>>(())
+    /// ```
     pub fn try_take_line(&mut self, line: &mut [u64; N]) -> Result<usize, TakeError> {
         let mut count = 0;
         // SAFETY: the pointer leads to room for N items, and nobody else has it.

@@ -63,6 +63,16 @@ impl<T> TrySendError<T> {
     }
 
     /// Whether there was no room.
+    ///
+    /// ```
+    /// # use synthesis_kernel::channel;
+    /// let (sender, _receiver) = channel(1);
+    /// sender.send(1)?;
+    /// let error = sender.try_send(2).unwrap_err();
+    /// assert!(error.is_full() && !error.is_disconnected());
+    /// assert_eq!(error.into_inner(), 2);
+    /// # Ok::<(), Box<dyn std::error::Error>>(())
+    /// ```
     pub const fn is_full(&self) -> bool {
         matches!(self, TrySendError::Full(_))
     }

@@ -184,6 +184,16 @@ impl<T> Receiver<T> {
     }
 
     /// As a clone, with an error in the place of a panic.
+    ///
+    /// ```
+    /// # use synthesis_kernel::channel;
+    /// let (sender, receiver) = channel(8);
+    /// let other = receiver.try_clone()?;
+    /// drop(receiver);
+    /// sender.send(5)?;
+    /// assert_eq!(other.recv(), Ok(5));
+    /// # Ok::<(), Box<dyn std::error::Error>>(())
+    /// ```
     pub fn try_clone(&self) -> Result<Receiver<T>, SplitError> {
         Half::new(&self.half.shared).map(Receiver::new)
     }
@@ -238,6 +248,13 @@ impl<T> Receiver<T> {
     }
 
     /// Whether the two are of one channel.
+    ///
+    /// ```
+    /// # use synthesis_kernel::channel;
+    /// let (sender, receiver) = channel::<u8>(8);
+    /// assert!(receiver.same_channel(&receiver.clone()));
+    /// assert!(!receiver.same_channel(&channel(8).1));
+    /// ```
     #[must_use]
     pub fn same_channel(&self, other: &Receiver<T>) -> bool {
         Arc::ptr_eq(&self.half.shared, &other.half.shared)

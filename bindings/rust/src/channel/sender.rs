@@ -260,6 +260,13 @@ impl<T> Sender<T> {
     }
 
     /// Whether the two are of one channel.
+    ///
+    /// ```
+    /// # use synthesis_kernel::channel;
+    /// let (sender, receiver) = channel::<u8>(8);
+    /// assert!(sender.same_channel(&sender.clone()));
+    /// assert!(!sender.same_channel(&channel(8).0));
+    /// ```
     #[must_use]
     pub fn same_channel(&self, other: &Sender<T>) -> bool {
         Arc::ptr_eq(&self.half.shared, &other.half.shared)

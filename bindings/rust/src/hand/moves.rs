@@ -49,22 +49,63 @@ fn moved(answer: raw::Moved) -> Result<(), MoveError> {
 
 impl Hand {
     /// One try to put an element that the hand holds into the ready ring, as the last one.
+    ///
+    /// ```
+    /// # use synthesis_kernel::hand::{Hand, MoveError};
+    /// let mut hand = Hand::new()?;
+    /// let element = hand.try_free()?;
+    /// assert_eq!(hand.try_ready(element), Ok(()));
+    /// assert_eq!(hand.try_ready(element), Err(MoveError::NotHeld));
+    /// assert_eq!(hand.try_next(), Ok(element));
+    /// # Ok::<(), Box<dyn std::error::Error>>(())
+    /// ```
     pub fn try_ready(&mut self, element: Element) -> Result<(), MoveError> {
         moved(raw::synth_raw_hand_try_ready(&mut self.share.handle().0, element.raw()))
     }
 
     /// One try to put an element that the hand holds behind the free elements.
+    ///
+    /// ```
+    /// # use synthesis_kernel::Hand;
+    /// let mut hand = Hand::new()?;
+    /// let element = hand.try_free()?;
+    /// hand.try_retire(element)?;
+    /// assert!(!hand.holds(element));
+    /// # Ok::<(), Box<dyn std::error::Error>>(())
+    /// ```
     pub fn try_retire(&mut self, element: Element) -> Result<(), MoveError> {
         moved(raw::synth_raw_hand_try_retire(&mut self.share.handle().0, element.raw()))
     }
 
     /// One try to put an element that the hand holds into a wait queue; no ticket guards it against a lost wake.
+    ///
+    /// ```
+    /// # use synthesis_kernel::Hand;
+    /// # use synthesis_kernel::WaitNumber;
+    /// let wait = WaitNumber::new(5).unwrap();
+    /// let mut hand = Hand::new()?;
+    /// let element = hand.try_free()?;
+    /// hand.try_wait(element, wait)?;
+    /// assert_eq!(hand.try_wake(wait), Ok(element));
+    /// # Ok::<(), Box<dyn std::error::Error>>(())
+    /// ```
     pub fn try_wait(&mut self, element: Element, wait: WaitNumber) -> Result<(), MoveError> {
         moved(raw::synth_raw_hand_try_wait(&mut self.share.handle().0, element.raw(), wait.raw()))
     }
 
     /// A wait queue's number of notifies so far, modulo 2^32: a ticket for a wait. It has to be read before the look
     /// for what the element would wait for.
+    ///
+    /// ```
+    /// # use synthesis_kernel::Hand;
+    /// # use synthesis_kernel::WaitNumber;
+    /// let wait = WaitNumber::new(5).unwrap();
+    /// let mut hand = Hand::new()?;
+    /// assert_eq!(hand.ticket(wait), 0);
+    /// hand.notify(wait);
+    /// assert_eq!(hand.ticket(wait), 1);
+    /// # Ok::<(), Box<dyn std::error::Error>>(())
+    /// ```
     pub fn ticket(&mut self, wait: WaitNumber) -> u32 {
         let mut ticket = 0;
         match raw::synth_raw_hand_ticket(&mut self.share.handle().0, wait.raw(), &mut ticket) {

@@ -52,6 +52,16 @@ impl Place {
 
 impl Hand {
     /// Closes the table, and returns where each element is. If other hands exist, this one comes back.
+    ///
+    /// ```
+    /// # use synthesis_kernel::hand::{Hand, Place};
+    /// let mut hand = Hand::new()?;
+    /// let element = hand.try_free()?;
+    /// let places = hand.close()?;
+    /// assert_eq!(places.places[usize::from(element)], Place::Held);
+    /// assert_eq!(places.places[63], Place::Free);
+    /// # Ok::<(), Box<dyn std::error::Error>>(())
+    /// ```
     pub fn close(mut self) -> Result<Places, CloseError<Hand>> {
         let Some(handle) = self.share.whole() else { return Err(CloseError::Open(self)) };
         let mut found = raw::Places::default();

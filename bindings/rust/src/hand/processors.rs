@@ -63,6 +63,18 @@ says!(StepError {
 
 impl Hand {
     /// The element that the hand has on the processor.
+    ///
+    /// ```
+    /// # use synthesis_kernel::Hand;
+    /// # use synthesis_kernel::Processor;
+    /// let processor = Processor::new(0).unwrap();
+    /// let mut hand = Hand::new()?;
+    /// let element = hand.try_free()?;
+    /// assert_eq!(hand.on_processor(processor), None);
+    /// hand.on(processor, element)?;
+    /// assert_eq!(hand.on_processor(processor), Some(element));
+    /// # Ok::<(), Box<dyn std::error::Error>>(())
+    /// ```
     pub fn on_processor(&mut self, processor: Processor) -> Option<Element> {
         let mut element = 0;
         match raw::synth_raw_hand_on_processor(&mut self.share.handle().0, processor.raw(), &mut element) {
@@ -73,6 +85,17 @@ impl Hand {
     }
 
     /// Puts an element that the hand holds on a processor that it serves, by one step.
+    ///
+    /// ```
+    /// # use synthesis_kernel::hand::{Hand, OnError};
+    /// # use synthesis_kernel::Processor;
+    /// let processor = Processor::new(0).unwrap();
+    /// let mut hand = Hand::new()?;
+    /// let (one, two) = (hand.try_free()?, hand.try_free()?);
+    /// assert_eq!(hand.on(processor, one), Ok(()));
+    /// assert_eq!(hand.on(processor, two), Err(OnError::Busy));
+    /// # Ok::<(), Box<dyn std::error::Error>>(())
+    /// ```
     pub fn on(&mut self, processor: Processor, element: Element) -> Result<(), OnError> {
         match raw::synth_raw_hand_on(&mut self.share.handle().0, processor.raw(), element.raw()) {
             raw::OK => Ok(()),
@@ -84,6 +107,18 @@ impl Hand {
     }
 
     /// Takes the element off a processor that the hand serves, by one step. The hand then holds it.
+    ///
+    /// ```
+    /// # use synthesis_kernel::hand::{Hand, OffError};
+    /// # use synthesis_kernel::Processor;
+    /// let processor = Processor::new(0).unwrap();
+    /// let mut hand = Hand::new()?;
+    /// let element = hand.try_free()?;
+    /// hand.on(processor, element)?;
+    /// assert_eq!(hand.off(processor), Ok(element));
+    /// assert_eq!(hand.off(processor), Err(OffError::Vacant));
+    /// # Ok::<(), Box<dyn std::error::Error>>(())
+    /// ```
     pub fn off(&mut self, processor: Processor) -> Result<Element, OffError> {
         let mut element = 0;
         match raw::synth_raw_hand_off(&mut self.share.handle().0, processor.raw(), &mut element) {
@@ -105,6 +140,16 @@ impl Hand {
     }
 
     /// Counts one more step of an element that the hand holds or has on a processor, and gives the new number.
+    ///
+    /// ```
+    /// # use synthesis_kernel::Hand;
+    /// let mut hand = Hand::new()?;
+    /// let element = hand.try_free()?;
+    /// assert_eq!(hand.pc(element), Ok(0));
+    /// assert_eq!(hand.step_done(element), Ok(1));
+    /// assert_eq!(hand.pc(element), Ok(1));
+    /// # Ok::<(), Box<dyn std::error::Error>>(())
+    /// ```
     pub fn step_done(&mut self, element: Element) -> Result<u64, StepError> {
         let mut steps = 0;
         match raw::synth_raw_hand_step_done(&mut self.share.handle().0, element.raw(), &mut steps) {

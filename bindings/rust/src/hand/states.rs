@@ -97,6 +97,15 @@ fn tried(answer: raw::State) -> Result<(), StateError> {
 
 impl Hand {
     /// Sets the stop bit of an element, wherever it is, by one step. Returns true if it was clear.
+    ///
+    /// ```
+    /// # use synthesis_kernel::Hand;
+    /// let mut hand = Hand::new()?;
+    /// let element = hand.try_free()?;
+    /// assert!(hand.stop(element));
+    /// assert!(!hand.stop(element));
+    /// # Ok::<(), Box<dyn std::error::Error>>(())
+    /// ```
     pub fn stop(&mut self, element: Element) -> bool {
         let mut was_clear = false;
         match raw::synth_raw_hand_stop(&mut self.share.handle().0, element.raw(), &mut was_clear) {
@@ -132,6 +141,17 @@ impl Hand {
 
     /// One try to put an element that the hand holds into its stop cell, if its stop bit is set. Returns true
     /// if it is there then; if the bit was clear, the hand still holds it.
+    ///
+    /// ```
+    /// # use synthesis_kernel::Hand;
+    /// let mut hand = Hand::new()?;
+    /// let element = hand.try_free()?;
+    /// assert_eq!(hand.try_park(element), Ok(false));
+    /// hand.stop(element);
+    /// assert_eq!(hand.try_park(element), Ok(true));
+    /// assert!(!hand.holds(element));
+    /// # Ok::<(), Box<dyn std::error::Error>>(())
+    /// ```
     pub fn try_park(&mut self, element: Element) -> Result<bool, StateError> {
         let mut parked = false;
         tried(raw::synth_raw_hand_try_park(&mut self.share.handle().0, element.raw(), &mut parked))?;
@@ -139,6 +159,19 @@ impl Hand {
     }
 
     /// Makes a signal of an element pending, wherever the element is, by one step.
+    ///
+    /// ```
+    /// # use synthesis_kernel::hand::{Hand, Signalled};
+    /// # use synthesis_kernel::Signal;
+    /// let signal = Signal::new(3).unwrap();
+    /// let mut hand = Hand::new()?;
+    /// let element = hand.try_free()?;
+    /// assert_eq!(hand.signal(element, signal), Signalled::Raised);
+    /// assert_eq!(hand.signal(element, signal), Signalled::Merged);
+    /// assert_eq!(hand.try_deliver(element), Ok(1 << 3));
+    /// assert_eq!(hand.try_deliver(element), Ok(0));
+    /// # Ok::<(), Box<dyn std::error::Error>>(())
+    /// ```
     pub fn signal(&mut self, element: Element, signal: Signal) -> Signalled {
         let mut raised = false;
         match raw::synth_raw_hand_signal(&mut self.share.handle().0, element.raw(), signal.raw(), &mut raised) {

@@ -35,6 +35,16 @@ fn taken(answer: raw::Answer, element: u32) -> Result<Element, TakeError> {
 
 impl Hand {
     /// One try to take the oldest element of the ready ring, which the hand then holds.
+    ///
+    /// ```
+    /// # use synthesis_kernel::hand::{Hand, TakeError};
+    /// let mut hand = Hand::new()?;
+    /// assert_eq!(hand.try_next(), Err(TakeError::Empty));
+    /// let element = hand.try_free()?;
+    /// hand.try_ready(element)?;
+    /// assert_eq!(hand.try_next(), Ok(element));
+    /// # Ok::<(), Box<dyn std::error::Error>>(())
+    /// ```
     pub fn try_next(&mut self) -> Result<Element, TakeError> {
         let mut element = 0;
         let answer = raw::synth_raw_hand_try_next(&mut self.share.handle().0, &mut element);
@@ -42,6 +52,14 @@ impl Hand {
     }
 
     /// One try to take the oldest of the free elements, which the hand then holds.
+    ///
+    /// ```
+    /// # use synthesis_kernel::hand::{Hand, TakeError};
+    /// let mut hand = Hand::new()?;
+    /// assert_eq!(hand.try_free()?.number(), 0);
+    /// assert_eq!(hand.try_free()?.number(), 1);
+    /// # Ok::<(), Box<dyn std::error::Error>>(())
+    /// ```
     pub fn try_free(&mut self) -> Result<Element, TakeError> {
         let mut element = 0;
         let answer = raw::synth_raw_hand_try_free(&mut self.share.handle().0, &mut element);
@@ -57,6 +75,17 @@ impl Hand {
 
     /// Counts one more notify of a wait queue, by one step: no wait by an older ticket succeeds from then on. Returns the
     /// position after the last place that was claimed before, for `try_wake_before`.
+    ///
+    /// ```
+    /// # use synthesis_kernel::Hand;
+    /// # use synthesis_kernel::WaitNumber;
+    /// let wait = WaitNumber::new(0).unwrap();
+    /// let mut hand = Hand::new()?;
+    /// let element = hand.try_free()?;
+    /// hand.try_wait(element, wait)?;
+    /// assert_eq!(hand.notify(wait), 1);
+    /// # Ok::<(), Box<dyn std::error::Error>>(())
+    /// ```
     pub fn notify(&mut self, wait: WaitNumber) -> u32 {
         let mut head = 0;
         match raw::synth_raw_hand_notify(&mut self.share.handle().0, wait.raw(), &mut head) {

@@ -58,6 +58,19 @@ impl QueueEvents {
 impl<const N: usize> QueueEnd<N> {
     /// Puts an item, and sleeps while the queue is full. Returns its position, or `Full` if the time is over, or another
     /// error of [`try_put`](QueueEnd::try_put) except `Lost`.
+    ///
+    /// ```
+    /// # use std::time::Duration;
+    /// # use synthesis_kernel::queue::{PutError, QueueEnd, QueueEvents};
+    /// let events = QueueEvents::new();
+    /// let mut end = QueueEnd::<64>::new(0)?;
+    /// end.try_put(&[7; 64])?;
+    /// let limit = Some(Duration::from_millis(1));
+    /// assert_eq!(end.put_wait(8, &events, limit), Err(PutError::Full { head: 64, tail: 0 }));
+    /// assert_eq!(end.take_wait(&events, limit), Ok(7));
+    /// assert_eq!(end.put_wait(8, &events, limit), Ok(64));
+    /// # Ok::<(), Box<dyn std::error::Error>>(())
+    /// ```
     pub fn put_wait(&mut self, item: u64, events: &QueueEvents, limit: Option<Duration>) -> Result<u32, PutError> {
         let put = events.places.wait_for(limit, || match self.put(item) {
             Err(PutError::Full { .. }) => None,

@@ -3,7 +3,7 @@
 
 use std::error::Error;
 use std::thread;
-use synthesis_kernel::{ClaimRefusal, QueueEnd, TakeRefusal};
+use synthesis_kernel::queue::{PutError, QueueEnd, TakeError};
 
 type End = QueueEnd<256>;
 
@@ -26,17 +26,17 @@ impl Count {
 }
 
 /// Puts one line, trying again while the queue is full or another end is first.
-fn put_line(end: &mut End, line: &[u64]) -> Result<(), ClaimRefusal> {
+fn put_line(end: &mut End, line: &[u64]) -> Result<(), PutError> {
     loop {
         match end.try_put(line) {
             Ok(_) => return Ok(()),
-            Err(ClaimRefusal::Full { .. } | ClaimRefusal::Lost { .. }) => thread::yield_now(),
-            Err(refusal) => return Err(refusal),
+            Err(PutError::Full { .. } | PutError::Lost { .. }) => thread::yield_now(),
+            Err(error) => return Err(error),
         }
     }
 }
 
-fn put_lines(mut end: End, producer: usize) -> Result<(End, Count), ClaimRefusal> {
+fn put_lines(mut end: End, producer: usize) -> Result<(End, Count), PutError> {
     let mut count = Count::default();
     for i in 0..10_000 {
         let line: Vec<u64> = format!("line {i} of producer {producer}\n").bytes().map(u64::from).collect();
@@ -52,7 +52,7 @@ fn take_lines(mut end: End) -> (End, Count) {
     loop {
         match end.try_take_line(&mut line) {
             Ok(length) => count.add(&line[..length]),
-            Err(TakeRefusal::Closed) => return (end, count),
+            Err(TakeError::Closed) => return (end, count),
             Err(_) => thread::yield_now(),
         }
     }

@@ -4,9 +4,10 @@
 
 use std::error::Error;
 use std::thread;
-use synthesis_kernel::{Element, Gauge, Hand, MeterSeat, MoveRefusal, NextRefusal, Place, Processor, WaitNumber};
+use synthesis_kernel::hand::{Hand, MoveError, Place, TakeError};
+use synthesis_kernel::{Element, Gauge, MeterSeat, Processor, WaitNumber};
 
-const WORKERS: u8 = 4;
+const WORKERS: usize = 4;
 const ELEMENTS: u64 = 64;
 const ROUNDS: u64 = 100;
 
@@ -34,21 +35,21 @@ struct Worker {
 }
 
 /// Makes a move until no other hand is first.
-fn repeat(mut call: impl FnMut() -> Result<(), MoveRefusal>) -> Result<(), MoveRefusal> {
+fn repeat(mut call: impl FnMut() -> Result<(), MoveError>) -> Result<(), MoveError> {
     loop {
         match call() {
-            Err(MoveRefusal::Lost { .. }) => thread::yield_now(),
+            Err(MoveError::Lost { .. }) => thread::yield_now(),
             answer => return answer,
         }
     }
 }
 
 impl Worker {
-    fn new(hand: Hand, seat: MeterSeat, number: u8) -> Worker {
+    fn new(hand: Hand, seat: MeterSeat, processor: Processor) -> Worker {
         Worker {
             hand,
             seat,
-            processor: Processor::new(number).expect("a processor for each worker"),
+            processor,
             next_round: WaitNumber::new(0).expect("a wait queue"),
             steps: Gauge::new(0).expect("a gauge"),
             retired: Gauge::new(1).expect("a gauge"),
@@ -57,7 +58,7 @@ impl Worker {
     }
 
     /// One notify, and then all that waited before it are made ready.
-    fn wake_all(&mut self) -> Result<(), MoveRefusal> {
+    fn wake_all(&mut self) -> Result<(), MoveError> {
         let head = self.hand.notify(self.next_round);
         loop {
             match self.hand.try_wake_before(self.next_round, head) {
@@ -69,9 +70,9 @@ impl Worker {
     }
 
     /// Lets the element wait for the next round. Where a round has ended since the ticket was read it is ready instead.
-    fn let_wait(&mut self, element: Element, ticket: u32) -> Result<(), MoveRefusal> {
+    fn let_wait(&mut self, element: Element, ticket: u32) -> Result<(), MoveError> {
         match repeat(|| self.hand.try_wait_at(element, self.next_round, ticket)) {
-            Err(MoveRefusal::Moved { .. }) => repeat(|| self.hand.try_ready(element)),
+            Err(MoveError::Moved { .. }) => repeat(|| self.hand.try_ready(element)),
             answer => answer,
         }
     }
@@ -115,7 +116,8 @@ impl Worker {
         while self.seat.tick(self.retired, 0) < ELEMENTS {
             match self.hand.try_next() {
                 Ok(element) => self.turn(element)?,
-                Err(NextRefusal::NoneReady | NextRefusal::Lost { .. }) => thread::yield_now(),
+                Err(TakeError::Empty | TakeError::Lost { .. }) => thread::yield_now(),
+                Err(error) => return Err(error.into()),
             }
         }
         Ok(self)
@@ -129,8 +131,8 @@ fn main() -> Result<(), Box<dyn Error>> {
         hand.try_ready(element)?;
     }
     let mut threads = Vec::new();
-    for number in 0..WORKERS {
-        let worker = Worker::new(hand.split(1 << number)?, seat.split()?, number);
+    for processor in Processor::all().take(WORKERS) {
+        let worker = Worker::new(hand.split(processor)?, seat.split()?, processor);
         threads.push(thread::spawn(move || worker.work()));
     }
     let mut sum = 0;

@@ -1,8 +1,9 @@
 //! Batch queues: any number of producers and takers, by bursts.
 
-use crate::ends::{closed, joined, split_off, OtherObject, SplitRefusal, StillOpen};
+use crate::ends::{CloseError, JoinError, OutOfMemory, Share, SplitError, joined};
 use crate::raw;
 use crate::words::says;
+use std::hint;
 
 /// An end of a batch queue, and its queue. Each end may put and take.
 ///
@@ -10,39 +11,37 @@ use crate::words::says;
 /// it is one by [`BatchEnd::try_take_some`]. No position comes back: a queue takes 2^62 items, 146 years at a billion a
 /// second.
 ///
-/// An end that is dropped is never joined. All else goes on, but the queue can't be closed any more: what is left can
-/// be taken still, and goes with the last end that is dropped.
+/// Each call except [`split`](BatchEnd::split), [`close`](BatchEnd::close) and a drop is lock-free. A dropped end gives
+/// its share back, so the last end can always close the queue. The last one to be dropped takes the queue with it, and
+/// the items left.
 ///
-/// It may go to another thread:
+/// An end may go to another thread. All its calls that come to the queue take `&mut`, so it may be shared too, as an
+/// error that carries it may have to be:
 ///
 /// ```
-/// fn is_send<T: Send>() {}
-/// is_send::<synthesis_kernel::BatchEnd>();
-/// ```
-///
-/// It is used by one thread at a time:
-///
-/// ```compile_fail
-/// fn is_sync<T: Sync>() {}
-/// is_sync::<synthesis_kernel::BatchEnd>();
+/// fn is_send_and_sync<T: Send + Sync>() {}
+/// is_send_and_sync::<synthesis_kernel::BatchEnd>();
 /// ```
 #[derive(Debug)]
 pub struct BatchEnd {
-    handle: raw::Batch,
+    share: Share<raw::Batch>,
+    capacity: usize,
 }
 
-/// Why no batch queue was made. The refusals are in the order in which they are checked.
-#[derive(Clone, Copy, Debug, PartialEq, Eq)]
-pub enum NewBatchRefusal {
-    /// The number of places is no power of two from 1 to 16,777,216.
-    BadNumber,
+/// Why no batch queue was made. The errors are in the order in which they are checked.
+#[derive(Clone, Copy, Debug, PartialEq, Eq, Hash)]
+#[non_exhaustive]
+pub enum NewError {
+    /// The capacity is no power of two from 1 to 16,777,216.
+    BadCapacity,
     /// An allocation was refused.
     OutOfMemory,
 }
 
-/// Why nothing was put. The refusals are in the order in which they are checked.
-#[derive(Clone, Copy, Debug, PartialEq, Eq)]
-pub enum BatchPutRefusal {
+/// Why nothing was put. The errors are in the order in which they are checked.
+#[derive(Clone, Copy, Debug, PartialEq, Eq, Hash)]
+#[non_exhaustive]
+pub enum PutError {
     /// There is no item.
     NoItems,
     /// There are more items than places.
@@ -53,7 +52,7 @@ pub enum BatchPutRefusal {
     Spent,
     /// There was no room for so many.
     Full {
-        /// The position that the first one would have had.
+        /// The position that the first item would have had.
         head: u64,
         /// The first position whose place was not given back.
         free: u64,
@@ -66,8 +65,9 @@ pub enum BatchPutRefusal {
 }
 
 /// Why nothing was taken.
-#[derive(Clone, Copy, Debug, PartialEq, Eq)]
-pub enum BatchTakeRefusal {
+#[derive(Clone, Copy, Debug, PartialEq, Eq, Hash)]
+#[non_exhaustive]
+pub enum TakeError {
     /// Nothing was published at the tail.
     Empty {
         /// The tail.
@@ -91,7 +91,7 @@ pub enum BatchTakeRefusal {
 
 /// What a batch queue had at its end.
 #[derive(Clone, Debug, PartialEq, Eq)]
-pub struct BatchClosed {
+pub struct Closed {
     /// How many items were put.
     pub put: u64,
     /// How many items were taken; they are the first of those put.
@@ -100,49 +100,49 @@ pub struct BatchClosed {
     pub left: Vec<u64>,
 }
 
-says!(NewBatchRefusal {
-    NewBatchRefusal::BadNumber => "the number of places is no power of two from 1 to 16777216",
-    NewBatchRefusal::OutOfMemory => "no memory",
+says!(NewError {
+    NewError::BadCapacity => "the capacity is no power of two from 1 to 16,777,216",
+    NewError::OutOfMemory => "out of memory",
 });
 
-says!(BatchPutRefusal {
-    BatchPutRefusal::NoItems => "no items",
-    BatchPutRefusal::TooLong => "more items than places",
-    BatchPutRefusal::Closed => "the queue is shut",
-    BatchPutRefusal::Spent => "no positions left",
-    BatchPutRefusal::Full { head, free } => "full at head {head}, free {free}",
-    BatchPutRefusal::Lost { head } => "lost, head {head}",
+says!(PutError {
+    PutError::NoItems => "no items",
+    PutError::TooLong => "more items than places",
+    PutError::Closed => "the queue is shut",
+    PutError::Spent => "no positions left",
+    PutError::Full { head, free } => "full at head {head}, free {free}",
+    PutError::Lost { head } => "lost, head {head}",
 });
 
-says!(BatchTakeRefusal {
-    BatchTakeRefusal::Empty { at } => "nothing published at {at}",
-    BatchTakeRefusal::ShortBuffer { at, count } => "a batch of {count} at {at}",
-    BatchTakeRefusal::Lost { tail } => "lost, tail {tail}",
-    BatchTakeRefusal::Closed => "the queue is shut and empty",
+says!(TakeError {
+    TakeError::Empty { at } => "nothing published at {at}",
+    TakeError::ShortBuffer { at, count } => "a batch of {count} at {at}",
+    TakeError::Lost { tail } => "lost, tail {tail}",
+    TakeError::Closed => "the queue is shut and empty",
 });
 
 /// What a put answers.
-fn put(code: i32, at: raw::Positions) -> Result<u64, BatchPutRefusal> {
+fn put(code: i32, at: raw::Positions) -> Result<u64, PutError> {
     match code {
-        raw::DONE => Ok(at.head),
-        raw::NO_ITEMS => Err(BatchPutRefusal::NoItems),
-        raw::TOO_LONG => Err(BatchPutRefusal::TooLong),
-        raw::CLOSED => Err(BatchPutRefusal::Closed),
-        raw::SPENT => Err(BatchPutRefusal::Spent),
-        raw::FULL => Err(BatchPutRefusal::Full { head: at.head, free: at.tail }),
-        raw::LOST => Err(BatchPutRefusal::Lost { head: at.head }),
+        raw::OK => Ok(at.head),
+        raw::NO_ITEMS => Err(PutError::NoItems),
+        raw::TOO_LONG => Err(PutError::TooLong),
+        raw::CLOSED => Err(PutError::Closed),
+        raw::SPENT => Err(PutError::Spent),
+        raw::FULL => Err(PutError::Full { head: at.head, free: at.tail }),
+        raw::LOST => Err(PutError::Lost { head: at.head }),
         code => raw::no_such_answer(code),
     }
 }
 
 /// What a taking answers.
-fn taken(code: i32, count: usize, at: raw::Positions) -> Result<usize, BatchTakeRefusal> {
+fn taken(code: i32, count: usize, at: raw::Positions) -> Result<usize, TakeError> {
     match code {
-        raw::DONE => Ok(count),
-        raw::EMPTY => Err(BatchTakeRefusal::Empty { at: at.tail }),
-        raw::SHORT_BUFFER => Err(BatchTakeRefusal::ShortBuffer { at: at.tail, count }),
-        raw::LOST => Err(BatchTakeRefusal::Lost { tail: at.tail }),
-        raw::CLOSED => Err(BatchTakeRefusal::Closed),
+        raw::OK => Ok(count),
+        raw::EMPTY => Err(TakeError::Empty { at: at.tail }),
+        raw::SHORT_BUFFER => Err(TakeError::ShortBuffer { at: at.tail, count }),
+        raw::LOST => Err(TakeError::Lost { tail: at.tail }),
+        raw::CLOSED => Err(TakeError::Closed),
         code => raw::no_such_answer(code),
     }
 }
@@ -151,54 +151,75 @@ impl BatchEnd {
     /// An empty queue with so many places, a power of two from 1 to 16,777,216, by its only end.
     ///
     /// ```
-    /// use synthesis_kernel::{BatchEnd, BatchPutRefusal, NewBatchRefusal};
+    /// use synthesis_kernel::batch::{BatchEnd, NewError, PutError};
     ///
     /// let mut taker = BatchEnd::new(8)?;
     /// let mut putter = taker.split()?;
     /// assert_eq!(putter.try_put(&[1, 2, 3]), Ok(0));
-    /// assert_eq!(putter.try_put(&[0; 6]), Err(BatchPutRefusal::Full { head: 3, free: 0 }));
+    /// assert_eq!(putter.try_put(&[0; 6]), Err(PutError::Full { head: 3, free: 0 }));
     /// let mut items = [0; 8];
     /// assert_eq!(taker.try_take(&mut items), Ok(3));
     /// assert_eq!(items[..3], [1, 2, 3]);
-    /// assert_eq!(BatchEnd::new(9).unwrap_err(), NewBatchRefusal::BadNumber);
+    /// assert_eq!(BatchEnd::new(9).unwrap_err(), NewError::BadCapacity);
     /// # Ok::<(), Box<dyn std::error::Error>>(())
     /// ```
-    pub fn new(places: usize) -> Result<BatchEnd, NewBatchRefusal> {
+    pub fn new(capacity: usize) -> Result<BatchEnd, NewError> {
         let mut handle = raw::Batch::default();
-        match raw::synth_raw_batch_new(places, &mut handle) {
-            raw::DONE => Ok(BatchEnd { handle }),
-            raw::BAD_NUMBER => Err(NewBatchRefusal::BadNumber),
-            raw::NO_MEMORY => Err(NewBatchRefusal::OutOfMemory),
+        match raw::synth_raw_batch_new(capacity, &mut handle) {
+            raw::OK => {}
+            raw::BAD_NUMBER => return Err(NewError::BadCapacity),
+            raw::NO_MEMORY => return Err(NewError::OutOfMemory),
             code => raw::no_such_answer(code),
         }
+        let share = Share::new(handle).map_err(|OutOfMemory| NewError::OutOfMemory)?;
+        Ok(BatchEnd { share, capacity })
     }
 
-    /// A new end, for another thread. Both ends are to be joined again before the queue can be closed.
-    pub fn split(&mut self) -> Result<BatchEnd, SplitRefusal> {
-        let handle = split_off(|other| raw::synth_raw_batch_split(&mut self.handle, other))?;
-        Ok(BatchEnd { handle })
+    /// A new end, for another thread.
+    ///
+    /// ```
+    /// # use synthesis_kernel::BatchEnd;
+    /// let end = BatchEnd::new(64)?;
+    /// let mut other = end.split()?;
+    /// std::thread::spawn(move || other.try_put(&[1])).join().unwrap()?;
+    /// assert_eq!(end.close()?.left, [1]);
+    /// # Ok::<(), Box<dyn std::error::Error>>(())
+    /// ```
+    pub fn split(&self) -> Result<BatchEnd, SplitError> {
+        Ok(BatchEnd { share: self.share.split()?, capacity: self.capacity })
     }
 
-    /// Joins an end of the same queue to this one. One of another queue comes back.
+    /// Joins an end of the same queue to this one. A drop does the same. An end of another queue comes back.
     ///
     /// ```
     /// # use synthesis_kernel::BatchEnd;
     /// let mut end = BatchEnd::new(64)?;
     /// let stranger = BatchEnd::new(64)?;
-    /// let refusal = end.join(stranger).unwrap_err();
-    /// assert!(refusal.end.close().is_ok());
+    /// let error = end.join(stranger).unwrap_err();
+    /// assert!(error.into_inner().close().is_ok());
     /// # Ok::<(), Box<dyn std::error::Error>>(())
     /// ```
-    pub fn join(&mut self, mut other: BatchEnd) -> Result<(), OtherObject<BatchEnd>> {
-        let code = raw::synth_raw_batch_join(&mut self.handle, &mut other.handle);
-        joined(code, other)
+    pub fn join(&mut self, other: BatchEnd) -> Result<(), JoinError<BatchEnd>> {
+        let BatchEnd { share, capacity } = other;
+        joined(self.share.join(share), |share| BatchEnd { share, capacity })
     }
 
     /// One try to put the items as one batch: all of them or none. Gives the position of the first one.
-    pub fn try_put(&mut self, items: &[u64]) -> Result<u64, BatchPutRefusal> {
+    ///
+    /// ```
+    /// # use synthesis_kernel::batch::{BatchEnd, PutError};
+    /// let mut end = BatchEnd::new(4)?;
+    /// assert_eq!(end.try_put(&[1, 2, 3]), Ok(0));
+    /// assert_eq!(end.try_put(&[4]), Ok(3));
+    /// assert_eq!(end.try_put(&[5]), Err(PutError::Full { head: 4, free: 0 }));
+    /// assert_eq!(end.try_put(&[0; 5]), Err(PutError::TooLong));
+    /// # Ok::<(), Box<dyn std::error::Error>>(())
+    /// ```
+    pub fn try_put(&mut self, items: &[u64]) -> Result<u64, PutError> {
         let mut at = raw::Positions::default();
         // SAFETY: the pointer leads to as many items as the number says, which are only read.
-        let code = unsafe { raw::synth_raw_batch_try_put(&mut self.handle, items.as_ptr(), items.len(), &mut at) };
+        let code =
+            unsafe { raw::synth_raw_batch_try_put(self.share.handle(), items.as_ptr().cast(), items.len(), &mut at) };
         put(code, at)
     }
 
@@ -212,11 +233,17 @@ impl BatchEnd {
     /// assert_eq!(end.try_put_some(&[4, 5, 6]), Ok((3, 1)));
     /// # Ok::<(), Box<dyn std::error::Error>>(())
     /// ```
-    pub fn try_put_some(&mut self, items: &[u64]) -> Result<(u64, usize), BatchPutRefusal> {
+    pub fn try_put_some(&mut self, items: &[u64]) -> Result<(u64, usize), PutError> {
         let (mut count, mut at) = (0, raw::Positions::default());
         // SAFETY: the pointer leads to as many items as the number says, which are only read.
         let code = unsafe {
-            raw::synth_raw_batch_try_put_some(&mut self.handle, items.as_ptr(), items.len(), &mut count, &mut at)
+            raw::synth_raw_batch_try_put_some(
+                self.share.handle(),
+                items.as_ptr().cast(),
+                items.len(),
+                &mut count,
+                &mut at,
+            )
         };
         Ok((put(code, at)?, count))
     }
@@ -225,21 +252,27 @@ impl BatchEnd {
     /// the number of items.
     ///
     /// ```
-    /// # use synthesis_kernel::{BatchEnd, BatchTakeRefusal};
+    /// # use synthesis_kernel::batch::{BatchEnd, TakeError};
     /// let mut end = BatchEnd::new(8)?;
     /// let mut items = [0; 4];
-    /// assert_eq!(end.try_take(&mut items), Err(BatchTakeRefusal::Empty { at: 0 }));
+    /// assert_eq!(end.try_take(&mut items), Err(TakeError::Empty { at: 0 }));
     /// end.try_put(&[1, 2, 3])?;
     /// end.try_put(&[4, 5])?;
     /// assert_eq!(end.try_take(&mut items), Ok(3));
-    /// assert_eq!(end.try_take(&mut items[..1]), Err(BatchTakeRefusal::ShortBuffer { at: 3, count: 2 }));
+    /// assert_eq!(end.try_take(&mut items[..1]), Err(TakeError::ShortBuffer { at: 3, count: 2 }));
     /// # Ok::<(), Box<dyn std::error::Error>>(())
     /// ```
-    pub fn try_take(&mut self, items: &mut [u64]) -> Result<usize, BatchTakeRefusal> {
+    pub fn try_take(&mut self, items: &mut [u64]) -> Result<usize, TakeError> {
         let (mut count, mut at) = (0, raw::Positions::default());
         // SAFETY: the pointer leads to as much room as the number says, and nobody else has it.
         let code = unsafe {
-            raw::synth_raw_batch_try_take(&mut self.handle, items.as_mut_ptr(), items.len(), &mut count, &mut at)
+            raw::synth_raw_batch_try_take(
+                self.share.handle(),
+                items.as_mut_ptr().cast(),
+                items.len(),
+                &mut count,
+                &mut at,
+            )
         };
         taken(code, count, at)
     }
@@ -257,13 +290,32 @@ impl BatchEnd {
     /// assert_eq!(items, [3, 2]);
     /// # Ok::<(), Box<dyn std::error::Error>>(())
     /// ```
-    pub fn try_take_some(&mut self, items: &mut [u64]) -> Result<usize, BatchTakeRefusal> {
+    pub fn try_take_some(&mut self, items: &mut [u64]) -> Result<usize, TakeError> {
         let (mut count, mut at) = (0, raw::Positions::default());
         // SAFETY: the pointer leads to as much room as the number says, and nobody else has it.
         let code = unsafe {
-            raw::synth_raw_batch_try_take_some(&mut self.handle, items.as_mut_ptr(), items.len(), &mut count, &mut at)
+            raw::synth_raw_batch_try_take_some(
+                self.share.handle(),
+                items.as_mut_ptr().cast(),
+                items.len(),
+                &mut count,
+                &mut at,
+            )
         };
         taken(code, count, at)
+    }
+
+    /// Takes items one by one, and ends when there is nothing to take. Another end may take between them.
+    ///
+    /// ```
+    /// # use synthesis_kernel::BatchEnd;
+    /// let mut end = BatchEnd::new(8)?;
+    /// end.try_put(&[1, 2, 3])?;
+    /// assert!(end.try_iter().eq([1, 2, 3]));
+    /// # Ok::<(), Box<dyn std::error::Error>>(())
+    /// ```
+    pub fn try_iter(&mut self) -> TryIter<'_> {
+        TryIter { end: self }
     }
 
     /// A hint of how many items are in the queue, published or not. Other ends change it meanwhile.
@@ -275,10 +327,10 @@ impl BatchEnd {
     /// assert_eq!((end.len(), end.is_empty(), end.capacity()), (3, false, 8));
     /// # Ok::<(), Box<dyn std::error::Error>>(())
     /// ```
-    pub fn len(&mut self) -> u64 {
+    pub fn len(&mut self) -> usize {
         let mut count = 0;
-        match raw::synth_raw_batch_len(&mut self.handle, &mut count) {
-            raw::DONE => count,
+        match raw::synth_raw_batch_len(self.share.handle(), &mut count) {
+            raw::OK => usize::try_from(count).unwrap_or(usize::MAX),
             code => raw::no_such_answer(code),
         }
     }
@@ -289,61 +341,77 @@ impl BatchEnd {
     }
 
     /// How many places the queue has.
-    pub fn capacity(&mut self) -> usize {
-        let mut places = 0;
-        match raw::synth_raw_batch_capacity(&mut self.handle, &mut places) {
-            raw::DONE => places,
-            code => raw::no_such_answer(code),
-        }
+    #[must_use]
+    pub fn capacity(&self) -> usize {
+        self.capacity
     }
 
     /// Shuts the queue for puts, for good; what was put can still be taken. True if it was open, which one end alone is
     /// ever told.
     ///
     /// ```
-    /// # use synthesis_kernel::{BatchEnd, BatchPutRefusal, BatchTakeRefusal};
+    /// # use synthesis_kernel::batch::{BatchEnd, PutError, TakeError};
     /// let mut end = BatchEnd::new(64)?;
     /// assert!(end.shut());
     /// assert!(!end.shut());
-    /// assert_eq!(end.try_put(&[1]), Err(BatchPutRefusal::Closed));
-    /// assert_eq!(end.try_take(&mut [0; 8]), Err(BatchTakeRefusal::Closed));
+    /// assert_eq!(end.try_put(&[1]), Err(PutError::Closed));
+    /// assert_eq!(end.try_take(&mut [0; 8]), Err(TakeError::Closed));
     /// # Ok::<(), Box<dyn std::error::Error>>(())
     /// ```
     pub fn shut(&mut self) -> bool {
         let mut was_open = false;
-        match raw::synth_raw_batch_shut(&mut self.handle, &mut was_open) {
-            raw::DONE => was_open,
+        match raw::synth_raw_batch_shut(self.share.handle(), &mut was_open) {
+            raw::OK => was_open,
             code => raw::no_such_answer(code),
         }
     }
 
-    /// Closes the queue if every other end has been joined. If others are there, or were dropped, this one comes back.
+    /// Closes the queue, and returns what became of its items. If other ends exist, this one comes back. Of two threads
+    /// that try at the same moment each may find the other's end.
     ///
     /// ```
     /// # use synthesis_kernel::BatchEnd;
-    /// let mut end = BatchEnd::new(64)?;
+    /// let end = BatchEnd::new(64)?;
     /// let mut other = end.split()?;
     /// other.try_put(&[1, 2])?;
-    /// let mut end = end.close().unwrap_err().end;
-    /// end.join(other)?;
+    /// let end = end.close().unwrap_err().into_inner();
+    /// drop(other);
     /// let closed = end.close()?;
     /// assert_eq!((closed.put, closed.taken, closed.left), (2, 0, vec![1, 2]));
     /// # Ok::<(), Box<dyn std::error::Error>>(())
     /// ```
-    pub fn close(mut self) -> Result<BatchClosed, StillOpen<BatchEnd>> {
-        let mut left = vec![0; self.capacity()];
+    pub fn close(mut self) -> Result<Closed, CloseError<BatchEnd>> {
+        let capacity = self.capacity;
+        let Some(handle) = self.share.whole() else { return Err(CloseError::Open(self)) };
+        let mut left = vec![0_u64; capacity];
         let mut numbers = raw::BatchClosed::default();
         // SAFETY: the pointer leads to as much room as the number says, and nobody else has it.
-        let code = unsafe { raw::synth_raw_batch_close(&mut self.handle, left.as_mut_ptr(), left.len(), &mut numbers) };
-        closed(code, self)?;
+        match unsafe { raw::synth_raw_batch_close(handle, left.as_mut_ptr(), left.len(), &mut numbers) } {
+            raw::OK => {}
+            code => raw::no_such_answer(code),
+        }
         left.truncate(numbers.left);
-        Ok(BatchClosed { put: numbers.put, taken: numbers.taken, left })
+        Ok(Closed { put: numbers.put, taken: numbers.taken, left })
     }
 }
 
-impl Drop for BatchEnd {
-    fn drop(&mut self) {
-        // An end that was joined or closed is empty, which the call tells by a code.
-        raw::synth_raw_batch_free(&mut self.handle);
+/// Takes items one by one: see [`BatchEnd::try_iter`].
+#[derive(Debug)]
+pub struct TryIter<'end> {
+    end: &'end mut BatchEnd,
+}
+
+impl Iterator for TryIter<'_> {
+    type Item = u64;
+
+    fn next(&mut self) -> Option<u64> {
+        let mut item = [0];
+        loop {
+            match self.end.try_take_some(&mut item) {
+                Ok(_) => return Some(item[0]),
+                Err(TakeError::Lost { .. }) => hint::spin_loop(),
+                Err(_) => return None,
+            }
+        }
     }
 }

@@ -1,11 +1,10 @@
 //! Chains of deferred procedures.
 
-use crate::ends::{joined, made, split_off, OtherObject, OutOfMemory, SplitRefusal};
+use crate::ends::{CloseError, Handle, JoinError, OutOfMemory, Share, SplitError, joined, made};
 use crate::raw;
 use crate::words::says;
-use std::error::Error;
-use std::fmt;
-use std::hint;
+use std::iter::FusedIterator;
+use std::{hint, mem};
 
 /// An end of a chain. A note, a number of 16 bits, stands for a procedure; which one is the program's. Any end may chain
 /// notes, and never waits. One end at a time runs them, in the order in which they were chained: the one whose note
@@ -25,22 +24,68 @@ use std::hint;
 ///     }
 /// }
 /// assert_eq!(seen, [10, 20]);
-/// interrupt.join(timer)?;
-/// let chained = interrupt.close()?;
-/// assert_eq!((chained.put, chained.run), (2, 2));
+/// drop(timer);
+/// let closed = interrupt.close()?;
+/// assert_eq!((closed.put, closed.run), (2, 2));
 /// # Ok::<(), Box<dyn std::error::Error>>(())
 /// ```
+///
+/// All that was done before a note was chained is seen by its procedure, and all that a procedure did by the ones
+/// after it. Each call except [`split`](ChainEnd::split), [`take_over`](ChainEnd::take_over),
+/// [`close`](ChainEnd::close) and a drop is lock-free.
+///
+/// A dropped end gives its share back, so the last end can always close the chain. If it ran notes, another end runs
+/// them after [`take_over`](ChainEnd::take_over); until then they stay in the chain, which gets full.
 #[derive(Debug)]
 pub struct ChainEnd {
-    handle: raw::Chain,
+    share: Share<ChainHandle>,
+}
+
+/// A handle of a chain, and whether its end runs notes.
+#[derive(Debug, Default)]
+struct ChainHandle {
+    raw: raw::Chain,
     runs: bool,
 }
 
-/// The right and the duty to run the notes of a chain, which its end has. It gives them one by one, each once. The
-/// procedure of a note runs before the next one is asked for, so no two of one chain run at once.
+impl Handle for ChainHandle {
+    fn split(&mut self, other: &mut Self) -> i32 {
+        raw::synth_raw_chain_split(&mut self.raw, &mut other.raw)
+    }
+
+    fn join(&mut self, other: &mut Self) -> i32 {
+        let code = raw::synth_raw_chain_join(&mut self.raw, &mut other.raw);
+        if code == raw::OK {
+            self.runs |= mem::take(&mut other.runs);
+        }
+        code
+    }
+
+    fn free(&mut self) {
+        self.raw.free();
+    }
+
+    fn is_plain(&mut self) -> bool {
+        !self.runs
+    }
+}
+
+/// The right and the duty to run the notes of a chain, which its end has. It is an iterator that returns them one by
+/// one, each once. The procedure of a note runs before the next note is asked for, so no two of one chain run at once.
 ///
-/// If it is dropped before it gave `None`, the end still runs notes: [`ChainEnd::turn`] gives it again, and until then
-/// nobody runs the notes that are left.
+/// A turn that is dropped early can't run the notes that are left, since only its program knows their procedures. The
+/// end keeps the turn: [`ChainEnd::turn`] returns it again. Until then nobody runs notes.
+///
+/// ```
+/// # use synthesis_kernel::ChainEnd;
+/// let mut end = ChainEnd::new(0)?;
+/// drop(end.try_chain(10)?);
+/// assert!(end.try_chain(20)?.is_none());
+/// let turn = end.turn().expect("the end still runs notes");
+/// assert!(turn.eq([10, 20]));
+/// assert!(end.turn().is_none());
+/// # Ok::<(), Box<dyn std::error::Error>>(())
+/// ```
 #[derive(Debug)]
 #[must_use = "nobody runs the notes of a chain until its turn is served"]
 pub struct Turn<'a> {
@@ -49,19 +94,20 @@ pub struct Turn<'a> {
 
 /// What a chain had at its end.
 #[derive(Clone, Copy, Debug, PartialEq, Eq)]
-pub struct Chained {
+pub struct Closed {
     /// How many notes were chained.
     pub put: u32,
     /// How many were run: all of them.
     pub run: u32,
 }
 
-/// Why a note was refused. The refusals stand in the order in which they are checked.
-#[derive(Clone, Copy, Debug, PartialEq, Eq)]
-pub enum ChainRefusal {
+/// Why a note was refused. The errors are in the order in which they are checked.
+#[derive(Clone, Copy, Debug, PartialEq, Eq, Hash)]
+#[non_exhaustive]
+pub enum ChainError {
     /// No position is left: the chain takes no more notes.
     Spent,
-    /// There was no room for the note at this head behind this tail.
+    /// There was no room for the note: the chain has 32 places.
     Full {
         /// The head that was found.
         head: u32,
@@ -75,81 +121,132 @@ pub enum ChainRefusal {
     },
 }
 
-/// Why a chain was not closed. The end comes back.
-#[derive(Debug)]
-pub enum ChainNotClosed {
-    /// The end runs notes: serve its turn first.
-    Running(ChainEnd),
-    /// Other ends exist, or were dropped and not joined. If one was dropped the chain is never closed.
-    Open(ChainEnd),
-}
-
-says!(ChainRefusal {
-    ChainRefusal::Spent => "no positions left",
-    ChainRefusal::Full { head, tail } => "full at head {head}, tail {tail}",
-    ChainRefusal::Lost { head } => "lost, head {head}",
+says!(ChainError {
+    ChainError::Spent => "no positions left",
+    ChainError::Full { head, tail } => "full at head {head}, tail {tail}",
+    ChainError::Lost { head } => "lost, head {head}",
 });
-
-impl fmt::Display for ChainNotClosed {
-    fn fmt(&self, f: &mut fmt::Formatter<'_>) -> fmt::Result {
-        f.write_str(match self {
-            ChainNotClosed::Running(_) => "the end runs notes",
-            ChainNotClosed::Open(_) => "other ends exist, or were dropped and not joined",
-        })
-    }
-}
-
-impl Error for ChainNotClosed {}
 
 impl ChainEnd {
     /// An empty chain, whose first position is `first`, by its only end.
+    ///
+    /// ```
+    /// # use synthesis_kernel::chain::{ChainEnd, ChainError};
+    /// let mut end = ChainEnd::new(u32::MAX)?;
+    /// assert_eq!(end.try_chain(10).unwrap_err(), ChainError::Spent);
+    /// # Ok::<(), Box<dyn std::error::Error>>(())
+    /// ```
     pub fn new(first: u32) -> Result<ChainEnd, OutOfMemory> {
-        Ok(ChainEnd { handle: made(|chain| raw::synth_raw_chain_new(first, chain))?, runs: false })
+        let raw = made(|chain| raw::synth_raw_chain_new(first, chain))?;
+        Ok(ChainEnd { share: Share::new(ChainHandle { raw, runs: false })? })
     }
 
-    /// One more end of the chain, for another thread.
-    pub fn split(&mut self) -> Result<ChainEnd, SplitRefusal> {
-        Ok(ChainEnd { handle: split_off(|other| raw::synth_raw_chain_split(&mut self.handle, other))?, runs: false })
+    /// A new end, for another thread. It runs no notes.
+    ///
+    /// ```
+    /// # use synthesis_kernel::ChainEnd;
+    /// let end = ChainEnd::new(0)?;
+    /// let mut other = end.split()?;
+    /// std::thread::spawn(move || other.try_chain(10).unwrap().map(Iterator::count)).join().unwrap();
+    /// assert_eq!(end.close()?.run, 1);
+    /// # Ok::<(), Box<dyn std::error::Error>>(())
+    /// ```
+    pub fn split(&self) -> Result<ChainEnd, SplitError> {
+        Ok(ChainEnd { share: self.share.split()? })
     }
 
-    /// Takes another end of the chain in. If that one runs notes, this one runs them from now on: see
-    /// [`ChainEnd::turn`].
-    pub fn join(&mut self, mut other: ChainEnd) -> Result<(), OtherObject<ChainEnd>> {
-        let runs = other.runs;
-        joined(raw::synth_raw_chain_join(&mut self.handle, &mut other.handle), other)?;
-        self.runs |= runs;
-        Ok(())
+    /// Joins another end of the chain to this one. If that one runs notes, this one runs them from now on: see
+    /// [`turn`](ChainEnd::turn). An end of another chain comes back.
+    ///
+    /// ```
+    /// # use synthesis_kernel::ChainEnd;
+    /// let mut end = ChainEnd::new(0)?;
+    /// let mut other = end.split()?;
+    /// drop(other.try_chain(10)?);
+    /// end.join(other)?;
+    /// assert!(end.turn().expect("the other end ran notes").eq([10]));
+    /// let stranger = ChainEnd::new(0)?;
+    /// assert!(end.join(stranger).unwrap_err().into_inner().close().is_ok());
+    /// # Ok::<(), Box<dyn std::error::Error>>(())
+    /// ```
+    pub fn join(&mut self, other: ChainEnd) -> Result<(), JoinError<ChainEnd>> {
+        joined(self.share.join(other.share), |share| ChainEnd { share })
     }
 
-    /// One try to chain a note. The end that found nobody running gets the turn. Else the end that runs notes, which may
-    /// be this one, is given it.
-    pub fn try_chain(&mut self, note: u16) -> Result<Option<Turn<'_>>, ChainRefusal> {
-        let answer = raw::synth_raw_chain_try_chain(&mut self.handle, note);
+    /// Takes over what dropped ends had. If one of them ran notes, this end runs them from now on: its turn comes back.
+    ///
+    /// ```
+    /// # use synthesis_kernel::ChainEnd;
+    /// let mut end = ChainEnd::new(0)?;
+    /// let mut other = end.split()?;
+    /// drop(other.try_chain(10)?);
+    /// drop(other);
+    /// assert!(end.try_chain(20)?.is_none());
+    /// assert!(end.take_over().expect("the other end ran notes").eq([10, 20]));
+    /// # Ok::<(), Box<dyn std::error::Error>>(())
+    /// ```
+    pub fn take_over(&mut self) -> Option<Turn<'_>> {
+        self.share.take_over();
+        self.turn()
+    }
+
+    /// One try to chain a note. The end that finds nobody running gets the turn. Otherwise the end that runs notes,
+    /// which may be this one, is given this note too.
+    ///
+    /// ```
+    /// # use synthesis_kernel::ChainEnd;
+    /// let mut end = ChainEnd::new(0)?;
+    /// let mut other = end.split()?;
+    /// let turn = end.try_chain(10)?.expect("nobody runs notes");
+    /// assert!(other.try_chain(20)?.is_none());
+    /// assert!(turn.eq([10, 20]));
+    /// # Ok::<(), Box<dyn std::error::Error>>(())
+    /// ```
+    pub fn try_chain(&mut self, note: u16) -> Result<Option<Turn<'_>>, ChainError> {
+        let handle = self.share.handle();
+        let answer = raw::synth_raw_chain_try_chain(&mut handle.raw, note);
         match answer.code {
             raw::RUN => {
-                self.runs = true;
+                handle.runs = true;
                 Ok(Some(Turn { end: self }))
             }
             raw::LEFT => Ok(None),
-            raw::SPENT => Err(ChainRefusal::Spent),
-            raw::FULL => Err(ChainRefusal::Full { head: answer.head, tail: answer.tail }),
-            raw::LOST => Err(ChainRefusal::Lost { head: answer.head }),
+            raw::SPENT => Err(ChainError::Spent),
+            raw::FULL => Err(ChainError::Full { head: answer.head, tail: answer.tail }),
+            raw::LOST => Err(ChainError::Lost { head: answer.head }),
             code => raw::no_such_answer(code),
         }
     }
 
     /// The turn that the end still has: of a [`Turn`] that was dropped, or of an end that was joined to this one.
     pub fn turn(&mut self) -> Option<Turn<'_>> {
-        self.runs.then_some(Turn { end: self })
+        self.share.handle().runs.then_some(Turn { end: self })
     }
 
-    /// Closes the chain by the end to which all others were joined.
-    pub fn close(mut self) -> Result<Chained, ChainNotClosed> {
+    /// Closes the chain, and returns what became of its notes. The end comes back if other ends exist, or if it runs
+    /// notes, which it may have taken over from dropped ends.
+    ///
+    /// ```
+    /// # use synthesis_kernel::{ChainEnd, CloseError};
+    /// let mut end = ChainEnd::new(0)?;
+    /// drop(end.try_chain(10)?);
+    /// let CloseError::Running(mut end) = end.close().unwrap_err() else { panic!() };
+    /// end.turn().expect("it runs notes").for_each(drop);
+    /// assert_eq!(end.close()?.put, 1);
+    /// # Ok::<(), Box<dyn std::error::Error>>(())
+    /// ```
+    pub fn close(mut self) -> Result<Closed, CloseError<ChainEnd>> {
+        // An end that is the last one takes over what all others had. Nobody else has a turn then.
+        if self.share.is_last() {
+            self.share.take_over();
+        }
+        if self.share.handle().runs {
+            return Err(CloseError::Running(self));
+        }
+        let Some(handle) = self.share.whole() else { return Err(CloseError::Open(self)) };
         let mut closed = raw::Chained::default();
-        match raw::synth_raw_chain_close(&mut self.handle, &mut closed) {
-            raw::DONE => Ok(Chained { put: closed.put, run: closed.run }),
-            raw::RUNNING => Err(ChainNotClosed::Running(self)),
-            raw::OPEN => Err(ChainNotClosed::Open(self)),
+        match raw::synth_raw_chain_close(&mut handle.raw, &mut closed) {
+            raw::OK => Ok(Closed { put: closed.put, run: closed.run }),
             code => raw::no_such_answer(code),
         }
     }
@@ -159,12 +256,13 @@ impl Iterator for Turn<'_> {
     type Item = u16;
 
     fn next(&mut self) -> Option<u16> {
+        let handle = self.end.share.handle();
         let mut note = 0;
-        while self.end.runs {
-            match raw::synth_raw_chain_next(&mut self.end.handle, &mut note) {
+        while handle.runs {
+            match raw::synth_raw_chain_next(&mut handle.raw, &mut note) {
                 raw::NOTE => return Some(note),
                 raw::AGAIN => hint::spin_loop(),
-                raw::DONE => self.end.runs = false,
+                raw::OK => handle.runs = false,
                 code => raw::no_such_answer(code),
             }
         }
@@ -172,9 +270,4 @@ impl Iterator for Turn<'_> {
     }
 }
 
-impl Drop for ChainEnd {
-    fn drop(&mut self) {
-        // An end that was joined or closed is empty, which the call tells by a code.
-        raw::synth_raw_chain_free(&mut self.handle);
-    }
-}
+impl FusedIterator for Turn<'_> {}

@@ -1,7 +1,8 @@
 //! An event count: threads that sleep until another one has put something.
 
 use std::fmt;
-use std::sync::atomic::{AtomicU64, Ordering::SeqCst};
+use std::mem;
+use std::sync::atomic::{AtomicUsize, Ordering::SeqCst};
 use std::sync::{Condvar, Mutex, MutexGuard, PoisonError};
 use std::time::{Duration, Instant};
 
@@ -29,20 +30,31 @@ use std::time::{Duration, Instant};
 /// The condition is changed and looked at by calls of this crate, by SeqCst atomics, or under one lock that both sides
 /// take.
 ///
-/// No wake-up is lost. `prepare` adds 1 to the number of waiters, and then reads the number of notifies. A notify loads
-/// the number of waiters, and if it isn't 0, adds 1 to the notifies and wakes. These steps have one order with the
-/// change of the condition and the look. If the notify's load comes before the prepare, the change comes before the
-/// look. Else the notify finds the waiter and is counted. If it is counted before the ticket is taken, the change comes
-/// before the look again. If it is counted later, the ticket is old: the waiter doesn't sleep, or it sleeps already and
-/// is woken. Notifies are counted, and tickets compared, under the lock that a sleeper gives back when it falls asleep.
+/// No wake-up is lost. A ticket is counted before its waiter looks again, and a notifier puts something before it loads
+/// the count; these four steps have one order. If the load comes first, the look finds what was put. Otherwise the
+/// notify finds the ticket. It then gives one of the tickets that are there a pass: that waiter doesn't sleep, or is
+/// woken. A ticket with a pass is counted no more, so the next notify wakes another one, or costs one load. A ticket
+/// that is cancelled leaves its pass to others.
 ///
 /// The idea is that of event counts (Reed and Kanodia, 1979) and of Vyukov's eventcount.
 pub struct Event {
-    /// How many tickets there are.
-    waiters: AtomicU64,
-    /// How many notifies found a waiter.
-    notifies: Mutex<u64>,
+    /// How many tickets there are. Written under the lock.
+    tickets: AtomicUsize,
+    /// How many of them no notify has found. Written under the lock.
+    waiters: AtomicUsize,
+    notifies: Mutex<Notifies>,
     moved: Condvar,
+}
+
+/// There are as many passes as tickets that a notify has found. A pass is for a ticket that is older than the last
+/// notify, whichever wants it first.
+#[derive(Clone, Copy, Default)]
+struct Notifies {
+    /// How many notifies found a waiter.
+    count: u64,
+    /// The count at the last one that woke all. A ticket that is older than this is one no more.
+    of_all: u64,
+    passes: usize,
 }
 
 /// A place among those who wait on an event. Look at the condition once more while you have it; then drop it if there
@@ -60,69 +72,126 @@ pub struct Event {
 #[must_use = "a ticket that is dropped at once announces nobody"]
 pub struct EventTicket<'event> {
     event: &'event Event,
+    /// The number of notifies at the beginning.
     notifies: u64,
 }
 
 impl Event {
     /// An event on which nobody waits.
+    #[must_use]
     pub const fn new() -> Event {
-        Event { waiters: AtomicU64::new(0), notifies: Mutex::new(0), moved: Condvar::new() }
+        Event {
+            tickets: AtomicUsize::new(0),
+            waiters: AtomicUsize::new(0),
+            notifies: Mutex::new(Notifies { count: 0, of_all: 0, passes: 0 }),
+            moved: Condvar::new(),
+        }
     }
 
     /// Announces a waiter. Look again after this.
+    ///
+    /// ```
+    /// # use synthesis_kernel::Event;
+    /// # let look = || true;
+    /// let event = Event::new();
+    /// let ticket = event.prepare();
+    /// if look() {
+    ///     ticket.cancel();
+    /// } else {
+    ///     ticket.wait();
+    /// }
+    /// ```
     pub fn prepare(&self) -> EventTicket<'_> {
+        let notifies = self.lock();
+        self.tickets.fetch_add(1, SeqCst);
         self.waiters.fetch_add(1, SeqCst);
-        EventTicket { event: self, notifies: *self.lock() }
+        EventTicket { event: self, notifies: notifies.count }
     }
 
     /// Wakes at least one of those who wait. One load, if there are none.
     ///
     /// It is enough if any waiter will do, and if a thread that has waited, and then found something, notifies one
     /// more, as `wait_for` does: one put may make several items visible.
+    #[inline]
     pub fn notify_one(&self) {
         if self.waiters.load(SeqCst) != 0 {
-            let mut notifies = self.lock();
-            *notifies = notifies.wrapping_add(1);
-            self.moved.notify_one();
+            self.pass_one();
         }
     }
 
     /// Wakes all who wait. One load, if there are none.
+    ///
+    /// ```
+    /// # use synthesis_kernel::Event;
+    /// let event = Event::new();
+    /// let tickets = [event.prepare(), event.prepare()];
+    /// event.notify_all();
+    /// tickets.into_iter().for_each(|ticket| ticket.wait());
+    /// ```
+    #[inline]
     pub fn notify_all(&self) {
-        if self.waiters.load(SeqCst) != 0 {
-            let mut notifies = self.lock();
-            *notifies = notifies.wrapping_add(1);
-            self.moved.notify_all();
+        if self.tickets.load(SeqCst) != 0 {
+            self.pass_all();
         }
     }
 
-    /// Sleeps until `look` finds something, and returns it; or None once the time is over. `look` is called twice
+    #[cold]
+    fn pass_one(&self) {
+        let mut notifies = self.lock();
+        if self.waiters.load(SeqCst) != 0 {
+            self.waiters.fetch_sub(1, SeqCst);
+            notifies.count += 1;
+            notifies.passes += 1;
+            // Under the lock, so that whoever sleeps now may have the pass.
+            self.moved.notify_one();
+        }
+    }
+
+    #[cold]
+    fn pass_all(&self) {
+        let mut notifies = self.lock();
+        self.tickets.store(0, SeqCst);
+        self.waiters.store(0, SeqCst);
+        notifies.count += 1;
+        *notifies = Notifies { count: notifies.count, of_all: notifies.count, passes: 0 };
+        self.moved.notify_all();
+    }
+
+    /// Sleeps until `look` finds something, and returns it; or `None` once the time is over. `look` is called twice
     /// before each sleep, and once more after the last one. A thread that has waited, and then found something,
     /// notifies one more.
     ///
     /// ```
     /// # use std::time::Duration;
-    /// # use synthesis_kernel::Event;
-    /// let event = Event::new();
+    /// let event = synthesis_kernel::Event::new();
     /// assert_eq!(event.wait_for(None, || Some(1)), Some(1));
     /// assert_eq!(event.wait_for(Some(Duration::from_millis(1)), || None::<u64>), None);
     /// ```
+    #[inline]
     pub fn wait_for<T>(&self, limit: Option<Duration>, mut look: impl FnMut() -> Option<T>) -> Option<T> {
+        match look() {
+            None => self.wait_longer(limit, look),
+            found => found,
+        }
+    }
+
+    #[cold]
+    fn wait_longer<T>(&self, limit: Option<Duration>, mut look: impl FnMut() -> Option<T>) -> Option<T> {
         let deadline = limit.and_then(|limit| Instant::now().checked_add(limit));
-        let (mut waited, mut in_time) = (false, true);
+        let mut waited = false;
         let found = loop {
+            let ticket = self.prepare();
+            if let Some(found) = look() {
+                break found;
+            }
+            let in_time = ticket.sleep(deadline.map(|deadline| deadline.saturating_duration_since(Instant::now())));
+            waited = true;
             if let Some(found) = look() {
                 break found;
             }
             if !in_time {
                 return None;
             }
-            let ticket = self.prepare();
-            if let Some(found) = look() {
-                break found;
-            }
-            in_time = ticket.sleep(deadline.map(|deadline| deadline.saturating_duration_since(Instant::now())));
-            waited = true;
         };
         if waited {
             self.notify_one();
@@ -130,7 +199,7 @@ impl Event {
         Some(found)
     }
 
-    fn lock(&self) -> MutexGuard<'_, u64> {
+    fn lock(&self) -> MutexGuard<'_, Notifies> {
         self.notifies.lock().unwrap_or_else(PoisonError::into_inner)
     }
 }
@@ -156,24 +225,53 @@ impl EventTicket<'_> {
     }
 
     fn sleep(self, limit: Option<Duration>) -> bool {
-        let is_current = |notifies: &mut u64| *notifies == self.notifies;
-        let (notifies, moved) = (self.event.lock(), &self.event.moved);
-        match limit {
-            None => {
-                drop(moved.wait_while(notifies, is_current).unwrap_or_else(PoisonError::into_inner));
-                true
-            }
+        let (event, number) = (self.event, self.notifies);
+        let moved = &event.moved;
+        let has_no_pass = |notifies: &mut Notifies| !notifies.is_for(number);
+        let mut notifies = match limit {
+            None => moved.wait_while(event.lock(), has_no_pass).unwrap_or_else(PoisonError::into_inner),
             Some(limit) => {
-                let ended = moved.wait_timeout_while(notifies, limit, is_current);
-                !ended.unwrap_or_else(PoisonError::into_inner).1.timed_out()
+                let ended = moved.wait_timeout_while(event.lock(), limit, has_no_pass);
+                ended.unwrap_or_else(PoisonError::into_inner).0
             }
+        };
+        let is_notified = notifies.is_for(number);
+        if is_notified && notifies.of_all <= number {
+            notifies.passes -= 1;
+            event.tickets.fetch_sub(1, SeqCst);
+            mem::forget(self);
         }
+        is_notified
     }
 }
 
+impl Notifies {
+    /// Whether a ticket of this number is woken by a notify of all, or may have a pass.
+    fn is_for(&self, number: u64) -> bool {
+        self.of_all > number || (self.passes > 0 && self.count > number)
+    }
+}
+
+/// A ticket that isn't slept by any more.
 impl Drop for EventTicket<'_> {
     fn drop(&mut self) {
-        self.event.waiters.fetch_sub(1, SeqCst);
+        let event = self.event;
+        let mut notifies = event.lock();
+        if notifies.of_all > self.notifies {
+            return;
+        }
+        event.tickets.fetch_sub(1, SeqCst);
+        if event.waiters.load(SeqCst) == 0 {
+            // Each ticket has a pass, this one too.
+            notifies.passes -= 1;
+            return;
+        }
+        event.waiters.fetch_sub(1, SeqCst);
+        if notifies.passes > 0 {
+            // One of them may have been for this ticket: all others may have it.
+            notifies.count += 1;
+            event.moved.notify_one();
+        }
     }
 }
 
@@ -185,7 +283,7 @@ impl Default for Event {
 
 impl fmt::Debug for Event {
     fn fmt(&self, f: &mut fmt::Formatter<'_>) -> fmt::Result {
-        f.debug_struct("Event").field("waiters", &self.waiters.load(SeqCst)).finish_non_exhaustive()
+        f.debug_struct("Event").field("waiters", &self.tickets.load(SeqCst)).finish_non_exhaustive()
     }
 }
 

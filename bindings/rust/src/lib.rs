@@ -1,17 +1,38 @@
-//! Lock-free tables whose calls are proved, for Rust.
+//! Lock-free channels, queues, deferred procedures, meters and thread elements whose core is proved.
 //!
-//! Each object is shared by its ends: the ends of a batch queue, a claim queue or a chain, the seats of meters, the hands of
-//! thread elements, the two ends of a line. An end owns its handle. It may go to another thread, and is used by one at a
-//! time, so each call takes `&mut`. `split` makes one more end, `join` takes one in again, and `close` by the last one
-//! tells what became of everything. What each call does to its object is proved on the library's side of the call; this
-//! crate is not, and is a few lines for each of them.
+//! # Channels
 //!
-//! Each atomic step of a call is sequentially consistent: whoever took an item sees all that was done before its put, and
-//! the procedure of a note what was done before the note was chained. ThreadSanitizer doesn't see these steps.
+//! [`channel()`] is a bounded queue of items of any type, for any number of senders and receivers. Its calls are those
+//! of [`std::sync::mpsc`], and both halves can be cloned and shared.
 //!
 //! ```
 //! use std::thread;
-//! use synthesis_kernel::{BatchEnd, BatchTakeRefusal};
+//! use synthesis_kernel::channel;
+//!
+//! let (sender, receiver) = channel(256);
+//! let workers: Vec<_> = (0..3)
+//!     .map(|_| {
+//!         let receiver = receiver.clone();
+//!         thread::spawn(move || receiver.iter().map(|text: String| text.len()).sum::<usize>())
+//!     })
+//!     .collect();
+//! for number in 0..1000 {
+//!     sender.send(number.to_string())?;
+//! }
+//! drop(sender);
+//! let lengths: usize = workers.into_iter().map(|worker| worker.join().unwrap()).sum();
+//! assert_eq!(lengths, 10 + 90 * 2 + 900 * 3);
+//! # Ok::<(), Box<dyn std::error::Error>>(())
+//! ```
+//!
+//! # Batch queues
+//!
+//! A channel is a [`BatchEnd`]'s queue of 64-bit words, with sleeps. The queue itself takes and gives bursts: a put is
+//! one batch, of which no item can be taken before all can, and a taking gets many items by one step.
+//!
+//! ```
+//! use std::thread;
+//! use synthesis_kernel::batch::{BatchEnd, TakeError};
 //!
 //! let mut end = BatchEnd::new(1024)?;
 //! let mut putter = end.split()?;
@@ -20,53 +41,96 @@
 //!         while putter.try_put(&[item, item]).is_err() {}
 //!     }
 //!     putter.shut();
-//!     putter
 //! });
 //! let (mut items, mut sum) = ([0; 32], 0);
 //! loop {
 //!     match end.try_take(&mut items) {
 //!         Ok(count) => sum += items[..count].iter().sum::<u64>(),
-//!         Err(BatchTakeRefusal::Closed) => break,
+//!         Err(TakeError::Closed) => break,
 //!         Err(_) => thread::yield_now(),
 //!     }
 //! }
 //! assert_eq!(sum, 9900);
-//! end.join(thread.join().unwrap())?;
+//! thread.join().unwrap();
 //! let closed = end.close()?;
 //! assert_eq!((closed.put, closed.taken), (200, 200));
 //! # Ok::<(), Box<dyn std::error::Error>>(())
 //! ```
 //!
-//! No call of an object takes a lock of its own, sleeps or waits, except `put_wait` and `take_wait` of a queue, which
-//! sleep on an [`Event`]. None but `new` and `split` takes memory, but for the lists that `close` gives. Refusals are
-//! values, and a refusal changes nothing. An object of which an end was dropped is never closed, and ends with its last
-//! end.
+//! # What there is
 //!
-//! A program has one version of this crate, and Cargo refuses two: a join knows the ends of an object by marks that
-//! one copy of the library gives.
-#![warn(missing_docs)]
+//! | | what it is | limits |
+//! |---|---|---|
+//! | [`channel()`] | a bounded channel of any type, whose calls may sleep | 2 to the power 0 to 24 places; 2^62 items |
+//! | [`batch`] | a bounded queue of 64-bit words, put and taken in bursts | 2 to the power 0 to 24 places; 2^62 items |
+//! | [`queue`] | a claim queue of 64-bit words, with lines: bursts that end with a 10 | 64 or 256 places; 2^32 - 1 items |
+//! | [`chain`] | deferred procedures: notes of 16 bits, one runner at a time, no lock | 32 places; 2^32 - 1 notes |
+//! | [`meters`] | gauges, a clock and alarms | 8 gauges, 16 alarms; 2^32 - 1 ticks |
+//! | [`line`](mod@line) | bytes from one thread to another | 1 to 65,536 places |
+//! | [`hand`] | thread elements, for a scheduler | 64 elements, 8 processors, 16 wait queues; 2^32 - 1 moves each |
+//! | [`Event`] | an event count: threads that sleep until another has put something | |
+//!
+//! An object may have two million ends at a time. The library is for 64-bit Linux on x86-64-v2 processors.
+//!
+//! # Ends
+//!
+//! Each object except a channel is shared by its ends, each with a handle of its own. An end goes to another thread by a
+//! move, and its calls take `&mut`: the library's calls want a handle for themselves. As no call comes to a handle by
+//! `&`, ends are `Sync` as well, so an error that carries one can be any error type. `split` makes one more end by `&`.
+//!
+//! `close` by the last end returns what became of everything. A dropped end gives its share back to its object, also if
+//! its thread panics. So `close` fails only while other ends exist, or if one was leaked, as by
+//! [`mem::forget`](std::mem::forget): then the object goes on, and is leaked with it. `split`, `close` and a drop take a
+//! lock of the object for a moment, and memory; no other call of an end does.
+//!
+//! # Order of memory
+//!
+//! All that a thread did before a put is seen by whoever takes one of its items, so an item may be a pointer. The same
+//! holds of a send and the receiving of its item, of a note and its procedure, and of what was done before an element was
+//! moved or a tick counted. Each atomic step of a call is sequentially consistent. ThreadSanitizer doesn't see these
+//! steps, as the library isn't built by it.
+//!
+//! # What is proved
+//!
+//! What each call of the library does to its object is proved, for any number of threads and any schedule: no item, note
+//! or element is lost or comes twice, batches come whole and in order, and each error is true. This crate isn't proved. It
+//! is a few lines around each call of the library; the words and the sleeps of channels, [`Event`], and the shares of
+//! dropped ends are its own. They are tested, the event by a model over all schedules of a few threads. That items are
+//! published to whoever takes them rests on the proofs' one order of steps, to which the compiler keeps.
+//!
+//! Calls named `try_` make one try, and never wait. Those of queues may answer `Lost`: another end was first, so the
+//! next try may succeed. A `try_send` or `try_recv` of a channel repeats such a try by itself. A thread that is stopped
+//! within a put holds up what is put after it, until it goes on. An error changes nothing.
+//!
+//! A program has one version of this crate, and Cargo refuses two: a join knows the ends of an object by marks that one
+//! copy of the library gives.
+#![deny(missing_docs)]
 
-mod batch;
-mod chain;
+/// The code of README.md is tested.
+#[cfg(doctest)]
+#[doc = include_str!("../README.md")]
+struct Readme;
+
+pub mod batch;
+pub mod chain;
+pub mod channel;
 mod ends;
 mod event;
-mod hand;
-mod line;
-mod meters;
+pub mod hand;
+pub mod line;
+pub mod meters;
 mod names;
-mod queue;
+pub mod queue;
 mod raw;
 mod words;
 
-pub use batch::{BatchClosed, BatchEnd, BatchPutRefusal, BatchTakeRefusal, NewBatchRefusal};
-pub use chain::{ChainEnd, ChainNotClosed, ChainRefusal, Chained, Turn};
-pub use ends::{OtherObject, OutOfMemory, SplitRefusal, StillOpen};
+pub use batch::BatchEnd;
+pub use chain::ChainEnd;
+pub use channel::{Receiver, Sender, channel};
+pub use ends::{CloseError, JoinError, OutOfMemory, SplitError};
 pub use event::{Event, EventTicket};
-pub use hand::{
-    Hand, HandRefusal, HandSplitRefusal, Lost, MoveRefusal, NextRefusal, NotHeld, OffRefusal, OnRefusal, Place, Places,
-    Signalled, Started, StateRefusal, StateWord, StepRefusal,
-};
-pub use line::{finish, line, LineIn, LineOut, LineRefusal, LineTotals};
-pub use meters::{AdvanceRefusal, Alarm, MeterSeat, Metered, SetRefusal, Slot};
-pub use names::{Element, Gauge, Processor, Signal, WaitNumber};
-pub use queue::{ClaimRefusal, Closed, QueueEnd, QueueEvents, TakeRefusal};
+pub use hand::Hand;
+pub use line::{LineIn, LineOut, line};
+pub use meters::MeterSeat;
+pub use names::{Element, Gauge, OutOfRange, Processor, Processors, Signal, WaitNumber};
+pub use queue::QueueEnd;

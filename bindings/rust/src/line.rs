@@ -1,24 +1,47 @@
 //! Device lines: bytes from one thread to another.
 
-use crate::ends::OtherObject;
+use crate::ends::{CloseError, JoinError};
 use crate::raw;
 use crate::words::says;
+use std::io::{self, Read, Write};
+use std::mem;
+use std::sync::{Arc, Mutex, PoisonError};
 
-/// The end of a line that pushes bytes. It can move to another thread, and no other end of its kind is there.
+/// The half of a line that pushes bytes. It may go to another thread, and no other half of its kind exists.
+///
+/// A dropped half goes back to the line, which the other half can then [`close`](LineIn::close).
 #[derive(Debug)]
 pub struct LineIn {
     handle: raw::Input,
+    dropped: Arc<Mutex<Dropped>>,
 }
 
-/// The end of a line that pops bytes. It can move to another thread, and no other end of its kind is there.
+/// The half of a line that pops bytes. It may go to another thread, and no other half of its kind exists.
+///
+/// A dropped half goes back to the line, which the other half can then [`close`](LineOut::close).
 #[derive(Debug)]
 pub struct LineOut {
     handle: raw::Output,
+    dropped: Arc<Mutex<Dropped>>,
+}
+
+/// The halves that were dropped. They are freed with the last half.
+#[derive(Debug, Default)]
+struct Dropped {
+    input: raw::Input,
+    output: raw::Output,
+}
+
+impl Drop for Dropped {
+    fn drop(&mut self) {
+        self.input.free();
+        self.output.free();
+    }
 }
 
 /// How many bytes went through a line.
 #[derive(Clone, Copy, Debug, PartialEq, Eq)]
-pub struct LineTotals {
+pub struct Totals {
     /// The bytes pushed, modulo 2^64.
     pub sent: usize,
     /// The bytes popped, modulo 2^64.
@@ -27,21 +50,22 @@ pub struct LineTotals {
     pub left: usize,
 }
 
-/// Why a line was not made. The refusals stand in the order in which they are checked.
-#[derive(Clone, Copy, Debug, PartialEq, Eq)]
-pub enum LineRefusal {
+/// Why a line was not made. The errors are in the order in which they are checked.
+#[derive(Clone, Copy, Debug, PartialEq, Eq, Hash)]
+#[non_exhaustive]
+pub enum NewError {
     /// A line has room for 1 to 65,536 bytes.
-    BadRoom,
+    BadCapacity,
     /// An allocation was refused.
     OutOfMemory,
 }
 
-says!(LineRefusal {
-    LineRefusal::BadRoom => "a line has room for 1 to 65,536 bytes",
-    LineRefusal::OutOfMemory => "no memory",
+says!(NewError {
+    NewError::BadCapacity => "a line has room for 1 to 65,536 bytes",
+    NewError::OutOfMemory => "out of memory",
 });
 
-/// Makes a line with room for `room` bytes, 1 to 65,536, and gives its two ends.
+/// Makes a line with room for `capacity` bytes, 1 to 65,536, and returns its two halves.
 ///
 /// ```
 /// use synthesis_kernel::line;
@@ -53,70 +77,204 @@ says!(LineRefusal {
 /// assert_eq!(output.pop(), Some(104));
 /// # Ok::<(), Box<dyn std::error::Error>>(())
 /// ```
-pub fn line(room: usize) -> Result<(LineIn, LineOut), LineRefusal> {
+pub fn line(capacity: usize) -> Result<(LineIn, LineOut), NewError> {
     let (mut input, mut output) = (raw::Input::default(), raw::Output::default());
-    match raw::synth_raw_line_new(room, &mut input, &mut output) {
-        raw::DONE => Ok((LineIn { handle: input }, LineOut { handle: output })),
-        raw::BAD_NUMBER => Err(LineRefusal::BadRoom),
-        raw::NO_MEMORY => Err(LineRefusal::OutOfMemory),
+    match raw::synth_raw_line_new(capacity, &mut input, &mut output) {
+        raw::OK => {}
+        raw::BAD_NUMBER => return Err(NewError::BadCapacity),
+        raw::NO_MEMORY => return Err(NewError::OutOfMemory),
         code => raw::no_such_answer(code),
     }
+    let dropped = Arc::new(Mutex::new(Dropped::default()));
+    Ok((LineIn { handle: input, dropped: Arc::clone(&dropped) }, LineOut { handle: output, dropped }))
 }
 
-/// Ends a line whose ends are in one thread again, and tells how many bytes were sent, received and left. The bytes
-/// left go with the line. Ends of two lines come back.
+/// Ends a line whose halves are in one thread again, and returns how many bytes were sent, received and left. The bytes
+/// left go with the line. Halves of two lines come back.
 ///
 /// ```
-/// # use synthesis_kernel::{finish, line};
+/// # use synthesis_kernel::line;
+/// # use synthesis_kernel::line::finish;
 /// let (mut input, output) = line(8)?;
 /// input.push(7).unwrap();
 /// let totals = finish(input, output)?;
 /// assert_eq!((totals.sent, totals.received, totals.left), (1, 0, 1));
 /// # Ok::<(), Box<dyn std::error::Error>>(())
 /// ```
-pub fn finish(mut input: LineIn, mut output: LineOut) -> Result<LineTotals, OtherObject<(LineIn, LineOut)>> {
+pub fn finish(mut input: LineIn, mut output: LineOut) -> Result<Totals, JoinError<(LineIn, LineOut)>> {
+    finish_raw(&mut input.handle, &mut output.handle).ok_or_else(|| JoinError::new((input, output)))
+}
+
+/// None if the halves are of two lines.
+fn finish_raw(input: &mut raw::Input, output: &mut raw::Output) -> Option<Totals> {
     let mut totals = raw::LineTotals::default();
-    match raw::synth_raw_line_finish(&mut input.handle, &mut output.handle, &mut totals) {
-        raw::DONE => Ok(LineTotals { sent: totals.sent, received: totals.received, left: totals.left }),
-        raw::OTHER_OBJECT => Err(OtherObject { end: (input, output) }),
+    match raw::synth_raw_line_finish(input, output, &mut totals) {
+        raw::OK => Some(Totals { sent: totals.sent, received: totals.received, left: totals.left }),
+        raw::OTHER_OBJECT => None,
         code => raw::no_such_answer(code),
     }
 }
 
+/// What was dropped, if the other half was. What the other half did comes before this.
+fn other_dropped(dropped: &mut Arc<Mutex<Dropped>>) -> Option<&mut Dropped> {
+    Some(Arc::get_mut(dropped)?.get_mut().unwrap_or_else(PoisonError::into_inner))
+}
+
 impl LineIn {
-    /// Pushes one byte behind all others, or hands it back where no place of the line is free. None is refused before
-    /// as many bytes were pushed as the line has room for.
+    /// Pushes one byte after all others, or returns it if no place of the line is free. None is refused before as many
+    /// bytes were pushed as the line has room for.
+    ///
+    /// ```
+    /// let (mut input, mut output) = synthesis_kernel::line(1)?;
+    /// assert_eq!(input.push(7), Ok(()));
+    /// assert_eq!(input.push(8), Err(8));
+    /// assert_eq!((output.pop(), output.pop()), (Some(7), None));
+    /// # Ok::<(), Box<dyn std::error::Error>>(())
+    /// ```
     pub fn push(&mut self, byte: u8) -> Result<(), u8> {
         match raw::synth_raw_line_push(&mut self.handle, byte) {
-            raw::DONE => Ok(()),
+            raw::OK => Ok(()),
             raw::FULL => Err(byte),
             code => raw::no_such_answer(code),
+        }
+    }
+
+    /// Whether the other half was dropped, so that nobody pops any more.
+    ///
+    /// ```
+    /// let (mut input, output) = synthesis_kernel::line(1)?;
+    /// assert!(!input.is_closed());
+    /// drop(output);
+    /// assert!(input.is_closed());
+    /// # Ok::<(), Box<dyn std::error::Error>>(())
+    /// ```
+    pub fn is_closed(&mut self) -> bool {
+        other_dropped(&mut self.dropped).is_some()
+    }
+
+    /// Ends the line whose other half was dropped. Otherwise this half comes back.
+    ///
+    /// ```
+    /// # use synthesis_kernel::line;
+    /// let (mut input, output) = line(8)?;
+    /// input.push(7).unwrap();
+    /// let input = input.close().unwrap_err().into_inner();
+    /// drop(output);
+    /// assert_eq!(input.close()?.left, 1);
+    /// # Ok::<(), Box<dyn std::error::Error>>(())
+    /// ```
+    pub fn close(mut self) -> Result<Totals, CloseError<LineIn>> {
+        match other_dropped(&mut self.dropped).and_then(|other| finish_raw(&mut self.handle, &mut other.output)) {
+            Some(totals) => Ok(totals),
+            None => Err(CloseError::Open(self)),
         }
     }
 }
 
 impl LineOut {
-    /// Pops the oldest byte, or gives `None` where the line is empty.
+    /// Pops the oldest byte, or returns `None` if the line is empty.
     pub fn pop(&mut self) -> Option<u8> {
         let mut byte = 0;
         match raw::synth_raw_line_pop(&mut self.handle, &mut byte) {
-            raw::DONE => Some(byte),
+            raw::OK => Some(byte),
             raw::EMPTY => None,
             code => raw::no_such_answer(code),
         }
     }
+
+    /// Pops bytes until the line is empty.
+    ///
+    /// ```
+    /// # use synthesis_kernel::line;
+    /// let (mut input, mut output) = line(8)?;
+    /// input.push(7).unwrap();
+    /// input.push(8).unwrap();
+    /// assert!(output.try_iter().eq([7, 8]));
+    /// # Ok::<(), Box<dyn std::error::Error>>(())
+    /// ```
+    pub fn try_iter(&mut self) -> impl Iterator<Item = u8> + '_ {
+        std::iter::from_fn(|| self.pop())
+    }
+
+    /// Whether the other half was dropped. A line that is empty after this stays so.
+    pub fn is_closed(&mut self) -> bool {
+        other_dropped(&mut self.dropped).is_some()
+    }
+
+    /// Ends the line whose other half was dropped. Otherwise this half comes back.
+    ///
+    /// ```
+    /// # use synthesis_kernel::line;
+    /// let (mut input, mut output) = line(8)?;
+    /// input.push(7).unwrap();
+    /// drop(input);
+    /// assert_eq!(output.pop(), Some(7));
+    /// assert_eq!(output.close()?.received, 1);
+    /// # Ok::<(), Box<dyn std::error::Error>>(())
+    /// ```
+    pub fn close(mut self) -> Result<Totals, CloseError<LineOut>> {
+        match other_dropped(&mut self.dropped).and_then(|other| finish_raw(&mut other.input, &mut self.handle)) {
+            Some(totals) => Ok(totals),
+            None => Err(CloseError::Open(self)),
+        }
+    }
 }
+
+/// Pushes as many bytes as there is room for. An error of kind `WouldBlock` if there is no room, and of kind
+/// `BrokenPipe` if the other half was dropped.
+///
+/// ```
+/// use std::io::{Read, Write};
+///
+/// let (mut input, mut output) = synthesis_kernel::line(4)?;
+/// assert_eq!(input.write(b"hello")?, 4);
+/// drop(input);
+/// let mut bytes = Vec::new();
+/// output.read_to_end(&mut bytes)?;
+/// assert_eq!(bytes, b"hell");
+/// # Ok::<(), Box<dyn std::error::Error>>(())
+/// ```
+impl Write for LineIn {
+    fn write(&mut self, bytes: &[u8]) -> io::Result<usize> {
+        if self.is_closed() {
+            return Err(io::ErrorKind::BrokenPipe.into());
+        }
+        let count = bytes.iter().take_while(|byte| self.push(**byte).is_ok()).count();
+        if count == 0 && !bytes.is_empty() {
+            return Err(io::ErrorKind::WouldBlock.into());
+        }
+        Ok(count)
+    }
+
+    fn flush(&mut self) -> io::Result<()> {
+        Ok(())
+    }
+}
+
+/// Pops as many bytes as there are and fit. An error of kind `WouldBlock` if there is none, and the end of the file if
+/// the other half was dropped too.
+impl Read for LineOut {
+    fn read(&mut self, buffer: &mut [u8]) -> io::Result<usize> {
+        // Before the bytes are popped: what comes of a half that is dropped meanwhile may not be passed over.
+        let is_closed = self.is_closed();
+        let count = buffer.iter_mut().zip(self.try_iter()).map(|(place, byte)| *place = byte).count();
+        if count == 0 && !buffer.is_empty() && !is_closed {
+            return Err(io::ErrorKind::WouldBlock.into());
+        }
+        Ok(count)
+    }
+}
+
+// An end of a line that was finished is empty, and so is then what goes back.
 
 impl Drop for LineIn {
     fn drop(&mut self) {
-        // An end of a line that was finished is empty, which the call tells by a code.
-        raw::synth_raw_line_free_in(&mut self.handle);
+        self.dropped.lock().unwrap_or_else(PoisonError::into_inner).input = mem::take(&mut self.handle);
     }
 }
 
 impl Drop for LineOut {
     fn drop(&mut self) {
-        // An end of a line that was finished is empty, which the call tells by a code.
-        raw::synth_raw_line_free_out(&mut self.handle);
+        self.dropped.lock().unwrap_or_else(PoisonError::into_inner).output = mem::take(&mut self.handle);
     }
 }

@@ -1,17 +1,18 @@
 //! Meters: gauges, a clock and alarms.
 
-use crate::ends::{closed, joined, made, split_off, OtherObject, OutOfMemory, SplitRefusal, StillOpen};
+use crate::ends::{CloseError, JoinError, OutOfMemory, Share, SplitError, joined, made};
 use crate::names::{Element, Gauge, Signal};
 use crate::raw;
 use crate::words::says;
 
 /// An end of meters, and its meters: 8 gauges, a clock, and 16 slots for alarms.
 ///
-/// An end that is dropped is never joined, so the meters can't be closed any more. What it did stays done, and the others
-/// go on.
+/// A tick is seen with all that was done before it by whoever finds it. A dropped end gives its share back, so the last
+/// end can always close the meters.
 ///
 /// ```
-/// use synthesis_kernel::{Alarm, Element, Gauge, MeterSeat, Signal};
+/// use synthesis_kernel::meters::{Alarm, MeterSeat};
+/// use synthesis_kernel::{Element, Gauge, Signal};
 ///
 /// let mut seat = MeterSeat::new(0)?;
 /// let gauge = Gauge::new(2).unwrap();
@@ -22,20 +23,20 @@ use crate::words::says;
 /// assert_eq!(seat.due().count(), 0);
 /// assert_eq!(seat.advance(), Ok(1));
 /// assert!(seat.due().eq([alarm]));
-/// let metered = seat.close()?;
-/// assert_eq!((metered.gauges[2], metered.clock, metered.alarms.len()), (6, 1, 0));
+/// let closed = seat.close()?;
+/// assert_eq!((closed.gauges[2], closed.clock, closed.alarms.len()), (6, 1, 0));
 /// # Ok::<(), Box<dyn std::error::Error>>(())
 /// ```
 ///
-/// It may go to another thread, and is used by one at a time:
+/// It may go to another thread, and be shared, though no call but a split is made by `&`:
 ///
-/// ```compile_fail
-/// fn is_sync<T: Sync>() {}
-/// is_sync::<synthesis_kernel::MeterSeat>();
+/// ```
+/// fn is_send_and_sync<T: Send + Sync>() {}
+/// is_send_and_sync::<synthesis_kernel::MeterSeat>();
 /// ```
 #[derive(Debug)]
 pub struct MeterSeat {
-    handle: raw::Seat,
+    share: Share<raw::Seat>,
 }
 
 /// An alarm: at the tick `due` of the clock this signal is to be given to this element, which is its caller's to do.
@@ -55,9 +56,10 @@ pub struct Slot {
     number: u32,
 }
 
-/// Why the clock was not moved on. The refusals stand in the order in which they are checked.
-#[derive(Clone, Copy, Debug, PartialEq, Eq)]
-pub enum AdvanceRefusal {
+/// Why the clock was not moved on. The errors are in the order in which they are checked.
+#[derive(Clone, Copy, Debug, PartialEq, Eq, Hash)]
+#[non_exhaustive]
+pub enum AdvanceError {
     /// The clock that was loaded is the last tick, 4,294,967,295. It stays there for good.
     Spent,
     /// Another end moved the clock on first.
@@ -68,9 +70,10 @@ pub enum AdvanceRefusal {
 }
 
 /// Why an alarm was not set.
-#[derive(Clone, Copy, Debug, PartialEq, Eq)]
-pub enum SetRefusal {
-    /// Each of the 16 slots was loaded and found taken, one behind the other.
+#[derive(Clone, Copy, Debug, PartialEq, Eq, Hash)]
+#[non_exhaustive]
+pub enum SetError {
+    /// Each of the 16 slots was loaded and found taken, one after the other.
     NoRoom,
     /// Another end took this slot first, the first one that was found empty.
     Lost {
@@ -81,23 +84,23 @@ pub enum SetRefusal {
 
 /// The meters at their end.
 #[derive(Clone, Debug, PartialEq, Eq)]
-pub struct Metered {
+pub struct Closed {
     /// The gauges.
     pub gauges: [u64; 8],
     /// The clock.
     pub clock: u32,
-    /// The alarms that stand, in the order of their slots.
+    /// The alarms that are set, in the order of their slots.
     pub alarms: Vec<Alarm>,
 }
 
-says!(AdvanceRefusal {
-    AdvanceRefusal::Spent => "no ticks left",
-    AdvanceRefusal::Lost { clock } => "lost, clock {clock}",
+says!(AdvanceError {
+    AdvanceError::Spent => "no ticks left",
+    AdvanceError::Lost { clock } => "lost, clock {clock}",
 });
 
-says!(SetRefusal {
-    SetRefusal::NoRoom => "no slot is empty",
-    SetRefusal::Lost { slot } => "lost, slot {slot}",
+says!(SetError {
+    SetError::NoRoom => "no slot is empty",
+    SetError::Lost { slot } => "lost, slot {slot}",
 });
 
 impl Alarm {
@@ -113,7 +116,8 @@ impl Alarm {
 
 impl Slot {
     /// The slot's number, 0 to 15.
-    pub fn number(self) -> u32 {
+    #[must_use]
+    pub const fn number(self) -> u32 {
         self.number
     }
 }
@@ -121,94 +125,158 @@ impl Slot {
 impl MeterSeat {
     /// Gauges at 0, the clock as told, no alarm, and the only end.
     pub fn new(clock: u32) -> Result<MeterSeat, OutOfMemory> {
-        let handle = made(|handle| raw::synth_raw_seat_new(clock, handle))?;
-        Ok(MeterSeat { handle })
+        let first = made(|handle| raw::synth_raw_seat_new(clock, handle))?;
+        Ok(MeterSeat { share: Share::new(first)? })
     }
 
-    /// A new end, for another thread. Both ends are to be joined again before the meters can be closed.
-    pub fn split(&mut self) -> Result<MeterSeat, SplitRefusal> {
-        let handle = split_off(|other| raw::synth_raw_seat_split(&mut self.handle, other))?;
-        Ok(MeterSeat { handle })
+    /// A new end, for another thread.
+    ///
+    /// ```
+    /// # use synthesis_kernel::MeterSeat;
+    /// let seat = MeterSeat::new(5)?;
+    /// let mut other = seat.split()?;
+    /// std::thread::spawn(move || other.advance()).join().unwrap()?;
+    /// assert_eq!(seat.close()?.clock, 6);
+    /// # Ok::<(), Box<dyn std::error::Error>>(())
+    /// ```
+    pub fn split(&self) -> Result<MeterSeat, SplitError> {
+        Ok(MeterSeat { share: self.share.split()? })
     }
 
-    /// Joins an end of the same meters to this one. One of other meters comes back.
-    pub fn join(&mut self, mut other: MeterSeat) -> Result<(), OtherObject<MeterSeat>> {
-        let code = raw::synth_raw_seat_join(&mut self.handle, &mut other.handle);
-        joined(code, other)
+    /// Joins an end of the same meters to this one. A drop does the same. An end of other meters comes back.
+    ///
+    /// ```
+    /// # use synthesis_kernel::MeterSeat;
+    /// let mut seat = MeterSeat::new(0)?;
+    /// let other = seat.split()?;
+    /// seat.join(other)?;
+    /// let stranger = MeterSeat::new(0)?;
+    /// assert!(seat.join(stranger).unwrap_err().into_inner().close().is_ok());
+    /// # Ok::<(), Box<dyn std::error::Error>>(())
+    /// ```
+    pub fn join(&mut self, other: MeterSeat) -> Result<(), JoinError<MeterSeat>> {
+        joined(self.share.join(other.share), |share| MeterSeat { share })
     }
 
     /// Adds `amount` to the gauge, modulo 2^64, by one step, and gives the gauge's value before.
+    ///
+    /// ```
+    /// # use synthesis_kernel::MeterSeat;
+    /// # use synthesis_kernel::Gauge;
+    /// let gauge = Gauge::new(7).unwrap();
+    /// let mut seat = MeterSeat::new(0)?;
+    /// assert_eq!((seat.tick(gauge, 5), seat.tick(gauge, 1)), (0, 5));
+    /// # Ok::<(), Box<dyn std::error::Error>>(())
+    /// ```
     pub fn tick(&mut self, gauge: Gauge, amount: u64) -> u64 {
         let mut before = 0;
-        match raw::synth_raw_seat_tick(&mut self.handle, gauge.raw(), amount, &mut before) {
-            raw::DONE => before,
+        match raw::synth_raw_seat_tick(self.share.handle(), gauge.raw(), amount, &mut before) {
+            raw::OK => before,
             code => raw::no_such_answer(code),
         }
     }
 
     /// One try to move the clock on by one tick. Gives the clock after.
-    pub fn advance(&mut self) -> Result<u32, AdvanceRefusal> {
+    ///
+    /// ```
+    /// # use synthesis_kernel::meters::{AdvanceError, MeterSeat};
+    /// let mut seat = MeterSeat::new(u32::MAX - 1)?;
+    /// assert_eq!(seat.advance(), Ok(u32::MAX));
+    /// assert_eq!(seat.advance(), Err(AdvanceError::Spent));
+    /// # Ok::<(), Box<dyn std::error::Error>>(())
+    /// ```
+    pub fn advance(&mut self) -> Result<u32, AdvanceError> {
         let mut clock = 0;
-        let answer = raw::synth_raw_seat_advance(&mut self.handle, &mut clock);
+        let answer = raw::synth_raw_seat_advance(self.share.handle(), &mut clock);
         match answer.code {
-            raw::DONE => Ok(clock),
-            raw::SPENT => Err(AdvanceRefusal::Spent),
-            raw::LOST => Err(AdvanceRefusal::Lost { clock: answer.head }),
+            raw::OK => Ok(clock),
+            raw::SPENT => Err(AdvanceError::Spent),
+            raw::LOST => Err(AdvanceError::Lost { clock: answer.head }),
             code => raw::no_such_answer(code),
         }
     }
 
     /// One try to set an alarm in the first empty slot. Gives the slot, by which the alarm can be cancelled.
-    pub fn try_set(&mut self, alarm: Alarm) -> Result<Slot, SetRefusal> {
+    pub fn try_set(&mut self, alarm: Alarm) -> Result<Slot, SetError> {
         let mut number = 0;
-        let answer = raw::synth_raw_seat_try_set(&mut self.handle, &alarm.raw(), &mut number);
+        let answer = raw::synth_raw_seat_try_set(self.share.handle(), &alarm.raw(), &mut number);
         match answer.code {
-            raw::DONE => Ok(Slot { number }),
-            raw::NO_ROOM => Err(SetRefusal::NoRoom),
-            raw::LOST => Err(SetRefusal::Lost { slot: answer.head }),
+            raw::OK => Ok(Slot { number }),
+            raw::NO_ROOM => Err(SetError::NoRoom),
+            raw::LOST => Err(SetError::Lost { slot: answer.head }),
             code => raw::no_such_answer(code),
         }
     }
 
-    /// Takes this alarm out of this slot, by one step. True where it stood there; else it was fired or cancelled
-    /// before, or never stood there. Two alarms that are equal can't be told apart.
+    /// Takes this alarm out of this slot, by one step. Returns true if it was there; otherwise it was fired or cancelled
+    /// before, or never was there. Two alarms that are equal can't be told apart.
+    ///
+    /// ```
+    /// # use synthesis_kernel::meters::{Alarm, MeterSeat};
+    /// # use synthesis_kernel::{Element, Signal};
+    /// let alarm = Alarm { due: 1, element: Element::new(9).unwrap(), signal: Signal::new(3).unwrap() };
+    /// let mut seat = MeterSeat::new(0)?;
+    /// let slot = seat.try_set(alarm)?;
+    /// assert_eq!(slot.number(), 0);
+    /// assert!(seat.cancel(slot, alarm));
+    /// assert!(!seat.cancel(slot, alarm));
+    /// # Ok::<(), Box<dyn std::error::Error>>(())
+    /// ```
     pub fn cancel(&mut self, slot: Slot, alarm: Alarm) -> bool {
         let mut cancelled = false;
-        match raw::synth_raw_seat_cancel(&mut self.handle, slot.number, &alarm.raw(), &mut cancelled) {
-            raw::DONE => cancelled,
+        match raw::synth_raw_seat_cancel(self.share.handle(), slot.number, &alarm.raw(), &mut cancelled) {
+            raw::OK => cancelled,
             code => raw::no_such_answer(code),
         }
     }
 
     /// Looks at the clock once, and then takes out each alarm that is due at it, in the order of the slots. One that
     /// another end takes first is passed over.
+    ///
+    /// ```
+    /// # use synthesis_kernel::meters::{Alarm, MeterSeat};
+    /// # use synthesis_kernel::{Element, Signal};
+    /// let alarm = Alarm { due: 0, element: Element::new(9).unwrap(), signal: Signal::new(3).unwrap() };
+    /// let mut seat = MeterSeat::new(0)?;
+    /// seat.try_set(alarm)?;
+    /// assert!(seat.due().eq([alarm]));
+    /// assert_eq!(seat.due().len(), 0);
+    /// # Ok::<(), Box<dyn std::error::Error>>(())
+    /// ```
     pub fn due(&mut self) -> impl ExactSizeIterator<Item = Alarm> {
         let (mut alarms, mut count) = ([raw::Alarm::default(); 16], 0);
         // SAFETY: the pointer leads to room for as many alarms as the number says, and nobody else has it.
-        let code = unsafe { raw::synth_raw_seat_due(&mut self.handle, alarms.as_mut_ptr(), alarms.len(), &mut count) };
+        let code =
+            unsafe { raw::synth_raw_seat_due(self.share.handle(), alarms.as_mut_ptr(), alarms.len(), &mut count) };
         match code {
-            raw::DONE => alarms.into_iter().take(count).map(Alarm::told),
+            raw::OK => alarms.into_iter().take(count).map(Alarm::told),
             code => raw::no_such_answer(code),
         }
     }
 
-    /// Closes the meters where every other end has been joined. Where others stand, or were dropped, this one comes back.
-    pub fn close(mut self) -> Result<Metered, StillOpen<MeterSeat>> {
+    /// Closes the meters, and returns them. If other ends exist, this one comes back.
+    ///
+    /// ```
+    /// # use synthesis_kernel::MeterSeat;
+    /// let seat = MeterSeat::new(3)?;
+    /// let other = seat.split()?;
+    /// let seat = seat.close().unwrap_err().into_inner();
+    /// drop(other);
+    /// assert_eq!(seat.close()?.clock, 3);
+    /// # Ok::<(), Box<dyn std::error::Error>>(())
+    /// ```
+    pub fn close(mut self) -> Result<Closed, CloseError<MeterSeat>> {
+        let Some(handle) = self.share.whole() else { return Err(CloseError::Open(self)) };
         let mut numbers = raw::Metered::default();
-        let code = raw::synth_raw_seat_close(&mut self.handle, &mut numbers);
-        closed(code, self)?;
+        match raw::synth_raw_seat_close(handle, &mut numbers) {
+            raw::OK => {}
+            code => raw::no_such_answer(code),
+        }
         let alarms = &numbers.alarm[..numbers.alarms as usize];
-        Ok(Metered {
+        Ok(Closed {
             gauges: numbers.gauges,
             clock: numbers.clock,
             alarms: alarms.iter().copied().map(Alarm::told).collect(),
         })
-    }
-}
-
-impl Drop for MeterSeat {
-    fn drop(&mut self) {
-        // An end that was joined or closed is empty, which the call tells by a code.
-        raw::synth_raw_seat_free(&mut self.handle);
     }
 }

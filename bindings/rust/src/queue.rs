@@ -4,27 +4,21 @@ mod waits;
 
 pub use waits::QueueEvents;
 
-use crate::ends::{closed, joined, made, split_off, OtherObject, OutOfMemory, SplitRefusal, StillOpen};
+use crate::ends::{CloseError, JoinError, OutOfMemory, Share, SplitError, joined, made};
 use crate::raw;
 use crate::words::says;
 
 /// An end of a queue of `N` places, 64 or 256, and its queue. Each end may put and take.
 ///
-/// An end that is dropped is never joined. All else goes on, but the queue can't be closed any more: what is left can
-/// be taken still, and goes with the last end that is dropped.
+/// Each call except [`split`](QueueEnd::split), [`close`](QueueEnd::close), a drop, `put_wait` and `take_wait` is
+/// lock-free. A dropped end gives its share back, so the last end can always close the queue. The last one to be
+/// dropped takes the queue with it, and the items left.
 ///
-/// It may go to another thread:
+/// It may go to another thread, and be shared, though no call but a split is made by `&`:
 ///
 /// ```
-/// fn is_send<T: Send>() {}
-/// is_send::<synthesis_kernel::QueueEnd<64>>();
-/// ```
-///
-/// It is used by one thread at a time:
-///
-/// ```compile_fail
-/// fn is_sync<T: Sync>() {}
-/// is_sync::<synthesis_kernel::QueueEnd<64>>();
+/// fn is_send_and_sync<T: Send + Sync>() {}
+/// is_send_and_sync::<synthesis_kernel::QueueEnd<64>>();
 /// ```
 ///
 /// There are no queues of other sizes:
@@ -34,12 +28,13 @@ use crate::words::says;
 /// ```
 #[derive(Debug)]
 pub struct QueueEnd<const N: usize> {
-    handle: raw::Queue,
+    share: Share<raw::Queue>,
 }
 
-/// Why nothing was put. The refusals stand in the order in which they are checked.
-#[derive(Clone, Copy, Debug, PartialEq, Eq)]
-pub enum ClaimRefusal {
+/// Why nothing was put. The errors are in the order in which they are checked.
+#[derive(Clone, Copy, Debug, PartialEq, Eq, Hash)]
+#[non_exhaustive]
+pub enum PutError {
     /// The run has no item.
     NoItems,
     /// The run has more items than the queue has places.
@@ -63,8 +58,9 @@ pub enum ClaimRefusal {
 }
 
 /// Why nothing was taken.
-#[derive(Clone, Copy, Debug, PartialEq, Eq)]
-pub enum TakeRefusal {
+#[derive(Clone, Copy, Debug, PartialEq, Eq, Hash)]
+#[non_exhaustive]
+pub enum TakeError {
     /// There was nothing to take: no item, or no whole line.
     Empty {
         /// The first position whose place was not raised.
@@ -92,28 +88,28 @@ pub struct Closed {
     pub left: Vec<u64>,
 }
 
-says!(ClaimRefusal {
-    ClaimRefusal::NoItems => "no items",
-    ClaimRefusal::TooLong => "more items than places",
-    ClaimRefusal::Closed => "the queue is shut",
-    ClaimRefusal::Spent => "no positions left",
-    ClaimRefusal::Full { head, tail } => "full at head {head}, tail {tail}",
-    ClaimRefusal::Lost { head } => "lost, head {head}",
+says!(PutError {
+    PutError::NoItems => "no items",
+    PutError::TooLong => "more items than places",
+    PutError::Closed => "the queue is shut",
+    PutError::Spent => "no positions left",
+    PutError::Full { head, tail } => "full at head {head}, tail {tail}",
+    PutError::Lost { head } => "lost, head {head}",
 });
 
-says!(TakeRefusal {
-    TakeRefusal::Empty { at } => "nothing raised at {at}",
-    TakeRefusal::Lost { tail } => "lost, tail {tail}",
-    TakeRefusal::Closed => "the queue is shut and empty",
+says!(TakeError {
+    TakeError::Empty { at } => "nothing raised at {at}",
+    TakeError::Lost { tail } => "lost, tail {tail}",
+    TakeError::Closed => "the queue is shut and empty",
 });
 
 /// What a try to take answers.
-fn taken(answer: raw::Answer) -> Result<(), TakeRefusal> {
+fn taken(answer: raw::Answer) -> Result<(), TakeError> {
     match answer.code {
-        raw::DONE => Ok(()),
-        raw::EMPTY => Err(TakeRefusal::Empty { at: answer.tail }),
-        raw::LOST => Err(TakeRefusal::Lost { tail: answer.tail }),
-        raw::CLOSED => Err(TakeRefusal::Closed),
+        raw::OK => Ok(()),
+        raw::EMPTY => Err(TakeError::Empty { at: answer.tail }),
+        raw::LOST => Err(TakeError::Lost { tail: answer.tail }),
+        raw::CLOSED => Err(TakeError::Closed),
         code => raw::no_such_answer(code),
     }
 }
@@ -122,12 +118,12 @@ impl<const N: usize> QueueEnd<N> {
     /// An empty queue whose first position is `first`, by its only end.
     ///
     /// ```
-    /// use synthesis_kernel::{ClaimRefusal, QueueEnd};
+    /// use synthesis_kernel::queue::{PutError, QueueEnd};
     ///
     /// let mut taker = QueueEnd::<64>::new(0)?;
     /// let mut putter = taker.split()?;
     /// assert_eq!(putter.try_put(&[104, 105, 10]), Ok(0));
-    /// assert_eq!(putter.try_put(&[0; 62]), Err(ClaimRefusal::Full { head: 3, tail: 0 }));
+    /// assert_eq!(putter.try_put(&[0; 62]), Err(PutError::Full { head: 3, tail: 0 }));
     /// let mut line = [0; 64];
     /// assert_eq!(taker.try_take_line(&mut line), Ok(3));
     /// assert_eq!(line[..3], [104, 105, 10]);
@@ -135,43 +131,58 @@ impl<const N: usize> QueueEnd<N> {
     /// ```
     pub fn new(first: u32) -> Result<QueueEnd<N>, OutOfMemory> {
         const { assert!(N == 64 || N == 256, "a queue has 64 or 256 places") }
-        let handle = made(|handle| raw::synth_raw_queue_new(N as u32, first, handle))?;
-        Ok(QueueEnd { handle })
+        let first = made(|handle| raw::synth_raw_queue_new(N as u32, first, handle))?;
+        Ok(QueueEnd { share: Share::new(first)? })
     }
 
-    /// A new end, for another thread. Both ends are to be joined again before the queue can be closed.
-    pub fn split(&mut self) -> Result<QueueEnd<N>, SplitRefusal> {
-        let handle = split_off(|other| raw::synth_raw_queue_split(&mut self.handle, other))?;
-        Ok(QueueEnd { handle })
+    /// A new end, for another thread.
+    ///
+    /// ```
+    /// # use synthesis_kernel::QueueEnd;
+    /// let end = QueueEnd::<64>::new(0)?;
+    /// let mut other = end.split()?;
+    /// std::thread::spawn(move || other.try_put(&[1])).join().unwrap()?;
+    /// assert_eq!(end.close()?.left, [1]);
+    /// # Ok::<(), Box<dyn std::error::Error>>(())
+    /// ```
+    pub fn split(&self) -> Result<QueueEnd<N>, SplitError> {
+        Ok(QueueEnd { share: self.share.split()? })
     }
 
-    /// Joins an end of the same queue to this one. One of another queue comes back.
+    /// Joins an end of the same queue to this one. A drop does the same. An end of another queue comes back.
     ///
     /// ```
     /// # use synthesis_kernel::QueueEnd;
     /// let mut end = QueueEnd::<64>::new(0)?;
     /// let stranger = QueueEnd::new(0)?;
-    /// let refusal = end.join(stranger).unwrap_err();
-    /// assert!(refusal.end.close().is_ok());
+    /// let error = end.join(stranger).unwrap_err();
+    /// assert!(error.into_inner().close().is_ok());
     /// # Ok::<(), Box<dyn std::error::Error>>(())
     /// ```
-    pub fn join(&mut self, mut other: QueueEnd<N>) -> Result<(), OtherObject<QueueEnd<N>>> {
-        let code = raw::synth_raw_queue_join(&mut self.handle, &mut other.handle);
-        joined(code, other)
+    pub fn join(&mut self, other: QueueEnd<N>) -> Result<(), JoinError<QueueEnd<N>>> {
+        joined(self.share.join(other.share), |share| QueueEnd { share })
     }
 
     /// One try to put a run of items, with no other end's item between them. Gives the position of the first one.
-    pub fn try_put(&mut self, items: &[u64]) -> Result<u32, ClaimRefusal> {
+    ///
+    /// ```
+    /// # use synthesis_kernel::queue::{PutError, QueueEnd};
+    /// let mut end = QueueEnd::<64>::new(0)?;
+    /// assert_eq!(end.try_put(&[1; 60]), Ok(0));
+    /// assert_eq!(end.try_put(&[2; 5]), Err(PutError::Full { head: 60, tail: 0 }));
+    /// # Ok::<(), Box<dyn std::error::Error>>(())
+    /// ```
+    pub fn try_put(&mut self, items: &[u64]) -> Result<u32, PutError> {
         // SAFETY: the pointer leads to as many items as the number says, which are only read.
-        let answer = unsafe { raw::synth_raw_queue_try_put(&mut self.handle, items.as_ptr(), items.len()) };
+        let answer = unsafe { raw::synth_raw_queue_try_put(self.share.handle(), items.as_ptr(), items.len()) };
         match answer.code {
-            raw::DONE => Ok(answer.head),
-            raw::NO_ITEMS => Err(ClaimRefusal::NoItems),
-            raw::TOO_LONG => Err(ClaimRefusal::TooLong),
-            raw::CLOSED => Err(ClaimRefusal::Closed),
-            raw::SPENT => Err(ClaimRefusal::Spent),
-            raw::FULL => Err(ClaimRefusal::Full { head: answer.head, tail: answer.tail }),
-            raw::LOST => Err(ClaimRefusal::Lost { head: answer.head }),
+            raw::OK => Ok(answer.head),
+            raw::NO_ITEMS => Err(PutError::NoItems),
+            raw::TOO_LONG => Err(PutError::TooLong),
+            raw::CLOSED => Err(PutError::Closed),
+            raw::SPENT => Err(PutError::Spent),
+            raw::FULL => Err(PutError::Full { head: answer.head, tail: answer.tail }),
+            raw::LOST => Err(PutError::Lost { head: answer.head }),
             code => raw::no_such_answer(code),
         }
     }
@@ -179,16 +190,16 @@ impl<const N: usize> QueueEnd<N> {
     /// One try to take the first item left.
     ///
     /// ```
-    /// # use synthesis_kernel::{QueueEnd, TakeRefusal};
+    /// # use synthesis_kernel::queue::{QueueEnd, TakeError};
     /// let mut end = QueueEnd::<64>::new(7)?;
-    /// assert_eq!(end.try_take(), Err(TakeRefusal::Empty { at: 7 }));
+    /// assert_eq!(end.try_take(), Err(TakeError::Empty { at: 7 }));
     /// end.try_put(&[1])?;
     /// assert_eq!(end.try_take(), Ok(1));
     /// # Ok::<(), Box<dyn std::error::Error>>(())
     /// ```
-    pub fn try_take(&mut self) -> Result<u64, TakeRefusal> {
+    pub fn try_take(&mut self) -> Result<u64, TakeError> {
         let mut item = 0;
-        taken(raw::synth_raw_queue_try_take(&mut self.handle, &mut item))?;
+        taken(raw::synth_raw_queue_try_take(self.share.handle(), &mut item))?;
         Ok(item)
     }
 
@@ -205,73 +216,114 @@ impl<const N: usize> QueueEnd<N> {
     /// assert_eq!(items, [3, 2]);
     /// # Ok::<(), Box<dyn std::error::Error>>(())
     /// ```
-    pub fn take_up_to(&mut self, items: &mut [u64]) -> Result<usize, TakeRefusal> {
+    pub fn take_up_to(&mut self, items: &mut [u64]) -> Result<usize, TakeError> {
         if items.is_empty() {
             return Ok(0);
         }
         let mut count = 0;
         // SAFETY: the pointer leads to as much room as the number says, and nobody else has it.
-        taken(unsafe { raw::synth_raw_queue_take_up_to(&mut self.handle, items.as_mut_ptr(), items.len(), &mut count) })?;
+        taken(unsafe {
+            raw::synth_raw_queue_take_up_to(self.share.handle(), items.as_mut_ptr(), items.len(), &mut count)
+        })?;
         Ok(count)
     }
 
     /// One try to take a line: the items up to and with the first 10, or N raised items without one. They stand at
     /// the front of `line`, and their number is the answer. All of them come by one taking, so no other end's item
     /// lies between them.
-    pub fn try_take_line(&mut self, line: &mut [u64; N]) -> Result<usize, TakeRefusal> {
+    ///
+    /// ```
+    /// # use synthesis_kernel::queue::{QueueEnd, TakeError};
+    /// let mut end = QueueEnd::<64>::new(0)?;
+    /// end.try_put(b"one\ntw".map(u64::from).as_slice())?;
+    /// let mut line = [0; 64];
+    /// assert_eq!(end.try_take_line(&mut line), Ok(4));
+    /// assert_eq!(end.try_take_line(&mut line), Err(TakeError::Empty { at: 6 }));
+    /// # Ok::<(), Box<dyn std::error::Error>>(())
+    /// ```
+    pub fn try_take_line(&mut self, line: &mut [u64; N]) -> Result<usize, TakeError> {
         let mut count = 0;
         // SAFETY: the pointer leads to room for N items, and nobody else has it.
-        taken(unsafe { raw::synth_raw_queue_try_take_line(&mut self.handle, line.as_mut_ptr(), N, &mut count) })?;
+        taken(unsafe { raw::synth_raw_queue_try_take_line(self.share.handle(), line.as_mut_ptr(), N, &mut count) })?;
         Ok(count)
     }
 
-    /// Shuts the queue for puts, for good; what was put can still be taken. True where it was open, which one end
-    /// alone is ever told.
-    ///
-    /// ```
-    /// # use synthesis_kernel::{ClaimRefusal, QueueEnd, TakeRefusal};
-    /// let mut end = QueueEnd::<64>::new(0)?;
-    /// assert!(end.shut());
-    /// assert!(!end.shut());
-    /// assert_eq!(end.try_put(&[1]), Err(ClaimRefusal::Closed));
-    /// assert_eq!(end.try_take(), Err(TakeRefusal::Closed));
-    /// # Ok::<(), Box<dyn std::error::Error>>(())
-    /// ```
-    pub fn shut(&mut self) -> bool {
-        let mut was_open = false;
-        match raw::synth_raw_queue_shut(&mut self.handle, &mut was_open) {
-            raw::DONE => was_open,
-            code => raw::no_such_answer(code),
-        }
-    }
-
-    /// Closes the queue where every other end has been joined. Where others stand, or were dropped, this one comes back.
+    /// Takes items one by one, and ends when there is nothing to take. Another end may take between them.
     ///
     /// ```
     /// # use synthesis_kernel::QueueEnd;
     /// let mut end = QueueEnd::<64>::new(0)?;
+    /// end.try_put(&[1, 2, 3])?;
+    /// assert!(end.try_iter().eq([1, 2, 3]));
+    /// # Ok::<(), Box<dyn std::error::Error>>(())
+    /// ```
+    pub fn try_iter(&mut self) -> TryIter<'_, N> {
+        TryIter { end: self }
+    }
+
+    /// How many places the queue has: `N`.
+    #[must_use]
+    pub const fn capacity(&self) -> usize {
+        N
+    }
+
+    /// Shuts the queue for puts, for good; what was put can still be taken. Returns true if it was open, which it does
+    /// at one end alone.
+    ///
+    /// ```
+    /// # use synthesis_kernel::queue::{PutError, QueueEnd, TakeError};
+    /// let mut end = QueueEnd::<64>::new(0)?;
+    /// assert!(end.shut());
+    /// assert!(!end.shut());
+    /// assert_eq!(end.try_put(&[1]), Err(PutError::Closed));
+    /// assert_eq!(end.try_take(), Err(TakeError::Closed));
+    /// # Ok::<(), Box<dyn std::error::Error>>(())
+    /// ```
+    pub fn shut(&mut self) -> bool {
+        let mut was_open = false;
+        match raw::synth_raw_queue_shut(self.share.handle(), &mut was_open) {
+            raw::OK => was_open,
+            code => raw::no_such_answer(code),
+        }
+    }
+
+    /// Closes the queue, and returns what became of its items. If other ends exist, this one comes back.
+    ///
+    /// ```
+    /// # use synthesis_kernel::QueueEnd;
+    /// let end = QueueEnd::<64>::new(0)?;
     /// let mut other = end.split()?;
     /// other.try_put(&[1, 2])?;
-    /// let mut end = end.close().unwrap_err().end;
-    /// end.join(other)?;
+    /// let end = end.close().unwrap_err().into_inner();
+    /// drop(other);
     /// let closed = end.close()?;
     /// assert_eq!((closed.put, closed.taken, closed.left), (2, 0, vec![1, 2]));
     /// # Ok::<(), Box<dyn std::error::Error>>(())
     /// ```
-    pub fn close(mut self) -> Result<Closed, StillOpen<QueueEnd<N>>> {
+    pub fn close(mut self) -> Result<Closed, CloseError<QueueEnd<N>>> {
+        let Some(handle) = self.share.whole() else { return Err(CloseError::Open(self)) };
         let mut room = [0; N];
         let mut numbers = raw::Closed::default();
         // SAFETY: the pointer leads to room for N items, and nobody else has it.
-        let code = unsafe { raw::synth_raw_queue_close(&mut self.handle, room.as_mut_ptr(), N, &mut numbers) };
-        closed(code, self)?;
+        match unsafe { raw::synth_raw_queue_close(handle, room.as_mut_ptr(), N, &mut numbers) } {
+            raw::OK => {}
+            code => raw::no_such_answer(code),
+        }
         let left = room[..numbers.left].to_vec();
         Ok(Closed { first: numbers.first, put: numbers.put, taken: numbers.taken, left })
     }
 }
 
-impl<const N: usize> Drop for QueueEnd<N> {
-    fn drop(&mut self) {
-        // An end that was joined or closed is empty, which the call tells by a code.
-        raw::synth_raw_queue_free(&mut self.handle);
+/// Takes items one by one: see [`QueueEnd::try_iter`].
+#[derive(Debug)]
+pub struct TryIter<'end, const N: usize> {
+    end: &'end mut QueueEnd<N>,
+}
+
+impl<const N: usize> Iterator for TryIter<'_, N> {
+    type Item = u64;
+
+    fn next(&mut self) -> Option<u64> {
+        self.end.take().ok()
     }
 }

@@ -1,11 +1,12 @@
-//! The library's functions, as `synthesis.h` tells them.
+//! The library's functions, their types and their codes, as its header declares them.
 
 use std::ffi::c_void;
+use std::mem::MaybeUninit;
 use std::ptr;
 
 /// A type of handle for each kind of end, so that none is given to a call of another kind.
 macro_rules! handles {
-    ($($(#[doc = $what:literal])+ $name:ident),+ $(,)?) => {$(
+    ($($(#[doc = $what:literal])+ $name:ident: $free:ident),+ $(,)?) => {$(
         $(#[doc = $what])+
         ///
         /// It is full or empty, is never copied, and no other module reads its fields.
@@ -16,9 +17,12 @@ macro_rules! handles {
             full: bool,
         }
 
-        // SAFETY: the library proves of what a handle stands for that another thread may go on with it. It is not
-        // `Sync`, since it must not be used in two calls at once.
+        // SAFETY: the library proves of what a handle stands for that another thread may go on with it.
         unsafe impl Send for $name {}
+
+        // SAFETY: no two calls may use one handle at once. Each call of the library takes it by `&mut`, so threads that
+        // share a `&` to it can make none.
+        unsafe impl Sync for $name {}
 
         /// An empty handle.
         impl Default for $name {
@@ -26,24 +30,31 @@ macro_rules! handles {
                 $name { at: ptr::null_mut(), full: false }
             }
         }
+
+        impl $name {
+            /// Empties the handle, whose share is lost then. One that is empty stays so.
+            pub(crate) fn free(&mut self) {
+                $free(self);
+            }
+        }
     )+};
 }
 
 handles! {
     /// An end of a batch queue.
-    Batch,
+    Batch: synth_raw_batch_free,
     /// An end of a queue.
-    Queue,
+    Queue: synth_raw_queue_free,
     /// An end of a chain.
-    Chain,
+    Chain: synth_raw_chain_free,
     /// An end of meters.
-    Seat,
+    Seat: synth_raw_seat_free,
     /// The half of a line that pushes.
-    Input,
+    Input: synth_raw_line_free_in,
     /// The half of a line that pops.
-    Output,
+    Output: synth_raw_line_free_out,
     /// An end of thread elements.
-    Hand,
+    Hand: synth_raw_hand_free,
 }
 
 #[repr(C)]
@@ -143,85 +154,106 @@ impl Default for Places {
     }
 }
 
-pub(crate) const PROCESSOR: u32 = 0;
-pub(crate) const READY: u32 = 1;
-pub(crate) const FREE: u32 = 2;
-pub(crate) const WAIT: u32 = 3;
-pub(crate) const STOPPED: u32 = 4;
-pub(crate) const HELD: u32 = 5;
+/// The numbers of the header, each once, and the list by which a test compares them with it.
+macro_rules! numbers {
+    ($($type:ty { $($name:ident = $number:literal),+ $(,)? })+) => {
+        $($(
+            #[allow(dead_code)]
+            pub(crate) const $name: $type = $number;
+        )+)+
 
-pub(crate) const START_NOT_STOPPED: u32 = 0;
-pub(crate) const START_CLEARED: u32 = 1;
-pub(crate) const START_HELD: u32 = 2;
+        #[cfg(test)]
+        const NUMBERS: &[(&str, i64)] = &[$($((stringify!($name), $number)),+),+];
+    };
+}
 
-pub(crate) const DONE: i32 = 0;
-pub(crate) const NO_ITEMS: i32 = 1;
-pub(crate) const TOO_LONG: i32 = 2;
-pub(crate) const CLOSED: i32 = 3;
-pub(crate) const SPENT: i32 = 4;
-pub(crate) const FULL: i32 = 5;
-pub(crate) const LOST: i32 = 6;
-pub(crate) const EMPTY: i32 = 7;
-pub(crate) const MOVED: i32 = 8;
-pub(crate) const BUSY: i32 = 9;
-pub(crate) const VACANT: i32 = 10;
-pub(crate) const NO_ROOM: i32 = 11;
-pub(crate) const OPEN: i32 = 12;
-pub(crate) const NOT_HELD: i32 = 13;
-pub(crate) const NOT_SERVED: i32 = 14;
-pub(crate) const ALL_WOKEN: i32 = 15;
-pub(crate) const RUN: i32 = 20;
-pub(crate) const LEFT: i32 = 21;
-pub(crate) const NOTE: i32 = 22;
-pub(crate) const AGAIN: i32 = 23;
-pub(crate) const RUNNING: i32 = 24;
-pub(crate) const NO_MEMORY: i32 = -1;
-pub(crate) const OTHER_OBJECT: i32 = -4;
-pub(crate) const NO_SHARE: i32 = -5;
-pub(crate) const SHORT_BUFFER: i32 = -6;
-pub(crate) const BAD_NUMBER: i32 = -7;
+numbers! {
+    i32 {
+        OK = 0,
+        NO_ITEMS = 1,
+        TOO_LONG = 2,
+        CLOSED = 3,
+        SPENT = 4,
+        FULL = 5,
+        LOST = 6,
+        EMPTY = 7,
+        MOVED = 8,
+        BUSY = 9,
+        VACANT = 10,
+        NO_ROOM = 11,
+        OPEN = 12,
+        NOT_HELD = 13,
+        NOT_SERVED = 14,
+        ALL_WOKEN = 15,
+        RUN = 20,
+        LEFT = 21,
+        NOTE = 22,
+        AGAIN = 23,
+        RUNNING = 24,
+        NOT_RUNNING = 25,
+        NO_MEMORY = -1,
+        EMPTY_HANDLE = -2,
+        FULL_HANDLE = -3,
+        OTHER_OBJECT = -4,
+        NO_SHARE = -5,
+        SHORT_BUFFER = -6,
+        BAD_NUMBER = -7,
+    }
+    u32 {
+        START_NOT_STOPPED = 0,
+        START_CLEARED = 1,
+        START_HELD = 2,
+        PLACE_PROCESSOR = 0,
+        PLACE_READY = 1,
+        PLACE_FREE = 2,
+        PLACE_WAIT = 3,
+        PLACE_STOPPED = 4,
+        PLACE_HELD = 5,
+    }
+}
 
 /// A code that the call doesn't have, or that its types rule out.
 pub(crate) fn no_such_answer(code: i32) -> ! {
     unreachable!("the library answered {code}")
 }
 
-// SAFETY: the names and types are those of synthesis.h. A reference is a pointer as the header wants it, a handle is
+// SAFETY: the names and types are those of the header. A reference is a pointer as the header wants it, a handle is
 // empty or was filled by a call of its own kind, and a `&mut` to it lets no other call have it. For all else the
 // library answers by a code, so only the calls that take a buffer's length beside its pointer are unsafe.
+//
+// The items of a batch queue may be uninitialized in part: its calls only copy them, and look at none.
 unsafe extern "C" {
     pub(crate) safe fn synth_raw_batch_new(places: usize, batch: &mut Batch) -> i32;
     pub(crate) safe fn synth_raw_batch_split(batch: &mut Batch, other: &mut Batch) -> i32;
     pub(crate) safe fn synth_raw_batch_join(batch: &mut Batch, other: &mut Batch) -> i32;
     pub(crate) unsafe fn synth_raw_batch_try_put(
         batch: &mut Batch,
-        items: *const u64,
+        items: *const MaybeUninit<u64>,
         count: usize,
         positions: &mut Positions,
     ) -> i32;
     pub(crate) unsafe fn synth_raw_batch_try_put_some(
         batch: &mut Batch,
-        items: *const u64,
+        items: *const MaybeUninit<u64>,
         count: usize,
         put: &mut usize,
         positions: &mut Positions,
     ) -> i32;
     pub(crate) unsafe fn synth_raw_batch_try_take(
         batch: &mut Batch,
-        items: *mut u64,
+        items: *mut MaybeUninit<u64>,
         room: usize,
         count: &mut usize,
         positions: &mut Positions,
     ) -> i32;
     pub(crate) unsafe fn synth_raw_batch_try_take_some(
         batch: &mut Batch,
-        items: *mut u64,
+        items: *mut MaybeUninit<u64>,
         room: usize,
         count: &mut usize,
         positions: &mut Positions,
     ) -> i32;
     pub(crate) safe fn synth_raw_batch_len(batch: &mut Batch, count: &mut u64) -> i32;
-    pub(crate) safe fn synth_raw_batch_capacity(batch: &mut Batch, places: &mut usize) -> i32;
     pub(crate) safe fn synth_raw_batch_shut(batch: &mut Batch, was_open: &mut bool) -> i32;
     pub(crate) unsafe fn synth_raw_batch_close(
         batch: &mut Batch,
@@ -249,7 +281,12 @@ unsafe extern "C" {
         count: &mut usize,
     ) -> Answer;
     pub(crate) safe fn synth_raw_queue_shut(queue: &mut Queue, was_open: &mut bool) -> i32;
-    pub(crate) unsafe fn synth_raw_queue_close(queue: &mut Queue, left: *mut u64, room: usize, closed: &mut Closed) -> i32;
+    pub(crate) unsafe fn synth_raw_queue_close(
+        queue: &mut Queue,
+        left: *mut u64,
+        room: usize,
+        closed: &mut Closed,
+    ) -> i32;
     pub(crate) safe fn synth_raw_queue_free(queue: &mut Queue) -> i32;
 
     pub(crate) safe fn synth_raw_chain_new(first: u32, chain: &mut Chain) -> i32;
@@ -267,7 +304,8 @@ unsafe extern "C" {
     pub(crate) safe fn synth_raw_seat_advance(seat: &mut Seat, clock: &mut u32) -> Answer;
     pub(crate) safe fn synth_raw_seat_try_set(seat: &mut Seat, alarm: &Alarm, slot: &mut u32) -> Answer;
     pub(crate) safe fn synth_raw_seat_cancel(seat: &mut Seat, slot: u32, alarm: &Alarm, cancelled: &mut bool) -> i32;
-    pub(crate) unsafe fn synth_raw_seat_due(seat: &mut Seat, alarms: *mut Alarm, room: usize, count: &mut usize) -> i32;
+    pub(crate) unsafe fn synth_raw_seat_due(seat: &mut Seat, alarms: *mut Alarm, room: usize, count: &mut usize)
+    -> i32;
     pub(crate) safe fn synth_raw_seat_close(seat: &mut Seat, metered: &mut Metered) -> i32;
     pub(crate) safe fn synth_raw_seat_free(seat: &mut Seat) -> i32;
 
@@ -292,7 +330,12 @@ unsafe extern "C" {
     pub(crate) safe fn synth_raw_hand_try_free(hand: &mut Hand, element: &mut u32) -> Answer;
     pub(crate) safe fn synth_raw_hand_try_wake(hand: &mut Hand, wait: u32, element: &mut u32) -> Answer;
     pub(crate) safe fn synth_raw_hand_notify(hand: &mut Hand, wait: u32, head: &mut u32) -> i32;
-    pub(crate) safe fn synth_raw_hand_try_wake_before(hand: &mut Hand, wait: u32, head: u32, element: &mut u32) -> Answer;
+    pub(crate) safe fn synth_raw_hand_try_wake_before(
+        hand: &mut Hand,
+        wait: u32,
+        head: u32,
+        element: &mut u32,
+    ) -> Answer;
     pub(crate) safe fn synth_raw_hand_try_ready(hand: &mut Hand, element: u32) -> Moved;
     pub(crate) safe fn synth_raw_hand_try_retire(hand: &mut Hand, element: u32) -> Moved;
     pub(crate) safe fn synth_raw_hand_try_wait(hand: &mut Hand, element: u32, wait: u32) -> Moved;
@@ -305,4 +348,47 @@ unsafe extern "C" {
     pub(crate) safe fn synth_raw_hand_try_deliver(hand: &mut Hand, element: u32, signals: &mut u32) -> State;
     pub(crate) safe fn synth_raw_hand_close(hand: &mut Hand, places: &mut Places) -> i32;
     pub(crate) safe fn synth_raw_hand_free(hand: &mut Hand) -> i32;
+}
+
+#[cfg(test)]
+mod tests {
+    use super::NUMBERS;
+    use std::collections::BTreeMap;
+    use std::fs;
+    use std::path::Path;
+
+    /// The numbers of the headers: each `SYNTH_NAME = number`, without `SYNTH_`.
+    fn header_numbers() -> BTreeMap<String, i64> {
+        let mut numbers = BTreeMap::new();
+        let here = Path::new(env!("CARGO_MANIFEST_DIR"));
+        let folders = ["../include", "../../include"].map(|folder| here.join(folder));
+        let headers =
+            folders.iter().flat_map(|folder| ["synthesis.h", "synthesis/raw.h"].map(|name| folder.join(name)));
+        for text in headers.filter_map(|header| fs::read_to_string(header).ok()) {
+            for (name, after) in text.split("SYNTH_").skip(1).filter_map(|rest| rest.split_once(" = ")) {
+                let digits = after.split(|c: char| c != '-' && !c.is_ascii_digit()).next().unwrap_or_default();
+                if let (true, Ok(number)) = (is_name(name), digits.parse()) {
+                    let before = numbers.insert(name.to_owned(), number);
+                    assert!(before.is_none_or(|before| before == number), "two numbers of SYNTH_{name}");
+                }
+            }
+        }
+        numbers
+    }
+
+    fn is_name(name: &str) -> bool {
+        !name.is_empty() && name.bytes().all(|byte| byte == b'_' || byte.is_ascii_uppercase())
+    }
+
+    #[test]
+    fn each_number_is_that_of_the_header() {
+        let mut wanted = header_numbers();
+        // A code that is being renamed.
+        if let Some(number) = wanted.remove("DONE") {
+            assert_eq!(*wanted.entry("OK".to_owned()).or_insert(number), number);
+        }
+        let had: BTreeMap<_, _> = NUMBERS.iter().map(|(name, number)| ((*name).to_owned(), *number)).collect();
+        assert_eq!(had.len(), NUMBERS.len(), "a name twice");
+        assert_eq!(had, wanted);
+    }
 }

@@ -1,9 +1,9 @@
-//! The batch queue from several threads, its refusals, and what drops leave.
+//! The batch queue from several threads, its errors, and what drops leave.
 
+use std::error::Error;
 use std::thread;
-use synthesis_kernel::{
-    BatchEnd, BatchPutRefusal, BatchTakeRefusal, NewBatchRefusal, OtherObject, SplitRefusal, StillOpen,
-};
+use synthesis_kernel::CloseError;
+use synthesis_kernel::batch::{BatchEnd, NewError, PutError, TakeError};
 
 const PRODUCERS: u64 = 3;
 const ITEMS: u64 = 30_000;
@@ -15,8 +15,8 @@ fn put_all(mut end: BatchEnd, producer: u64) -> BatchEnd {
         let burst: Vec<u64> = (next..ITEMS.min(next + 40)).map(|item| producer << 32 | item).collect();
         match end.try_put_some(&burst) {
             Ok((_, count)) => next += count as u64,
-            Err(BatchPutRefusal::Full { .. }) => thread::yield_now(),
-            Err(BatchPutRefusal::Lost { .. }) => {}
+            Err(PutError::Full { .. }) => thread::yield_now(),
+            Err(PutError::Lost { .. }) => {}
             Err(why) => panic!("{why}"),
         }
     }
@@ -29,7 +29,7 @@ fn take_all(mut end: BatchEnd, at_once: usize) -> (BatchEnd, Vec<u64>) {
     loop {
         match end.try_take_some(&mut items) {
             Ok(count) => taken.extend(&items[..count]),
-            Err(BatchTakeRefusal::Closed) => return (end, taken),
+            Err(TakeError::Closed) => return (end, taken),
             Err(_) => thread::yield_now(),
         }
     }
@@ -64,43 +64,43 @@ fn every_item_is_taken_once_in_each_producers_order() {
 }
 
 #[test]
-fn refusals_come_in_their_order() {
+fn errors_come_in_their_order() {
     let mut end = BatchEnd::new(8).unwrap();
-    assert_eq!(end.try_put(&[]), Err(BatchPutRefusal::NoItems));
-    assert_eq!(end.try_put(&[0; 9]), Err(BatchPutRefusal::TooLong));
-    assert_eq!(end.try_put_some(&[]), Err(BatchPutRefusal::NoItems));
+    assert_eq!(end.try_put(&[]), Err(PutError::NoItems));
+    assert_eq!(end.try_put(&[0; 9]), Err(PutError::TooLong));
+    assert_eq!(end.try_put_some(&[]), Err(PutError::NoItems));
     assert_eq!(end.try_put(&[1, 2, 3]), Ok(0));
-    assert_eq!(end.try_put(&[1; 6]), Err(BatchPutRefusal::Full { head: 3, free: 0 }));
+    assert_eq!(end.try_put(&[1; 6]), Err(PutError::Full { head: 3, free: 0 }));
     assert_eq!(end.try_put_some(&[4; 9]), Ok((3, 5)));
-    assert_eq!(end.try_put_some(&[4]), Err(BatchPutRefusal::Full { head: 8, free: 0 }));
-    assert_eq!(end.try_take(&mut [0; 2]), Err(BatchTakeRefusal::ShortBuffer { at: 0, count: 3 }));
-    assert_eq!(end.try_take_some(&mut []), Err(BatchTakeRefusal::ShortBuffer { at: 0, count: 3 }));
+    assert_eq!(end.try_put_some(&[4]), Err(PutError::Full { head: 8, free: 0 }));
+    assert_eq!(end.try_take(&mut [0; 2]), Err(TakeError::ShortBuffer { at: 0, count: 3 }));
+    assert_eq!(end.try_take_some(&mut []), Err(TakeError::ShortBuffer { at: 0, count: 3 }));
     assert!(end.shut());
-    assert_eq!(end.try_put(&[1]), Err(BatchPutRefusal::Closed));
-    assert_eq!(end.try_put(&[0; 9]), Err(BatchPutRefusal::TooLong));
+    assert_eq!(end.try_put(&[1]), Err(PutError::Closed));
+    assert_eq!(end.try_put(&[0; 9]), Err(PutError::TooLong));
     assert_eq!(end.try_take(&mut [0; 8]), Ok(8));
-    assert_eq!(end.try_take(&mut [0; 8]), Err(BatchTakeRefusal::Closed));
+    assert_eq!(end.try_take(&mut [0; 8]), Err(TakeError::Closed));
     assert_eq!((end.len(), end.is_empty(), end.capacity()), (0, true, 8));
     for places in [0, 3, 1 << 24 | 1, 1 << 25, usize::MAX] {
-        assert_eq!(BatchEnd::new(places).unwrap_err(), NewBatchRefusal::BadNumber);
+        assert_eq!(BatchEnd::new(places).unwrap_err(), NewError::BadCapacity);
     }
 }
 
 #[test]
-fn refusals_are_told() {
+fn errors_say_why() {
     let told = [
-        BatchPutRefusal::NoItems.to_string(),
-        BatchPutRefusal::TooLong.to_string(),
-        BatchPutRefusal::Closed.to_string(),
-        BatchPutRefusal::Spent.to_string(),
-        BatchPutRefusal::Full { head: 3, free: 1 }.to_string(),
-        BatchPutRefusal::Lost { head: 4 }.to_string(),
-        BatchTakeRefusal::Empty { at: 5 }.to_string(),
-        BatchTakeRefusal::ShortBuffer { at: 6, count: 7 }.to_string(),
-        BatchTakeRefusal::Lost { tail: 8 }.to_string(),
-        BatchTakeRefusal::Closed.to_string(),
-        NewBatchRefusal::BadNumber.to_string(),
-        NewBatchRefusal::OutOfMemory.to_string(),
+        PutError::NoItems.to_string(),
+        PutError::TooLong.to_string(),
+        PutError::Closed.to_string(),
+        PutError::Spent.to_string(),
+        PutError::Full { head: 3, free: 1 }.to_string(),
+        PutError::Lost { head: 4 }.to_string(),
+        TakeError::Empty { at: 5 }.to_string(),
+        TakeError::ShortBuffer { at: 6, count: 7 }.to_string(),
+        TakeError::Lost { tail: 8 }.to_string(),
+        TakeError::Closed.to_string(),
+        NewError::BadCapacity.to_string(),
+        NewError::OutOfMemory.to_string(),
     ];
     let words = [
         "no items",
@@ -113,25 +113,72 @@ fn refusals_are_told() {
         "a batch of 7 at 6",
         "lost, tail 8",
         "the queue is shut and empty",
-        "the number of places is no power of two from 1 to 16777216",
-        "no memory",
+        "the capacity is no power of two from 1 to 16,777,216",
+        "out of memory",
     ];
     assert_eq!(told, words);
 }
 
 #[test]
-fn a_queue_of_which_an_end_was_dropped_is_never_closed() {
+fn a_dropped_end_gives_its_share_back() {
     let mut end = BatchEnd::new(64).unwrap();
     let mut other = end.split().unwrap();
     other.try_put(&[7, 8]).unwrap();
     let mut item = [0];
     assert_eq!(end.try_take_some(&mut item), Ok(1));
-    let StillOpen { end } = end.close().unwrap_err();
+    let error = end.close().unwrap_err();
+    assert!(matches!(error, CloseError::Open(_)));
+    assert_eq!((error.to_string(), format!("{error:?}")), ("other ends exist".to_owned(), "Open(..)".to_owned()));
     drop(other);
-    let StillOpen { mut end } = end.close().unwrap_err();
-    assert_eq!((end.try_take(&mut item), item), (Ok(1), [8]));
-    assert_eq!(end.try_take(&mut item), Err(BatchTakeRefusal::Empty { at: 2 }));
-    assert!(end.close().is_err());
+    let closed = error.into_inner().close().unwrap();
+    assert_eq!((closed.put, closed.taken, closed.left), (2, 1, vec![8]));
+}
+
+#[test]
+fn the_last_of_many_threads_closes_whichever_it_is() {
+    for _ in 0..200 {
+        let ends: Vec<_> = {
+            let first = BatchEnd::new(8).unwrap();
+            (0..8).map(|_| first.split().unwrap()).collect()
+        };
+        // Each drops its end, or closes if it is the last one.
+        let act = |mut end: BatchEnd| {
+            let put = end.try_put_some(&[1]).is_ok();
+            (put, end.close().map(|closed| (closed.put, closed.left.len())).ok())
+        };
+        let threads: Vec<_> = ends.into_iter().map(|end| thread::spawn(move || act(end))).collect();
+        let answers: Vec<_> = threads.into_iter().map(|thread| thread.join().unwrap()).collect();
+        let put = answers.iter().filter(|(put, _)| *put).count();
+        let closed: Vec<_> = answers.iter().filter_map(|(_, closed)| *closed).collect();
+        // Two that try at the same moment may each find the other, and then both drop what comes back.
+        assert!(closed.len() <= 1);
+        assert!(closed.iter().all(|closed| *closed == (put as u64, put)));
+    }
+}
+
+#[test]
+fn an_end_that_is_forgotten_keeps_the_queue_open() {
+    let mut end = BatchEnd::new(64).unwrap();
+    std::mem::forget(end.split().unwrap());
+    end.try_put(&[1]).unwrap();
+    let mut end = end.close().unwrap_err().into_inner();
+    assert_eq!(end.try_take(&mut [0]), Ok(1));
+    assert!(end.split().is_ok());
+    assert!(matches!(end.close(), Err(CloseError::Open(_))));
+}
+
+#[test]
+fn a_panic_gives_the_end_back() {
+    let mut end = BatchEnd::new(64).unwrap();
+    let mut other = end.split().unwrap();
+    let thread = thread::spawn(move || -> () {
+        other.try_put(&[5]).unwrap();
+        panic!("{}", other.close().unwrap_err());
+    });
+    let message = thread.join().unwrap_err();
+    assert_eq!(message.downcast_ref::<String>().unwrap(), "other ends exist");
+    assert!(end.try_iter().eq([5]));
+    assert_eq!(end.close().unwrap().taken, 1);
 }
 
 #[test]
@@ -139,26 +186,41 @@ fn an_end_of_another_queue_comes_back_whole() {
     let mut end = BatchEnd::new(64).unwrap();
     let mut stranger = BatchEnd::new(64).unwrap();
     stranger.try_put(&[9]).unwrap();
-    let OtherObject { end: stranger } = end.join(stranger).unwrap_err();
-    assert_eq!(stranger.close().unwrap().left, [9]);
+    let error = end.join(stranger).unwrap_err();
+    assert_eq!(error.to_string(), "the ends are of two objects");
+    assert_eq!(error.into_inner().close().unwrap().left, [9]);
     assert!(end.close().is_ok());
 }
 
 #[test]
-fn an_end_can_be_split_again_once_others_are_joined() {
-    let mut ends = vec![BatchEnd::new(64).unwrap()];
-    let refusal = loop {
-        match ends.last_mut().unwrap().split() {
-            Ok(end) => ends.push(end),
-            Err(refusal) => break refusal,
+fn ends_come_and_go_without_end() {
+    let mut end = BatchEnd::new(64).unwrap();
+    for round in 0..3_000_000 / 100 {
+        let ends: Vec<_> = (0..100).map(|_| end.split().unwrap()).collect();
+        for (number, other) in ends.into_iter().enumerate() {
+            if number == round % 100 {
+                end.join(other).unwrap();
+            }
         }
-    };
-    assert_eq!(refusal, SplitRefusal::NoShare);
-    let mut last = ends.pop().unwrap();
-    last.join(ends.pop().unwrap()).unwrap();
-    ends.push(last.split().unwrap());
-    for end in ends {
-        last.join(end).unwrap();
     }
-    assert!(last.close().is_ok());
+    let mut chain = vec![end];
+    for _ in 0..1000 {
+        chain.push(chain.last().unwrap().split().unwrap());
+    }
+    assert!(chain.drain(..).next_back().unwrap().close().is_err());
+}
+
+/// An error that has an end is one that programs pass on.
+#[test]
+fn errors_are_passed_on_by_any_error_type() {
+    fn close_two(end: BatchEnd, other: BatchEnd) -> Result<u64, Box<dyn Error + Send + Sync>> {
+        let mut end = end;
+        end.join(other)?;
+        Ok(end.close()?.put)
+    }
+    let end = BatchEnd::new(8).unwrap();
+    let other = end.split().unwrap();
+    assert_eq!(close_two(end, other).unwrap(), 0);
+    let strangers = close_two(BatchEnd::new(8).unwrap(), BatchEnd::new(8).unwrap());
+    assert_eq!(strangers.unwrap_err().to_string(), "the ends are of two objects");
 }

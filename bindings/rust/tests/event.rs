@@ -3,7 +3,8 @@
 use std::sync::atomic::{AtomicU32, Ordering::SeqCst};
 use std::thread;
 use std::time::{Duration, Instant};
-use synthesis_kernel::{ClaimRefusal, Event, QueueEnd, QueueEvents, TakeRefusal};
+use synthesis_kernel::Event;
+use synthesis_kernel::queue::{PutError, QueueEnd, QueueEvents, TakeError};
 
 const PRODUCERS: u64 = 3;
 const TAKERS: u64 = 3;
@@ -21,7 +22,7 @@ fn put_all(mut end: QueueEnd<64>, events: &QueueEvents, number: u64) -> QueueEnd
     while let Some(item) = next {
         match end.put_wait(item, events, limit_of(number)) {
             Ok(_) => next = items.next(),
-            Err(ClaimRefusal::Full { .. }) => {}
+            Err(PutError::Full { .. }) => {}
             Err(why) => panic!("{why}"),
         }
     }
@@ -33,7 +34,7 @@ fn take_all(mut end: QueueEnd<64>, events: &QueueEvents, number: u64) -> (QueueE
     loop {
         match end.take_wait(events, limit_of(number)) {
             Ok(item) => taken.push(item),
-            Err(TakeRefusal::Closed) => return (end, taken),
+            Err(TakeError::Closed) => return (end, taken),
             Err(_) => {}
         }
     }
@@ -145,14 +146,14 @@ fn waits_time_out() {
 fn a_queue_that_stays_full_or_empty_is_refused_in_time() {
     let (events, limit) = (QueueEvents::default(), Some(Duration::from_millis(1)));
     let mut end = QueueEnd::<64>::new(0).unwrap();
-    assert_eq!(end.take_wait(&events, limit), Err(TakeRefusal::Empty { at: 0 }));
+    assert_eq!(end.take_wait(&events, limit), Err(TakeError::Empty { at: 0 }));
     for position in 0..64 {
         assert_eq!(end.put_wait(7, &events, None), Ok(position));
     }
-    assert_eq!(end.put_wait(7, &events, limit), Err(ClaimRefusal::Full { head: 64, tail: 0 }));
+    assert_eq!(end.put_wait(7, &events, limit), Err(PutError::Full { head: 64, tail: 0 }));
     assert_eq!(end.take_wait(&events, limit), Ok(7));
     assert!(end.shut());
     events.notify_all();
-    assert_eq!(end.put_wait(7, &events, None), Err(ClaimRefusal::Closed));
+    assert_eq!(end.put_wait(7, &events, None), Err(PutError::Closed));
     assert_eq!(end.close().unwrap().left.len(), 63);
 }

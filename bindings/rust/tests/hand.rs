@@ -1,12 +1,13 @@
-//! Thread elements from several threads, and their refusals.
+//! Thread elements from several threads, and their errors.
 
 use std::error::Error;
 use std::sync::atomic::{AtomicU64, Ordering::SeqCst};
 use std::thread;
-use synthesis_kernel::{
-    Element, Hand, HandRefusal, HandSplitRefusal, MoveRefusal, NextRefusal, NotHeld, OffRefusal, OnRefusal,
-    OtherObject, Place, Processor, Signal, Signalled, Started, StateRefusal, StepRefusal, StillOpen, WaitNumber,
+use synthesis_kernel::hand::{
+    Hand, MoveError, NewError, NotHeldError, OffError, OnError, Place, Signalled, SplitError, Started, StateError,
+    StepError, TakeError,
 };
+use synthesis_kernel::{CloseError, Element, Processor, Processors, Signal, WaitNumber};
 
 const WORKERS: u8 = 4;
 const STEPS: u64 = 200;
@@ -25,10 +26,10 @@ fn wait(number: u8) -> WaitNumber {
 }
 
 /// Tries again until the answer is another than that another hand was first.
-fn repeat(mut call: impl FnMut() -> Result<(), MoveRefusal>) -> Result<(), MoveRefusal> {
+fn repeat(mut call: impl FnMut() -> Result<(), MoveError>) -> Result<(), MoveError> {
     loop {
         match call() {
-            Err(MoveRefusal::Lost { .. }) => thread::yield_now(),
+            Err(MoveError::Lost { .. }) => thread::yield_now(),
             answer => return answer,
         }
     }
@@ -41,8 +42,9 @@ fn work(mut hand: Hand, number: u8) -> (Hand, u64) {
     loop {
         let element = match hand.try_next() {
             Ok(element) => element,
-            Err(NextRefusal::NoneReady) => return (hand, done),
-            Err(NextRefusal::Lost { .. }) => continue,
+            Err(TakeError::Empty) => return (hand, done),
+            Err(TakeError::Lost { .. }) => continue,
+            Err(error) => panic!("{error}"),
         };
         hand.on(processor(number), element).unwrap();
         let steps = hand.step_done(element).unwrap();
@@ -59,8 +61,8 @@ fn each_element_does_its_steps_and_is_in_one_place() {
         assert_eq!(last.try_free(), Ok(element(number)));
         last.try_ready(element(number)).unwrap();
     }
-    assert_eq!(last.try_free(), Err(NextRefusal::NoneReady));
-    let hands: Vec<_> = (0..WORKERS).map(|i| last.split(1 << i).unwrap()).collect();
+    assert_eq!(last.try_free(), Err(TakeError::Empty));
+    let hands: Vec<_> = (0..WORKERS).map(|i| last.split(processor(i)).unwrap()).collect();
     let threads: Vec<_> = (0..).zip(hands).map(|(i, hand)| thread::spawn(move || work(hand, i))).collect();
     let mut done = 0;
     for thread in threads {
@@ -112,7 +114,7 @@ fn play(mut hand: Hand, me: Element, side: u8, turn: &AtomicU64) -> Hand {
         }
         match repeat(|| hand.try_wait_at(me, mine, ticket)) {
             Ok(()) => take_back(&mut hand, me),
-            Err(MoveRefusal::Moved { notifies }) => assert_ne!(notifies, ticket),
+            Err(MoveError::Moved { notifies }) => assert_ne!(notifies, ticket),
             Err(why) => panic!("{why}"),
         }
     }
@@ -124,7 +126,7 @@ fn no_wake_is_lost() {
     let turn = &AtomicU64::new(0);
     let mut last = Hand::new().unwrap();
     let sides = [0, 1].map(|side| {
-        let mut hand = last.split(0).unwrap();
+        let mut hand = last.split(Processors::NONE).unwrap();
         let me = hand.try_free().unwrap();
         (hand, me, side)
     });
@@ -144,20 +146,20 @@ fn no_wake_is_lost() {
 fn processors_are_their_hands() {
     let mut hand = Hand::new().unwrap();
     let (one, two) = (hand.try_free().unwrap(), hand.try_free().unwrap());
-    let mut other = hand.split(1 << 7).unwrap();
+    let mut other = hand.split(processor(7)).unwrap();
     assert!(other.serves(processor(7)) && !hand.serves(processor(7)) && hand.serves(processor(6)));
-    assert_eq!(hand.split(1 << 7).unwrap_err(), HandSplitRefusal::NotServed);
-    assert_eq!(other.on(processor(7), one), Err(OnRefusal::NotHeld));
-    assert_eq!(hand.on(processor(7), one), Err(OnRefusal::NotServed));
+    assert_eq!(hand.split(processor(7)).unwrap_err(), SplitError::NotServed);
+    assert_eq!(other.on(processor(7), one), Err(OnError::NotHeld));
+    assert_eq!(hand.on(processor(7), one), Err(OnError::NotServed));
     assert_eq!(hand.on(processor(0), one), Ok(()));
-    assert_eq!(hand.on(processor(0), two), Err(OnRefusal::Busy));
-    assert_eq!(hand.split(1).unwrap_err(), HandSplitRefusal::Busy);
+    assert_eq!(hand.on(processor(0), two), Err(OnError::Busy));
+    assert_eq!(hand.split(processor(0)).unwrap_err(), SplitError::Busy);
     assert_eq!(hand.on_processor(processor(0)), Some(one));
     assert_eq!(hand.on_processor(processor(1)), None);
-    assert_eq!(hand.off(processor(7)), Err(OffRefusal::NotServed));
-    assert_eq!(hand.off(processor(1)), Err(OffRefusal::Vacant));
-    assert_eq!((hand.pc(one), other.pc(one)), (Ok(0), Err(NotHeld)));
-    assert_eq!((hand.step_done(one), other.step_done(one)), (Ok(1), Err(StepRefusal::NotHeld)));
+    assert_eq!(hand.off(processor(7)), Err(OffError::NotServed));
+    assert_eq!(hand.off(processor(1)), Err(OffError::Vacant));
+    assert_eq!((hand.pc(one), other.pc(one)), (Ok(0), Err(NotHeldError)));
+    assert_eq!((hand.step_done(one), other.step_done(one)), (Ok(1), Err(StepError::NotHeld)));
     other.join(hand).unwrap();
     assert_eq!((other.pc(one), other.off(processor(0)), other.on(processor(7), two)), (Ok(1), Ok(one), Ok(())));
     let places = other.close().unwrap();
@@ -168,16 +170,16 @@ fn processors_are_their_hands() {
 fn moves_are_refused_in_order() {
     let mut hand = Hand::new_at(u32::MAX - 64).unwrap();
     let (one, two) = (hand.try_free().unwrap(), hand.try_free().unwrap());
-    assert_eq!(hand.try_ready(element(2)), Err(MoveRefusal::NotHeld));
-    assert_eq!(hand.try_wait_at(element(2), wait(15), 9), Err(MoveRefusal::NotHeld));
-    assert_eq!(hand.try_retire(one), Err(MoveRefusal::Spent));
-    assert_eq!(hand.try_wait_at(one, wait(15), 9), Err(MoveRefusal::Moved { notifies: 0 }));
+    assert_eq!(hand.try_ready(element(2)), Err(MoveError::NotHeld));
+    assert_eq!(hand.try_wait_at(element(2), wait(15), 9), Err(MoveError::NotHeld));
+    assert_eq!(hand.try_retire(one), Err(MoveError::Spent));
+    assert_eq!(hand.try_wait_at(one, wait(15), 9), Err(MoveError::Moved { notifies: 0 }));
     for _ in 0..64 {
         assert_eq!(hand.try_wait_at(one, wait(15), 0), Ok(()));
         assert_eq!(hand.try_wake(wait(15)), Ok(one));
     }
-    assert_eq!(hand.try_wait_at(one, wait(15), 9), Err(MoveRefusal::Spent));
-    assert_eq!(hand.try_wake(wait(15)), Err(NextRefusal::NoneReady));
+    assert_eq!(hand.try_wait_at(one, wait(15), 9), Err(MoveError::Spent));
+    assert_eq!(hand.try_wake(wait(15)), Err(TakeError::Empty));
     assert_eq!(hand.notify(wait(15)), u32::MAX);
     assert_eq!(hand.ticket(wait(15)), 1);
     assert_eq!((hand.try_wait(one, wait(3)), hand.try_ready(two)), (Ok(()), Ok(())));
@@ -195,8 +197,8 @@ fn stops_and_signals_come_where_the_element_is() {
     assert_eq!((hand.stop(one), hand.stop(one)), (true, false));
     assert_eq!(hand.try_start(one), Ok(Started::Cleared));
     assert!(hand.stop(one));
-    assert_eq!((hand.try_park(one), hand.try_park(one)), (Ok(true), Err(StateRefusal::NotHeld)));
-    assert_eq!(hand.try_deliver(one), Err(StateRefusal::NotHeld));
+    assert_eq!((hand.try_park(one), hand.try_park(one)), (Ok(true), Err(StateError::NotHeld)));
+    assert_eq!(hand.try_deliver(one), Err(StateError::NotHeld));
     let raised = [15, 0, 15].map(|number| hand.signal(one, signal(number)));
     assert_eq!(raised, [Signalled::Raised, Signalled::Raised, Signalled::Merged]);
     assert_eq!(hand.try_start(one), Ok(Started::Held));
@@ -211,60 +213,86 @@ fn stops_and_signals_come_where_the_element_is() {
 }
 
 #[test]
-fn ends_are_told() {
-    assert_eq!(Hand::new_at(u32::MAX - 63).unwrap_err(), HandRefusal::BadFirst);
+fn what_a_dropped_hand_had_is_taken_over() {
+    assert_eq!(Hand::new_at(u32::MAX - 63).unwrap_err(), NewError::BadFirst);
     let mut hand = Hand::new().unwrap();
-    let OtherObject { end: other } = hand.join(Hand::new().unwrap()).unwrap_err();
+    let other = hand.join(Hand::new().unwrap()).unwrap_err().into_inner();
     assert!(other.close().is_ok());
-    let mut other = hand.split(1).unwrap();
-    let lost = other.try_free().unwrap();
-    let StillOpen { end: mut hand } = hand.close().unwrap_err();
+    let mut other = hand.split(processor(0) | processor(1)).unwrap();
+    let (held, running) = (other.try_free().unwrap(), other.try_free().unwrap());
+    other.on(processor(1), running).unwrap();
+    let CloseError::Open(mut hand) = hand.close().unwrap_err() else { panic!("another hand exists") };
+    hand.take_over();
     drop(other);
-    assert!(!hand.holds(lost) && !hand.serves(processor(0)));
-    let StillOpen { end: mut hand } = hand.close().unwrap_err();
-    assert_eq!(hand.try_free(), Ok(element(1)));
+    drop(hand.split(Processors::NONE).unwrap());
+    assert!(!hand.holds(held) && !hand.serves(processor(0)));
+    let mut third = hand.split(Processors::NONE).unwrap();
+    assert!(!third.holds(held));
+    third.take_over();
+    assert!(third.holds(held) && third.serves(processor(0)) && !third.serves(processor(2)));
+    assert_eq!(third.off(processor(1)), Ok(running));
+    drop(third);
+    // The last hand has all by itself.
+    let places = hand.close().unwrap();
+    assert_eq!(places.places[..3], [Place::Held, Place::Held, Place::Free]);
 }
 
 #[test]
-fn a_hand_can_be_split_again_once_others_are_joined() {
+fn hands_are_split_in_a_chain_and_beside_each_other() {
     let mut hands = vec![Hand::new().unwrap()];
-    let refusal = loop {
-        match hands.last_mut().unwrap().split(255) {
-            Ok(hand) => hands.push(hand),
-            Err(refusal) => break refusal,
-        }
-    };
-    assert_eq!(refusal, HandSplitRefusal::NoShare);
+    for _ in 0..1000 {
+        let hand = hands.last_mut().unwrap().split(Processors::ALL).unwrap();
+        hands.push(hand);
+        let hand = hands[0].split(Processors::NONE).unwrap();
+        hands.insert(0, hand);
+    }
     let mut last = hands.pop().unwrap();
-    last.join(hands.pop().unwrap()).unwrap();
-    hands.push(last.split(255).unwrap());
+    assert!(Processor::all().all(|processor| last.serves(processor)));
+    let dropped = hands.split_off(1000);
     for hand in hands {
         last.join(hand).unwrap();
     }
+    let last = last.close().unwrap_err().into_inner();
+    drop(dropped);
     assert!(last.close().is_ok());
 }
 
 #[test]
-fn refusals_are_told() {
-    let told: [(Box<dyn Error>, &str); 16] = [
-        (Box::new(HandRefusal::BadFirst), "the first position is over 4,294,967,231"),
-        (Box::new(HandRefusal::OutOfMemory), "no memory"),
-        (Box::new(HandSplitRefusal::NotServed), "the hand doesn't serve the processor"),
-        (Box::new(HandSplitRefusal::Busy), "an element stands on the processor"),
-        (Box::new(HandSplitRefusal::NoShare), "the end was split too often"),
-        (Box::new(OnRefusal::NotHeld), "the hand doesn't hold the element"),
-        (Box::new(OnRefusal::Busy), "an element stands on the processor"),
-        (Box::new(OffRefusal::Vacant), "no element stands on the processor"),
-        (Box::new(NotHeld), "the hand neither holds the element nor has it on a processor"),
-        (Box::new(StepRefusal::Spent), "the element's steps are spent"),
-        (Box::new(NextRefusal::NoneReady), "nothing is raised at the tail"),
-        (Box::new(NextRefusal::Lost { tail: 6 }), "lost, tail 6"),
-        (Box::new(MoveRefusal::Spent), "the queue's positions are spent"),
-        (Box::new(MoveRefusal::Moved { notifies: 2 }), "the number of notifies is 2"),
-        (Box::new(MoveRefusal::Lost { head: 3, notifies: 1 }), "lost, head 3, notifies 1"),
-        (Box::new(StateRefusal::NotHeld), "the hand doesn't hold the element"),
+fn sets_of_processors_are_made_of_processors() {
+    let some: Processors = [1, 7, 1].map(processor).into_iter().collect();
+    assert_eq!((some.len(), some.is_empty(), Processors::NONE.is_empty()), (2, false, true));
+    assert_eq!(some, processor(7) | processor(1) | Processors::NONE);
+    assert!(some.iter().rev().map(Processor::number).eq([7, 1]));
+    let mut more = some;
+    more |= processor(0);
+    more.extend([processor(2)]);
+    assert_eq!(format!("{more:?}"), "{0, 1, 2, 7}");
+    assert!(more.contains(processor(2)) && !some.contains(processor(2)));
+    assert_eq!(Processors::from(processor(3)).iter().collect::<Vec<_>>(), [processor(3)]);
+    assert_eq!(Processors::ALL.iter().count(), 8);
+}
+
+#[test]
+fn errors_say_why() {
+    let errors: [(Box<dyn Error>, &str); 16] = [
+        (Box::new(NewError::BadFirst), "the first position is over 4,294,967,231"),
+        (Box::new(NewError::OutOfMemory), "out of memory"),
+        (Box::new(SplitError::NotServed), "the hand doesn't serve the processor"),
+        (Box::new(SplitError::Busy), "an element is on the processor"),
+        (Box::new(SplitError::NoShare), "the table has too many hands"),
+        (Box::new(OnError::NotHeld), "the hand doesn't hold the element"),
+        (Box::new(OnError::Busy), "an element is on the processor"),
+        (Box::new(OffError::Vacant), "no element is on the processor"),
+        (Box::new(NotHeldError), "the hand neither holds the element nor has it on a processor"),
+        (Box::new(StepError::Spent), "the element's steps are spent"),
+        (Box::new(TakeError::Empty), "nothing raised at the tail"),
+        (Box::new(TakeError::Lost { tail: 6 }), "lost, tail 6"),
+        (Box::new(MoveError::Spent), "the queue's positions are spent"),
+        (Box::new(MoveError::Moved { notifies: 2 }), "the number of notifies is 2"),
+        (Box::new(MoveError::Lost { head: 3, notifies: 1 }), "lost, head 3, notifies 1"),
+        (Box::new(StateError::NotHeld), "the hand doesn't hold the element"),
     ];
-    for (error, words) in told {
+    for (error, words) in errors {
         assert_eq!(error.to_string(), words);
     }
     assert_eq!((Processor::new(8), WaitNumber::new(16)), (None, None));

@@ -1,7 +1,8 @@
-//! A line from one thread to another, and its refusals.
+//! A line from one thread to another, and its errors.
 
+use std::io::{ErrorKind, Read, Write};
 use std::thread;
-use synthesis_kernel::{finish, line, LineRefusal, OtherObject};
+use synthesis_kernel::line::{NewError, finish, line};
 
 const BYTES: usize = 100_000;
 
@@ -34,28 +35,51 @@ fn all_bytes_come_in_order() {
 }
 
 #[test]
-fn refusals_come_back() {
-    assert_eq!(line(0).unwrap_err(), LineRefusal::BadRoom);
-    assert_eq!(line(65_537).unwrap_err(), LineRefusal::BadRoom);
-    assert_eq!(LineRefusal::BadRoom.to_string(), "a line has room for 1 to 65,536 bytes");
+fn errors_come_back() {
+    assert_eq!(line(0).unwrap_err(), NewError::BadCapacity);
+    assert_eq!(line(65_537).unwrap_err(), NewError::BadCapacity);
+    assert_eq!(NewError::BadCapacity.to_string(), "a line has room for 1 to 65,536 bytes");
     let (mut input, output) = line(65_536).unwrap();
     let (other_input, mut other_output) = line(1).unwrap();
     input.push(5).unwrap();
     assert_eq!(other_output.pop(), None);
-    let OtherObject { end: (input, other_output) } = finish(input, other_output).unwrap_err();
+    let (input, other_output) = finish(input, other_output).unwrap_err().into_inner();
     assert_eq!(finish(other_input, other_output).unwrap().sent, 0);
     assert_eq!(finish(input, output).unwrap().left, 1);
 }
 
 #[test]
-fn one_end_goes_on_when_the_other_is_dropped() {
+fn one_half_goes_on_and_ends_the_line_when_the_other_is_dropped() {
     let (mut input, mut output) = line(1).unwrap();
     input.push(8).unwrap();
+    assert!(!output.is_closed());
+    let mut output = output.close().unwrap_err().into_inner();
     drop(input);
+    assert!(output.is_closed());
     assert_eq!(output.pop(), Some(8));
     assert_eq!(output.pop(), None);
+    let totals = output.close().unwrap();
+    assert_eq!((totals.sent, totals.received, totals.left), (1, 1, 0));
     let (mut input, output) = line(1).unwrap();
     drop(output);
     assert_eq!(input.push(1), Ok(()));
     assert_eq!(input.push(2), Err(2));
+    let totals = input.close().unwrap();
+    assert_eq!((totals.sent, totals.received, totals.left), (1, 0, 1));
+}
+
+#[test]
+fn halves_read_and_write() {
+    let (mut input, mut output) = line(4).unwrap();
+    let mut buffer = [0; 8];
+    assert_eq!(output.read(&mut buffer).unwrap_err().kind(), ErrorKind::WouldBlock);
+    assert_eq!(input.write(b"abcdef").unwrap(), 4);
+    assert_eq!(input.write(b"ef").unwrap_err().kind(), ErrorKind::WouldBlock);
+    assert_eq!((input.write(b"").unwrap(), output.read(&mut []).unwrap()), (0, 0));
+    assert_eq!((output.read(&mut buffer[..3]).unwrap(), &buffer[..3]), (3, &b"abc"[..]));
+    drop(input);
+    assert_eq!((output.read(&mut buffer).unwrap(), buffer[0]), (1, b'd'));
+    assert_eq!(output.read(&mut buffer).unwrap(), 0);
+    let (mut input, _) = line(4).unwrap();
+    assert_eq!(input.write(b"a").unwrap_err().kind(), ErrorKind::BrokenPipe);
 }

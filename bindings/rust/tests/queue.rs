@@ -1,8 +1,9 @@
-//! The claim queue from several threads, its refusals, and what drops leave.
+//! The claim queue from several threads, its errors, and what drops leave.
 
 use std::error::Error;
 use std::thread;
-use synthesis_kernel::{ClaimRefusal, OtherObject, QueueEnd, SplitRefusal, StillOpen, TakeRefusal};
+use synthesis_kernel::queue::{PutError, QueueEnd, TakeError};
+use synthesis_kernel::{CloseError, OutOfMemory, SplitError};
 
 const PRODUCERS: u64 = 3;
 const ITEMS: u64 = 30_000;
@@ -14,8 +15,8 @@ fn put_all(mut end: QueueEnd<256>, producer: u64) -> QueueEnd<256> {
         let run: Vec<u64> = (next..ITEMS.min(next + 1 + next % 5)).map(|item| producer << 32 | item).collect();
         match end.try_put(&run) {
             Ok(_) => next += run.len() as u64,
-            Err(ClaimRefusal::Full { .. }) => thread::yield_now(),
-            Err(ClaimRefusal::Lost { .. }) => {}
+            Err(PutError::Full { .. }) => thread::yield_now(),
+            Err(PutError::Lost { .. }) => {}
             Err(why) => panic!("{why}"),
         }
     }
@@ -28,7 +29,7 @@ fn take_all(mut end: QueueEnd<256>, at_once: usize) -> (QueueEnd<256>, Vec<u64>)
     loop {
         match end.take_up_to(&mut items) {
             Ok(count) => taken.extend(&items[..count]),
-            Err(TakeRefusal::Closed) => return (end, taken),
+            Err(TakeError::Closed) => return (end, taken),
             Err(_) => thread::yield_now(),
         }
     }
@@ -63,51 +64,52 @@ fn every_item_is_taken_once_in_each_producers_order() {
 }
 
 #[test]
-fn refusals_come_in_their_order() {
+fn errors_come_in_their_order() {
     let mut end = QueueEnd::<64>::new(u32::MAX - 65).unwrap();
-    assert_eq!(end.try_put(&[]), Err(ClaimRefusal::NoItems));
-    assert_eq!(end.try_put(&[0; 65]), Err(ClaimRefusal::TooLong));
+    assert_eq!(end.try_put(&[]), Err(PutError::NoItems));
+    assert_eq!(end.try_put(&[0; 65]), Err(PutError::TooLong));
     assert_eq!(end.try_put(&[1; 63]), Ok(u32::MAX - 65));
-    assert_eq!(end.try_put(&[1; 3]), Err(ClaimRefusal::Spent));
-    assert_eq!(end.try_put(&[1; 2]), Err(ClaimRefusal::Full { head: u32::MAX - 2, tail: u32::MAX - 65 }));
+    assert_eq!(end.try_put(&[1; 3]), Err(PutError::Spent));
+    assert_eq!(end.try_put(&[1; 2]), Err(PutError::Full { head: u32::MAX - 2, tail: u32::MAX - 65 }));
     assert_eq!(end.try_put(&[1]), Ok(u32::MAX - 2));
-    assert_eq!(end.try_put(&[1]), Err(ClaimRefusal::Full { head: u32::MAX - 1, tail: u32::MAX - 65 }));
+    assert_eq!(end.try_put(&[1]), Err(PutError::Full { head: u32::MAX - 1, tail: u32::MAX - 65 }));
     assert!(end.shut());
-    assert_eq!(end.try_put(&[1; 64]), Err(ClaimRefusal::Closed));
+    assert_eq!(end.try_put(&[1; 64]), Err(PutError::Closed));
     assert_eq!(end.take_up_to(&mut []), Ok(0));
     assert_eq!(end.take_up_to(&mut [0; 70]), Ok(64));
-    assert_eq!(end.take_up_to(&mut [0; 70]), Err(TakeRefusal::Closed));
-    assert_eq!(end.try_take_line(&mut [0; 64]), Err(TakeRefusal::Closed));
+    assert_eq!(end.take_up_to(&mut [0; 70]), Err(TakeError::Closed));
+    assert_eq!(end.try_take_line(&mut [0; 64]), Err(TakeError::Closed));
 }
 
 #[test]
-fn refusals_are_told() {
-    assert_eq!(ClaimRefusal::Full { head: 3, tail: 1 }.to_string(), "full at head 3, tail 1");
-    assert_eq!(ClaimRefusal::Lost { head: 4 }.to_string(), "lost, head 4");
-    assert_eq!(TakeRefusal::Empty { at: 5 }.to_string(), "nothing raised at 5");
-    assert_eq!(TakeRefusal::Lost { tail: 6 }.to_string(), "lost, tail 6");
-    assert_eq!(TakeRefusal::Closed.to_string(), "the queue is shut and empty");
-    let told: [Box<dyn Error>; 3] =
-        [Box::new(StillOpen { end: () }), Box::new(OtherObject { end: () }), Box::new(SplitRefusal::NoShare)];
-    let words = [
-        "other ends stand, or were dropped and not joined",
-        "the ends are of two objects",
-        "the end was split too often",
+fn errors_say_why() {
+    assert_eq!(PutError::Full { head: 3, tail: 1 }.to_string(), "full at head 3, tail 1");
+    assert_eq!(PutError::Lost { head: 4 }.to_string(), "lost, head 4");
+    assert_eq!(TakeError::Empty { at: 5 }.to_string(), "nothing raised at 5");
+    assert_eq!(TakeError::Lost { tail: 6 }.to_string(), "lost, tail 6");
+    assert_eq!(TakeError::Closed.to_string(), "the queue is shut and empty");
+    let errors: [Box<dyn Error>; 5] = [
+        Box::new(CloseError::Open(())),
+        Box::new(CloseError::Running(())),
+        Box::new(SplitError::NoShare),
+        Box::new(SplitError::OutOfMemory),
+        Box::new(OutOfMemory),
     ];
-    assert_eq!(told.map(|error| error.to_string()), words);
+    let words =
+        ["other ends exist", "the end runs notes", "the object has too many ends", "out of memory", "out of memory"];
+    assert_eq!(errors.map(|error| error.to_string()), words);
 }
 
 #[test]
-fn a_queue_of_which_an_end_was_dropped_is_never_closed() {
+fn a_dropped_end_gives_its_share_back() {
     let mut end = QueueEnd::<64>::new(0).unwrap();
     let mut other = end.split().unwrap();
     other.try_put(&[7, 8]).unwrap();
     assert_eq!(end.try_take(), Ok(7));
-    let StillOpen { end } = end.close().unwrap_err();
+    let end = end.close().unwrap_err().into_inner();
     drop(other);
-    let StillOpen { mut end } = end.close().unwrap_err();
-    assert_eq!((end.try_take(), end.try_take()), (Ok(8), Err(TakeRefusal::Empty { at: 2 })));
-    assert!(end.close().is_err());
+    let closed = end.close().unwrap();
+    assert_eq!((closed.put, closed.taken, closed.left), (2, 1, vec![8]));
 }
 
 #[test]
@@ -115,26 +117,51 @@ fn an_end_of_another_queue_comes_back_whole() {
     let mut end = QueueEnd::<64>::new(0).unwrap();
     let mut stranger = QueueEnd::<64>::new(0).unwrap();
     stranger.try_put(&[9]).unwrap();
-    let OtherObject { end: stranger } = end.join(stranger).unwrap_err();
+    let stranger = end.join(stranger).unwrap_err().into_inner();
     assert_eq!(stranger.close().unwrap().left, [9]);
     assert!(end.close().is_ok());
 }
 
 #[test]
-fn an_end_can_be_split_again_once_others_are_joined() {
+fn ends_are_split_in_a_chain_and_beside_each_other() {
     let mut ends = vec![QueueEnd::<64>::new(0).unwrap()];
-    let refusal = loop {
-        match ends.last_mut().unwrap().split() {
-            Ok(end) => ends.push(end),
-            Err(refusal) => break refusal,
-        }
-    };
-    assert_eq!(refusal, SplitRefusal::NoShare);
+    for _ in 0..1000 {
+        ends.push(ends.last().unwrap().split().unwrap());
+        ends.push(ends[0].split().unwrap());
+    }
     let mut last = ends.pop().unwrap();
-    last.join(ends.pop().unwrap()).unwrap();
-    ends.push(last.split().unwrap());
-    for end in ends {
+    for end in ends.drain(..1000) {
         last.join(end).unwrap();
     }
+    let last = last.close().unwrap_err().into_inner();
+    drop(ends);
     assert!(last.close().is_ok());
+}
+
+/// The calls that need no end for themselves are made by `&`.
+#[test]
+fn threads_split_what_they_share() {
+    let end = QueueEnd::<256>::new(0).unwrap();
+    thread::scope(|scope| {
+        for item in 0..8 {
+            let end = &end;
+            scope.spawn(move || end.split().unwrap().try_put_until(item));
+        }
+    });
+    assert_eq!(end.capacity(), 256);
+    let mut left = end.close().unwrap().left;
+    left.sort_unstable();
+    assert!(left.into_iter().eq(0..8));
+}
+
+trait TryPutUntil {
+    fn try_put_until(self, item: u64);
+}
+
+impl TryPutUntil for QueueEnd<256> {
+    fn try_put_until(mut self, item: u64) {
+        while let Err(error) = self.try_put(&[item]) {
+            assert!(matches!(error, PutError::Lost { .. }));
+        }
+    }
 }

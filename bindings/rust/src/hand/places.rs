@@ -1,12 +1,12 @@
 //! The close of a table, and where the elements are then.
 
 use super::Hand;
-use crate::ends::{closed, StillOpen};
+use crate::ends::CloseError;
 use crate::names::{Processor, WaitNumber};
 use crate::raw;
 
 /// Where an element is.
-#[derive(Clone, Copy, Debug, PartialEq, Eq)]
+#[derive(Clone, Copy, Debug, PartialEq, Eq, Hash)]
 pub enum Place {
     /// On this processor.
     Processor(Processor),
@@ -22,7 +22,7 @@ pub enum Place {
     Held,
 }
 
-/// What a table had at its end, each list by the number of the element.
+/// The elements of a table at its end, each list by the number of the element.
 #[derive(Clone, Debug, PartialEq, Eq)]
 pub struct Places {
     /// Where each element is.
@@ -39,25 +39,37 @@ impl Place {
     /// The place that a call of the library told.
     fn told(place: raw::Place) -> Place {
         match place.kind {
-            raw::PROCESSOR => Place::Processor(Processor::told(place.number)),
-            raw::READY => Place::Ready,
-            raw::FREE => Place::Free,
-            raw::WAIT => Place::Wait(WaitNumber::told(place.number)),
-            raw::STOPPED => Place::Stopped,
-            raw::HELD => Place::Held,
+            raw::PLACE_PROCESSOR => Place::Processor(Processor::told(place.number)),
+            raw::PLACE_READY => Place::Ready,
+            raw::PLACE_FREE => Place::Free,
+            raw::PLACE_WAIT => Place::Wait(WaitNumber::told(place.number)),
+            raw::PLACE_STOPPED => Place::Stopped,
+            raw::PLACE_HELD => Place::Held,
             kind => unreachable!("the library told a place of kind {kind}"),
         }
     }
 }
 
 impl Hand {
-    /// Closes the table where every other hand has been joined, and tells of each element. Where others stand, or were
-    /// dropped, this one comes back.
-    pub fn close(mut self) -> Result<Places, StillOpen<Hand>> {
-        let mut told = raw::Places::default();
-        let code = raw::synth_raw_hand_close(&mut self.handle, &mut told);
-        closed(code, self)?;
-        let raw::Places { place, pc, pending, stops } = told;
+    /// Closes the table, and returns where each element is. If other hands exist, this one comes back.
+    ///
+    /// ```
+    /// # use synthesis_kernel::hand::{Hand, Place};
+    /// let mut hand = Hand::new()?;
+    /// let element = hand.try_free()?;
+    /// let places = hand.close()?;
+    /// assert_eq!(places.places[usize::from(element)], Place::Held);
+    /// assert_eq!(places.places[63], Place::Free);
+    /// # Ok::<(), Box<dyn std::error::Error>>(())
+    /// ```
+    pub fn close(mut self) -> Result<Places, CloseError<Hand>> {
+        let Some(handle) = self.share.whole() else { return Err(CloseError::Open(self)) };
+        let mut found = raw::Places::default();
+        match raw::synth_raw_hand_close(&mut handle.0, &mut found) {
+            raw::OK => {}
+            code => raw::no_such_answer(code),
+        }
+        let raw::Places { place, pc, pending, stops } = found;
         Ok(Places { places: place.map(Place::told), pcs: pc, pending, stops })
     }
 }

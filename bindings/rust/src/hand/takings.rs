@@ -6,10 +6,11 @@ use crate::raw;
 use crate::words::says;
 
 /// Why an element was not taken.
-#[derive(Clone, Copy, Debug, PartialEq, Eq)]
-pub enum NextRefusal {
+#[derive(Clone, Copy, Debug, PartialEq, Eq, Hash)]
+#[non_exhaustive]
+pub enum TakeError {
     /// The first place was not raised: the queue is empty, or a hand has claimed that place and not raised it yet.
-    NoneReady,
+    Empty,
     /// Another hand took first.
     Lost {
         /// The tail that was found, past the one that was loaded.
@@ -17,56 +18,85 @@ pub enum NextRefusal {
     },
 }
 
-says!(NextRefusal {
-    NextRefusal::NoneReady => "nothing is raised at the tail",
-    NextRefusal::Lost { tail } => "lost, tail {tail}",
+says!(TakeError {
+    TakeError::Empty => "nothing raised at the tail",
+    TakeError::Lost { tail } => "lost, tail {tail}",
 });
 
 /// What a try to take this element answers.
-fn taken(answer: raw::Answer, element: u32) -> Result<Element, NextRefusal> {
+fn taken(answer: raw::Answer, element: u32) -> Result<Element, TakeError> {
     match answer.code {
-        raw::DONE => Ok(Element::told(element)),
-        raw::EMPTY => Err(NextRefusal::NoneReady),
-        raw::LOST => Err(NextRefusal::Lost { tail: answer.tail }),
+        raw::OK => Ok(Element::told(element)),
+        raw::EMPTY => Err(TakeError::Empty),
+        raw::LOST => Err(TakeError::Lost { tail: answer.tail }),
         code => raw::no_such_answer(code),
     }
 }
 
 impl Hand {
     /// One try to take the oldest element of the ready ring, which the hand then holds.
-    pub fn try_next(&mut self) -> Result<Element, NextRefusal> {
+    ///
+    /// ```
+    /// # use synthesis_kernel::hand::{Hand, TakeError};
+    /// let mut hand = Hand::new()?;
+    /// assert_eq!(hand.try_next(), Err(TakeError::Empty));
+    /// let element = hand.try_free()?;
+    /// hand.try_ready(element)?;
+    /// assert_eq!(hand.try_next(), Ok(element));
+    /// # Ok::<(), Box<dyn std::error::Error>>(())
+    /// ```
+    pub fn try_next(&mut self) -> Result<Element, TakeError> {
         let mut element = 0;
-        let answer = raw::synth_raw_hand_try_next(&mut self.handle, &mut element);
+        let answer = raw::synth_raw_hand_try_next(&mut self.share.handle().0, &mut element);
         taken(answer, element)
     }
 
     /// One try to take the oldest of the free elements, which the hand then holds.
-    pub fn try_free(&mut self) -> Result<Element, NextRefusal> {
+    ///
+    /// ```
+    /// # use synthesis_kernel::hand::{Hand, TakeError};
+    /// let mut hand = Hand::new()?;
+    /// assert_eq!(hand.try_free()?.number(), 0);
+    /// assert_eq!(hand.try_free()?.number(), 1);
+    /// # Ok::<(), Box<dyn std::error::Error>>(())
+    /// ```
+    pub fn try_free(&mut self) -> Result<Element, TakeError> {
         let mut element = 0;
-        let answer = raw::synth_raw_hand_try_free(&mut self.handle, &mut element);
+        let answer = raw::synth_raw_hand_try_free(&mut self.share.handle().0, &mut element);
         taken(answer, element)
     }
 
     /// One try to take the oldest element of a wait queue, which the hand then holds.
-    pub fn try_wake(&mut self, wait: WaitNumber) -> Result<Element, NextRefusal> {
+    pub fn try_wake(&mut self, wait: WaitNumber) -> Result<Element, TakeError> {
         let mut element = 0;
-        let answer = raw::synth_raw_hand_try_wake(&mut self.handle, wait.raw(), &mut element);
+        let answer = raw::synth_raw_hand_try_wake(&mut self.share.handle().0, wait.raw(), &mut element);
         taken(answer, element)
     }
 
-    /// Counts one more notify of a wait queue, by one step: no wait by an older ticket succeeds from then on. Gives the
-    /// position behind the last place that was claimed before, for `try_wake_before`.
+    /// Counts one more notify of a wait queue, by one step: no wait by an older ticket succeeds from then on. Returns the
+    /// position after the last place that was claimed before, for `try_wake_before`.
+    ///
+    /// ```
+    /// # use synthesis_kernel::Hand;
+    /// # use synthesis_kernel::WaitNumber;
+    /// let wait = WaitNumber::new(0).unwrap();
+    /// let mut hand = Hand::new()?;
+    /// let element = hand.try_free()?;
+    /// hand.try_wait(element, wait)?;
+    /// assert_eq!(hand.notify(wait), 1);
+    /// # Ok::<(), Box<dyn std::error::Error>>(())
+    /// ```
     pub fn notify(&mut self, wait: WaitNumber) -> u32 {
         let mut head = 0;
-        match raw::synth_raw_hand_notify(&mut self.handle, wait.raw(), &mut head) {
-            raw::DONE => head,
+        match raw::synth_raw_hand_notify(&mut self.share.handle().0, wait.raw(), &mut head) {
+            raw::OK => head,
             code => raw::no_such_answer(code),
         }
     }
 
     /// One try to take the oldest element of a wait queue, as long as a place is left that was claimed before `head`,
-    /// which a notify of this queue gave. None where each such place is taken, by this hand or others. NoneReady means
-    /// here that the next try may find more. Where another hand takes meanwhile the element may be of a place behind
+    /// which a notify of this queue returned. `None` if each such place is taken, by this hand or others. `Empty` means
+    /// here that the next try may find more. If another hand takes meanwhile, the element may be of a place after
     /// `head`.
     ///
     /// ```
@@ -81,9 +111,9 @@ impl Hand {
     /// assert_eq!(hand.try_wake_before(wait, head), Ok(None));
     /// # Ok::<(), Box<dyn std::error::Error>>(())
     /// ```
-    pub fn try_wake_before(&mut self, wait: WaitNumber, head: u32) -> Result<Option<Element>, NextRefusal> {
+    pub fn try_wake_before(&mut self, wait: WaitNumber, head: u32) -> Result<Option<Element>, TakeError> {
         let mut element = 0;
-        let answer = raw::synth_raw_hand_try_wake_before(&mut self.handle, wait.raw(), head, &mut element);
+        let answer = raw::synth_raw_hand_try_wake_before(&mut self.share.handle().0, wait.raw(), head, &mut element);
         if answer.code == raw::ALL_WOKEN {
             return Ok(None);
         }

@@ -1,14 +1,15 @@
 //! A put that sleeps while the queue is full, and a taking that sleeps while it is empty.
 
-use super::{ClaimRefusal, QueueEnd, TakeRefusal};
+use super::{PutError, QueueEnd, TakeError};
 use crate::event::Event;
+use std::hint;
 use std::time::Duration;
 
 /// The events of one queue, on which its producers and its takers sleep. Nothing of it is proved.
 ///
 /// ```
 /// use std::thread;
-/// use synthesis_kernel::{QueueEnd, QueueEvents, TakeRefusal};
+/// use synthesis_kernel::queue::{QueueEnd, QueueEvents, TakeError};
 ///
 /// static EVENTS: QueueEvents = QueueEvents::new();
 ///
@@ -26,7 +27,7 @@ use std::time::Duration;
 ///     sum += item;
 /// }
 /// assert_eq!(sum, 499_500);
-/// assert_eq!(end.take_wait(&EVENTS, None), Err(TakeRefusal::Closed));
+/// assert_eq!(end.take_wait(&EVENTS, None), Err(TakeError::Closed));
 /// # thread.join().unwrap();
 /// # Ok::<(), Box<dyn std::error::Error>>(())
 /// ```
@@ -55,11 +56,24 @@ impl QueueEvents {
 }
 
 impl<const N: usize> QueueEnd<N> {
-    /// Puts an item, and sleeps while the queue is full. Gives its position. `Full` if the time is over, and else what
-    /// `try_put` refuses except `Lost`.
-    pub fn put_wait(&mut self, item: u64, events: &QueueEvents, limit: Option<Duration>) -> Result<u32, ClaimRefusal> {
+    /// Puts an item, and sleeps while the queue is full. Returns its position, or `Full` if the time is over, or another
+    /// error of [`try_put`](QueueEnd::try_put) except `Lost`.
+    ///
+    /// ```
+    /// # use std::time::Duration;
+    /// # use synthesis_kernel::queue::{PutError, QueueEnd, QueueEvents};
+    /// let events = QueueEvents::new();
+    /// let mut end = QueueEnd::<64>::new(0)?;
+    /// end.try_put(&[7; 64])?;
+    /// let limit = Some(Duration::from_millis(1));
+    /// assert_eq!(end.put_wait(8, &events, limit), Err(PutError::Full { head: 64, tail: 0 }));
+    /// assert_eq!(end.take_wait(&events, limit), Ok(7));
+    /// assert_eq!(end.put_wait(8, &events, limit), Ok(64));
+    /// # Ok::<(), Box<dyn std::error::Error>>(())
+    /// ```
+    pub fn put_wait(&mut self, item: u64, events: &QueueEvents, limit: Option<Duration>) -> Result<u32, PutError> {
         let put = events.places.wait_for(limit, || match self.put(item) {
-            Err(ClaimRefusal::Full { .. }) => None,
+            Err(PutError::Full { .. }) => None,
             answer => Some(answer),
         });
         let answer = put.unwrap_or_else(|| self.put(item));
@@ -69,11 +83,11 @@ impl<const N: usize> QueueEnd<N> {
         answer
     }
 
-    /// Takes the first item left, and sleeps while there is none. `Empty` if the time is over, and `Closed` if nothing
-    /// will ever come.
-    pub fn take_wait(&mut self, events: &QueueEvents, limit: Option<Duration>) -> Result<u64, TakeRefusal> {
+    /// Takes the first item left, and sleeps while there is none. Returns `Empty` if the time is over, and `Closed` if
+    /// nothing will ever come.
+    pub fn take_wait(&mut self, events: &QueueEvents, limit: Option<Duration>) -> Result<u64, TakeError> {
         let taken = events.items.wait_for(limit, || match self.take() {
-            Err(TakeRefusal::Empty { .. }) => None,
+            Err(TakeError::Empty { .. }) => None,
             answer => Some(answer),
         });
         let answer = taken.unwrap_or_else(|| self.take());
@@ -84,20 +98,20 @@ impl<const N: usize> QueueEnd<N> {
     }
 
     /// Tries to put an item until no other end was first.
-    fn put(&mut self, item: u64) -> Result<u32, ClaimRefusal> {
+    fn put(&mut self, item: u64) -> Result<u32, PutError> {
         loop {
             match self.try_put(&[item]) {
-                Err(ClaimRefusal::Lost { .. }) => {}
+                Err(PutError::Lost { .. }) => hint::spin_loop(),
                 answer => return answer,
             }
         }
     }
 
     /// Tries to take an item until no other end was first.
-    fn take(&mut self) -> Result<u64, TakeRefusal> {
+    pub(super) fn take(&mut self) -> Result<u64, TakeError> {
         loop {
             match self.try_take() {
-                Err(TakeRefusal::Lost { .. }) => {}
+                Err(TakeError::Lost { .. }) => hint::spin_loop(),
                 answer => return answer,
             }
         }

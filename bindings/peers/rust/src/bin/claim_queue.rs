@@ -27,7 +27,7 @@ impl Takes for Taker {
 }
 
 fn make(ends: usize) -> Result<Vec<(Putter, Taker)>, Box<dyn Error>> {
-    let mut first = QueueEnd::new(0)?;
+    let first = QueueEnd::new(0)?;
     let taker = first.split()?;
     let mut others = Vec::new();
     for _ in 1..ends {

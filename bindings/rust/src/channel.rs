@@ -1,0 +1,84 @@
+//! Channels: a bounded queue of items of any type, for any number of senders and receivers.
+//!
+//! [`channel`](channel()) makes one. Its halves are [`Sender`] and [`Receiver`]. Their calls have the names, the answers
+//! and the errors of [`std::sync::mpsc`]'s, and both halves can be cloned and shared.
+//!
+//! Below it is one batch queue of words. An item of up to 8 bytes is in its word, and a larger one in a box, which the
+//! word points to. Whoever receives an item sees all that was done before it was sent.
+//!
+//! The `try_` calls are lock-free as long as no half is used by two threads at once: so clone it for each thread. The
+//! other calls sleep on an [`Event`](crate::Event) while the channel is full or empty. If nobody sleeps, this costs a call one load.
+//! What a call does to the queue is proved, on the library's side of it. The words, the sleeps and the counts of halves
+//! are this crate's, and are only tested.
+
+mod errors;
+mod half;
+mod iter;
+mod receiver;
+mod sender;
+mod word;
+
+pub use errors::{RecvError, RecvTimeoutError, SendError, SendTimeoutError, TryRecvError, TrySendError};
+pub use iter::{IntoIter, Iter, TryIter};
+pub use receiver::Receiver;
+pub use sender::Sender;
+
+use crate::batch::NewError;
+use half::{Half, Shared};
+use std::sync::Arc;
+
+/// The most items that a channel has room for.
+const MOST: usize = 1 << 24;
+
+/// Makes a channel with room for `capacity` items, or more: the next power of two.
+///
+/// ```
+/// use std::thread;
+/// use synthesis_kernel::channel;
+///
+/// let (sender, receiver) = channel(64);
+/// let threads = [0, 1].map(|number| {
+///     let sender = sender.clone();
+///     thread::spawn(move || sender.send(format!("from {number}")))
+/// });
+/// drop(sender);
+/// let mut texts: Vec<String> = receiver.iter().collect();
+/// texts.sort();
+/// assert_eq!(texts, ["from 0", "from 1"]);
+/// # threads.map(|thread| thread.join().unwrap().unwrap());
+/// ```
+///
+/// # Panics
+///
+/// If the capacity is 0 or over 16,777,216, or if memory is refused. [`try_channel`] returns an error.
+#[must_use]
+#[track_caller]
+pub fn channel<T>(capacity: usize) -> (Sender<T>, Receiver<T>) {
+    match try_channel(capacity) {
+        Ok(halves) => halves,
+        Err(error) => panic!("no channel of capacity {capacity}: {error}"),
+    }
+}
+
+/// As [`channel`](channel()), with an error in the place of a panic.
+///
+/// ```
+/// use synthesis_kernel::batch::NewError;
+/// use synthesis_kernel::channel::try_channel;
+///
+/// let (sender, receiver) = try_channel(100)?;
+/// assert_eq!(sender.capacity(), 128);
+/// sender.try_send('x')?;
+/// assert_eq!(receiver.recv(), Ok('x'));
+/// assert_eq!(try_channel::<char>(0).unwrap_err(), NewError::BadCapacity);
+/// # Ok::<(), Box<dyn std::error::Error>>(())
+/// ```
+pub fn try_channel<T>(capacity: usize) -> Result<(Sender<T>, Receiver<T>), NewError> {
+    if !(1..=MOST).contains(&capacity) {
+        return Err(NewError::BadCapacity);
+    }
+    let shared = Arc::new(Shared::new(capacity.next_power_of_two())?);
+    let sender = Half::new(&shared).map_err(|_| NewError::OutOfMemory)?;
+    let receiver = Half::new(&shared).map_err(|_| NewError::OutOfMemory)?;
+    Ok((Sender::new(sender), Receiver::new(receiver)))
+}

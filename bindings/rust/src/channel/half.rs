@@ -1,0 +1,258 @@
+//! What both halves of a channel have in common: the queue, and who is asleep.
+
+use super::word::{Word, drop_all, unpack};
+use crate::batch::NewError;
+use crate::ends::{SplitError, split_error};
+use crate::event::Event;
+use crate::raw;
+use std::cell::UnsafeCell;
+use std::hint;
+use std::iter;
+use std::marker::PhantomData;
+use std::sync::atomic::{AtomicBool, AtomicUsize, Ordering};
+use std::sync::{Arc, Mutex, MutexGuard, PoisonError};
+use std::time::Duration;
+
+/// So many short waits come before a sleep, each twice as long as the one before. All take about a microsecond.
+const SHORT_WAITS: u32 = 5;
+
+/// What all halves of a channel share. No call takes its lock except a clone, a drop, and a call on a half that another
+/// thread uses at the same moment.
+pub(super) struct Shared<T> {
+    handles: Mutex<Handles>,
+    pub(super) capacity: usize,
+    /// How many senders and how many receivers exist.
+    pub(super) senders: AtomicUsize,
+    pub(super) receivers: AtomicUsize,
+    /// Receivers sleep on it while the channel is empty.
+    pub(super) items: Event,
+    /// Senders sleep on it while the channel is full.
+    pub(super) room: Event,
+    /// The items are in the queue. Neither half of `&'static str`s is one of shorter-lived ones, nor the other way.
+    of: PhantomData<*mut T>,
+}
+
+/// The handles that no half has.
+struct Handles {
+    /// The share that no half has.
+    rest: raw::Batch,
+    /// What threads use that share a half, and find it in use.
+    extra: Vec<raw::Batch>,
+}
+
+/// A half: a handle, which one call at a time may use.
+pub(super) struct Half<T> {
+    is_used: AtomicBool,
+    handle: UnsafeCell<raw::Batch>,
+    pub(super) shared: Arc<Shared<T>>,
+}
+
+/// Why no word was put.
+#[derive(Clone, Copy, PartialEq, Eq)]
+pub(super) enum NotPut {
+    Full,
+    Closed,
+}
+
+/// Why no word was taken.
+#[derive(Clone, Copy, PartialEq, Eq)]
+pub(super) enum NotTaken {
+    Empty,
+    Closed,
+}
+
+impl<T> Shared<T> {
+    pub(super) fn new(capacity: usize) -> Result<Shared<T>, NewError> {
+        let mut rest = raw::Batch::default();
+        match raw::synth_raw_batch_new(capacity, &mut rest) {
+            raw::OK => {}
+            raw::NO_MEMORY => return Err(NewError::OutOfMemory),
+            code => raw::no_such_answer(code),
+        }
+        Ok(Shared {
+            handles: Mutex::new(Handles { rest, extra: Vec::new() }),
+            capacity,
+            senders: AtomicUsize::new(0),
+            receivers: AtomicUsize::new(0),
+            items: Event::new(),
+            room: Event::new(),
+            of: PhantomData,
+        })
+    }
+
+    fn handles(&self) -> MutexGuard<'_, Handles> {
+        // No call of the library unwinds, so what a poisoned lock guards is whole.
+        self.handles.lock().unwrap_or_else(PoisonError::into_inner)
+    }
+
+    /// A handle for a thread that finds its half in use.
+    fn extra(&self) -> Option<raw::Batch> {
+        let mut handles = self.handles();
+        if let Some(handle) = handles.extra.pop() {
+            return Some(handle);
+        }
+        let mut handle = raw::Batch::default();
+        split_error(raw::synth_raw_batch_split(&mut handles.rest, &mut handle)).ok()?;
+        Some(handle)
+    }
+}
+
+/// Looks until there is something, and sleeps on the event after a few short waits, which are cheaper than a sleep if
+/// another thread is just at work. `None` if the time is over.
+pub(super) fn wait<R>(event: &Event, limit: Option<Duration>, mut look: impl FnMut() -> Option<R>) -> Option<R> {
+    for round in 0..SHORT_WAITS {
+        let found = look();
+        if found.is_some() {
+            return found;
+        }
+        (0..1 << round).for_each(|_| hint::spin_loop());
+    }
+    event.wait_for(limit, look)
+}
+
+impl<T> Half<T> {
+    pub(super) fn new(shared: &Arc<Shared<T>>) -> Result<Half<T>, SplitError> {
+        let mut handle = raw::Batch::default();
+        split_error(raw::synth_raw_batch_split(&mut shared.handles().rest, &mut handle))?;
+        Ok(Half { is_used: AtomicBool::new(false), handle: UnsafeCell::new(handle), shared: Arc::clone(shared) })
+    }
+
+    /// Makes a call of the library, by the handle of this half, or by an extra one if another thread uses that.
+    #[inline]
+    fn call<R>(&self, call: impl FnOnce(&mut raw::Batch) -> R) -> R {
+        if self.is_used.swap(true, Ordering::Acquire) {
+            return self.call_beside(call);
+        }
+        // SAFETY: `is_used` was false, so no other thread uses the handle before it is false again, which it is
+        // after the call alone. The call doesn't come back here: it is one of the library's.
+        let result = call(unsafe { &mut *self.handle.get() });
+        self.is_used.store(false, Ordering::Release);
+        result
+    }
+
+    #[cold]
+    fn call_beside<R>(&self, call: impl FnOnce(&mut raw::Batch) -> R) -> R {
+        if let Some(mut handle) = self.shared.extra() {
+            let result = call(&mut handle);
+            self.shared.handles().extra.push(handle);
+            return result;
+        }
+        // Out of memory. The thread that uses the handle is within a call, which ends.
+        while self.is_used.swap(true, Ordering::Acquire) {
+            std::thread::yield_now();
+        }
+        // SAFETY: as above.
+        let result = call(unsafe { &mut *self.handle.get() });
+        self.is_used.store(false, Ordering::Release);
+        result
+    }
+
+    /// Puts the words as one batch: all of them or none.
+    pub(super) fn put(&self, words: &[Word]) -> Result<(), NotPut> {
+        loop {
+            let mut at = raw::Positions::default();
+            // SAFETY: the pointer leads to as many words as the number says, which are only read.
+            let put =
+                |handle: &mut _| unsafe { raw::synth_raw_batch_try_put(handle, words.as_ptr(), words.len(), &mut at) };
+            match self.call(put) {
+                raw::LOST => hint::spin_loop(),
+                code => return put_answer(code),
+            }
+        }
+    }
+
+    /// Puts as many of the first words as there is room for, as one batch. Returns their number.
+    pub(super) fn put_some(&self, words: &[Word]) -> Result<usize, NotPut> {
+        loop {
+            let (mut count, mut at) = (0, raw::Positions::default());
+            // SAFETY: the pointer leads to as many words as the number says, which are only read.
+            let put = |handle: &mut _| unsafe {
+                raw::synth_raw_batch_try_put_some(handle, words.as_ptr(), words.len(), &mut count, &mut at)
+            };
+            match self.call(put) {
+                raw::LOST => hint::spin_loop(),
+                code => return put_answer(code).map(|()| count),
+            }
+        }
+    }
+
+    /// Takes the oldest words, as many as there are and fit. Returns their number.
+    pub(super) fn take(&self, words: &mut [Word]) -> Result<usize, NotTaken> {
+        loop {
+            match self.call(|handle| take(handle, words)) {
+                (raw::OK, count) => return Ok(count),
+                (raw::LOST, _) => hint::spin_loop(),
+                (raw::EMPTY, _) => return Err(NotTaken::Empty),
+                (raw::CLOSED, _) => return Err(NotTaken::Closed),
+                (code, _) => raw::no_such_answer(code),
+            }
+        }
+    }
+
+    /// How many items are in the channel, or were a moment ago.
+    pub(super) fn len(&self) -> usize {
+        let mut count = 0;
+        match self.call(|handle| raw::synth_raw_batch_len(handle, &mut count)) {
+            raw::OK => usize::try_from(count).unwrap_or(usize::MAX).min(self.shared.capacity),
+            code => raw::no_such_answer(code),
+        }
+    }
+
+    /// Shuts the queue. Each later put is refused, and a taking once all that was put is taken.
+    pub(super) fn shut(&self) {
+        let mut was_open = false;
+        self.call(|handle| raw::synth_raw_batch_shut(handle, &mut was_open));
+    }
+}
+
+/// What a put answers.
+fn put_answer(code: i32) -> Result<(), NotPut> {
+    match code {
+        raw::OK => Ok(()),
+        raw::FULL => Err(NotPut::Full),
+        raw::CLOSED => Err(NotPut::Closed),
+        raw::SPENT => panic!("2^62 items went through the channel"),
+        code => raw::no_such_answer(code),
+    }
+}
+
+/// The code of a taking of as many words as there are and fit, and their number.
+fn take(handle: &mut raw::Batch, words: &mut [Word]) -> (i32, usize) {
+    let (mut count, mut at) = (0, raw::Positions::default());
+    // SAFETY: the pointer leads to as much room as the number says, and nobody else has it.
+    let code =
+        unsafe { raw::synth_raw_batch_try_take_some(handle, words.as_mut_ptr(), words.len(), &mut count, &mut at) };
+    (code, count)
+}
+
+/// A half gives its share back.
+impl<T> Drop for Half<T> {
+    fn drop(&mut self) {
+        raw::synth_raw_batch_join(&mut self.shared.handles().rest, self.handle.get_mut());
+    }
+}
+
+/// The last half is gone. What is left in the queue is dropped, and then the queue.
+impl<T> Drop for Shared<T> {
+    fn drop(&mut self) {
+        let handles = self.handles.get_mut().unwrap_or_else(PoisonError::into_inner);
+        for handle in &mut handles.extra {
+            raw::synth_raw_batch_join(&mut handles.rest, handle);
+        }
+        let rest = Freed(&mut handles.rest);
+        drop_all(iter::from_fn(|| {
+            let mut word = [Word::uninit()];
+            // SAFETY: each word of the queue is that of an item, and nobody else takes it.
+            (take(rest.0, &mut word).0 == raw::OK).then(|| unsafe { unpack::<T>(word[0]) })
+        }));
+    }
+}
+
+/// A handle that is freed even if an item's drop panics.
+struct Freed<'a>(&'a mut raw::Batch);
+
+impl Drop for Freed<'_> {
+    fn drop(&mut self) {
+        self.0.free();
+    }
+}

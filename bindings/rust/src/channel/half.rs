@@ -189,6 +189,30 @@ impl<T> Half<T> {
         }
     }
 
+    /// What a sender does after a put.
+    ///
+    /// If the last receiver was dropped meanwhile, it may have found this item claimed and not published, and have
+    /// gone. Otherwise its count was not 0 after the put, so it comes to what was put, or to an item that isn't
+    /// published yet, whose sender then comes to the rest here.
+    #[inline]
+    pub(super) fn was_put(&self) {
+        self.shared.items.notify_one();
+        if self.shared.receivers.load(Ordering::SeqCst) == 0 {
+            self.drop_left();
+        }
+    }
+
+    /// Drops the items that nobody will receive, up to one that isn't published.
+    #[cold]
+    pub(super) fn drop_left(&self) {
+        drop_all(iter::from_fn(|| {
+            let mut word = [Word::uninit()];
+            self.take(&mut word).ok()?;
+            // SAFETY: each word of the queue is that of an item, and is taken once.
+            Some(unsafe { unpack::<T>(word[0]) })
+        }));
+    }
+
     /// How many items are in the channel, or were a moment ago.
     pub(super) fn len(&self) -> usize {
         let mut count = 0;

@@ -108,8 +108,7 @@
 //! within a put holds up what is put after it, until it goes on. After an error all is as it
 //! was.
 //!
-//! A program has one version of this crate, and Cargo refuses two: a join knows the ends of an object by marks that one
-//! copy of the library gives.
+//! A program has one version of this crate, and one copy of its library: Cargo refuses two.
 #![deny(missing_docs)]
 
 /// The code of README.md is tested.

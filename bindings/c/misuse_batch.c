@@ -73,6 +73,11 @@ static void empty_handles(void)
     ROW(synth_batch_try_put_some(&none, items, 1, &count, &at), SYNTH_EMPTY_HANDLE);
     ROW(synth_batch_try_take(&none, buffer, PLACES, &count, &tail), SYNTH_EMPTY_HANDLE);
     ROW(synth_batch_try_take_some(&none, buffer, PLACES, &count, &tail), SYNTH_EMPTY_HANDLE);
+    ROW(synth_batch_put(&none, items, 1, 9), SYNTH_EMPTY_HANDLE);
+    ROW(synth_batch_put_some(&none, items, 1, 9, &count), SYNTH_EMPTY_HANDLE);
+    ROW(synth_batch_take(&none, buffer, PLACES, 9, &count), SYNTH_EMPTY_HANDLE);
+    ROW(synth_batch_take_some(&none, buffer, PLACES, 9, &count), SYNTH_EMPTY_HANDLE);
+    ROW(synth_batch_abandon(&none, buffer, PLACES, &count), SYNTH_EMPTY_HANDLE);
     ROW(synth_batch_len(&none, &len), SYNTH_EMPTY_HANDLE);
     ROW(synth_batch_capacity(&none, &count), SYNTH_EMPTY_HANDLE);
     ROW(synth_batch_shut(&none), SYNTH_EMPTY_HANDLE);
@@ -196,6 +201,31 @@ static void refused_takings(void)
     ROW(closed.put == 7 && closed.taken == 7 && closed.left == 0, true);
 }
 
+/* The calls that make a try again answer what the try does, and set what it sets. */
+static void repeated_tries(void)
+{
+    struct synth_batch queue = SYNTH_BATCH_INIT;
+    const uint64_t put[] = {1, 2, 3, 4, 5};
+    ROW(synth_batch_new(PLACES, &queue), SYNTH_OK);
+    set_marks();
+    ROW(synth_batch_put(&queue, items, PLACES + 1, 2), SYNTH_TOO_LONG);
+    ROW(synth_batch_put_some(&queue, items, 0, 2, &count), SYNTH_NO_ITEMS);
+    ROW(synth_batch_take(&queue, buffer, PLACES, 2, &count), SYNTH_EMPTY);
+    ROW(synth_batch_take_some(&queue, buffer, PLACES, 2, &count), SYNTH_EMPTY);
+    marks_stand();
+    ROW(synth_batch_put(&queue, put, 5, 2), SYNTH_OK);
+    ROW(synth_batch_put_some(&queue, put, 5, 2, &count), SYNTH_OK);
+    ROW(count, PLACES - 5);
+    ROW(synth_batch_put_some(&queue, put, 5, 2, &count), SYNTH_FULL);
+    ROW(synth_batch_take(&queue, buffer, 4, 2, &count), SYNTH_SHORT_BUFFER);
+    ROW(count, 5);
+    ROW(synth_batch_take_some(&queue, buffer, 4, 2, &count), SYNTH_OK);
+    ROW(count == 4 && buffer[0] == 1 && buffer[3] == 4, true);
+    ROW(synth_batch_take(&queue, buffer, PLACES, 2, &count), SYNTH_OK);
+    ROW(count == 4 && buffer[0] == 5 && buffer[1] == 1, true);
+    ROW(synth_batch_finish(&queue, buffer, PLACES, &closed), SYNTH_OK);
+}
+
 /* A close while other handles are full, and what is left comes back, past the last place. */
 static void refused_close(void)
 {
@@ -275,6 +305,7 @@ int main(void)
     numbers_of_places();
     refused_puts();
     refused_takings();
+    repeated_tries();
     refused_close();
     freed_handles();
     split_often();

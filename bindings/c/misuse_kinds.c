@@ -33,6 +33,11 @@ static void to_batch_calls(struct synth_batch *other)
     ROW(synth_batch_try_put_some(other, items, 1, &count, &at), SYNTH_EMPTY_HANDLE);
     ROW(synth_batch_try_take(other, items, PLACES, &count, &len), SYNTH_EMPTY_HANDLE);
     ROW(synth_batch_try_take_some(other, items, PLACES, &count, &len), SYNTH_EMPTY_HANDLE);
+    ROW(synth_batch_put(other, items, 1, 9), SYNTH_EMPTY_HANDLE);
+    ROW(synth_batch_put_some(other, items, 1, 9, &count), SYNTH_EMPTY_HANDLE);
+    ROW(synth_batch_take(other, items, PLACES, 9, &count), SYNTH_EMPTY_HANDLE);
+    ROW(synth_batch_take_some(other, items, PLACES, 9, &count), SYNTH_EMPTY_HANDLE);
+    ROW(synth_batch_abandon(other, items, PLACES, &count), SYNTH_EMPTY_HANDLE);
     ROW(synth_batch_len(other, &len), SYNTH_EMPTY_HANDLE);
     ROW(synth_batch_capacity(other, &count), SYNTH_EMPTY_HANDLE);
     ROW(synth_batch_shut(other), SYNTH_EMPTY_HANDLE);
@@ -55,6 +60,9 @@ static void to_queue_calls(struct synth_queue *other)
     ROW(synth_queue_try_take(other, items, NULL), SYNTH_EMPTY_HANDLE);
     ROW(synth_queue_take_up_to(other, items, PLACES, &count, NULL), SYNTH_EMPTY_HANDLE);
     ROW(synth_queue_try_take_line(other, items, PLACES, &count, NULL), SYNTH_EMPTY_HANDLE);
+    ROW(synth_queue_put(other, items, 1, 9), SYNTH_EMPTY_HANDLE);
+    ROW(synth_queue_take(other, items, 9), SYNTH_EMPTY_HANDLE);
+    ROW(synth_queue_abandon(other, items, PLACES, &count), SYNTH_EMPTY_HANDLE);
     ROW(synth_queue_shut(other), SYNTH_EMPTY_HANDLE);
     ROW(synth_queue_finish(other, items, PLACES, &closed), SYNTH_EMPTY_HANDLE);
     ROW(synth_queue_free(other), SYNTH_EMPTY_HANDLE);

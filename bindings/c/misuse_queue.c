@@ -68,6 +68,9 @@ static void empty_handles(void)
     is_taken(synth_queue_try_take(&none, &item, &tail), SYNTH_EMPTY_HANDLE, MARK);
     is_taken(synth_queue_take_up_to(&none, line, LARGE, &count, &tail), SYNTH_EMPTY_HANDLE, MARK);
     is_taken(synth_queue_try_take_line(&none, line, LARGE, &count, &tail), SYNTH_EMPTY_HANDLE, MARK);
+    ROW(synth_queue_put(&none, items, 1, 9), SYNTH_EMPTY_HANDLE);
+    ROW(synth_queue_take(&none, &item, 9), SYNTH_EMPTY_HANDLE);
+    ROW(synth_queue_abandon(&none, line, LARGE, &count), SYNTH_EMPTY_HANDLE);
     ROW(synth_queue_shut(&none), SYNTH_EMPTY_HANDLE);
     ROW(synth_queue_finish(&none, line, LARGE, &closed), SYNTH_EMPTY_HANDLE);
     ROW(synth_queue_free(&none), SYNTH_EMPTY_HANDLE);
@@ -199,6 +202,23 @@ static void refused_takings(uint32_t places)
     ROW(synth_queue_finish(&queue, line, places, &closed), SYNTH_OK);
 }
 
+/* The calls that make a try again answer what the try does, and set what it sets. */
+static void repeated_tries(void)
+{
+    struct synth_queue queue = SYNTH_QUEUE_INIT;
+    const uint64_t put[] = {1, 2};
+    ROW(synth_queue_new(PLACES, 0, &queue), SYNTH_OK);
+    set_marks();
+    ROW(synth_queue_put(&queue, items, PLACES + 1, 2), SYNTH_TOO_LONG);
+    ROW(synth_queue_take(&queue, &item, 2), SYNTH_EMPTY);
+    marks_stand();
+    ROW(synth_queue_put(&queue, put, 2, 2), SYNTH_OK);
+    ROW(synth_queue_put(&queue, items, PLACES - 1, 2), SYNTH_FULL);
+    ROW(synth_queue_take(&queue, &item, 2), SYNTH_OK);
+    ROW(item, 1);
+    ROW(synth_queue_finish(&queue, line, LARGE, &closed), SYNTH_OK);
+}
+
 /* A close while other handles are full, and what is left comes back. */
 static void refused_close(void)
 {
@@ -285,6 +305,7 @@ int main(void)
     spent_positions();
     refused_takings(PLACES);
     refused_takings(LARGE);
+    repeated_tries();
     refused_close();
     freed_handles();
     split_often();

@@ -3,7 +3,9 @@
  * it. And that a try writes nothing to its handle, so that handles may lie side by side: it is made on handles in
  * memory that can't be written to. Status 1: it isn't so. A write to a handle ends the program.
  */
-#define _GNU_SOURCE
+#ifndef _DEFAULT_SOURCE
+#define _DEFAULT_SOURCE
+#endif
 #include "memory.h"
 #include "rows.h"
 #include "synthesis.h"

@@ -298,6 +298,40 @@ void batch_takings()
     ROW(all && all->put == 0 && all->taken == 0 && all->left.empty(), true);
 }
 
+/* Queues of which an end was freed are given up. */
+void abandoned()
+{
+    std::uint64_t room[4] = {};
+    ROW(BatchEnd().abandon(room).code(), Code::EmptyHandle);
+    ROW(QueueEnd().abandon(room).code(), Code::EmptyHandle);
+    BatchEnd batch = BatchEnd::make(8).value(), lost = batch.split().value();
+    ROW(lost.try_put({1, 2, 3, 4, 5}).code, Code::Ok);
+    lost.free();
+    ROW(batch.finish().code(), Code::Open);
+    ROW(batch.abandon(room).value(), 4);
+    ROW(room[0] == 1 && room[3] == 4 && !batch.full(), true);
+    QueueEnd queue = QueueEnd::make(64).value(), other = queue.split().value();
+    ROW(other.try_put({6, 7}).code, Code::Ok);
+    ROW(queue.abandon(room).value(), 2);
+    ROW(room[0] == 6 && room[1] == 7 && !queue.full(), true);
+    ROW(other.shut(), Code::Closed);
+    ROW(other.abandon({}).value(), 0);
+    ROW(other.full(), false);
+}
+
+/* The calls that take a const end. */
+void of_const_ends()
+{
+    BatchEnd end = BatchEnd::make(8).value();
+    const BatchEnd &batch = end;
+    ROW(batch.len().value() == 0 && batch.capacity().value() == 8 && batch.raw()->full, true);
+    Hand mine = Hand::make().value();
+    const Hand &hand = mine;
+    ROW(hand.holds(0).value() || !hand.serves(7).value() || hand.ticket(2).value() != 0, false);
+    ROW(hand.on_processor(0).code(), Code::Vacant);
+    ROW(hand.pc(0).code(), Code::NotHeld);
+}
+
 /* Answers that one thread doesn't get: of a race, and of a queue after 146 years. */
 void batch_answers()
 {
@@ -764,6 +798,8 @@ int main()
     batch_puts();
     batch_takings();
     batch_answers();
+    abandoned();
+    of_const_ends();
     batch_moves();
     batch_waits();
     empty_queue();

@@ -15,55 +15,64 @@
  *     if (synth_batch_join(&mine, &yours) != SYNTH_OK) return 1;        // the first end has the whole queue again
  *     return synth_batch_finish(&mine, items, 32, NULL);                // and ends it
  *
- * What each call does to its object is proved below the functions of this header, which are inline and are not proved:
- * docs/PROMISES.md has the line between the two. docs/GUIDE.md, "From C and Rust", explains programs line by line.
+ * The functions of this header are inline, and are not proved; what the functions below them do to an object is
+ * (docs/PROMISES.md). docs/GUIDE.md, "From C and Rust", explains programs line by line.
  *
  * THE RULES
  *
- * - Order of memory: all that a thread did before a put is seen by whoever takes one of its items, so an item may be a
- *   pointer. All that was done before a shut is seen by whoever is answered SYNTH_CLOSED; before a note is chained, by
- *   its procedure; before a byte is pushed, by whoever pops it; before an element is moved, by whoever takes it; before
- *   a stop, signal or notify, by whoever then parks the element, delivers the signal or reads the ticket; before a tick
- *   or an alarm, by whoever ticks the gauge later or takes the alarm out. Each atomic step is sequentially consistent
- *   with the seq_cst atomics of C11. ThreadSanitizer is told of these orders by this header, and of no others.
- * - Handles: an object is shared by its ends; an end is a handle of 16 bytes, which the caller owns and which is empty
- *   if it is zeros. `new` makes an object and fills its first handle; `split` fills one more; `join` empties one and
- *   gives its share back; `finish`, by a handle that has the whole again, ends the object and reports what became of
- *   it. `free` empties a handle that is never joined: no finish succeeds then, and the object goes with its last
- *   handle.
- * - Thread safety: one handle is used by one call at a time, a call that takes it by a const pointer included;
- *   different handles of one object are used by any threads at once. Between two calls a handle may go to another
- *   thread, by all that orders memory, an item included. Never copy a full handle and use both.
- * - Progress: no call takes a lock, sleeps or waits for another thread, except that new, split, join, finish, free and
- *   abandon call malloc or free, which may. A try (`.._try_..`) makes one attempt and returns; SYNTH_LOST means that
- *   another end succeeded meanwhile.
- * - Not async-signal-safe, except: a handle that one signal handler alone uses, which never runs twice at once, may be
- *   used there by all calls but new, split, join, finish, free and abandon. Never repeat a refused try there for long:
- *   the interrupted thread may be the one to wait for.
- * - Not fork-safe: after a fork of a process with threads the child uses no handle.
+ * - All that a thread did before a put is seen by whoever takes one of its items, so an item may be a pointer.
+ * - Thread-safe, except that one handle is used by one call at a time, also by a call that takes it as const.
+ * - A handle may go to another thread between two calls, by a lock, by the start or the join of a thread, by a seq_cst
+ *   atomic, or by an item or an element of this library.
+ * - A full handle is never copied, unless the original is used no more.
+ * - No call takes a lock, sleeps or waits for another thread, except in malloc and free.
+ * - No call but new, split, join, finish, free and abandon calls malloc or free, or writes to its handle.
+ * - Not async-signal-safe, except that a handle which one signal handler alone uses, and which is in no two calls at
+ *   once there, may be used by all calls but those six.
+ * - Not fork-safe: in the forked child of a process with threads no handle is used.
  * - Not cancellation-safe: a thread that is cancelled asynchronously within a call, or leaves it by longjmp, breaks its
- *   handle, and takers may wait for good for what it put; `abandon` ends a queue of which an end was lost so.
- * - Memory: only new and split allocate, by malloc, and answer SYNTH_NO_MEMORY if it gives null. In bytes, a batch
- *   queue takes 600 and 16 a place, a claim queue 350 and 16 a place, a chain 650, meters 410, a line 650 and its room,
- *   thread elements 16,400, and a split 120.
- * - Cache lines: handles may lie side by side, since no call but new, split, join, finish, free and abandon writes to
- *   one.
- * - Copies: two copies of the library in one process, such as in two shared objects, give their objects different
- *   marks, so a handle of the one that is joined to a handle of the other is SYNTH_OTHER_OBJECT. This holds for the
- *   first 268,435,456 objects of each copy.
+ *   handle, and takers may wait for good for what it put.
+ * - Handles may lie side by side, since tries don't write to them.
+ * - A batch queue takes 600 bytes of memory and 16 for each place, a claim queue 350 and 16, a chain 650, meters 410, a
+ *   line 650 and its room, thread elements 16,400, and each split 120.
+ * - Two copies of the library in one process may be used side by side: to a join their objects are different ones, as
+ *   long as neither copy made more than 268,435,456.
  *
- * THE CALLS
+ * HANDLES. An object is shared by its ends. An end is a handle of 16 bytes, which its user owns; one of zeros is empty.
+ * `new` makes an object and fills its first handle. `split` fills one more. `join` empties one, and gives its share to
+ * another one. `finish`, by a handle that has the whole again, ends the object and reports what became of it. `free`
+ * empties a handle that is never joined: then no finish succeeds, and the object goes with its last handle. A full
+ * handle that is neither joined, finished, abandoned nor freed is leaked.
  *
- * - Codes: each call answers a code. It looks at its codes in the order in which it lists them: if several fit, the
- *   first is answered. SYNTH_OK isn't listed. After any other code all is as it was, the caller's variables and buffers
- *   included, except where a call says otherwise.
- * - Answers: all numbers go out by pointers. A pointer to an answer may be null: then the call doesn't report it.
- * - Buffers: `items` with a `count` or a `room` beside it leads to so many elements; one of 0 elements may be null.
- * - Other pointers lead to one element of their type. No pointer of a call leads to what another one leads to, and none
- *   into an object. The fields of a handle are the library's own: never write to them, and never follow `at`.
- * - Mistakes are answered by a code: an empty handle, a full one where an empty one is wanted, a handle of another
- *   object, a number out of range, a short buffer, an element that isn't held. A handle that holds another kind of end
- *   than the call is for, by a cast, counts as an empty one, and stays as it is.
+ * ORDER OF MEMORY. Each atomic step is sequentially consistent, as C11 has the word. So what was done before
+ *
+ *     a put                          is seen by  whoever takes one of its items
+ *     a shut                                     whoever is answered SYNTH_CLOSED
+ *     a push                                     whoever pops its byte
+ *     a note is chained                          its procedure, which also sees what those before it did
+ *     an element is moved                        whoever takes it
+ *     a stop, a signal                           whoever then parks the element, or delivers the signal
+ *     a notify                                   whoever then reads the ticket, or is answered SYNTH_MOVED
+ *     a tick, a move of the clock                whoever ticks that gauge later, moves the clock on or takes due alarms
+ *     an alarm is set                            whoever takes it out
+ *
+ * No proof says so: the proofs speak of steps in one order, and the compiler keeps to it. This header declares these
+ * orders, and no others, to ThreadSanitizer.
+ *
+ * CODES. Each call answers a code. It looks at its codes in the order in which it lists them; if several fit, the first
+ * one is answered. SYNTH_OK isn't listed. After any other code all is as it was, the caller's variables and buffers
+ * included, except where a call says otherwise. Mistakes have codes: an empty handle, a full one where an empty one is
+ * wanted, a handle of another object, a number out of range, a short buffer, an element that isn't held. A handle that
+ * holds another kind of end than the call is for, by a cast, counts as an empty one, and stays as it is.
+ *
+ * POINTERS. All numbers go out by pointers. A pointer to an answer may be null; the call then doesn't report it. A
+ * buffer has as many elements as the `count` or `room` beside it says; one of 0 elements may be null. Any other pointer
+ * leads to one element of its type. No pointer of a call leads to what another one leads to, and none into an object.
+ * The fields of a handle are the library's own: never write to them, and never follow `at`.
+ *
+ * TRIES. A try (`.._try_..`) makes one attempt, and always returns. If it is SYNTH_LOST another end was first, and the
+ * try may be made again. In a signal handler no refused try is repeated without an end: what it waits for may be what
+ * the interrupted thread is about to do.
  */
 #ifndef SYNTHESIS_H
 #define SYNTHESIS_H

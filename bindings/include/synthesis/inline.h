@@ -204,7 +204,7 @@ SYNTH_CALL_ synth_code synth_batch_free(struct synth_batch *batch)
     return synth_raw_batch_free(batch);
 }
 
-/* Each LOST is a taking of another end, and a queue that is shut has items for so many. */
+/* Each LOST is a taking or a parting by another end, and a queue that is shut has items for so many. */
 SYNTH_CALL_ synth_code synth_batch_abandon(struct synth_batch *SYNTH_RESTRICT_ batch, uint64_t *SYNTH_RESTRICT_ items,
                                            size_t room, size_t *SYNTH_RESTRICT_ count)
 {

@@ -266,21 +266,21 @@ SYNTH_MUST_USE SYNTH_CALL_ synth_code synth_batch_try_take_some(struct synth_bat
                                                                 uint64_t *SYNTH_RESTRICT_ tail);
 
 /**
- * The same four, with at most `tries` tries, and at least one: a try that is SYNTH_LOST is made again. The answer is
- * that of the last one.
+ * synth_batch_try_put, made again while it is SYNTH_LOST, at most `tries` times in all and at least once.
+ * @return that of the last try.
  */
 SYNTH_MUST_USE SYNTH_CALL_ synth_code synth_batch_put(struct synth_batch *SYNTH_RESTRICT_ batch,
                                                       const uint64_t *SYNTH_RESTRICT_ items, size_t count,
                                                       uint32_t tries);
-/** See synth_batch_put. */
+/** synth_batch_try_put_some, made again as in synth_batch_put. */
 SYNTH_MUST_USE SYNTH_CALL_ synth_code synth_batch_put_some(struct synth_batch *SYNTH_RESTRICT_ batch,
                                                            const uint64_t *SYNTH_RESTRICT_ items, size_t count,
                                                            uint32_t tries, size_t *SYNTH_RESTRICT_ put);
-/** See synth_batch_put. */
+/** synth_batch_try_take, made again as in synth_batch_put. */
 SYNTH_MUST_USE SYNTH_CALL_ synth_code synth_batch_take(struct synth_batch *SYNTH_RESTRICT_ batch,
                                                        uint64_t *SYNTH_RESTRICT_ items, size_t room, uint32_t tries,
                                                        size_t *SYNTH_RESTRICT_ count);
-/** See synth_batch_put. */
+/** synth_batch_try_take_some, made again as in synth_batch_put. */
 SYNTH_MUST_USE SYNTH_CALL_ synth_code synth_batch_take_some(struct synth_batch *SYNTH_RESTRICT_ batch,
                                                             uint64_t *SYNTH_RESTRICT_ items, size_t room,
                                                             uint32_t tries, size_t *SYNTH_RESTRICT_ count);
@@ -423,11 +423,11 @@ SYNTH_MUST_USE SYNTH_CALL_ synth_code synth_queue_try_take_line(struct synth_que
                                                                 size_t *SYNTH_RESTRICT_ count,
                                                                 uint64_t *SYNTH_RESTRICT_ tail);
 
-/** As synth_batch_put: try_put, made again while it is SYNTH_LOST. */
+/** synth_queue_try_put, made again as in synth_batch_put. */
 SYNTH_MUST_USE SYNTH_CALL_ synth_code synth_queue_put(struct synth_queue *SYNTH_RESTRICT_ queue,
                                                       const uint64_t *SYNTH_RESTRICT_ items, size_t count,
                                                       uint32_t tries);
-/** As synth_batch_put: try_take, made again while it is SYNTH_LOST. */
+/** synth_queue_try_take, made again as in synth_batch_put. */
 SYNTH_MUST_USE SYNTH_CALL_ synth_code synth_queue_take(struct synth_queue *SYNTH_RESTRICT_ queue,
                                                        uint64_t *SYNTH_RESTRICT_ item, uint32_t tries);
 

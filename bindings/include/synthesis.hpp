@@ -26,7 +26,7 @@
  * THREADS. One end is used by one thread at a time; an end has no lock. Different ends of one object are used by
  * different threads at once. Between two calls an end may go to another thread by a lock, by the start or the join of a
  * thread, by a SeqCst atomic, or by an item of a queue. No call but those named `.._wait` sleeps. Not
- * async-signal-safe.
+ * async-signal-safe, except as synthesis.h says.
  *
  * ORDER OF MEMORY. The steps of each call are sequentially consistent. All that a thread did before a put is visible to
  * the thread that takes one of its items, and all before a shut to a thread that is answered Closed. So an item may be

@@ -2,11 +2,12 @@
  * @file
  * The proved functions of the library, for bindings of other languages. A program in C or C++ calls the functions of
  * synthesis.h, which are inline over these, and which says what each does. The archive has the calls of synthesis.h as
- * symbols, too.
+ * symbols, too. A `close` is what is `finish` there, and `advance` is `try_advance`. A `shut` answers SYNTH_OK also if
+ * the queue was shut already, and reports whether it was open.
  *
  * Here no pointer is null, except one to 0 elements. An answer that comes by value has 0 in each field that its code
- * doesn't set; what comes by a pointer stays as it was. `head` and `tail` are positions, except where it says
- * otherwise.
+ * doesn't set. What comes by a pointer stays as it was if the code doesn't come with it, except that
+ * `synth_raw_queue_take_up_to` sets `count` to 0 with SYNTH_CLOSED, SYNTH_LOST and SYNTH_EMPTY.
  */
 #ifndef SYNTHESIS_RAW_H
 #define SYNTHESIS_RAW_H

@@ -20,11 +20,11 @@ pub mod LineCalls
 pub mod QueueCalls
 pub mod QueueClosing
 pub mod QueueHeld
-pub mod QueueOutcomes
 pub mod QueueParts
 pub mod QueueTaking
 pub mod SeatAlarms
 pub mod SeatCalls
 pub mod SeatClosing
 pub mod SeatHeld
+pub mod Shares
 pub mod Told

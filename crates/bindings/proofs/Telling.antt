@@ -5,6 +5,7 @@ use mir.Syntax.{w32}
 use mir.Val.{SFits, of_z, to_z}
 use Rattle.std.specs.declared.option.Option.{Option}
 use Rattle.std.specs.declared.option.Option.TheVariants.{None, Some}
+use Rattle.bindings.specs.Handles.{Answered}
 use Rattle.bindings.specs.Hiding.{is_some}
 use Rattle.bindings.specs.declared.payload.Payload.{Payload}
 
@@ -37,3 +38,8 @@ as_told F z fits h = subst F (sym (to_z-of_z w32 z fits)) h
 -- the end that came out of the box is the one that was held
 pub unboxed : {X : Type 0} (of : Payload → Option X) (h : Payload) {z r : X} {p q : Payload} → of h ≡ Some z → Some h ≡ Some p → q ≡ p → of q ≡ Some r → r ≡ z
 unboxed of h {r = r} is b e d = ap (the r) (sym d ∙ ap of e ∙ ap of (sym (ap (the h) b)) ∙ is)
+
+-- the library's answer, and what C is told of it
+pub answered : {A X : Type 0} {Did : A → X → X → Type 0} {Tells : A → Type 0} {x : X} (y : X) (answer : A) → Did answer x y → Tells answer
+    → Answered Did Tells x (Some y)
+answered y answer did tells = record { y = y; full = refl; answer = answer; answered = did; tells = tells }

@@ -31,4 +31,5 @@ pub mod SeatCalls
 pub mod SeatClosing
 pub mod SeatHeld
 pub mod SeatReads
+pub mod Shares
 pub mod Told

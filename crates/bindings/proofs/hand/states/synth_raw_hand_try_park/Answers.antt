@@ -1,10 +1,6 @@
-use Rattle.std.proofs.Common.{rules, ℕ, inr, subst, arith, refl, ap}
+use Rattle.bindings.proofs.Calls.{rules, ℕ, inr, subst, arith, refl, ap, Some, of_kind, hand_in, answered, at_value}
 use Rattle.thread_table.specs.Handles.{view_of, call_of}
 use Rattle.bindings.specs.HandStates.{WasParked, ParkTold}
-use Rattle.std.specs.declared.option.Option.TheVariants.{Some}
-use Rattle.bindings.specs.Handles.{of_kind}
-use Rattle.bindings.specs.Kinds.{hand_in}
-use Rattle.bindings.proofs.Telling.{at_value}
 use Rattle.bindings.proofs.HandFits.{fit_park}
 use Rattle.bindings.proofs.hand.states.synth_raw_hand_try_park.Goals as goal
 
@@ -15,15 +11,5 @@ tell_park-requires c = let x = c.in-Some.held.now in let a = c.try_park-answer i
 pub returns-clause-parked : goal.returns-clause-parked
 returns-clause-parked c = let a = c.try_park-answer in let y = a.new.self in let t = c.tell_park in let e = c.in-Some-element_of in
     at_value (λ x. ParkTold c.args.element x c.args.parked.now t.new.parked (Some y) t.result) (ap (of_kind hand_in) c.in-Some.ensures.value)
-    (inr (inr (
-      e.ensures.1,
-      search rules,
-      record {
-        y = y;
-        full = refl;
-        answer = a.result;
-        answered = subst (λ (n : ℕ). WasParked n a.result c.in-Some.held.now y) e.ensures.0
-            a.ensures;
-        tells = t.ensures;
-      },
-    )))
+    (inr (inr (e.ensures.1, search rules,
+      answered y a.result (subst (λ (n : ℕ). WasParked n a.result c.in-Some.held.now y) e.ensures.0 a.ensures) t.ensures)))

@@ -1,5 +1,4 @@
-use Rattle.std.proofs.Common.{◌≤◌, ℕ, length, refl, sym, ap, subst, ◌∙◌}
-use Rattle.std.specs.Prelude.{MatchResult, IfErr}
+use Rattle.bindings.proofs.Calls.{◌≤◌, ℕ, length, refl, sym, ap, subst, ◌∙◌, MatchResult, IfErr}
 use Rattle.batch_queue.specs.Answers.{WhyNotPut}
 use Rattle.batch_queue.specs.Handles.{view_of, room_of}
 use Rattle.batch_queue.specs.Puts.{IsPut, RefusedPut}

@@ -1,5 +1,4 @@
-use Rattle.std.proofs.Common.{ℕ, length, take, refl, sym, ap, subst, ◌∙◌}
-use Rattle.std.specs.Prelude.{MatchResult}
+use Rattle.bindings.proofs.Calls.{ℕ, length, take, refl, sym, ap, subst, ◌∙◌, MatchResult}
 use Rattle.batch_queue.specs.Handles.{view_of, room_of}
 use Rattle.batch_queue.specs.Parts.{TookSome, RefusedTakeSome}
 use Rattle.bindings.proofs.BatchEnds.{take_some_keeps}

@@ -1,4 +1,4 @@
--- `fill` writes the value into the room.
+-- `write_in` writes the value into the room.
 use Rattle.std.proofs.Common.{◌≡◌, List, [], ◌∷◌, ◌++◌, refl, sym, subst}
 use mir.Syntax.{a_type, dcons, dnil}
 use mir.Val.{Val, vptr}
@@ -30,13 +30,13 @@ use Rattle.std_alloc.proofs.BoxSteps.Form as box
 use Rattle.std_alloc.proofs.BoxSteps.Steps.{el_in, el_tells}
 use Rattle.std.proofs.raw_atomic.Walks.{proved_at, leaves}
 use Rattle.loose_box.proofs.Values.{both, loose_good, loose_in}
-use Rattle.loose_box.specs.contracts.loose.Loose.fill.{ended, clauses}
-use Rattle.loose_box.specs.contracts.loose.Loose.fill.Key.{name as #self}
-use Rattle.loose_box.proofs.loose.Loose.fill.Statement.{statement}
-use Rattle.loose_box.proofs.loose.Loose.fill.Code as code
+use Rattle.loose_box.specs.contracts.loose.Loose.write_in.{ended, clauses}
+use Rattle.loose_box.specs.contracts.loose.Loose.write_in.Key.{name as #self}
+use Rattle.loose_box.proofs.loose.Loose.write_in.Statement.{statement}
+use Rattle.loose_box.proofs.loose.Loose.write_in.Code as code
 
-pub fill_spec : {M : Type 1} → statement M
-fill_spec 𝓤 𝓛 𝓜 𝓡 wired T A L LA g d dx dd allocator glue glued =
+pub write_in_spec : {M : Type 1} → statement M
+write_in_spec 𝓤 𝓛 𝓜 𝓡 wired T A L LA g d dx dd allocator glue glued =
     let H = 𝓛.H in let 𝓣 = tables 𝓤 H 𝓜 𝓡 𝓡.env in let R : RattleType = param 0 T in let Z : RattleType = param 1 A in let LZ = param_laws 1 A LA in let En = ended T A g d dx dd in let c = clauses T A g d dx dd 𝓛 𝓜.mem 𝓡.returns in
     let E : box.Bx = record { row = T; laws = L; al = record { row = A; laws = LA; g = g; d = d; drops = dd } } in let fn = inst_fn (bounded (a_type ∷ a_type ∷ []) (T, (A, tt)) (dcons d (dcons dx (dcons dd dnil)))) code.function in
     let V : RattleType = Vacant E.al R in let hs : Stays En.signature.params En.kept = (stay_dropped (plain (λ _. V)) no, (stay_dropped (plain (λ _. R)) no, tt)) in

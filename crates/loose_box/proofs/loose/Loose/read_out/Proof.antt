@@ -1,4 +1,4 @@
--- `take_out` moves the value out, and leaves the room.
+-- `read_out` moves the value out, and leaves the room.
 use Rattle.std.proofs.Common.{◌≡◌, List, [], ◌∷◌, ◌++◌, refl, sym, subst}
 use mir.Syntax.{a_type, dcons, dnil}
 use mir.Val.{Val, vptr}
@@ -31,13 +31,13 @@ use Rattle.std_alloc.proofs.BoxSteps.Form as box
 use Rattle.std_alloc.proofs.BoxSteps.Steps.{el_out}
 use Rattle.std.proofs.raw_atomic.Walks.{proved_at, leaves}
 use Rattle.loose_box.proofs.Values.{both, Loose, loose_good, loose_out}
-use Rattle.loose_box.specs.contracts.loose.Loose.take_out.{ended, clauses}
-use Rattle.loose_box.specs.contracts.loose.Loose.take_out.Key.{name as #self}
-use Rattle.loose_box.proofs.loose.Loose.take_out.Statement.{statement}
-use Rattle.loose_box.proofs.loose.Loose.take_out.Code as code
+use Rattle.loose_box.specs.contracts.loose.Loose.read_out.{ended, clauses}
+use Rattle.loose_box.specs.contracts.loose.Loose.read_out.Key.{name as #self}
+use Rattle.loose_box.proofs.loose.Loose.read_out.Statement.{statement}
+use Rattle.loose_box.proofs.loose.Loose.read_out.Code as code
 
-pub take_out_spec : {M : Type 1} → statement M
-take_out_spec 𝓤 𝓛 𝓜 𝓡 wired T A L LA g d dx dd allocator glue glued =
+pub read_out_spec : {M : Type 1} → statement M
+read_out_spec 𝓤 𝓛 𝓜 𝓡 wired T A L LA g d dx dd allocator glue glued =
     let H = 𝓛.H in let 𝓣 = tables 𝓤 H 𝓜 𝓡 𝓡.env in let R : RattleType = param 0 T in let Z : RattleType = param 1 A in let LZ = param_laws 1 A LA in let En = ended T A g d dx dd in let c = clauses T A g d dx dd 𝓛 𝓜.mem 𝓡.returns in
     let E : box.Bx = record { row = T; laws = L; al = record { row = A; laws = LA; g = g; d = d; drops = dd } } in let fn = inst_fn (bounded (a_type ∷ a_type ∷ []) (T, (A, tt)) (dcons d (dcons dx (dcons dd dnil)))) code.function in
     let hs : Stays En.signature.params En.kept = (stay_dropped (plain (λ _. Loose R Z LZ g)) no, tt) in

@@ -81,11 +81,7 @@ pub fn free<K: Kind>(alloc: Global, handle: &mut Handle) -> i32
 }
 
 // A new end in a box of its own. Nothing changes when memory is out, or no more handles can be counted.
-fn split_boxed<E: End>(
-    alloc: Global,
-    held: &mut E,
-    wish: E::Wish,
-) -> Option<Box<Payload, Global>>
+fn split_boxed<E: End>(alloc: Global, held: &mut E, wish: E::Wish) -> Option<Box<Payload, Global>>
     requires { E.MaySplit wish held.old }
     ensures { MatchOption result (held.new ≡ held.old)
         (λ b. HoldsSome (E.found b.value) (E.Divided wish held.old held.new)) }

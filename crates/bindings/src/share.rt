@@ -29,7 +29,11 @@ impl Share {
     pub fn why_not_split(&self) -> Option<i32>
         ensures { MatchOption result (HasTwo self.now) (λ code. HasNoTwo self.now code) }
     {
-        if self.parts >= 2 { None } else { Some(NO_SHARE) }
+        if self.parts >= 2 {
+            None
+        } else {
+            Some(NO_SHARE)
+        }
     }
 
     /// Whether the marks are the same, and the parts together no more than one object has.

@@ -64,19 +64,11 @@ impl HeldBatch {
         if self.share.parts != u64::MAX {
             return Err(self);
         }
-        let HeldBatch {
-            queue,
-            end,
-            share,
-        } = self;
+        let HeldBatch { queue, end, share } = self;
         let queue = match Arc::try_unwrap(queue) {
             Ok(queue) => queue,
             Err(queue) => {
-                return Err(HeldBatch {
-                    queue,
-                    end,
-                    share,
-                });
+                return Err(HeldBatch { queue, end, share });
             }
         };
         Ok(close_queue(queue, end, out))

@@ -16,19 +16,11 @@ impl HeldChain {
         if self.share.parts != u64::MAX {
             return Err(self);
         }
-        let HeldChain {
-            chain,
-            end,
-            share,
-        } = self;
+        let HeldChain { chain, end, share } = self;
         let chain = match Arc::try_unwrap(chain) {
             Ok(chain) => chain,
             Err(chain) => {
-                return Err(HeldChain {
-                    chain,
-                    end,
-                    share,
-                });
+                return Err(HeldChain { chain, end, share });
             }
         };
         let Ok(closed) = chain.close(end) else {

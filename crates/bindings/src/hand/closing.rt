@@ -24,19 +24,11 @@ impl HeldHand {
         if self.share.parts != u64::MAX {
             return Err(self);
         }
-        let HeldHand {
-            table,
-            hand,
-            share,
-        } = self;
+        let HeldHand { table, hand, share } = self;
         let table = match Arc::try_unwrap(table) {
             Ok(table) => table,
             Err(table) => {
-                return Err(HeldHand {
-                    table,
-                    hand,
-                    share,
-                });
+                return Err(HeldHand { table, hand, share });
             }
         };
         let Ok(places) = table.close(hand) else {

@@ -44,19 +44,11 @@ impl<const N: usize> Part<N> {
         if self.share.parts != u64::MAX {
             return Err(self);
         }
-        let Part {
-            queue,
-            end,
-            share,
-        } = self;
+        let Part { queue, end, share } = self;
         let queue = match Arc::try_unwrap(queue) {
             Ok(queue) => queue,
             Err(queue) => {
-                return Err(Part {
-                    queue,
-                    end,
-                    share,
-                });
+                return Err(Part { queue, end, share });
             }
         };
         Ok(close_queue(queue, end, out))

@@ -5,5 +5,11 @@ use Rattle.bindings.proofs.hand.moves.synth_raw_hand_try_wait_at.Goals as goal
 pub returns-clause-moved : goal.returns-clause-moved
 returns-clause-moved c = let a = c.try_wait_at-answer in let y = a.new.self in let t = c.told_of_move in let e = c.in-Some-element_of in let m = c.in-Some-wait_of in
     at_value (λ x. WaitingAtTold c.args.element c.args.wait c.args.ticket x (Some y) t.result) (ap (of_kind hand_in) c.in-Some.ensures.value)
-    (inr (e.ensures.1, m.ensures.1, inr (search rules,
-      answered y a.result (subst (λ (n : ℕ). WasWaited c.args.wait n c.args.ticket a.result c.in-Some.held.now y) e.ensures.0 (subst (λ (q : ℕ). WasWaited q e.element c.args.ticket a.result c.in-Some.held.now y) m.ensures.0 a.ensures)) t.ensures)))
+    (inr (
+      e.ensures.1,
+      m.ensures.1,
+      inr (
+        search rules,
+        answered y a.result (subst (λ (n : ℕ). WasWaited c.args.wait n c.args.ticket a.result c.in-Some.held.now y) e.ensures.0 (subst (λ (q : ℕ). WasWaited q e.element c.args.ticket a.result c.in-Some.held.now y) m.ensures.0 a.ensures)) t.ensures,
+      ),
+    ))

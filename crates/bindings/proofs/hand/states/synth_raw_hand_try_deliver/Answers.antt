@@ -11,5 +11,8 @@ tell_delivery-requires c = let x = c.in-Some.held.now in let a = c.try_deliver-a
 pub returns-clause-delivered : goal.returns-clause-delivered
 returns-clause-delivered c = let a = c.try_deliver-answer in let y = a.new.self in let t = c.tell_delivery in let e = c.in-Some-element_of in
     at_value (λ x. DeliverTold c.args.element x c.args.signals.now t.new.signals (Some y) t.result) (ap (of_kind hand_in) c.in-Some.ensures.value)
-    (inr (inr (e.ensures.1, search rules,
-      answered y a.result (subst (λ (n : ℕ). WereDelivered n a.result c.in-Some.held.now y) e.ensures.0 a.ensures) t.ensures)))
+    (inr (inr (
+      e.ensures.1,
+      search rules,
+      answered y a.result (subst (λ (n : ℕ). WereDelivered n a.result c.in-Some.held.now y) e.ensures.0 a.ensures) t.ensures,
+    )))

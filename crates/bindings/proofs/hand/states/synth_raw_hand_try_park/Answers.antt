@@ -11,5 +11,8 @@ tell_park-requires c = let x = c.in-Some.held.now in let a = c.try_park-answer i
 pub returns-clause-parked : goal.returns-clause-parked
 returns-clause-parked c = let a = c.try_park-answer in let y = a.new.self in let t = c.tell_park in let e = c.in-Some-element_of in
     at_value (λ x. ParkTold c.args.element x c.args.parked.now t.new.parked (Some y) t.result) (ap (of_kind hand_in) c.in-Some.ensures.value)
-    (inr (inr (e.ensures.1, search rules,
-      answered y a.result (subst (λ (n : ℕ). WasParked n a.result c.in-Some.held.now y) e.ensures.0 a.ensures) t.ensures)))
+    (inr (inr (
+      e.ensures.1,
+      search rules,
+      answered y a.result (subst (λ (n : ℕ). WasParked n a.result c.in-Some.held.now y) e.ensures.0 a.ensures) t.ensures,
+    )))

@@ -11,5 +11,7 @@ tell_before-requires c = let x = c.in-Some.held.now in let a = c.try_wake_before
 pub returns-clause-taken : goal.returns-clause-taken
 returns-clause-taken c = let a = c.try_wake_before-answer in let y = a.new.self in let t = c.tell_before in let m = c.in-Some-wait_of in
     at_value (λ x. BeforeTold c.args.wait c.args.head x c.args.element.now t.new.element (Some y) t.result) (ap (of_kind hand_in) c.in-Some.ensures.value)
-    (inr (m.ensures.1,
-      answered y a.result (subst (λ (q : ℕ). WasTriedBefore q c.args.head a.result c.in-Some.held.now y) m.ensures.0 a.ensures) t.ensures))
+    (inr (
+      m.ensures.1,
+      answered y a.result (subst (λ (q : ℕ). WasTriedBefore q c.args.head a.result c.in-Some.held.now y) m.ensures.0 a.ensures) t.ensures,
+    ))

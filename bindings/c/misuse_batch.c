@@ -10,6 +10,7 @@ enum { SPLITS = 64, PLACES = 8 };
 
 static struct synth_batch none;
 static struct synth_batch_totals closed;
+static struct synth_batch_status status;
 static struct synth_positions at;
 static uint64_t items[PLACES + 1], buffer[PLACES];
 static size_t count;
@@ -79,6 +80,8 @@ static void empty_handles(void)
     ROW(synth_batch_take_some(&none, buffer, PLACES, 9, &count), SYNTH_EMPTY_HANDLE);
     ROW(synth_batch_abandon(&none, buffer, PLACES, &count), SYNTH_EMPTY_HANDLE);
     ROW(synth_batch_len(&none, &len), SYNTH_EMPTY_HANDLE);
+    ROW(synth_batch_look(&none, NULL), SYNTH_EMPTY_HANDLE);
+    ROW(synth_batch_try_take_one(&none, buffer, &tail), SYNTH_EMPTY_HANDLE);
     ROW(synth_batch_capacity(&none, &count), SYNTH_EMPTY_HANDLE);
     ROW(synth_batch_shut(&none), SYNTH_EMPTY_HANDLE);
     ROW(synth_batch_finish(&none, buffer, PLACES, &closed), SYNTH_EMPTY_HANDLE);
@@ -110,6 +113,25 @@ static void full_handles(void)
     ROW(synth_batch_join(&a, &b), SYNTH_EMPTY_HANDLE);
     ROW(synth_batch_finish(&a, buffer, PLACES, &closed), SYNTH_OK);
     ROW(synth_batch_finish(&a, buffer, PLACES, &closed), SYNTH_EMPTY_HANDLE);
+}
+
+/* Items taken one by one, and what a look finds after each. */
+static void one_by_one(void)
+{
+    struct synth_batch queue = SYNTH_BATCH_INIT;
+    ROW(synth_batch_new(PLACES, &queue), SYNTH_OK);
+    ROW(synth_batch_look(&queue, &status), SYNTH_OK);
+    ROW(status.tail == 0 && status.published == 0 && status.head == 0 && !status.shut, true);
+    ROW(synth_batch_try_put(&queue, items, 2, NULL), SYNTH_OK);
+    ROW(synth_batch_try_take_one(&queue, buffer, NULL), SYNTH_OK);
+    ROW(buffer[0], items[0]);
+    ROW(synth_batch_look(&queue, &status), SYNTH_OK);
+    ROW(status.tail == 1 && status.published == 2 && status.head == 2 && !status.shut, true);
+    ROW(synth_batch_try_take_one(&queue, NULL, NULL), SYNTH_OK);
+    ROW(synth_batch_try_take_one(&queue, buffer, &tail), SYNTH_EMPTY);
+    ROW(tail, 2);
+    ROW(synth_batch_finish(&queue, buffer, PLACES, &closed), SYNTH_OK);
+    ROW(closed.put == 2 && closed.taken == 2 && closed.left == 0, true);
 }
 
 /* Numbers of places that a queue can have, and that it can't. */
@@ -149,8 +171,12 @@ static void refused_puts(void)
     ROW(count, 98);
     ROW(synth_batch_len(&queue, &len), SYNTH_OK);
     ROW(len, PLACES);
+    ROW(synth_batch_look(&queue, &status), SYNTH_OK);
+    ROW(status.tail == 0 && status.published == PLACES && status.head == PLACES && !status.shut, true);
     ROW(synth_batch_shut(&queue), SYNTH_OK);
     ROW(synth_batch_shut(&queue), SYNTH_CLOSED);
+    ROW(synth_batch_look(&queue, &status), SYNTH_OK);
+    ROW(status.tail == 0 && status.head == PLACES && status.shut, true);
     set_marks();
     ROW(synth_batch_try_put(&queue, items, 1, &at), SYNTH_CLOSED);
     ROW(synth_batch_try_put_some(&queue, items, 1, &count, &at), SYNTH_CLOSED);
@@ -302,6 +328,7 @@ int main(void)
 {
     empty_handles();
     full_handles();
+    one_by_one();
     numbers_of_places();
     refused_puts();
     refused_takings();

@@ -84,6 +84,7 @@ static void of_any_element(struct synth_hand *hand, uint32_t number, synth_code 
     ROW(synth_hand_stop(hand, number, &was_clear), code);
     state(synth_hand_try_start(hand, number, &started, &found), code);
     ROW(synth_hand_signal(hand, number, 0, &raised), code);
+    ROW(synth_hand_pending(hand, number, &signals), code);
 }
 
 static void of_wait(struct synth_hand *hand, uint32_t wait, synth_code code)
@@ -416,6 +417,11 @@ static void sent_signals(void)
     ROW(synth_hand_signal(&hand, 0, 0, &raised), SYNTH_OK);
     ROW(raised, true);
     state(synth_hand_try_deliver(&hand, 0, &signals, &found), SYNTH_NOT_HELD);
+    ROW(synth_hand_pending(&hand, 0, &signals), SYNTH_OK);
+    ROW(signals, 0x8001);
+    ROW(synth_hand_pending(&hand, 1, &signals), SYNTH_OK);
+    ROW(signals, 0);
+    ROW(synth_hand_pending(&hand, 0, NULL), SYNTH_OK);
     taken(synth_hand_try_free(&hand, &element, &tail), SYNTH_OK);
     ROW(synth_hand_stop(&hand, 0, &was_clear), SYNTH_OK);
     ROW(was_clear, true);

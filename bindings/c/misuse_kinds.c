@@ -39,6 +39,8 @@ static void to_batch_calls(struct synth_batch *other)
     ROW(synth_batch_take_some(other, items, PLACES, 9, &count), SYNTH_EMPTY_HANDLE);
     ROW(synth_batch_abandon(other, items, PLACES, &count), SYNTH_EMPTY_HANDLE);
     ROW(synth_batch_len(other, &len), SYNTH_EMPTY_HANDLE);
+    ROW(synth_batch_look(other, NULL), SYNTH_EMPTY_HANDLE);
+    ROW(synth_batch_try_take_one(other, items, &len), SYNTH_EMPTY_HANDLE);
     ROW(synth_batch_capacity(other, &count), SYNTH_EMPTY_HANDLE);
     ROW(synth_batch_shut(other), SYNTH_EMPTY_HANDLE);
     ROW(synth_batch_finish(other, items, PLACES, &closed), SYNTH_EMPTY_HANDLE);
@@ -63,6 +65,7 @@ static void to_queue_calls(struct synth_queue *other)
     ROW(synth_queue_put(other, items, 1, 9), SYNTH_EMPTY_HANDLE);
     ROW(synth_queue_take(other, items, 9), SYNTH_EMPTY_HANDLE);
     ROW(synth_queue_abandon(other, items, PLACES, &count), SYNTH_EMPTY_HANDLE);
+    ROW(synth_queue_look(other, NULL), SYNTH_EMPTY_HANDLE);
     ROW(synth_queue_shut(other), SYNTH_EMPTY_HANDLE);
     ROW(synth_queue_finish(other, items, PLACES, &closed), SYNTH_EMPTY_HANDLE);
     ROW(synth_queue_free(other), SYNTH_EMPTY_HANDLE);

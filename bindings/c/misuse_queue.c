@@ -10,6 +10,7 @@ enum { SPLITS = 64, PLACES = 64, LARGE = 256, END_OF_LINE = 10, MARK = 97 };
 
 static struct synth_queue none;
 static struct synth_queue_totals closed;
+static struct synth_queue_status status;
 static uint64_t items[LARGE + 1], line[LARGE], item;
 static size_t count;
 static struct synth_positions at = {MARK, MARK};
@@ -71,6 +72,7 @@ static void empty_handles(void)
     ROW(synth_queue_put(&none, items, 1, 9), SYNTH_EMPTY_HANDLE);
     ROW(synth_queue_take(&none, &item, 9), SYNTH_EMPTY_HANDLE);
     ROW(synth_queue_abandon(&none, line, LARGE, &count), SYNTH_EMPTY_HANDLE);
+    ROW(synth_queue_look(&none, NULL), SYNTH_EMPTY_HANDLE);
     ROW(synth_queue_shut(&none), SYNTH_EMPTY_HANDLE);
     ROW(synth_queue_finish(&none, line, LARGE, &closed), SYNTH_EMPTY_HANDLE);
     ROW(synth_queue_free(&none), SYNTH_EMPTY_HANDLE);
@@ -127,8 +129,12 @@ static void refused_puts(uint32_t places)
     is_put(synth_queue_try_put(&queue, items, places - 2, &at), SYNTH_FULL, 8, 5);
     is_put(synth_queue_try_put(&queue, items, places - 3, &at), SYNTH_OK, 8, 0);
     is_put(synth_queue_try_put(&queue, items, 1, &at), SYNTH_FULL, 5 + places, 5);
+    ROW(synth_queue_look(&queue, &status), SYNTH_OK);
+    ROW(status.shut, false);
     ROW(synth_queue_shut(&queue), SYNTH_OK);
     ROW(synth_queue_shut(&queue), SYNTH_CLOSED);
+    ROW(synth_queue_look(&queue, &status), SYNTH_OK);
+    ROW(status.head - status.tail == status.raised && status.shut, true);
     is_put(synth_queue_try_put(&queue, items, 1, &at), SYNTH_CLOSED, 0, 0);
     is_put(synth_queue_try_put(&queue, NULL, 0, &at), SYNTH_NO_ITEMS, 0, 0);
     is_put(synth_queue_try_put(&queue, items, places + 1, &at), SYNTH_TOO_LONG, 0, 0);

@@ -45,6 +45,8 @@ static void empty_handles(void)
     ROW(synth_seat_join(&none, &full), SYNTH_EMPTY_HANDLE);
     ROW(synth_seat_join(&full, &none), SYNTH_EMPTY_HANDLE);
     ROW(synth_seat_tick(&none, 0, 1, &before), SYNTH_EMPTY_HANDLE);
+    ROW(synth_seat_gauge(&none, 0, &before), SYNTH_EMPTY_HANDLE);
+    ROW(synth_seat_clock(&none, &clock_now), SYNTH_EMPTY_HANDLE);
     ROW(synth_seat_try_advance(&none, &clock_now), SYNTH_EMPTY_HANDLE);
     ROW(synth_seat_try_set(&none, &good, &slot), SYNTH_EMPTY_HANDLE);
     ROW(synth_seat_cancel(&none, 0, &good, &cancelled), SYNTH_EMPTY_HANDLE);
@@ -86,6 +88,8 @@ static void bad_numbers(void)
     set_marks();
     ROW(synth_seat_tick(&seat, 8, 1, &before), SYNTH_BAD_NUMBER);
     ROW(synth_seat_tick(&seat, UINT32_MAX, 1, &before), SYNTH_BAD_NUMBER);
+    ROW(synth_seat_gauge(&seat, 8, &before), SYNTH_BAD_NUMBER);
+    ROW(synth_seat_gauge(&seat, UINT32_MAX, &before), SYNTH_BAD_NUMBER);
     for (size_t i = 0; i < sizeof wrong / sizeof *wrong; i++) {
         ROW(synth_seat_try_set(&seat, &wrong[i], &slot), SYNTH_BAD_NUMBER);
         ROW(synth_seat_cancel(&seat, 0, &wrong[i], &cancelled), SYNTH_BAD_NUMBER);
@@ -108,6 +112,14 @@ static void uses(void)
     ROW(before, 0);
     ROW(synth_seat_tick(&seat, 7, 3, &before), SYNTH_OK);
     ROW(before, UINT64_MAX);
+    ROW(synth_seat_gauge(&seat, 7, &before), SYNTH_OK);
+    ROW(before, 2);
+    ROW(synth_seat_gauge(&seat, 6, &before), SYNTH_OK);
+    ROW(before, 0);
+    ROW(synth_seat_gauge(&seat, 6, NULL), SYNTH_OK);
+    ROW(synth_seat_clock(&seat, &clock_now), SYNTH_OK);
+    ROW(clock_now, UINT32_MAX - 2);
+    ROW(synth_seat_clock(&seat, NULL), SYNTH_OK);
     ROW(synth_seat_try_set(&seat, &good, &slot), SYNTH_OK);
     ROW(slot, 0);
     for (uint32_t i = 1; i < SLOTS; i++) {

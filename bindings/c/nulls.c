@@ -28,6 +28,7 @@ static void batches(void)
     ROW(synth_batch_put_some(&end, items, 1, 0, NULL), SYNTH_OK);
     ROW(synth_batch_len(&end, NULL), SYNTH_OK);
     ROW(synth_batch_capacity(&end, NULL), SYNTH_OK);
+    ROW(synth_batch_look(&end, NULL), SYNTH_OK);
     ROW(synth_batch_try_put(&end, items, PLACES, NULL), SYNTH_FULL);
     ROW(synth_batch_try_take(&end, NULL, 0, NULL, NULL), SYNTH_SHORT_BUFFER);
     ROW(synth_batch_try_take(&end, buffer, 3, NULL, NULL), SYNTH_OK);
@@ -71,6 +72,7 @@ static void queues(void)
     ROW(synth_queue_put(&end, line, 2, 9), SYNTH_OK);
     ROW(synth_queue_try_take_line(&end, buffer, PLACES, NULL, NULL), SYNTH_OK);
     ROW(buffer[0] == 4 && buffer[1] == 10, true);
+    ROW(synth_queue_look(&end, NULL), SYNTH_OK);
     ROW(synth_queue_shut(&end), SYNTH_OK);
     ROW(synth_queue_abandon(&other, NULL, 0, NULL), SYNTH_OK);
     ROW(synth_queue_finish(&end, buffer, PLACES, NULL), SYNTH_OPEN);

@@ -196,6 +196,7 @@ void empty_batch()
     ROW(none.put_wait(View<const std::uint64_t>(room), events).code, Code::EmptyHandle);
     ROW(none.take_wait(room, events).code, Code::EmptyHandle);
     ROW(none.len().code(), Code::EmptyHandle);
+    ROW(none.look().code(), Code::EmptyHandle);
     ROW(none.capacity().code(), Code::EmptyHandle);
     ROW(none.shut(), Code::EmptyHandle);
     ROW(none.finish(room).code(), Code::EmptyHandle);
@@ -229,6 +230,7 @@ void batch_puts()
     ROW(number_in(end.try_put(4).position), 5);
     ROW(number_in(end.try_put(true).position), 6);
     ROW(end.len().value(), 5);
+    ROW(end.look().value().head - end.look().value().tail == 5 && !end.look().value().shut, true);
     auto some = end.try_put_some({21, 22, 23, 24, 25, 26, 27, 28, 29});
     ROW(some && some.count == 3 && number_in(some.position) == 7, true);
     ROW(end.try_put_some({1}).code, Code::Full);
@@ -585,6 +587,8 @@ void seats()
     const synthesis::Alarm first = {UINT32_MAX, 9, 3}, second = {UINT32_MAX - 1, 63, 15};
     ROW(seat.tick(2, 5).value(), 0);
     ROW(other.tick(2, 1).value(), 5);
+    ROW(seat.gauge(2).value() == 6 && seat.gauge(3).value() == 0, true);
+    ROW(seat.gauge(8).code(), Code::BadNumber);
     ROW(seat.tick(8, 1).code(), Code::BadNumber);
     ROW(number_in(seat.try_set(first).slot), 0);
     ROW(number_in(seat.try_set(second).slot), 1);
@@ -610,6 +614,7 @@ void seats()
     }
     ROW(alarms, 16);
     ROW(seat.tick(0, 0).code(), Code::EmptyHandle);
+    ROW(seat.gauge(0).code() == Code::EmptyHandle && seat.clock().code() == Code::EmptyHandle, true);
     ROW(seat.due().code(), Code::EmptyHandle);
     ROW(seat.finish().code(), Code::EmptyHandle);
 }
@@ -710,6 +715,8 @@ void hands_wait()
     ROW(hand.try_wait(1, 16).code, Code::BadNumber);
     ROW(hand.signal(2, 5).value(), true);
     ROW(hand.signal(2, 5).value(), false);
+    ROW(hand.pending(2).value(), 1u << 5);
+    ROW(hand.pending(64).code(), Code::BadNumber);
     ROW(number_in(hand.try_deliver(2).value), 1 << 5);
     ROW(hand.try_start(2).value == synthesis::Started::NotStopped, true);
     ROW(number_in(hand.try_park(2).value), false);

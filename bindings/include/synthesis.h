@@ -51,9 +51,10 @@
  *     a push                                     whoever pops its byte
  *     a note is chained                          its procedure, which also sees what those before it did
  *     an element is moved                        whoever takes it
- *     a stop, a signal                           whoever then parks the element, or delivers the signal
+ *     a stop, a signal                           whoever then parks the element, or finds the signal
  *     a notify                                   whoever then reads the ticket, or is answered SYNTH_MOVED
- *     a tick, a move of the clock                whoever ticks that gauge later, moves the clock on or takes due alarms
+ *     a tick, a move of the clock                whoever ticks or reads the gauge later, moves or reads the clock, or
+ *                                                takes due alarms
  *     an alarm is set                            whoever takes it out
  *
  * No proof says so: the proofs speak of steps in one order, and the compiler keeps to it. This header declares these
@@ -269,6 +270,14 @@ SYNTH_MUST_USE SYNTH_CALL_ synth_code synth_batch_try_take_some(struct synth_bat
                                                                 uint64_t *SYNTH_RESTRICT_ tail);
 
 /**
+ * As try_take_some, of one item.
+ * @return SYNTH_EMPTY_HANDLE; SYNTH_CLOSED, SYNTH_LOST or SYNTH_EMPTY.
+ */
+SYNTH_MUST_USE SYNTH_CALL_ synth_code synth_batch_try_take_one(struct synth_batch *SYNTH_RESTRICT_ batch,
+                                                               uint64_t *SYNTH_RESTRICT_ item,
+                                                               uint64_t *SYNTH_RESTRICT_ tail);
+
+/**
  * synth_batch_try_put, made again while it is SYNTH_LOST, at most `tries` times in all and at least once.
  * @return that of the last try.
  */
@@ -293,6 +302,21 @@ SYNTH_MUST_USE SYNTH_CALL_ synth_code synth_batch_take_some(struct synth_batch *
  * @return SYNTH_EMPTY_HANDLE.
  */
 SYNTH_CALL_ synth_code synth_batch_len(const struct synth_batch *batch, uint64_t *count);
+
+/** What a look at a batch queue found. The numbers were found one after the other, and may have changed since. */
+struct synth_batch_status {
+    uint64_t tail;      /**< the position of the next item that is taken */
+    uint64_t published; /**< all items before this position are published; below `head`, a put hasn't ended */
+    uint64_t head;      /**< the position of the next item that is put, found last */
+    bool shut;          /**< whether the queue is shut */
+};
+
+/**
+ * A look for whoever watches the queue: `head` less `tail` is its depth. If `published` stays where it is, below `head`,
+ * a thread is held up within its put, and so are the takers of what was put after it.
+ * @return SYNTH_EMPTY_HANDLE.
+ */
+SYNTH_CALL_ synth_code synth_batch_look(const struct synth_batch *batch, struct synth_batch_status *status);
 
 /**
  * `places` becomes how many places the queue has.
@@ -433,6 +457,21 @@ SYNTH_MUST_USE SYNTH_CALL_ synth_code synth_queue_put(struct synth_queue *SYNTH_
 /** synth_queue_try_take, made again as in synth_batch_put. */
 SYNTH_MUST_USE SYNTH_CALL_ synth_code synth_queue_take(struct synth_queue *SYNTH_RESTRICT_ queue,
                                                        uint64_t *SYNTH_RESTRICT_ item, uint32_t tries);
+
+/** What a look at a claim queue found. The numbers were found one after the other, and may have changed since. */
+struct synth_queue_status {
+    uint32_t tail;   /**< the position of the next item that is taken */
+    uint32_t head;   /**< the position of the next item that is put; 4,294,967,295 less `head` positions are left */
+    uint32_t raised; /**< so many items are raised from the tail on, without a gap; found last, and not past `head` */
+    bool shut;       /**< whether the queue is shut */
+};
+
+/**
+ * A look for whoever watches the queue: `head` less `tail` is its depth. If `tail` stays where it is and `raised` is
+ * less than the depth, a thread is held up within its put, and so are the takers of what was put after it.
+ * @return SYNTH_EMPTY_HANDLE.
+ */
+SYNTH_CALL_ synth_code synth_queue_look(const struct synth_queue *queue, struct synth_queue_status *status);
 
 /**
  * Shuts the queue for puts, for good. What was put can still be taken. SYNTH_OK is answered to one call alone.
@@ -633,6 +672,18 @@ SYNTH_MUST_USE SYNTH_CALL_ synth_code synth_seat_try_advance(struct synth_seat *
 SYNTH_MUST_USE SYNTH_CALL_ synth_code synth_seat_try_set(struct synth_seat *SYNTH_RESTRICT_ seat,
                                                          const struct synth_alarm *SYNTH_RESTRICT_ alarm,
                                                          uint32_t *SYNTH_RESTRICT_ slot);
+
+/**
+ * `value` becomes the gauge, 0 to 7, by one load.
+ * @return SYNTH_EMPTY_HANDLE; SYNTH_BAD_NUMBER.
+ */
+SYNTH_CALL_ synth_code synth_seat_gauge(const struct synth_seat *seat, uint32_t gauge, uint64_t *value);
+
+/**
+ * `clock` becomes the clock, by one load.
+ * @return SYNTH_EMPTY_HANDLE.
+ */
+SYNTH_CALL_ synth_code synth_seat_clock(const struct synth_seat *seat, uint32_t *clock);
 
 /**
  * Takes this alarm out of this slot, by one step. `cancelled` becomes true if it was there; else it was fired or
@@ -1033,6 +1084,12 @@ SYNTH_MUST_USE SYNTH_CALL_ synth_code synth_hand_try_park(struct synth_hand *SYN
  */
 SYNTH_CALL_ synth_code synth_hand_signal(struct synth_hand *SYNTH_RESTRICT_ hand, uint32_t element, uint32_t signal,
                                          bool *SYNTH_RESTRICT_ raised);
+
+/**
+ * `signals` becomes the mask of the pending signals of an element, wherever it is, by one load. They stay pending.
+ * @return SYNTH_EMPTY_HANDLE; SYNTH_BAD_NUMBER.
+ */
+SYNTH_CALL_ synth_code synth_hand_pending(const struct synth_hand *hand, uint32_t element, uint32_t *signals);
 
 /**
  * One try to deliver the pending signals of an element that the hand holds: `signals` becomes their mask, bit s for

@@ -24,6 +24,9 @@ extern inline synth_code synth_batch_take(struct synth_batch *restrict batch, ui
                                           uint32_t tries, size_t *restrict count);
 extern inline synth_code synth_batch_take_some(struct synth_batch *restrict batch, uint64_t *restrict items,
                                                size_t room, uint32_t tries, size_t *restrict count);
+extern inline synth_code synth_batch_try_take_one(struct synth_batch *restrict batch, uint64_t *restrict item,
+                                                  uint64_t *restrict tail);
+extern inline synth_code synth_batch_look(const struct synth_batch *batch, struct synth_batch_status *status);
 extern inline synth_code synth_batch_len(const struct synth_batch *batch, uint64_t *count);
 extern inline synth_code synth_batch_capacity(const struct synth_batch *batch, size_t *places);
 extern inline synth_code synth_batch_shut(struct synth_batch *batch);
@@ -48,6 +51,7 @@ extern inline synth_code synth_queue_put(struct synth_queue *restrict queue, con
                                          size_t count, uint32_t tries);
 extern inline synth_code synth_queue_take(struct synth_queue *restrict queue, uint64_t *restrict item,
                                           uint32_t tries);
+extern inline synth_code synth_queue_look(const struct synth_queue *queue, struct synth_queue_status *status);
 extern inline synth_code synth_queue_shut(struct synth_queue *queue);
 extern inline synth_code synth_queue_finish(struct synth_queue *restrict queue, uint64_t *restrict left, size_t room,
                                             struct synth_queue_totals *restrict totals);
@@ -73,6 +77,8 @@ extern inline synth_code synth_seat_tick(struct synth_seat *restrict seat, uint3
 extern inline synth_code synth_seat_try_advance(struct synth_seat *restrict seat, uint32_t *restrict clock);
 extern inline synth_code synth_seat_try_set(struct synth_seat *restrict seat,
                                             const struct synth_alarm *restrict alarm, uint32_t *restrict slot);
+extern inline synth_code synth_seat_gauge(const struct synth_seat *seat, uint32_t gauge, uint64_t *value);
+extern inline synth_code synth_seat_clock(const struct synth_seat *seat, uint32_t *clock);
 extern inline synth_code synth_seat_cancel(struct synth_seat *restrict seat, uint32_t slot,
                                            const struct synth_alarm *restrict alarm, bool *restrict cancelled);
 extern inline synth_code synth_seat_due(struct synth_seat *restrict seat, struct synth_alarm *restrict alarms,
@@ -132,6 +138,7 @@ extern inline synth_code synth_hand_try_park(struct synth_hand *restrict hand, u
                                              bool *restrict parked, struct synth_element_state *restrict state);
 extern inline synth_code synth_hand_signal(struct synth_hand *restrict hand, uint32_t element, uint32_t signal,
                                            bool *restrict raised);
+extern inline synth_code synth_hand_pending(const struct synth_hand *hand, uint32_t element, uint32_t *signals);
 extern inline synth_code synth_hand_try_deliver(struct synth_hand *restrict hand, uint32_t element,
                                                 uint32_t *restrict signals,
                                                 struct synth_element_state *restrict state);

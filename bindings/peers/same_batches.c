@@ -4,7 +4,7 @@
  * locked steps, a compare-and-swap of the head and a store, and a taking has two, a compare-and-swap of the tail and a
  * store. With WEAKER the stores are release stores and the loads acquire loads, which is as much as the algorithm needs:
  * one locked step each is left, as in rte_ring. With FLOOR a put doesn't look whether there is room. What is left, the
- * four locked steps, two loads and the two copies, is the least that a queue of such steps does. It is for one thread.
+ * four locked steps, three loads and the two copies, is the least that a queue of such steps does. It is for one thread.
  */
 #include "measure.h"
 #include <string.h>

@@ -40,6 +40,9 @@ struct [[nodiscard]] BatchTakeAnswer {
 /// first ones of those put; and how many were left, all others, which are in the caller's buffer.
 using BatchNumbers = synth_batch_totals;
 
+/// What a look at a batch queue found.
+using BatchStatus = synth_batch_status;
+
 /// What a batch queue had at its end.
 struct BatchTotals {
     std::uint64_t put;
@@ -170,6 +173,15 @@ public:
         std::uint64_t count = 0;
         const synth_code code = synth_batch_len(raw(), &count);
         return detail::value_of(code, count);
+    }
+
+    /// A look for whoever watches the queue: its tail, how far it is published, its head, whether it is shut. The numbers
+    /// were found one after the other, and may have changed since. EmptyHandle.
+    Expected<BatchStatus> look() const noexcept
+    {
+        BatchStatus status = {};
+        const synth_code code = synth_batch_look(raw(), &status);
+        return detail::value_of(code, status);
     }
 
     /// How many places the queue has. EmptyHandle.

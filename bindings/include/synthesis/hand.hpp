@@ -311,6 +311,14 @@ public:
         return detail::value_of(code, raised);
     }
 
+    /// The mask of the pending signals of an element, wherever it is. They stay pending. EmptyHandle; BadNumber.
+    Expected<std::uint32_t> pending(std::uint32_t element) const noexcept
+    {
+        std::uint32_t signals = 0;
+        const synth_code code = synth_hand_pending(raw(), element, &signals);
+        return detail::value_of(code, signals);
+    }
+
     /// One try to take the pending signals of an element, bit s for signal s. EmptyHandle; BadNumber; NotHeld; Lost.
     StateAnswer<std::uint16_t> try_deliver(std::uint32_t element) noexcept
     {

@@ -167,6 +167,19 @@ SYNTH_CALL_ synth_code synth_batch_take_some(struct synth_batch *SYNTH_RESTRICT_
     return code;
 }
 
+SYNTH_CALL_ synth_code synth_batch_try_take_one(struct synth_batch *SYNTH_RESTRICT_ batch,
+                                                uint64_t *SYNTH_RESTRICT_ item, uint64_t *SYNTH_RESTRICT_ tail)
+{
+    uint64_t unused;
+    return synth_batch_try_take_some(batch, item ? item : &unused, 1, SYNTH_NULL_, tail);
+}
+
+SYNTH_CALL_ synth_code synth_batch_look(const struct synth_batch *batch, struct synth_batch_status *status)
+{
+    struct synth_batch_status unused;
+    return synth_raw_batch_look(SYNTH_OF_(synth_batch, batch), status ? status : &unused);
+}
+
 SYNTH_CALL_ synth_code synth_batch_len(const struct synth_batch *batch, uint64_t *count)
 {
     uint64_t unused;
@@ -321,6 +334,12 @@ SYNTH_CALL_ synth_code synth_queue_take(struct synth_queue *SYNTH_RESTRICT_ queu
         code = synth_queue_try_take(queue, item, SYNTH_NULL_);
     }
     return code;
+}
+
+SYNTH_CALL_ synth_code synth_queue_look(const struct synth_queue *queue, struct synth_queue_status *status)
+{
+    struct synth_queue_status unused;
+    return synth_raw_queue_look(SYNTH_OF_(synth_queue, queue), status ? status : &unused);
 }
 
 SYNTH_CALL_ synth_code synth_queue_shut(struct synth_queue *queue)

@@ -226,6 +226,14 @@ SYNTH_CALL_ synth_code synth_hand_signal(struct synth_hand *SYNTH_RESTRICT_ hand
     return synth_raw_hand_signal(hand, element, signal, raised ? raised : &unused);
 }
 
+SYNTH_CALL_ synth_code synth_hand_pending(const struct synth_hand *hand, uint32_t element, uint32_t *signals)
+{
+    uint32_t unused;
+    const synth_code code = synth_raw_hand_pending(SYNTH_OF_(synth_hand, hand), element, signals ? signals : &unused);
+    SYNTH_ACQUIRE_(SYNTH_ELEMENT_, element);
+    return code;
+}
+
 SYNTH_CALL_ synth_code synth_hand_try_deliver(struct synth_hand *SYNTH_RESTRICT_ hand, uint32_t element,
                                               uint32_t *SYNTH_RESTRICT_ signals,
                                               struct synth_element_state *SYNTH_RESTRICT_ state)

@@ -125,6 +125,22 @@ SYNTH_CALL_ synth_code synth_seat_try_set(struct synth_seat *SYNTH_RESTRICT_ sea
     return found.code;
 }
 
+SYNTH_CALL_ synth_code synth_seat_gauge(const struct synth_seat *seat, uint32_t gauge, uint64_t *value)
+{
+    uint64_t unused;
+    const synth_code code = synth_raw_seat_gauge(SYNTH_OF_(synth_seat, seat), gauge, value ? value : &unused);
+    SYNTH_ACQUIRE_(SYNTH_GAUGE_, gauge);
+    return code;
+}
+
+SYNTH_CALL_ synth_code synth_seat_clock(const struct synth_seat *seat, uint32_t *clock)
+{
+    uint32_t unused;
+    const synth_code code = synth_raw_seat_clock(SYNTH_OF_(synth_seat, seat), clock ? clock : &unused);
+    SYNTH_ACQUIRE_(SYNTH_CLOCK_, 0);
+    return code;
+}
+
 SYNTH_CALL_ synth_code synth_seat_cancel(struct synth_seat *SYNTH_RESTRICT_ seat, uint32_t slot,
                                          const struct synth_alarm *SYNTH_RESTRICT_ alarm,
                                          bool *SYNTH_RESTRICT_ cancelled)

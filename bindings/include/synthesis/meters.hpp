@@ -101,6 +101,22 @@ public:
                 detail::only_if<std::uint32_t>(code == SYNTH_LOST, slot)};
     }
 
+    /// The value of a gauge, 0 to 7. EmptyHandle; BadNumber.
+    Expected<std::uint64_t> gauge(std::uint32_t gauge) const noexcept
+    {
+        std::uint64_t value = 0;
+        const synth_code code = synth_seat_gauge(raw(), gauge, &value);
+        return detail::value_of(code, value);
+    }
+
+    /// The clock. EmptyHandle.
+    Expected<std::uint32_t> clock() const noexcept
+    {
+        std::uint32_t clock = 0;
+        const synth_code code = synth_seat_clock(raw(), &clock);
+        return detail::value_of(code, clock);
+    }
+
     /// Takes this alarm out of this slot. The value is whether it stood there. EmptyHandle; BadNumber.
     Expected<bool> cancel(std::uint32_t slot, const Alarm &alarm) noexcept
     {

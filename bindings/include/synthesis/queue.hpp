@@ -44,6 +44,9 @@ struct [[nodiscard]] RunAnswer {
 /// which are the first ones of those put; and how many were left, all others, which are in the caller's buffer.
 using QueueNumbers = synth_queue_totals;
 
+/// What a look at a claim queue found.
+using QueueStatus = synth_queue_status;
+
 /// What a queue had at its end.
 template <class T> struct QueueTotalsOf {
     std::uint32_t first;
@@ -157,6 +160,15 @@ public:
         std::uint64_t tail = 0;
         const synth_code code = synth_queue_try_take_line(raw(), buffer.data(), buffer.size(), &count, &tail);
         return detail::run_answer(code, count, tail);
+    }
+
+    /// A look for whoever watches the queue: its tail, its head, how many items are raised from the tail on, whether it is
+    /// shut. The numbers were found one after the other, and may have changed since. EmptyHandle.
+    Expected<QueueStatus> look() const noexcept
+    {
+        QueueStatus status = {};
+        const synth_code code = synth_queue_look(raw(), &status);
+        return detail::value_of(code, status);
     }
 
     /// Shuts the queue for puts, for good: Ok, of one call alone. EmptyHandle; Closed: it was shut already.

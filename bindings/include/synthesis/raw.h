@@ -22,6 +22,7 @@ extern "C" {
 
 struct synth_alarm;
 struct synth_batch;
+struct synth_batch_status;
 struct synth_batch_totals;
 struct synth_chain;
 struct synth_chain_totals;
@@ -32,6 +33,7 @@ struct synth_line_out;
 struct synth_line_totals;
 struct synth_positions;
 struct synth_queue;
+struct synth_queue_status;
 struct synth_queue_totals;
 struct synth_seat;
 struct synth_seat_totals;
@@ -68,6 +70,7 @@ int32_t synth_raw_batch_try_take(struct synth_batch *batch, uint64_t *items, siz
                                  struct synth_positions *positions);
 int32_t synth_raw_batch_try_take_some(struct synth_batch *batch, uint64_t *items, size_t room, size_t *count,
                                       struct synth_positions *positions);
+int32_t synth_raw_batch_look(struct synth_batch *batch, struct synth_batch_status *status);
 int32_t synth_raw_batch_len(struct synth_batch *batch, uint64_t *count);
 int32_t synth_raw_batch_capacity(struct synth_batch *batch, size_t *places);
 int32_t synth_raw_batch_shut(struct synth_batch *batch, bool *was_open);
@@ -84,6 +87,7 @@ struct synth_raw_answer synth_raw_queue_take_up_to(struct synth_queue *queue, ui
                                                    size_t *count);
 struct synth_raw_answer synth_raw_queue_try_take_line(struct synth_queue *queue, uint64_t *line, size_t room,
                                                       size_t *count);
+int32_t synth_raw_queue_look(struct synth_queue *queue, struct synth_queue_status *status);
 int32_t synth_raw_queue_shut(struct synth_queue *queue, bool *was_open);
 int32_t synth_raw_queue_close(struct synth_queue *queue, uint64_t *left, size_t room,
                               struct synth_queue_totals *totals);
@@ -101,6 +105,8 @@ int32_t synth_raw_seat_new(uint32_t clock, struct synth_seat *seat);
 int32_t synth_raw_seat_split(struct synth_seat *seat, struct synth_seat *other);
 int32_t synth_raw_seat_join(struct synth_seat *seat, struct synth_seat *other);
 int32_t synth_raw_seat_tick(struct synth_seat *seat, uint32_t gauge, uint64_t amount, uint64_t *before);
+int32_t synth_raw_seat_gauge(struct synth_seat *seat, uint32_t gauge, uint64_t *value);
+int32_t synth_raw_seat_clock(struct synth_seat *seat, uint32_t *clock);
 struct synth_raw_answer synth_raw_seat_advance(struct synth_seat *seat, uint32_t *clock);
 struct synth_raw_answer synth_raw_seat_try_set(struct synth_seat *seat, const struct synth_alarm *alarm,
                                                uint32_t *slot);
@@ -144,6 +150,7 @@ int32_t synth_raw_hand_stop(struct synth_hand *hand, uint32_t element, bool *was
 struct synth_raw_state synth_raw_hand_try_start(struct synth_hand *hand, uint32_t element, uint32_t *started);
 struct synth_raw_state synth_raw_hand_try_park(struct synth_hand *hand, uint32_t element, bool *parked);
 int32_t synth_raw_hand_signal(struct synth_hand *hand, uint32_t element, uint32_t signal, bool *raised);
+int32_t synth_raw_hand_pending(struct synth_hand *hand, uint32_t element, uint32_t *signals);
 struct synth_raw_state synth_raw_hand_try_deliver(struct synth_hand *hand, uint32_t element, uint32_t *signals);
 int32_t synth_raw_hand_close(struct synth_hand *hand, struct synth_hand_totals *totals);
 int32_t synth_raw_hand_free(struct synth_hand *hand);

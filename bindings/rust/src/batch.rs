@@ -100,6 +100,21 @@ pub struct Closed {
     pub left: Vec<u64>,
 }
 
+/// What a look at a batch queue found. The numbers were found one after the other, and may have changed since.
+#[derive(Clone, Copy, Debug, PartialEq, Eq)]
+#[non_exhaustive]
+pub struct Status {
+    /// The position of the next item that is taken.
+    pub tail: u64,
+    /// All items before this position are published. If it stays where it is, below the head, a thread is held up
+    /// within its put, and so are the takers of what was put after it.
+    pub published: u64,
+    /// The position of the next item that is put. It was found last.
+    pub head: u64,
+    /// The queue is shut.
+    pub shut: bool,
+}
+
 says!(NewError {
     NewError::BadCapacity => "the capacity is no power of two from 1 to 16,777,216",
     NewError::OutOfMemory => "out of memory",
@@ -316,6 +331,28 @@ impl BatchEnd {
     /// ```
     pub fn try_iter(&mut self) -> TryIter<'_> {
         TryIter { end: self }
+    }
+
+    /// A look for whoever watches the queue.
+    ///
+    /// ```
+    /// # use synthesis_kernel::batch::{BatchEnd, Status};
+    /// let mut end = BatchEnd::new(8)?;
+    /// end.try_put(&[1, 2, 3])?;
+    /// end.try_take_some(&mut [0])?;
+    /// end.shut();
+    /// let status = end.look();
+    /// assert_eq!((status.tail, status.published, status.head, status.shut), (1, 3, 3, true));
+    /// # Ok::<(), Box<dyn std::error::Error>>(())
+    /// ```
+    pub fn look(&mut self) -> Status {
+        let mut found = raw::BatchStatus::default();
+        match raw::synth_raw_batch_look(self.share.handle(), &mut found) {
+            raw::OK => {
+                Status { tail: found.tail, published: found.published, head: found.head, shut: found.shut }
+            }
+            code => raw::no_such_answer(code),
+        }
     }
 
     /// A hint of how many items are in the queue, published or not. Other ends change it meanwhile.

@@ -176,6 +176,33 @@ impl MeterSeat {
         }
     }
 
+    /// The value of a gauge, by one load.
+    ///
+    /// ```
+    /// # use synthesis_kernel::{Gauge, MeterSeat};
+    /// let gauge = Gauge::new(3).unwrap();
+    /// let mut seat = MeterSeat::new(9)?;
+    /// seat.tick(gauge, 5);
+    /// assert_eq!((seat.gauge(gauge), seat.clock()), (5, 9));
+    /// # Ok::<(), Box<dyn std::error::Error>>(())
+    /// ```
+    pub fn gauge(&mut self, gauge: Gauge) -> u64 {
+        let mut value = 0;
+        match raw::synth_raw_seat_gauge(self.share.handle(), gauge.raw(), &mut value) {
+            raw::OK => value,
+            code => raw::no_such_answer(code),
+        }
+    }
+
+    /// The clock, by one load.
+    pub fn clock(&mut self) -> u32 {
+        let mut clock = 0;
+        match raw::synth_raw_seat_clock(self.share.handle(), &mut clock) {
+            raw::OK => clock,
+            code => raw::no_such_answer(code),
+        }
+    }
+
     /// One try to move the clock on by one tick. Gives the clock after.
     ///
     /// ```

@@ -88,6 +88,21 @@ pub struct Closed {
     pub left: Vec<u64>,
 }
 
+/// What a look at a claim queue found. The numbers were found one after the other, and may have changed since.
+#[derive(Clone, Copy, Debug, PartialEq, Eq)]
+#[non_exhaustive]
+pub struct Status {
+    /// The position of the next item that is taken.
+    pub tail: u32,
+    /// The position of the next item that is put: `u32::MAX` less that many are left.
+    pub head: u32,
+    /// So many items are raised from the tail on, without a gap, and not past the head. If the tail stays where it is
+    /// and these are less than all, a thread is held up within its put, and so are the takers of what was put after it.
+    pub raised: u32,
+    /// The queue is shut.
+    pub shut: bool,
+}
+
 says!(PutError {
     PutError::NoItems => "no items",
     PutError::TooLong => "more items than places",
@@ -265,6 +280,25 @@ impl<const N: usize> QueueEnd<N> {
     #[must_use]
     pub const fn capacity(&self) -> usize {
         N
+    }
+
+    /// A look for whoever watches the queue.
+    ///
+    /// ```
+    /// # use synthesis_kernel::QueueEnd;
+    /// let mut end = QueueEnd::<64>::new(0)?;
+    /// end.try_put(&[1, 2, 3])?;
+    /// end.try_take()?;
+    /// let status = end.look();
+    /// assert_eq!((status.tail, status.head, status.raised, status.shut), (1, 3, 2, false));
+    /// # Ok::<(), Box<dyn std::error::Error>>(())
+    /// ```
+    pub fn look(&mut self) -> Status {
+        let mut found = raw::QueueStatus::default();
+        match raw::synth_raw_queue_look(self.share.handle(), &mut found) {
+            raw::OK => Status { tail: found.tail, head: found.head, raised: found.raised, shut: found.shut },
+            code => raw::no_such_answer(code),
+        }
     }
 
     /// Shuts the queue for puts, for good; what was put can still be taken. Returns true if it was open, which it does

@@ -66,6 +66,24 @@ pub(crate) struct Positions {
 
 #[repr(C)]
 #[derive(Default)]
+pub(crate) struct BatchStatus {
+    pub tail: u64,
+    pub published: u64,
+    pub head: u64,
+    pub shut: bool,
+}
+
+#[repr(C)]
+#[derive(Default)]
+pub(crate) struct QueueStatus {
+    pub tail: u32,
+    pub head: u32,
+    pub raised: u32,
+    pub shut: bool,
+}
+
+#[repr(C)]
+#[derive(Default)]
 pub(crate) struct BatchClosed {
     pub put: u64,
     pub taken: u64,
@@ -253,6 +271,7 @@ unsafe extern "C" {
         count: &mut usize,
         positions: &mut Positions,
     ) -> i32;
+    pub(crate) safe fn synth_raw_batch_look(batch: &mut Batch, status: &mut BatchStatus) -> i32;
     pub(crate) safe fn synth_raw_batch_len(batch: &mut Batch, count: &mut u64) -> i32;
     pub(crate) safe fn synth_raw_batch_shut(batch: &mut Batch, was_open: &mut bool) -> i32;
     pub(crate) unsafe fn synth_raw_batch_close(
@@ -280,6 +299,7 @@ unsafe extern "C" {
         room: usize,
         count: &mut usize,
     ) -> Answer;
+    pub(crate) safe fn synth_raw_queue_look(queue: &mut Queue, status: &mut QueueStatus) -> i32;
     pub(crate) safe fn synth_raw_queue_shut(queue: &mut Queue, was_open: &mut bool) -> i32;
     pub(crate) unsafe fn synth_raw_queue_close(
         queue: &mut Queue,
@@ -301,6 +321,8 @@ unsafe extern "C" {
     pub(crate) safe fn synth_raw_seat_split(seat: &mut Seat, other: &mut Seat) -> i32;
     pub(crate) safe fn synth_raw_seat_join(seat: &mut Seat, other: &mut Seat) -> i32;
     pub(crate) safe fn synth_raw_seat_tick(seat: &mut Seat, gauge: u32, amount: u64, before: &mut u64) -> i32;
+    pub(crate) safe fn synth_raw_seat_gauge(seat: &mut Seat, gauge: u32, value: &mut u64) -> i32;
+    pub(crate) safe fn synth_raw_seat_clock(seat: &mut Seat, clock: &mut u32) -> i32;
     pub(crate) safe fn synth_raw_seat_advance(seat: &mut Seat, clock: &mut u32) -> Answer;
     pub(crate) safe fn synth_raw_seat_try_set(seat: &mut Seat, alarm: &Alarm, slot: &mut u32) -> Answer;
     pub(crate) safe fn synth_raw_seat_cancel(seat: &mut Seat, slot: u32, alarm: &Alarm, cancelled: &mut bool) -> i32;
@@ -345,6 +367,7 @@ unsafe extern "C" {
     pub(crate) safe fn synth_raw_hand_try_start(hand: &mut Hand, element: u32, started: &mut u32) -> State;
     pub(crate) safe fn synth_raw_hand_try_park(hand: &mut Hand, element: u32, parked: &mut bool) -> State;
     pub(crate) safe fn synth_raw_hand_signal(hand: &mut Hand, element: u32, signal: u32, raised: &mut bool) -> i32;
+    pub(crate) safe fn synth_raw_hand_pending(hand: &mut Hand, element: u32, signals: &mut u32) -> i32;
     pub(crate) safe fn synth_raw_hand_try_deliver(hand: &mut Hand, element: u32, signals: &mut u32) -> State;
     pub(crate) safe fn synth_raw_hand_close(hand: &mut Hand, places: &mut Places) -> i32;
     pub(crate) safe fn synth_raw_hand_free(hand: &mut Hand) -> i32;

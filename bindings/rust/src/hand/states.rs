@@ -181,6 +181,24 @@ impl Hand {
         }
     }
 
+    /// The pending signals of an element, wherever it is, by one load: bit s for signal s. They stay pending.
+    ///
+    /// ```
+    /// # use synthesis_kernel::{Hand, Signal};
+    /// let mut hand = Hand::new(0)?;
+    /// let element = hand.try_free()?;
+    /// hand.signal(element, Signal::new(4).unwrap());
+    /// assert_eq!((hand.pending(element), hand.pending(element)), (16, 16));
+    /// # Ok::<(), Box<dyn std::error::Error>>(())
+    /// ```
+    pub fn pending(&mut self, element: Element) -> u16 {
+        let mut signals = 0;
+        match raw::synth_raw_hand_pending(&mut self.share.handle().0, element.raw(), &mut signals) {
+            raw::OK => u16::try_from(signals).unwrap_or_else(|_| unreachable!("the library told signals {signals}")),
+            code => raw::no_such_answer(code),
+        }
+    }
+
     /// One try to deliver the pending signals of an element that the hand holds: bit s for signal s. They are pending
     /// no more.
     pub fn try_deliver(&mut self, element: Element) -> Result<u16, StateError> {

@@ -160,9 +160,9 @@ fn pending_anywhere(rt: HostRuntime) {
 /// What a hand has on a processor it can look at there: all sixteen signals, each by its bit. So can another hand.
 #[test]
 fn pending_on_a_processor(rt: HostRuntime) {
-    let (table, mut first) = begins(&rt, rt.alloc(), 0);
+    let (table, mut first) = ThreadTable::new(rt.alloc()).expect(&rt, "memory");
     let (a, p, e) = (&mut first, processor(&rt, 5), element(&rt, 0));
-    let mut b = table.split(a, 1);
+    let mut b = table.split(a, 0);
     does(&rt, &table, a, &[Act::Free(0), Act::On(5, 0, Ok(()))]);
     let mut wanted = 0u16;
     for s in 0..16u8 {

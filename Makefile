@@ -3,7 +3,8 @@
 # make test: the gate. The last line is that of `rt ci`, and so is the status.
 # make install PREFIX=/where DESTDIR=/stage: the programs, the libraries, headers, pages of the manual and documents;
 #     /usr/local if no PREFIX is named. make uninstall, with the same words, removes them.
-# make dist: archives and packages of all that, and of the sources, in packaging/out. GATE_LOG names what a gate printed.
+# make dist: archives and packages of all that, and of the sources, in packaging/out. GATE_LOG names what a gate
+#     printed.
 # PROGRAMS and LIBRARY name others than those that are proved here.
 
 # No source is made from another, and to look for such rules takes seconds.

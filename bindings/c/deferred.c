@@ -1,5 +1,5 @@
 /*
- * Four top halves, each in a thread of its own, defer procedures by one chain: `deferred [NOTES]`, 1,000,000 notes of
+ * Eight top halves, each in a thread of its own, defer procedures by one chain: `deferred [NOTES]`, 1,250,000 notes of
  * each where no number is given. A bottom half is whichever of them runs notes at the time. It counts in plain memory,
  * with no lock: each note is run once, those of one top half in its order, and no two at once. Prints one line. Status
  * 1: a note was lost, came twice, or came beside another.
@@ -10,7 +10,7 @@
 #include <stdio.h>
 #include <stdlib.h>
 
-enum { TOP_HALVES = 4, NUMBERS = 1 << 14 };
+enum { TOP_HALVES = 8, NUMBERS = 1 << 13 };
 
 /* What the procedures work on, without a lock. */
 static struct {
@@ -81,7 +81,7 @@ int main(int count, char **words)
 {
     pthread_t threads[TOP_HALVES];
     struct synth_chain_totals totals;
-    notes = count > 1 ? strtoul(words[1], NULL, 10) : 1000000;
+    notes = count > 1 ? strtoul(words[1], NULL, 10) : 1250000;
     must(synth_chain_new(0, &ends[0]), "new");
     for (int i = 1; i < TOP_HALVES; i++) {
         must(synth_chain_split(&ends[0], &ends[i]), "split");

@@ -1,9 +1,11 @@
 /*
  * The archive has each call of synthesis.h as a symbol, so that other languages, and pointers to a function, have one.
- * Status 1: two calls have the same. That each is there the linker sees.
+ * Status 1: two calls have the same. That each is there the linker sees. And the version's numbers are those of its
+ * text.
  */
 #include "rows.h"
 #include "synthesis.h"
+#include <string.h>
 
 typedef void (*function)(void);
 
@@ -43,6 +45,7 @@ int main(void)
     synth_code (*volatile finish)(struct synth_batch *, uint64_t *, size_t, struct synth_batch_totals *) =
         synth_batch_finish;
     uint64_t items[2] = {8, 9};
+    char version[64];
     for (int i = 0; i < CALLS; i++) {
         for (int k = 0; k < i; k++) {
             ROW(calls[i] != calls[k], true);
@@ -52,5 +55,7 @@ int main(void)
     ROW(put(&end, items, 1, 1), SYNTH_OK);
     ROW(finish(&end, items, 2, NULL), SYNTH_OK);
     ROW(items[0], 8);
+    snprintf(version, sizeof version, "%d.%d.%d", SYNTH_VERSION_MAJOR, SYNTH_VERSION_MINOR, SYNTH_VERSION_PATCH);
+    ROW(strcmp(version, SYNTH_VERSION), 0);
     return rows_end("pointers");
 }

@@ -145,3 +145,14 @@ extern inline synth_code synth_hand_try_deliver(struct synth_hand *restrict hand
 extern inline synth_code synth_hand_finish(struct synth_hand *restrict hand,
                                            struct synth_hand_totals *restrict totals);
 extern inline synth_code synth_hand_free(struct synth_hand *hand);
+
+/* What the calls have in common, for a compiler that doesn't inline it. */
+extern inline void synth_positions_(struct synth_positions *positions, struct synth_raw_answer found);
+extern inline void synth_tail_(uint64_t *tail, struct synth_raw_answer found);
+extern inline synth_code synth_batch_taken_(synth_code code, const uint64_t *items, size_t taken, size_t *count,
+                                            uint64_t at, uint64_t *tail);
+extern inline synth_code synth_queue_taken_(struct synth_raw_answer found, const uint64_t *items, size_t taken,
+                                            size_t *count, uint64_t *tail);
+extern inline synth_code synth_hand_taken_(struct synth_raw_answer found, const uint32_t *element, uint32_t *tail);
+extern inline synth_code synth_hand_moved_(struct synth_raw_moved found, uint32_t *head, uint32_t *notifies);
+extern inline synth_code synth_hand_state_(struct synth_raw_state found, struct synth_element_state *state);

@@ -28,17 +28,10 @@
  */
 #ifndef MEASURE_H
 #define MEASURE_H
-#ifndef _GNU_SOURCE
-#define _GNU_SOURCE
-#endif
+#include "basics.h"
 #include <pthread.h>
 #include <sched.h>
-#include <stdbool.h>
 #include <stddef.h>
-#include <stdint.h>
-#include <stdio.h>
-#include <stdlib.h>
-#include <time.h>
 
 enum { PLACES = 256, MOST = 64, MOST_ENDS = 2, MOST_CORES = 2 * MOST_ENDS, LONES = 300, HANDOFFS = 1000 };
 
@@ -58,9 +51,6 @@ enum course { ALONE, PAIR, TWO, LONE };
 /* How a thread waits after a try in vain, and before the next one. */
 enum waits { SHORT, LONG };
 
-/* A variable that stands in a cache line of its own, and in the neighbour that is fetched with it. */
-#define APART __attribute__((aligned(128)))
-
 /*
  * Makes the queue, empty, with PLACES places where it can have so many. It has so many ends to put at, 1 or 2, and as
  * many to take at, each for a thread of its own. False: it can't be made.
@@ -72,42 +62,6 @@ static void drop_queue(void);
 static size_t put_some(unsigned end, const uint64_t *items, size_t count);
 /* One try to take a line at this end. Gives how many items were taken, `most` or fewer. There is room for PLACES. */
 static size_t take_some(unsigned end, uint64_t *items, size_t most);
-
-static void must(bool good, const char *what)
-{
-    if (!good) {
-        fprintf(stderr, "%s\n", what);
-        exit(1);
-    }
-}
-
-static void pause_once(void)
-{
-#if defined __x86_64__ || defined __i386__
-    __builtin_ia32_pause();
-#elif defined __aarch64__
-    __asm__ volatile("yield");
-#endif
-}
-
-static uint64_t told_by(clockid_t clock)
-{
-    struct timespec time;
-    must(clock_gettime(clock, &time) == 0, "no clock");
-    return (uint64_t)time.tv_sec * 1000000000u + (uint64_t)time.tv_nsec;
-}
-
-static uint64_t elapsed(void)
-{
-    return told_by(CLOCK_MONOTONIC);
-}
-
-static void wait_till(uint64_t time)
-{
-    while (elapsed() < time) {
-        pause_once();
-    }
-}
 
 /*
  * Waits after a try in vain, of which there were so many before. Short waits are of 1, 2, 4 and so on to 64 pauses,

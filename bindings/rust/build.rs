@@ -1,5 +1,5 @@
-//! Links the library that the variable `SYNTHESIS_ARCHIVE` names, or the one that `make library` builds in `bindings`, or
-//! the one that `make install` installs beside this crate.
+//! Links the library that the variable `SYNTHESIS_ARCHIVE` names, or the one that `make library` builds in `bindings`,
+//! or the one that `make install` installs beside this crate.
 
 use std::env;
 use std::path::PathBuf;

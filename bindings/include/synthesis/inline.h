@@ -290,7 +290,7 @@ SYNTH_CALL_ synth_code synth_queue_taken_(struct synth_raw_answer found, const u
 SYNTH_CALL_ synth_code synth_queue_try_take(struct synth_queue *SYNTH_RESTRICT_ queue, uint64_t *SYNTH_RESTRICT_ item,
                                             uint64_t *SYNTH_RESTRICT_ tail)
 {
-    uint64_t unused;
+    uint64_t unused = 0;
     uint64_t *const to = item ? item : &unused;
     return synth_queue_taken_(synth_raw_queue_try_take(queue, to), to, 1, SYNTH_NULL_, tail);
 }

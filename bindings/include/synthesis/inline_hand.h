@@ -106,7 +106,7 @@ SYNTH_CALL_ synth_code synth_hand_step_done(struct synth_hand *SYNTH_RESTRICT_ h
 SYNTH_CALL_ synth_code synth_hand_try_next(struct synth_hand *SYNTH_RESTRICT_ hand,
                                            uint32_t *SYNTH_RESTRICT_ element, uint32_t *SYNTH_RESTRICT_ tail)
 {
-    uint32_t unused;
+    uint32_t unused = 0;
     uint32_t *const to = element ? element : &unused;
     const struct synth_raw_answer found = synth_raw_hand_try_next(hand, to);
     return synth_hand_taken_(found, to, tail);
@@ -115,7 +115,7 @@ SYNTH_CALL_ synth_code synth_hand_try_next(struct synth_hand *SYNTH_RESTRICT_ ha
 SYNTH_CALL_ synth_code synth_hand_try_free(struct synth_hand *SYNTH_RESTRICT_ hand,
                                            uint32_t *SYNTH_RESTRICT_ element, uint32_t *SYNTH_RESTRICT_ tail)
 {
-    uint32_t unused;
+    uint32_t unused = 0;
     uint32_t *const to = element ? element : &unused;
     const struct synth_raw_answer found = synth_raw_hand_try_free(hand, to);
     return synth_hand_taken_(found, to, tail);
@@ -124,7 +124,7 @@ SYNTH_CALL_ synth_code synth_hand_try_free(struct synth_hand *SYNTH_RESTRICT_ ha
 SYNTH_CALL_ synth_code synth_hand_try_wake(struct synth_hand *SYNTH_RESTRICT_ hand, uint32_t wait,
                                            uint32_t *SYNTH_RESTRICT_ element, uint32_t *SYNTH_RESTRICT_ tail)
 {
-    uint32_t unused;
+    uint32_t unused = 0;
     uint32_t *const to = element ? element : &unused;
     const struct synth_raw_answer found = synth_raw_hand_try_wake(hand, wait, to);
     return synth_hand_taken_(found, to, tail);
@@ -142,7 +142,7 @@ SYNTH_CALL_ synth_code synth_hand_try_wake_before(struct synth_hand *SYNTH_RESTR
                                                   uint32_t head, uint32_t *SYNTH_RESTRICT_ element,
                                                   uint32_t *SYNTH_RESTRICT_ tail)
 {
-    uint32_t unused;
+    uint32_t unused = 0;
     uint32_t *const to = element ? element : &unused;
     const struct synth_raw_answer found = synth_raw_hand_try_wake_before(hand, wait, head, to);
     return synth_hand_taken_(found, to, tail);

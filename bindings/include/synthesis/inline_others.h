@@ -42,7 +42,7 @@ SYNTH_CALL_ synth_code synth_chain_try_chain(struct synth_chain *SYNTH_RESTRICT_
 
 SYNTH_CALL_ synth_code synth_chain_next(struct synth_chain *SYNTH_RESTRICT_ chain, uint16_t *SYNTH_RESTRICT_ note)
 {
-    uint16_t unused;
+    uint16_t unused = 0;
     uint16_t *const to = note ? note : &unused;
     synth_code code;
     SYNTH_RELEASE_(SYNTH_TURN_, 0);

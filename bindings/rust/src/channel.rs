@@ -1,15 +1,16 @@
 //! Channels: a bounded queue of items of any type, for any number of senders and receivers.
 //!
-//! [`channel`](channel()) makes one. Its halves are [`Sender`] and [`Receiver`]. Their calls have the names, the answers
-//! and the errors of [`std::sync::mpsc`]'s, and both halves can be cloned and shared.
+//! [`channel`](channel()) makes one. Its halves are [`Sender`] and [`Receiver`]. Their calls have the names, the
+//! answers and the errors of [`std::sync::mpsc`]'s, and both halves can be cloned and shared.
 //!
-//! Below it is one batch queue of words. An item of up to 8 bytes is in its word, and a larger one in a box, which the
-//! word points to. Whoever receives an item sees all that was done before it was sent.
+//! Below it is one batch queue of words. An item of up to 8 bytes is in its word. A larger one is in a box, to which
+//! the word points: each send of it takes memory, also one that is refused. Whoever receives an item sees all that was
+//! done before it was sent.
 //!
 //! The `try_` calls are lock-free as long as no half is used by two threads at once: so clone it for each thread. The
-//! other calls sleep on an [`Event`](crate::Event) while the channel is full or empty. If nobody sleeps, this costs a call one load.
-//! What a call does to the queue is proved, on the library's side of it. The words, the sleeps and the counts of halves
-//! are this crate's, and are only tested.
+//! other calls sleep on an [`Event`](crate::Event) while the channel is full or empty. If nobody sleeps, this costs a
+//! call one load. What a call does to the queue is proved, on the library's side of it. The words, the sleeps and the
+//! counts of halves are this crate's, and are only tested.
 
 mod errors;
 mod half;

@@ -196,11 +196,14 @@ impl<H: Handle> Share<H> {
 
     /// Joins another end to this one. One of another object comes back.
     pub(crate) fn join(&mut self, mut other: Share<H>) -> Result<(), Share<H>> {
-        match self.handle.join(&mut other.handle) {
-            raw::OK => Ok(()),
-            raw::OTHER_OBJECT => Err(other),
-            code => raw::no_such_answer(code),
+        if !Arc::ptr_eq(&self.rest, &other.rest) {
+            return Err(other);
         }
+        if !other.handle.is_plain() {
+            must_join(self.handle.join(&mut other.handle));
+        }
+        // An end that has nothing but its share is dropped, so its share is there for new ends.
+        Ok(())
     }
 
     /// Whether no other end exists.

@@ -61,9 +61,9 @@
 //!
 //! | | what it is | limits |
 //! |---|---|---|
-//! | [`channel()`] | a bounded channel of any type, whose calls may sleep | 2 to the power 0 to 24 places; 2^62 items |
-//! | [`batch`] | a bounded queue of 64-bit words, put and taken in bursts | 2 to the power 0 to 24 places; 2^62 items |
-//! | [`queue`] | a claim queue of 64-bit words, with lines: bursts that end with a 10 | 64 or 256 places; 2^32 - 1 items |
+//! | [`channel()`] | a bounded channel of any type, whose calls may sleep | 1 to 2^24 places; 2^62 items |
+//! | [`batch`] | a bounded queue of 64-bit words, put and taken in bursts | 1 to 2^24 places; 2^62 items |
+//! | [`queue`] | a claim queue of 64-bit words; a line, up to a 10, is taken whole | 64 or 256 places; 2^32 - 1 items |
 //! | [`chain`] | deferred procedures: notes of 16 bits, one runner at a time, no lock | 32 places; 2^32 - 1 notes |
 //! | [`meters`] | gauges, a clock and alarms | 8 gauges, 16 alarms; 2^32 - 1 ticks |
 //! | [`line`](mod@line) | bytes from one thread to another | 1 to 65,536 places |
@@ -74,36 +74,41 @@
 //!
 //! # Ends
 //!
-//! Each object except a channel is shared by its ends, each with a handle of its own. An end goes to another thread by a
-//! move, and its calls take `&mut`: the library's calls want a handle for themselves. As no call comes to a handle by
-//! `&`, ends are `Sync` as well, so an error that carries one can be any error type. `split` makes one more end by `&`.
+//! Each object except a channel is shared by its ends, each with a handle of its own. An end goes to another thread by
+//! a move, and its calls take `&mut`, those that only ask too: the library's calls want a handle for themselves. As no
+//! call comes to a handle by `&`, ends are `Sync` as well, so an error that carries one can be any error type. `split`
+//! makes one more end by `&`.
 //!
 //! `close` by the last end returns what became of everything. A dropped end gives its share back to its object, also if
 //! its thread panics. So `close` fails only while other ends exist, or if one was leaked, as by
-//! [`mem::forget`](std::mem::forget): then the object goes on, and is leaked with it. `split`, `close` and a drop take a
-//! lock of the object for a moment, and memory; no other call of an end does.
+//! [`mem::forget`](std::mem::forget): then the object goes on, and is leaked with it. `split`, `close`, `take_over` and
+//! a drop take a lock of the object for a moment, and may allocate or free memory; no other call of an end does.
 //!
 //! # Order of memory
 //!
 //! All that a thread did before a put is seen by whoever takes one of its items, so an item may be a pointer. The same
-//! holds of a send and the receiving of its item, of a note and its procedure, and of what was done before an element was
-//! moved or a tick counted. Each atomic step of a call is sequentially consistent. ThreadSanitizer doesn't see these
-//! steps, as the library isn't built by it.
+//! holds of a send and the receiving of its item, of a note and its procedure, and of what was done before an element
+//! was moved or a tick counted. Each atomic step of a call is sequentially consistent. ThreadSanitizer doesn't see
+//! these steps, as the library isn't built by it.
 //!
 //! # What is proved
 //!
-//! What each call of the library does to its object is proved, for any number of threads and any schedule: no item, note
-//! or element is lost or comes twice, batches come whole and in order, and each error is true. This crate isn't proved. It
-//! is a few lines around each call of the library; the words and the sleeps of channels, [`Event`], and the shares of
-//! dropped ends are its own. They are tested, the event by a model over all schedules of a few threads. That items are
-//! published to whoever takes them rests on the proofs' one order of steps, to which the compiler keeps.
+//! What each call of the library does to its object is proved, for any number of threads and any schedule: no item,
+//! note or element is lost or comes twice, batches come whole and in order, and each error is true. The repository's
+//! docs/PROMISES.md says it exactly, and what it leaves open, as that the last end can close its object: this is
+//! tested.
+//!
+//! This crate isn't proved. It is a few lines around each call of the library; the words and the sleeps of channels,
+//! [`Event`], and the shares of dropped ends are its own. They are tested, the event by a model over all schedules of a
+//! few threads. No proof speaks of the order of memory either: the proofs speak of steps in one order, and the compiler
+//! keeps to it.
 //!
 //! Calls named `try_` make one try, and never wait. Those of queues may answer `Lost`: another end was first, so the
 //! next try may succeed. A `try_send` or `try_recv` of a channel repeats such a try by itself. A thread that is stopped
-//! within a put holds up what is put after it, until it goes on. An error changes nothing.
+//! within a put holds up what is put after it, until it goes on. After an error all is as it
+//! was.
 //!
-//! A program has one version of this crate, and Cargo refuses two: a join knows the ends of an object by marks that one
-//! copy of the library gives.
+//! A program has one version of this crate, and one copy of its library: Cargo refuses two.
 #![deny(missing_docs)]
 
 /// The code of README.md is tested.

@@ -235,8 +235,8 @@ impl MeterSeat {
         }
     }
 
-    /// Takes this alarm out of this slot, by one step. Returns true if it was there; otherwise it was fired or cancelled
-    /// before, or never was there. Two alarms that are equal can't be told apart.
+    /// Takes this alarm out of this slot, by one step. Returns true if it was there; otherwise it was fired or
+    /// cancelled before, or never was there. Two alarms that are equal can't be told apart.
     ///
     /// ```
     /// # use synthesis_kernel::meters::{Alarm, MeterSeat};

@@ -390,8 +390,8 @@ mod tests {
         for text in headers.filter_map(|header| fs::read_to_string(header).ok()) {
             for (name, after) in text.split("SYNTH_").skip(1).filter_map(|rest| rest.split_once(" = ")) {
                 let digits = after.split(|c: char| c != '-' && !c.is_ascii_digit()).next().unwrap_or_default();
-                if let (true, Ok(number)) = (is_name(name), digits.parse()) {
-                    let before = numbers.insert(name.to_owned(), number);
+                if let (true, Ok(number)) = (is_name(name.trim_end()), digits.parse()) {
+                    let before = numbers.insert(name.trim_end().to_owned(), number);
                     assert!(before.is_none_or(|before| before == number), "two numbers of SYNTH_{name}");
                 }
             }

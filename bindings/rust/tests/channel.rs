@@ -300,6 +300,37 @@ fn what_nobody_receives_is_dropped_once() {
     assert_eq!(drops.load(SeqCst), 4);
 }
 
+/// No item is left in a channel without a receiver, even one that was being sent while the last receiver was dropped.
+#[test]
+fn what_is_sent_to_a_receiver_that_goes_is_dropped_at_once() {
+    for round in 0..300 {
+        let drops = &AtomicUsize::new(0);
+        let (sender, receiver) = channel(1 << (round % 8));
+        let (senders, made) = thread::scope(|scope| {
+            let threads: Vec<_> = (0..3)
+                .map(|thread| {
+                    let sender = sender.clone();
+                    scope.spawn(move || {
+                        let mut made = 0;
+                        loop {
+                            made += 1;
+                            if sender.send(Counted { drops, number: thread }).is_err() {
+                                return (sender, made);
+                            }
+                        }
+                    })
+                })
+                .collect();
+            let received = receiver.iter().take(round).count();
+            assert_eq!(received, round);
+            drop(receiver);
+            threads.into_iter().map(|thread| thread.join().unwrap()).unzip::<_, _, Vec<_>, Vec<_>>()
+        });
+        assert_eq!(drops.load(SeqCst), made.iter().sum::<usize>());
+        assert!(senders.iter().all(|sender| sender.is_closed() && sender.is_empty()));
+    }
+}
+
 #[test]
 fn items_of_no_size_are_dropped_once() {
     static DROPS: AtomicUsize = AtomicUsize::new(0);

@@ -1,5 +1,6 @@
 //! How each program measures its queue: `measure.h` beside this crate once more, with the same items, courses, waits,
-//! words, rows and statuses. Only the row of a handoff is left to the programs in C.
+//! words, rows and statuses. Only the row of a handoff is left to the programs in C. The module `boxes` measures
+//! channels of boxes.
 
 use std::env;
 use std::error::Error;
@@ -10,6 +11,7 @@ use std::sync::atomic::{AtomicU64, Ordering};
 use std::sync::Barrier;
 use std::thread;
 
+pub mod boxes;
 mod machine;
 
 use machine::{elapsed, pin, processor_time};
@@ -256,8 +258,8 @@ fn run_job(start: &Barrier, core: usize, work: impl FnOnce() -> (u64, u64)) -> T
     Told { begun, ended, bits, sum }
 }
 
-/// Threads that put at an end each and threads that take there, each of these a part of the items. Gives the nanoseconds
-/// from the first one's begin till the last one's end.
+/// Threads that put at an end each and threads that take there, each of these a part of the items. Gives the
+/// nanoseconds from the first one's begin till the last one's end.
 fn time_threads<P: Puts, T: Takes>(ends: &mut [Ends<P, T>], course: &Course) -> u64 {
     let count = ends.len();
     let start = Barrier::new(2 * count);

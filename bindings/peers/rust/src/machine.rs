@@ -7,6 +7,7 @@ mod calls {
     use std::mem;
 
     const CLOCK_MONOTONIC: c_int = 1;
+    const CLOCK_PROCESS_CPUTIME_ID: c_int = 2;
     const CLOCK_THREAD_CPUTIME_ID: c_int = 3;
 
     #[repr(C)]
@@ -30,6 +31,10 @@ mod calls {
 
     pub fn processor_time() -> u64 {
         told_by(CLOCK_THREAD_CPUTIME_ID)
+    }
+
+    pub fn busy_time() -> u64 {
+        told_by(CLOCK_PROCESS_CPUTIME_ID)
     }
 
     pub fn elapsed() -> u64 {
@@ -62,9 +67,13 @@ mod calls {
         elapsed()
     }
 
+    pub fn busy_time() -> u64 {
+        elapsed()
+    }
+
     pub fn pin(_core: usize) {
         crate::must(false, "threads can't be pinned here");
     }
 }
 
-pub use calls::{elapsed, pin, processor_time};
+pub use calls::{busy_time, elapsed, pin, processor_time};

@@ -189,6 +189,30 @@ impl<T> Half<T> {
         }
     }
 
+    /// What a sender does after a put: it wakes a receiver, or drops what nobody will receive.
+    ///
+    /// The last receiver counts itself out, shuts the queue, and drops what it can take. It may find an item reserved
+    /// and not published, and then leaves that one and all after it. The sender of that item publishes it later, so it
+    /// finds no receiver here, and drops the rest.
+    #[inline]
+    pub(super) fn was_put(&self) {
+        self.shared.items.notify_one();
+        if self.shared.receivers.load(Ordering::SeqCst) == 0 {
+            self.drop_left();
+        }
+    }
+
+    /// Drops the items that nobody will receive, up to one that isn't published.
+    #[cold]
+    pub(super) fn drop_left(&self) {
+        drop_all(iter::from_fn(|| {
+            let mut word = [Word::uninit()];
+            self.take(&mut word).ok()?;
+            // SAFETY: each word of the queue is that of an item, and is taken once.
+            Some(unsafe { unpack::<T>(word[0]) })
+        }));
+    }
+
     /// How many items are in the channel, or were a moment ago.
     pub(super) fn len(&self) -> usize {
         let mut count = 0;
@@ -254,5 +278,46 @@ struct Freed<'a>(&'a mut raw::Batch);
 impl Drop for Freed<'_> {
     fn drop(&mut self) {
         self.0.free();
+    }
+}
+
+#[cfg(test)]
+#[allow(clippy::arc_with_non_send_sync, reason = "it is shared by halves, which are both")]
+mod tests {
+    use super::{Half, Shared};
+    use crate::channel::word::pack;
+    use std::sync::Arc;
+    use std::sync::atomic::Ordering::SeqCst;
+
+    #[test]
+    fn a_sender_drops_what_it_published_after_the_last_receiver() {
+        let shared = Arc::new(Shared::<Arc<()>>::new(4).unwrap());
+        let half = Half::new(&shared).unwrap();
+        let item = Arc::new(());
+        shared.receivers.store(1, SeqCst);
+        for count in [2, 3] {
+            assert!(half.put(&[pack(Arc::clone(&item))]).is_ok());
+            half.was_put();
+            assert_eq!((Arc::strong_count(&item), half.len()), (count, count - 1));
+        }
+        // The receiver counts itself out while this put is under way.
+        assert!(half.put(&[pack(Arc::clone(&item))]).is_ok());
+        shared.receivers.store(0, SeqCst);
+        half.was_put();
+        assert_eq!((Arc::strong_count(&item), half.len()), (1, 0));
+    }
+
+    #[test]
+    fn a_half_in_use_is_passed_by() {
+        let shared = Arc::new(Shared::<u64>::new(4).unwrap());
+        let half = Half::new(&shared).unwrap();
+        half.is_used.store(true, SeqCst);
+        for (item, extra) in [(1, 1), (2, 1)] {
+            assert!(half.put(&[pack(item)]).is_ok());
+            assert_eq!(shared.handles().extra.len(), extra);
+        }
+        half.is_used.store(false, SeqCst);
+        assert_eq!(half.len(), 2);
+        assert!(!half.is_used.load(SeqCst));
     }
 }

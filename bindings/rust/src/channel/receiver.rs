@@ -3,10 +3,9 @@
 use super::errors::{RecvError, RecvTimeoutError, TryRecvError};
 use super::half::{Half, NotTaken, wait};
 use super::iter::{IntoIter, Iter, TryIter};
-use super::word::{BURST, Burst, Word, drop_all, unpack};
+use super::word::{BURST, Burst, Word, unpack};
 use crate::ends::SplitError;
 use std::fmt;
-use std::iter;
 use std::panic::{RefUnwindSafe, UnwindSafe};
 use std::sync::Arc;
 use std::sync::atomic::Ordering::SeqCst;
@@ -17,7 +16,7 @@ use std::time::Duration;
 /// As a [`Sender`](super::Sender), it may be shared by `&` too.
 ///
 /// When the last receiver is dropped, it drops what was not received, and each sender gets its item back as
-/// `Disconnected`. An item that is just being sent then is dropped with the last half.
+/// `Disconnected`. A sender that is just within a send then drops what it sent.
 pub struct Receiver<T> {
     half: Half<T>,
 }
@@ -297,7 +296,7 @@ impl<T> Drop for Receiver<T> {
         if shared.receivers.fetch_sub(1, SeqCst) == 1 {
             self.half.shut();
             shared.room.notify_all();
-            drop_all(iter::from_fn(|| self.take().ok()));
+            self.half.drop_left();
         }
     }
 }

@@ -73,7 +73,7 @@ impl<T> Sender<T> {
         let word = pack(item);
         let not_put = match self.half.put(&[word]) {
             Ok(()) => {
-                self.half.shared.items.notify_one();
+                self.half.was_put();
                 return Ok(());
             }
             Err(not_put) => not_put,
@@ -122,7 +122,7 @@ impl<T> Sender<T> {
             answer => Some(answer.is_ok()),
         });
         if put == Some(true) {
-            self.half.shared.items.notify_one();
+            self.half.was_put();
             return Ok(());
         }
         // SAFETY: the word was packed above, and not put.
@@ -153,7 +153,7 @@ impl<T> Sender<T> {
         let words: Vec<Word> = items.into_iter().map(pack).collect();
         let not_put = match self.half.put(&words) {
             Ok(()) => {
-                self.half.shared.items.notify_one();
+                self.half.was_put();
                 return Ok(words.len());
             }
             Err(not_put) => not_put,
@@ -193,7 +193,7 @@ impl<T> Sender<T> {
                 if count == 0 {
                     return Err(SendError(unpack_all(left)));
                 }
-                self.half.shared.items.notify_one();
+                self.half.was_put();
                 left = &left[count..];
             }
         }

@@ -1,8 +1,8 @@
 //! How an item becomes a word of the queue, and an item again.
 //!
 //! A word is memory that may be uninitialized in part, as an item with padding is, and may have a pointer in it. It is
-//! never read as a number, on this side or in the library: it is only copied. So no byte is looked at that has no value,
-//! and a pointer comes back as it was.
+//! never read as a number, on this side or in the library: it is only copied. So no byte is looked at that has no
+//! value, and a pointer comes back as it was.
 
 use std::marker::PhantomData;
 use std::mem::{MaybeUninit, align_of, size_of};

@@ -73,8 +73,8 @@ impl Hand {
         taken(answer, element)
     }
 
-    /// Counts one more notify of a wait queue, by one step: no wait by an older ticket succeeds from then on. Returns the
-    /// position after the last place that was claimed before, for `try_wake_before`.
+    /// Counts one more notify of a wait queue, by one step: no wait by an older ticket succeeds from then on. Returns
+    /// the position after the last place that was claimed before, for `try_wake_before`.
     ///
     /// ```
     /// # use synthesis_kernel::Hand;

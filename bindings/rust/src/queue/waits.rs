@@ -56,8 +56,8 @@ impl QueueEvents {
 }
 
 impl<const N: usize> QueueEnd<N> {
-    /// Puts an item, and sleeps while the queue is full. Returns its position, or `Full` if the time is over, or another
-    /// error of [`try_put`](QueueEnd::try_put) except `Lost`.
+    /// Puts an item, and sleeps while the queue is full. Returns its position, or `Full` if the time is over, or
+    /// another error of [`try_put`](QueueEnd::try_put) except `Lost`.
     ///
     /// ```
     /// # use std::time::Duration;

@@ -1,5 +1,6 @@
 mod BatchEnds
 mod Buffers
+pub mod Calls
 mod HandFits
 mod Holding
 mod QueueClosed

@@ -1,10 +1,13 @@
 -- What C is told follows from what the library answered.
-use Rattle.std.proofs.Common.{◌≡◌, ◌∙◌, refl, sym, ap, subst, Bool, true, false, ℤ}
+use Rattle.std.proofs.Common.{◌≡◌, ◌∙◌, ◌⊎◌, inl, inr, refl, sym, ap, subst, Bool, true, false, ℤ}
+use Rattle.std.specs.Option.{MatchOption}
 use Rattle.std.proofs.lemmas.Int.{to_z-of_z}
 use mir.Syntax.{w32}
 use mir.Val.{SFits, of_z, to_z}
 use Rattle.std.specs.declared.option.Option.{Option}
 use Rattle.std.specs.declared.option.Option.TheVariants.{None, Some}
+use Rattle.bindings.specs.Handles.{Answered, Filled, MadeHandle, held_by}
+use Rattle.bindings.specs.declared.handle.Handle.{Handle}
 use Rattle.bindings.specs.Hiding.{is_some}
 use Rattle.bindings.specs.declared.payload.Payload.{Payload}
 
@@ -37,3 +40,17 @@ as_told F z fits h = subst F (sym (to_z-of_z w32 z fits)) h
 -- the end that came out of the box is the one that was held
 pub unboxed : {X : Type 0} (of : Payload → Option X) (h : Payload) {z r : X} {p q : Payload} → of h ≡ Some z → Some h ≡ Some p → q ≡ p → of q ≡ Some r → r ≡ z
 unboxed of h {r = r} is b e d = ap (the r) (sym d ∙ ap of e ∙ ap of (sym (ap (the h) b)) ∙ is)
+
+-- the library's answer, and what C is told of it
+pub answered : {A X : Type 0} {Did : A → X → X → Type 0} {Tells : A → Type 0} {x : X} (y : X) (answer : A) → Did answer x y → Tells answer
+    → Answered Did Tells x (Some y)
+answered y answer did tells = record { y = y; full = refl; answer = answer; answered = did; tells = tells }
+
+-- a new end in a handle that was empty, or none when memory is out
+pub made_as : {X : Type 0} (wrap : X → Payload) (Valid : Type 0) (IsNew : X → Type 0) (made : Option X) (old new : Handle) (code : ℤ)
+    → is_some (held_by old) ≡ false → Valid → MatchOption made (Unit {0}) IsNew → Filled wrap made old new code
+    → MadeHandle wrap Valid IsNew old new code
+made_as wrap Valid IsNew made old new code empty valid is_new (inl (no_memory, same)) =
+    inr (inr (inl (no_memory, is_none (held_by old) empty, same, valid)))
+made_as wrap Valid IsNew made old new code empty valid is_new (inr (done, y, is, holds)) =
+    inr (inr (inr (done, is_none (held_by old) empty, valid, y, holds, subst (λ m. MatchOption m (Unit {0}) IsNew) is is_new)))

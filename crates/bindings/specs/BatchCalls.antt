@@ -1,6 +1,6 @@
 -- What the calls for C do to the handles of batch queues.
-use Rattle.std.specs.Prelude.{◌≡◌, ◌⊎◌, ◌≤◌, ◌<◌, ℕ, ℤ, true, pos, List, length, Result, Ok, Err}
-use Rattle.std.specs.declared.option.Option.TheVariants.{None, Some}
+use Rattle.std.specs.Prelude.{◌≡◌, ◌⊎◌, ◌≤◌, ◌<◌, ℕ, ℤ, pos, List, length, Result, Ok, Err}
+use Rattle.std.specs.declared.option.Option.TheVariants.{Some}
 use Rattle.std.specs.declared.option.Option.{Option}
 use Rattle.batch_queue.specs.declared.refusals.PutRefusal.{PutRefusal}
 use Rattle.batch_queue.specs.declared.refusals.PutRefusal.TheVariants as not_put
@@ -8,26 +8,13 @@ use Rattle.batch_queue.specs.declared.refusals.TakeRefusal.{TakeRefusal}
 use Rattle.batch_queue.specs.declared.refusals.TakeRefusal.TheVariants as not_taken
 use Rattle.bindings.specs.declared.batch.SynthPositions.{SynthPositions}
 use Rattle.bindings.specs.declared.batch.closing.SynthBatchClosed.{SynthBatchClosed}
-use Rattle.bindings.specs.declared.batch.closing.Outcome.{Outcome}
-use Rattle.bindings.specs.declared.batch.closing.Outcome.TheVariants as ended
 use Rattle.bindings.specs.declared.batch.held.HeldBatch.{HeldBatch}
-use Rattle.bindings.specs.declared.handle.Handle.{Handle}
 use Rattle.bindings.specs.declared.payload.Payload.{Payload}
 use Rattle.bindings.specs.declared.payload.Payload.TheVariants.{Batch}
-use Rattle.bindings.specs.Handles.{held_by, AsItWas}
-use Rattle.bindings.specs.Hiding.{is_some}
-use Rattle.bindings.specs.Codes.{Done, Open, NoMemory, FullHandle, ShortBuffer, BadNumber}
-use Rattle.bindings.specs.BatchHeld.{IsCapacity, IsNewBatch, places_of, Put, PutSome}
+use Rattle.bindings.specs.Handles.{WasEnded}
+use Rattle.bindings.specs.Codes.{Done, ShortBuffer}
+use Rattle.bindings.specs.BatchHeld.{places_of}
 use Rattle.bindings.specs.BatchClosing.{Ended}
-
--- what `new` did, by its code
-abbrev pub MadeBatch : ℕ → ℕ → Handle → Handle → ℤ → Type 0
-MadeBatch places mark old new code =
-    ((code ≡ FullHandle) × (is_some (held_by old) ≡ true) × AsItWas old new)
-    ⊎ ((code ≡ BadNumber) × (held_by old ≡ None) × AsItWas old new × (IsCapacity places → ⊥))
-    ⊎ ((code ≡ NoMemory) × (held_by old ≡ None) × AsItWas old new × IsCapacity places)
-    ⊎ ((code ≡ Done) × (held_by old ≡ None) × (y : HeldBatch) × (held_by new ≡ Some (Batch y))
-    × IsNewBatch places mark y)
 
 -- the code of why nothing was put
 abbrev pub code_of_put : PutRefusal → ℤ
@@ -79,42 +66,10 @@ IsToldTake (Ok n) old_count count old new code = (code ≡ Done) × (count ≡ n
 IsToldTake (Err r) old_count count old new code =
     (code ≡ code_of_batch r) × (count ≡ count_of_take r old_count) × (new ≡ positions_of_take r old)
 
--- C is told what the library's `try_put` answered
-pub record PutTold (items : List ℕ) (old new : SynthPositions) (code : ℤ) (x y : HeldBatch) : Type 0 where
-  pub answer : Result ℕ PutRefusal
-  pub answered : Put items answer x y
-  pub tells : IsToldPut answer old new code
-
--- C is told what the library's `try_put_some` answered
-pub record PutSomeTold (items : List ℕ) (old_count count : ℕ) (old new : SynthPositions) (code : ℤ) (x y : HeldBatch)
-    : Type 0 where
-  pub answer : Result (ℕ × ℕ) PutRefusal
-  pub answered : PutSome items answer x y
-  pub tells : IsToldPutSome answer old_count count old new code
-
--- C is told what the library answered to a taking of this kind
-pub record TakeTold (Takes : List ℕ → List ℕ → Result ℕ TakeRefusal → HeldBatch → HeldBatch → Type 0)
-    (old_items items : List ℕ) (old_count count : ℕ) (old new : SynthPositions) (code : ℤ) (x y : HeldBatch)
-    : Type 0 where
-  pub answer : Result ℕ TakeRefusal
-  pub answered : Takes old_items items answer x y
-  pub tells : IsToldTake answer old_count count old new code
-
--- the queue is closed, and the numbers are told; or the handle holds what it held
-abbrev pub IsToldEnding : Outcome → Option Payload → SynthBatchClosed → SynthBatchClosed → ℤ → Type 0
-IsToldEnding (ended.Closed c) new old told code = (code ≡ Done) × (new ≡ None) × (told ≡ c)
-IsToldEnding (ended.Open y) new old told code = (code ≡ Open) × (new ≡ Some (Batch y)) × (told ≡ old)
-
--- C is told what became of the queue
-pub record WasEnded (x : HeldBatch) (old_items items : List ℕ) (new : Option Payload) (old told : SynthBatchClosed)
-    (code : ℤ) : Type 0 where
-  pub outcome : Outcome
-  pub ended : Ended old_items items outcome x
-  pub tells : IsToldEnding outcome new old told code
-
 -- the buffer was too short, and nothing happened; or the queue was closed, or was not
 abbrev pub WasClosed : HeldBatch → List ℕ → List ℕ → Option Payload → SynthBatchClosed → SynthBatchClosed → ℤ → Type 0
 WasClosed x old_items items new old told code =
     ((code ≡ ShortBuffer) × (length old_items < places_of x) × (new ≡ Some (Batch x)) × (items ≡ old_items)
     × (told ≡ old))
-    ⊎ ((places_of x ≤ length old_items) × WasEnded x old_items items new old told code)
+    ⊎ ((places_of x ≤ length old_items) × WasEnded Batch (λ outcome. Ended old_items items outcome x)
+    (λ c t. t ≡ c) new old told code)

@@ -1,5 +1,5 @@
 -- What becomes of a batch queue that is to be closed.
-use Rattle.std.specs.Prelude.{◌≡◌, ◌≤◌, List, ℕ, take}
+use Rattle.std.specs.Prelude.{◌≡◌, ◌≤◌, List, ℕ, take, Result, Ok, Err}
 use Rattle.std.specs.Arc.{arc_value}
 use Rattle.table_theory.specs.Sharing.{the_whole}
 use Rattle.batch_queue.specs.declared.ends.BatchEnd.{BatchEnd}
@@ -9,8 +9,6 @@ use Rattle.batch_queue.specs.Handles.{view_of, room_of}
 use Rattle.bindings.specs.QueueTaking.{IsKeptFrom}
 use Rattle.bindings.specs.declared.batch.held.HeldBatch.{HeldBatch}
 use Rattle.bindings.specs.declared.batch.closing.SynthBatchClosed.{SynthBatchClosed}
-use Rattle.bindings.specs.declared.batch.closing.Outcome.{Outcome}
-use Rattle.bindings.specs.declared.batch.closing.Outcome.TheVariants.{Closed, Open}
 
 -- the queue is closed, and what was left is at the beginning of the buffer
 abbrev pub ClosedInto : List ℕ → List ℕ → SynthBatchClosed → BatchQueue → BatchEnd → Type 0
@@ -18,6 +16,6 @@ ClosedInto old new c queue end = (c.left ≤ room_of queue) × IsKeptFrom c.left
     × ClosedNow (view_of end) c.put c.taken (take c.left new)
 
 -- it is closed, by the end that has all parts; or nothing happens
-abbrev pub Ended : List ℕ → List ℕ → Outcome → HeldBatch → Type 0
-Ended old new (Closed c) x = (x.parts ≡ the_whole) × ClosedInto old new c (arc_value x.queue) x.end
-Ended old new (Open y) x = (y ≡ x) × (new ≡ old)
+abbrev pub Ended : List ℕ → List ℕ → Result SynthBatchClosed HeldBatch → HeldBatch → Type 0
+Ended old new (Ok c) x = (x.share.parts ≡ the_whole) × ClosedInto old new c (arc_value x.queue) x.end
+Ended old new (Err y) x = (y ≡ x) × (new ≡ old)

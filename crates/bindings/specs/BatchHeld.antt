@@ -2,7 +2,6 @@
 use Rattle.std.specs.Prelude.{◌≡◌, ◌⊎◌, ◌≤◌, ◌<◌, ◌+◌, ◌++◌, ℕ}
 use Rattle.std.specs.Prelude.{Bool, true, take, List, length, Result, MatchResult, IfErr}
 use Rattle.std.specs.Arc.{arc_value}
-use Rattle.table_theory.specs.Sharing.{given, kept, the_whole}
 use Rattle.batch_queue.specs.declared.layout.TheConstants.{MOST_PLACES}
 use Rattle.batch_queue.specs.declared.refusals.PutRefusal.{PutRefusal}
 use Rattle.batch_queue.specs.declared.refusals.PutRefusal.TheVariants as not_put
@@ -19,6 +18,7 @@ use Rattle.batch_queue.specs.Lines.{SameLines, PutLine, lines_put, lines_taken, 
 use Rattle.batch_queue.specs.Parts.{FilledSome, SameSome, WhyNotTakenSome, TookSome, RefusedTakeSome}
 use Rattle.batch_queue.specs.Puts.{IsPut, IsPutSome, RefusedPut, RefusedSome}
 use Rattle.batch_queue.specs.Takings.{FilledBuffer, TookBatches, RefusedTake}
+use Rattle.bindings.specs.Shares.{AllOf, WasDivided, WasJoined}
 use Rattle.bindings.specs.declared.batch.held.HeldBatch.{HeldBatch}
 
 -- a number of places that a batch queue can have
@@ -31,36 +31,20 @@ places_of x = room_of (arc_value x.queue)
 
 -- the same end of the same queue
 abbrev pub IsSameHeld : HeldBatch → HeldBatch → Type 0
-IsSameHeld x y = (arc_value y.queue ≡ arc_value x.queue) × IsSameEnd x.end y.end × (y.mark ≡ x.mark)
+IsSameHeld x y = (arc_value y.queue ≡ arc_value x.queue) × IsSameEnd x.end y.end
 
--- the same, and it has as many parts as before
+-- the same, with its share as before
 abbrev pub IsKept : HeldBatch → HeldBatch → Type 0
-IsKept x y = IsSameHeld x y × (y.parts ≡ x.parts)
+IsKept x y = IsSameHeld x y × (y.share ≡ x.share)
 
 -- both are ends of one queue
 abbrev pub AreOfOneQueue : HeldBatch → HeldBatch → Type 0
 AreOfOneQueue x y = batches.AreOfOneQueue x.end y.end
 
--- the queues have one mark
-abbrev pub HaveOneMark : HeldBatch → HeldBatch → Type 0
-HaveOneMark x y = y.mark ≡ x.mark
-
--- together the ends have no more parts than one queue has
-abbrev pub Fit : HeldBatch → HeldBatch → Type 0
-Fit x y = x.parts + y.parts ≤ the_whole
-
--- as far as the marks and the parts say, both are ends of one queue
-abbrev pub MayJoin : HeldBatch → HeldBatch → Type 0
-MayJoin x y = HaveOneMark x y × Fit x y
-
--- the marks or the parts say that they aren't
-abbrev pub MayNotJoin : HeldBatch → HeldBatch → Type 0
-MayNotJoin x y = (HaveOneMark x y → ⊥) ⊎ (the_whole < x.parts + y.parts)
-
 -- the only end of an empty queue of so many places
 abbrev pub IsNewBatch : ℕ → ℕ → HeldBatch → Type 0
 IsNewBatch places mark x = (places_of x ≡ places) × (view_of x.end ≡ newcomer (record { room = places }))
-    × (x.mark ≡ mark) × (x.parts ≡ the_whole)
+    × AllOf mark x.share
 
 -- what an end put and took, and how often it parted a batch, is as it was
 abbrev pub DidNothing : HeldBatch → HeldBatch → Type 0
@@ -69,8 +53,8 @@ DidNothing x y = SameLines (view_of x.end) (view_of y.end)
 -- `split` gave this end, of the same queue and with its parts of the share
 pub record Divided (x y born : HeldBatch) : Type 0 where
   pub same : IsSameHeld x y
-  pub one : (arc_value born.queue ≡ arc_value x.queue) × (born.mark ≡ x.mark)
-  pub parts : (born.parts ≡ given x.parts) × (y.parts ≡ kept x.parts)
+  pub one : arc_value born.queue ≡ arc_value x.queue
+  pub share : WasDivided x.share y.share born.share
   pub effect : (lines_put (view_of y.end) ≡ lines_put (view_of x.end))
       × (lines_taken (view_of y.end) ≡ lines_taken (view_of x.end))
       × (times_parted (view_of y.end) ≡ times_parted (view_of x.end))
@@ -80,7 +64,7 @@ pub record Divided (x y born : HeldBatch) : Type 0 where
 -- `join` took the other end in, with its parts
 pub record Joined (x y other : HeldBatch) : Type 0 where
   pub same : IsSameHeld x y
-  pub parts : y.parts ≡ x.parts + other.parts
+  pub share : WasJoined x.share y.share other.share
   pub effect : (lines_put (view_of y.end) ≡ lines_put (view_of x.end) ++ lines_put (view_of other.end))
       × (lines_taken (view_of y.end) ≡ lines_taken (view_of x.end) ++ lines_taken (view_of other.end))
       × (times_parted (view_of y.end) ≡ times_parted (view_of x.end) + times_parted (view_of other.end))

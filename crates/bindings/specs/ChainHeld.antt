@@ -1,7 +1,7 @@
 -- What the calls of a chain do to an end of it. Each says what the library's call says.
 use Rattle.std.specs.Prelude.{◌≡◌, ◌⊎◌, ◌≤◌, ◌<◌, ◌+◌, ℕ, Bool, true, false, [], ◌∷◌, Result, Ok, Err}
 use Rattle.std.specs.Arc.{arc_value}
-use Rattle.table_theory.specs.Sharing.{given, kept, the_whole}
+use Rattle.table_theory.specs.Sharing.{the_whole}
 use Rattle.proc_chain.specs.declared.chaining.ChainRefusal.{ChainRefusal}
 use Rattle.proc_chain.specs.declared.chaining.Chained.TheVariants as chained
 use Rattle.proc_chain.specs.declared.held.ServedKept.TheVariants as served
@@ -15,8 +15,8 @@ use Rattle.proc_chain.specs.Notes.{PutNote, SameNotes}
 use Rattle.proc_chain.specs.Rules.{suits, makes, view_from}
 use Rattle.proc_chain.specs.Servings.{KeptNow}
 use Rattle.proc_chain.specs.Turns.{HasServed}
-use Rattle.bindings.specs.declared.chain.closing.Outcome.{Outcome}
-use Rattle.bindings.specs.declared.chain.closing.Outcome.TheVariants as ended
+use Rattle.bindings.specs.Shares.{AllOf, WasDivided, WasJoined}
+use Rattle.proc_chain.specs.declared.close.ChainClosed.{ChainClosed}
 use Rattle.bindings.specs.Inboxes.{HasLast, FitsAny}
 use Rattle.bindings.specs.declared.chain.inbox.Inbox.{Inbox}
 use Rattle.bindings.specs.declared.chain.held.HeldChain.{HeldChain}
@@ -31,50 +31,34 @@ has_turn x = chains.turn_of x.end
 
 -- the same end of the same chain
 abbrev pub IsSameHeld : HeldChain → HeldChain → Type 0
-IsSameHeld x y = (arc_value y.chain ≡ arc_value x.chain) × IsSameEnd x.end y.end × (y.mark ≡ x.mark)
+IsSameHeld x y = (arc_value y.chain ≡ arc_value x.chain) × IsSameEnd x.end y.end
 
--- the same, and it has as many parts as before
+-- the same, with its share as before
 abbrev pub IsKept : HeldChain → HeldChain → Type 0
-IsKept x y = IsSameHeld x y × (y.parts ≡ x.parts)
+IsKept x y = IsSameHeld x y × (y.share ≡ x.share)
 
 -- both are ends of the same chain
 abbrev pub AreOfOneChain : HeldChain → HeldChain → Type 0
 AreOfOneChain x y = y.end.seat.table_id ≡ x.end.seat.table_id
 
--- the chains have one mark
-abbrev pub HaveOneMark : HeldChain → HeldChain → Type 0
-HaveOneMark x y = y.mark ≡ x.mark
-
--- together the ends have no more parts than all ends of the same chain
-abbrev pub Fit : HeldChain → HeldChain → Type 0
-Fit x y = x.parts + y.parts ≤ the_whole
-
--- as far as the marks and the parts tell, they are ends of the same chain
-abbrev pub MayJoin : HeldChain → HeldChain → Type 0
-MayJoin x y = HaveOneMark x y × Fit x y
-
--- the marks or the parts tell that they aren't
-abbrev pub MayNotJoin : HeldChain → HeldChain → Type 0
-MayNotJoin x y = (HaveOneMark x y → ⊥) ⊎ (the_whole < x.parts + y.parts)
-
 -- the only end of a new chain with this first position, which runs no notes
 abbrev pub IsNewChain : ℕ → ℕ → HeldChain → Type 0
 IsNewChain first mark x = (chains.first_of (arc_value x.chain) ≡ first) × (view_of x.end ≡ view_from first)
-    × (has_turn x ≡ false) × (x.mark ≡ mark) × (x.parts ≡ the_whole)
+    × (has_turn x ≡ false) × AllOf mark x.share
 
 -- `split` gave this end, of the same chain and with its parts of the share, which runs no notes
 abbrev pub Divided : HeldChain → HeldChain → HeldChain → Type 0
 Divided x y born = IsSameHeld x y × (has_turn y ≡ has_turn x) × (has_turn born ≡ false)
-    × (arc_value born.chain ≡ arc_value x.chain) × (born.mark ≡ x.mark)
-    × (born.parts ≡ given x.parts) × (y.parts ≡ kept x.parts)
+    × (arc_value born.chain ≡ arc_value x.chain)
+    × WasDivided x.share y.share born.share
     × endings.Divided (view_of x.end) (view_of y.end)
     × endings.IsNewborn (view_of x.end) (view_of y.end) (view_of born.end)
 
 -- `join` took the other end in, with its parts, and what it had to run
 abbrev pub Joined : HeldChain → HeldChain → HeldChain → Type 0
-Joined x y other = (arc_value y.chain ≡ arc_value x.chain) × (y.mark ≡ x.mark)
+Joined x y other = (arc_value y.chain ≡ arc_value x.chain)
     × endings.Joined (has_turn other) (me_of x.end) (me_of other.end) (me_of y.end)
-    × (y.parts ≡ x.parts + other.parts)
+    × WasJoined x.share y.share other.share
 
 -- `try_chain` gave this answer: the end runs notes from now on, or the note was left to the one that does
 abbrev pub WasChained : ℕ → Result Noted ChainRefusal → HeldChain → HeldChain → Type 0
@@ -97,8 +81,8 @@ WasPulled pulled.Done x y = IsKept x y × (has_turn y ≡ false)
     × KeptNow (me_of x.end) 1 (served.Done 0) (me_of y.end)
 
 -- the chain is closed, as the library's `close` says, by the end that has all parts; or nothing happens
-abbrev pub Ended : Outcome → HeldChain → Type 0
-Ended (ended.Closed put run) x = (x.parts ≡ the_whole) × (run ≡ put) × ((inbox : Inbox) × closings.ClosedNow
+abbrev pub Ended : Result (ChainClosed Inbox) HeldChain → HeldChain → Type 0
+Ended (Ok c) x = (x.share.parts ≡ the_whole) × (c.taken ≡ c.put) × ((inbox : Inbox) × closings.ClosedNow
     (makes HasLast (chains.pact_of (arc_value x.chain))) (suits FitsAny (chains.pact_of (arc_value x.chain)))
-    (view_of x.end) (chains.first_of (arc_value x.chain)) put run [] inbox)
-Ended (ended.Open y) x = y ≡ x
+    (view_of x.end) (chains.first_of (arc_value x.chain)) c.put c.taken [] inbox)
+Ended (Err y) x = y ≡ x

@@ -11,46 +11,7 @@ use Rattle.bindings.specs.Handles.{held_by, hand_of, AsItWas}
 use Rattle.bindings.specs.Hiding.{is_some}
 use Rattle.bindings.specs.Codes.{Done, NoMemory, EmptyHandle, FullHandle, NoShare, BadNumber}
 use Rattle.bindings.specs.Codes.{Spent, Busy, Vacant, NotHeld, NotServed}
-use Rattle.bindings.specs.HandHeld.{IsNewHand, Divided}
-use Rattle.bindings.specs.HandHeld.{ServesAll, LacksOne}
-use Rattle.bindings.specs.HandHeld.{HasNoneOn, HasOneOn, HasNot, WasPutOn, WasTakenOff, WasCounted, WasDone}
-
--- What `new` did, by its code. The positions of an element queue begin at 4294967231 at most
-abbrev pub MadeTable : ℕ → ℕ → Handle → Handle → ℤ → Type 0
-MadeTable first mark old new code =
-    ((code ≡ FullHandle) × (is_some (held_by old) ≡ true) × AsItWas old new)
-    ⊎ ((code ≡ BadNumber) × (held_by old ≡ None) × (4294967231 < first) × AsItWas old new)
-    ⊎ ((code ≡ NoMemory) × (held_by old ≡ None) × (first ≤ 4294967231) × AsItWas old new)
-    ⊎ ((code ≡ Done) × (held_by old ≡ None) × (first ≤ 4294967231) × (y : HeldHand) × (held_by new ≡ Some (Hand y))
-    × IsNewHand first mark y)
-
--- the hand can give the processors of the mask away, and a part of its share
-abbrev pub MaySplit : ℕ → HeldHand → Type 0
-MaySplit mask x = (mask < 256) × ServesAll mask x × HasNoneOn mask x × (2 ≤ x.parts)
-
--- why the hand can't be split so, by the code: the first of these that holds is told
-abbrev pub MayNotSplit : ℕ → HeldHand → ℤ → Type 0
-MayNotSplit mask x code =
-    ((code ≡ BadNumber) × (256 ≤ mask))
-    ⊎ ((code ≡ NotServed) × (mask < 256) × LacksOne mask x)
-    ⊎ ((code ≡ Busy) × (mask < 256) × ServesAll mask x × HasOneOn mask x)
-    ⊎ ((code ≡ NoShare) × (mask < 256) × ServesAll mask x × HasNoneOn mask x × (x.parts < 2))
-
--- What `split` did to the hand x, by its code. Only a hand that can be split finds no memory
-abbrev pub SplitTold : ℕ → HeldHand → Handle → Handle → Handle → ℤ → Type 0
-SplitTold mask x old new made code =
-    (MayNotSplit mask x code × AsItWas old new × (held_by made ≡ None))
-    ⊎ ((code ≡ NoMemory) × MaySplit mask x × AsItWas old new × (held_by made ≡ None))
-    ⊎ ((code ≡ Done) × MaySplit mask x × (y z : HeldHand) × (hand_of new ≡ Some y) × (hand_of made ≡ Some z)
-    × Divided mask x y z)
-
--- what `split` did, by its code
-abbrev pub SplitHands : ℕ → Handle → Handle → Handle → Handle → ℤ → Type 0
-SplitHands mask old new other made code =
-    ((code ≡ EmptyHandle) × (hand_of old ≡ None) × AsItWas old new × AsItWas other made)
-    ⊎ ((code ≡ FullHandle) × (is_some (hand_of old) ≡ true) × AsItWas old new × (is_some (held_by other) ≡ true)
-    × AsItWas other made)
-    ⊎ ((held_by other ≡ None) × (x : HeldHand) × (hand_of old ≡ Some x) × SplitTold mask x old new made code)
+use Rattle.bindings.specs.HandHeld.{HasNot, WasPutOn, WasTakenOff, WasCounted, WasDone}
 
 -- what `holds` told of the hand x, by its code
 abbrev pub HoldsTold : ℕ → HeldHand → Bool → Bool → ℤ → Type 0

@@ -1,7 +1,5 @@
 -- What becomes of a table of thread elements that is to be closed.
-use Rattle.std.specs.Prelude.{◌≡◌, ℤ, map}
-use Rattle.std.specs.declared.option.Option.{Option}
-use Rattle.std.specs.declared.option.Option.TheVariants.{None, Some}
+use Rattle.std.specs.Prelude.{◌≡◌, map, Result, Ok, Err}
 use Rattle.thread_table.specs.declared.places.Place.{Place}
 use Rattle.thread_table.specs.declared.places.Place.TheVariants as places
 use Rattle.thread_table.specs.declared.close.Places.{Places}
@@ -9,19 +7,14 @@ use Rattle.table_theory.specs.Sharing.{the_whole}
 use Rattle.thread_table.specs.Handles.{view_of, call_of}
 use Rattle.thread_table.specs.Closings.{ClosedNow}
 use Rattle.bindings.specs.declared.hand.held.HeldHand.{HeldHand}
-use Rattle.bindings.specs.declared.payload.Payload.{Payload}
-use Rattle.bindings.specs.declared.payload.Payload.TheVariants.{Hand}
-use Rattle.bindings.specs.declared.hand.closing.Outcome.{Outcome}
-use Rattle.bindings.specs.declared.hand.closing.Outcome.TheVariants.{Closed, Open}
 use Rattle.bindings.specs.declared.hand.places.SynthPlace.{SynthPlace}
 use Rattle.bindings.specs.declared.hand.places.SynthPlaces.{SynthPlaces}
-use Rattle.bindings.specs.Codes as codes
 
 -- it is closed, as the library's `close` tells, by the hand that has all parts; or nothing happens
-abbrev pub Ended : Outcome → HeldHand → Type 0
-Ended (Closed c) x = (x.parts ≡ the_whole)
+abbrev pub Ended : Result Places HeldHand → HeldHand → Type 0
+Ended (Ok c) x = (x.share.parts ≡ the_whole)
     × ClosedNow (call_of x.hand) (view_of x.hand) c.places c.pcs c.pending c.stops
-Ended (Open y) x = y ≡ x
+Ended (Err y) x = y ≡ x
 
 -- how a place is told
 abbrev pub place_told : Place → SynthPlace
@@ -36,14 +29,3 @@ place_told places.Held = record { kind = 5; number = 0 }
 abbrev pub IsToldPlaces : Places → SynthPlaces → Type 0
 IsToldPlaces c told = (told.place ≡ map place_told c.places) × (told.pc ≡ c.pcs) × (told.pending ≡ c.pending)
     × (told.stops ≡ c.stops)
-
--- what C is told of the end of a table
-abbrev pub IsToldEnding : Outcome → Option Payload → SynthPlaces → SynthPlaces → ℤ → Type 0
-IsToldEnding (Closed c) new old told code = (code ≡ codes.Done) × (new ≡ None) × IsToldPlaces c told
-IsToldEnding (Open y) new old told code = (code ≡ codes.Open) × (new ≡ Some (Hand y)) × (told ≡ old)
-
--- C is told what became of the table
-pub record WasClosed (x : HeldHand) (new : Option Payload) (old told : SynthPlaces) (code : ℤ) : Type 0 where
-  pub outcome : Outcome
-  pub ended : Ended outcome x
-  pub tells : IsToldEnding outcome new old told code

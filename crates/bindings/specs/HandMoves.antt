@@ -12,6 +12,7 @@ use Rattle.bindings.specs.declared.hand.held.HeldHand.{HeldHand}
 use Rattle.bindings.specs.declared.hand.moves.SynthMoved.{SynthMoved}
 use Rattle.bindings.specs.Codes.{Done, BadNumber, NotHeld}
 use Rattle.bindings.specs.HandHeld.{IsKept}
+use Rattle.bindings.specs.Handles.{Answered}
 
 -- a move into this element queue gave this answer
 abbrev pub WasMoved : ℕ → ℕ → Result (Unit {0}) MoveRefusal → HeldHand → HeldHand → Type 0
@@ -49,23 +50,17 @@ notifies_of_move _ = 0
 abbrev pub IsMoveCode : ℤ → SynthMoved → Type 0
 IsMoveCode code told = (told.code ≡ code) × (told.head ≡ 0) × (told.notifies ≡ 0)
 
--- C is told what the library answered to a move of this kind
-pub record MoveTold (Answers : Result (Unit {0}) MoveRefusal → HeldHand → HeldHand → Type 0) (x : HeldHand)
-    (new : Option HeldHand) (told : SynthMoved) : Type 0 where
-  pub y : HeldHand
-  pub full : new ≡ Some y
-  pub answer : Result (Unit {0}) MoveRefusal
-  pub answered : Answers answer x y
-  pub code : told.code ≡ code_of_move answer
-  pub head : told.head ≡ head_of_move answer
-  pub notifies : told.notifies ≡ notifies_of_move answer
+-- what C is told of what a move answered
+abbrev pub IsToldMove : Result (Unit {0}) MoveRefusal → SynthMoved → Type 0
+IsToldMove answer told = (told.code ≡ code_of_move answer) × (told.head ≡ head_of_move answer)
+    × (told.notifies ≡ notifies_of_move answer)
 
 -- the hand doesn't hold the element, which is told; or it does, and C is told of the move
 abbrev pub HeldOrNot : (Result (Unit {0}) MoveRefusal → HeldHand → HeldHand → Type 0) → ℕ → HeldHand → Option HeldHand
     → SynthMoved → Type 0
 HeldOrNot Answers element x new told =
     (IsMoveCode NotHeld told × (has (view_of x.hand) element ≡ false) × (new ≡ Some x))
-    ⊎ ((has (view_of x.hand) element ≡ true) × MoveTold Answers x new told)
+    ⊎ ((has (view_of x.hand) element ≡ true) × Answered Answers (λ answer. IsToldMove answer told) x new)
 
 -- what `try_ready` and `try_retire` did, by the number of the element queue
 abbrev pub MovingTold : ℕ → ℕ → HeldHand → Option HeldHand → SynthMoved → Type 0

@@ -15,6 +15,7 @@ use Rattle.bindings.specs.declared.hand.held.HeldHand.{HeldHand}
 use Rattle.bindings.specs.declared.hand.states.SynthState.{SynthState}
 use Rattle.bindings.specs.Codes.{Done, BadNumber, NotHeld}
 use Rattle.bindings.specs.HandHeld.{IsKept}
+use Rattle.bindings.specs.Handles.{Answered}
 
 -- `stop` gave this answer, whether the stop bit was clear
 abbrev pub WasStopped : ℕ → Bool → HeldHand → HeldHand → Type 0
@@ -86,29 +87,12 @@ StopTold element x old_answer answer new code =
     ((code ≡ BadNumber) × (64 ≤ element) × (new ≡ Some x) × (answer ≡ old_answer))
     ⊎ ((code ≡ Done) × (element < 64) × (y : HeldHand) × (new ≡ Some y) × WasStopped element answer x y)
 
--- C is told what the library's `try_start` answered
-pub record WasStartTold (element : ℕ) (x : HeldHand) (old_number number : ℕ) (new : Option HeldHand) (told : SynthState)
-    : Type 0 where
-  pub y : HeldHand
-  pub full : new ≡ Some y
-  pub answer : Result Started Lost
-  pub answered : WasStarted element answer x y
-  pub tells : IsToldStart answer old_number number told
-
 -- what `try_start` did
 abbrev pub StartTold : ℕ → HeldHand → ℕ → ℕ → Option HeldHand → SynthState → Type 0
 StartTold element x old_number number new told =
     (IsStateCode BadNumber told × (64 ≤ element) × (new ≡ Some x) × (number ≡ old_number))
-    ⊎ ((element < 64) × WasStartTold element x old_number number new told)
-
--- C is told what the library's `try_park` answered
-pub record WasParkTold (element : ℕ) (x : HeldHand) (old_answer is : Bool) (new : Option HeldHand) (told : SynthState)
-    : Type 0 where
-  pub y : HeldHand
-  pub full : new ≡ Some y
-  pub answer : Result Bool Lost
-  pub answered : WasParked element answer x y
-  pub tells : IsToldPark answer old_answer is told
+    ⊎ ((element < 64)
+    × Answered (WasStarted element) (λ answer. IsToldStart answer old_number number told) x new)
 
 -- what `try_park` did
 abbrev pub ParkTold : ℕ → HeldHand → Bool → Bool → Option HeldHand → SynthState → Type 0
@@ -116,7 +100,8 @@ ParkTold element x old_answer is new told =
     (IsStateCode BadNumber told × (64 ≤ element) × (new ≡ Some x) × (is ≡ old_answer))
     ⊎ (IsStateCode NotHeld told × (element < 64) × (has (view_of x.hand) element ≡ false) × (new ≡ Some x)
     × (is ≡ old_answer))
-    ⊎ ((element < 64) × (has (view_of x.hand) element ≡ true) × WasParkTold element x old_answer is new told)
+    ⊎ ((element < 64) × (has (view_of x.hand) element ≡ true)
+    × Answered (WasParked element) (λ answer. IsToldPark answer old_answer is told) x new)
 
 -- what `signal` did, by its code
 abbrev pub SignalTold : ℕ → ℕ → HeldHand → Bool → Bool → Option HeldHand → ℤ → Type 0
@@ -125,15 +110,6 @@ SignalTold element signal x old_answer is new code =
     ⊎ ((code ≡ Done) × (element < 64) × (signal < 16) × (y : HeldHand) × (new ≡ Some y) × (answer : Signalled)
     × (is ≡ is_raised answer) × WasSignalled element signal answer x y)
 
--- C is told what the library's `try_deliver` answered
-pub record WasDeliverTold (element : ℕ) (x : HeldHand) (old_signals signals : ℕ) (new : Option HeldHand)
-    (told : SynthState) : Type 0 where
-  pub y : HeldHand
-  pub full : new ≡ Some y
-  pub answer : Result ℕ Lost
-  pub answered : WereDelivered element answer x y
-  pub tells : IsToldDelivery answer old_signals signals told
-
 -- what `try_deliver` did
 abbrev pub DeliverTold : ℕ → HeldHand → ℕ → ℕ → Option HeldHand → SynthState → Type 0
 DeliverTold element x old_signals signals new told =
@@ -141,4 +117,4 @@ DeliverTold element x old_signals signals new told =
     ⊎ (IsStateCode NotHeld told × (element < 64) × (has (view_of x.hand) element ≡ false) × (new ≡ Some x)
     × (signals ≡ old_signals))
     ⊎ ((element < 64) × (has (view_of x.hand) element ≡ true)
-    × WasDeliverTold element x old_signals signals new told)
+    × Answered (WereDelivered element) (λ answer. IsToldDelivery answer old_signals signals told) x new)

@@ -12,6 +12,7 @@ use Rattle.bindings.specs.declared.answer.SynthAnswer.{SynthAnswer}
 use Rattle.bindings.specs.declared.hand.held.HeldHand.{HeldHand}
 use Rattle.bindings.specs.Codes.{Done, BadNumber}
 use Rattle.bindings.specs.HandHeld.{IsKept}
+use Rattle.bindings.specs.Handles.{Answered}
 use Rattle.bindings.specs.Told.{IsCodeAlone}
 
 -- a taking from this element queue gave this answer
@@ -40,13 +41,9 @@ IsToldTaking answer old new told = MatchResult answer
     (λ r. (new ≡ old) × (told.code ≡ code_of_next r) × (told.head ≡ 0) × (told.tail ≡ tail_of_next r))
 
 -- C is told what the library answered to a taking from this element queue
-pub record TakingTold (line : ℕ) (x : HeldHand) (old_element element : ℕ) (new : Option HeldHand) (told : SynthAnswer)
-    : Type 0 where
-  pub y : HeldHand
-  pub full : new ≡ Some y
-  pub answer : Result ℕ NextRefusal
-  pub answered : WasTaken line answer x y
-  pub tells : IsToldTaking answer old_element element told
+abbrev pub TakingTold : ℕ → HeldHand → ℕ → ℕ → Option HeldHand → SynthAnswer → Type 0
+TakingTold line x old_element element new told =
+    Answered (WasTaken line) (λ answer. IsToldTaking answer old_element element told) x new
 
 -- What `try_wake` did. No such wait queue is told as a number out of its range
 abbrev pub WakingTold : ℕ → HeldHand → ℕ → ℕ → Option HeldHand → SynthAnswer → Type 0

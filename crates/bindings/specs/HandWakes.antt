@@ -11,6 +11,7 @@ use Rattle.bindings.specs.declared.answer.SynthAnswer.{SynthAnswer}
 use Rattle.bindings.specs.declared.hand.held.HeldHand.{HeldHand}
 use Rattle.bindings.specs.Codes.{Done, BadNumber, AllWoken}
 use Rattle.bindings.specs.HandHeld.{IsKept}
+use Rattle.bindings.specs.Handles.{Answered}
 use Rattle.bindings.specs.Told.{IsCodeAlone}
 use Rattle.bindings.specs.HandTakings.{code_of_next, tail_of_next}
 
@@ -41,17 +42,9 @@ NotifyTold wait x old_head head new code =
     ((code ≡ BadNumber) × (16 ≤ wait) × (new ≡ Some x) × (head ≡ old_head))
     ⊎ ((code ≡ Done) × (wait < 16) × (y : HeldHand) × (new ≡ Some y) × WasNotified wait head x y)
 
--- C is told what the library's `try_wake_before` answered
-pub record WasBeforeTold (wait head : ℕ) (x : HeldHand) (old_element element : ℕ) (new : Option HeldHand)
-    (told : SynthAnswer) : Type 0 where
-  pub y : HeldHand
-  pub full : new ≡ Some y
-  pub answer : Result (Option ℕ) NextRefusal
-  pub answered : WasTriedBefore wait head answer x y
-  pub tells : IsToldBefore answer old_element element told
-
 -- what `try_wake_before` did
 abbrev pub BeforeTold : ℕ → ℕ → HeldHand → ℕ → ℕ → Option HeldHand → SynthAnswer → Type 0
 BeforeTold wait head x old_element element new told =
     (IsCodeAlone BadNumber told × (16 ≤ wait) × (new ≡ Some x) × (element ≡ old_element))
-    ⊎ ((wait < 16) × WasBeforeTold wait head x old_element element new told)
+    ⊎ ((wait < 16)
+    × Answered (WasTriedBefore wait head) (λ answer. IsToldBefore answer old_element element told) x new)

@@ -1,9 +1,10 @@
 -- What a handle holds, and what every call says of it.
-use Rattle.std.specs.Prelude.{◌≡◌, ◌⊎◌, ◌≤◌, ◌<◌, ℕ, ℤ, true}
+use Rattle.std.specs.Prelude.{◌≡◌, ◌⊎◌, ℤ, true, Result, Ok, Err}
 use Rattle.std.specs.declared.option.Option.{Option}
 use Rattle.std.specs.declared.option.Option.TheVariants.{None, Some}
 use Rattle.bindings.specs.declared.handle.Handle.{Handle}
 use Rattle.bindings.specs.declared.payload.Payload.{Payload}
+use Rattle.bindings.specs.declared.share.Share.{Share}
 use Rattle.bindings.specs.declared.batch.held.HeldBatch.{HeldBatch}
 use Rattle.bindings.specs.declared.queue.held.HeldQueue.{HeldQueue}
 use Rattle.bindings.specs.declared.chain.held.HeldChain.{HeldChain}
@@ -11,9 +12,10 @@ use Rattle.bindings.specs.declared.hand.held.HeldHand.{HeldHand}
 use Rattle.bindings.specs.declared.seat.held.HeldSeat.{HeldSeat}
 use Rattle.bindings.specs.declared.line.held.HeldIn.{HeldIn}
 use Rattle.bindings.specs.declared.line.held.HeldOut.{HeldOut}
-use Rattle.bindings.specs.Codes.{Done, NoMemory, EmptyHandle, FullHandle, OtherObject, NoShare}
+use Rattle.bindings.specs.Codes.{Done, NoMemory, EmptyHandle, FullHandle, OtherObject, BadNumber, Open}
 use Rattle.bindings.specs.Hiding.{is_some}
 use Rattle.bindings.specs.Kinds.{batch_in, queue_in, chain_in, hand_in, seat_in, line_in_in, line_out_in}
+use Rattle.bindings.specs.Shares.{Fit, Exceed}
 
 -- what it holds, None where it is empty
 abbrev pub held_by : Handle → Option Payload
@@ -24,33 +26,32 @@ abbrev pub of_kind : {X : Type 0} → (Payload → Option X) → Option Payload 
 of_kind kind None = None
 of_kind kind (Some p) = kind p
 
--- the end of a batch queue that is held, None where the handle is empty or holds another kind
+-- the end of this kind that is held, None where the handle is empty or holds another kind
+abbrev pub end_in : {X : Type 0} → (Payload → Option X) → Handle → Option X
+end_in kind h = of_kind kind (held_by h)
+
+-- the end of a batch queue, of a claim queue, of a chain, of a table of thread elements and of meters that is held
 abbrev pub batch_of : Handle → Option HeldBatch
-batch_of h = of_kind batch_in (held_by h)
+batch_of = end_in batch_in
 
--- the same of a claim queue
 abbrev pub queue_of : Handle → Option HeldQueue
-queue_of h = of_kind queue_in (held_by h)
+queue_of = end_in queue_in
 
--- the end of a chain that is held
 abbrev pub chain_of : Handle → Option HeldChain
-chain_of h = of_kind chain_in (held_by h)
+chain_of = end_in chain_in
 
--- the hand that is held
 abbrev pub hand_of : Handle → Option HeldHand
-hand_of h = of_kind hand_in (held_by h)
+hand_of = end_in hand_in
 
--- the end of meters that is held
 abbrev pub seat_of : Handle → Option HeldSeat
-seat_of h = of_kind seat_in (held_by h)
+seat_of = end_in seat_in
 
--- the pushing end of a line that is held
+-- the end of a line that pushes, and the one that pops
 abbrev pub line_in_of : Handle → Option HeldIn
-line_in_of h = of_kind line_in_in (held_by h)
+line_in_of = end_in line_in_in
 
--- the popping end of a line that is held
 abbrev pub line_out_of : Handle → Option HeldOut
-line_out_of h = of_kind line_out_in (held_by h)
+line_out_of = end_in line_out_in
 
 -- the handle holds what it held
 abbrev pub AsItWas : Handle → Handle → Type 0
@@ -83,26 +84,74 @@ abbrev pub MarksTell : {X Z : Type 0} → (X → Z → Type 0) → (X → Z → 
 MarksTell HaveOneMark AreOfOne (Some x) (Some z) = HaveOneMark x z → AreOfOne x z
 MarksTell HaveOneMark AreOfOne _ _ = Unit {0}
 
--- What `split` did, by its code: `parts` counts the parts that the end has of its object
-abbrev pub SplitHandle : {X : Type 0} → (Handle → Option X) → (X → ℕ) → (X → X → X → Type 0)
+-- what became of a new end that was put into a handle, by the code: there was none, or no memory for its box
+abbrev pub Filled : {X : Type 0} → (X → Payload) → Option X → Handle → Handle → ℤ → Type 0
+Filled {X} wrap made old new code =
+    ((code ≡ NoMemory) × AsItWas old new)
+    ⊎ ((code ≡ Done) × (y : X) × (made ≡ Some y) × (held_by new ≡ Some (wrap y)))
+
+-- What `new` did, by its code: `Valid` says that the numbers of the call are in range
+abbrev pub MadeHandle : {X : Type 0} → (X → Payload) → Type 0 → (X → Type 0) → Handle → Handle → ℤ → Type 0
+MadeHandle {X} wrap Valid IsNew old new code =
+    ((code ≡ FullHandle) × (is_some (held_by old) ≡ true) × AsItWas old new)
+    ⊎ ((code ≡ BadNumber) × (held_by old ≡ None) × AsItWas old new × (Valid → ⊥))
+    ⊎ ((code ≡ NoMemory) × (held_by old ≡ None) × AsItWas old new × Valid)
+    ⊎ ((code ≡ Done) × (held_by old ≡ None) × Valid × (y : X) × (held_by new ≡ Some (wrap y)) × IsNew y)
+
+-- What `split` did to the end x, by its code. Only an end that can be split finds no memory
+abbrev pub SplitTold : {X : Type 0} → (Handle → Option X) → (X → Type 0) → (X → ℤ → Type 0) → (X → X → X → Type 0)
+    → X → Handle → Handle → Handle → ℤ → Type 0
+SplitTold {X} of MaySplit MayNotSplit Divided x old new made code =
+    (MayNotSplit x code × AsItWas old new × (held_by made ≡ None))
+    ⊎ ((code ≡ NoMemory) × MaySplit x × AsItWas old new × (held_by made ≡ None))
+    ⊎ ((code ≡ Done) × MaySplit x × (y z : X) × (of new ≡ Some y) × (of made ≡ Some z) × Divided x y z)
+
+-- what `split` did, by its code
+abbrev pub SplitHandle : {X : Type 0} → (Handle → Option X) → (X → Type 0) → (X → ℤ → Type 0) → (X → X → X → Type 0)
     → Handle → Handle → Handle → Handle → ℤ → Type 0
-SplitHandle {X} of parts Divided old new other made code =
+SplitHandle {X} of MaySplit MayNotSplit Divided old new other made code =
     ((code ≡ EmptyHandle) × (of old ≡ None) × AsItWas old new × AsItWas other made)
     ⊎ ((code ≡ FullHandle) × (is_some (of old) ≡ true) × AsItWas old new × (is_some (held_by other) ≡ true)
     × AsItWas other made)
-    ⊎ ((code ≡ NoShare) × (held_by other ≡ None) × (held_by made ≡ None) × (x : X) × (of old ≡ Some x) × AsItWas old new
-    × (parts x < 2))
-    ⊎ ((code ≡ NoMemory) × (held_by other ≡ None) × (held_by made ≡ None) × (x : X) × (of old ≡ Some x)
-    × AsItWas old new × (2 ≤ parts x))
-    ⊎ ((code ≡ Done) × (held_by other ≡ None) × (x y z : X) × (of old ≡ Some x) × (of new ≡ Some y) × (of made ≡ Some z)
-    × (2 ≤ parts x) × Divided x y z)
+    ⊎ ((held_by other ≡ None) × (x : X) × (of old ≡ Some x)
+    × SplitTold of MaySplit MayNotSplit Divided x old new made code)
+
+-- as far as the marks and the parts say, both are ends of one object
+abbrev pub MayJoin : {X : Type 0} → (X → Share) → (X → X → Type 0) → X → X → Type 0
+MayJoin share HaveOneMark x z = HaveOneMark x z × Fit (share x) (share z)
+
+-- the marks or the parts say that they aren't
+abbrev pub MayNotJoin : {X : Type 0} → (X → Share) → (X → X → Type 0) → X → X → Type 0
+MayNotJoin share HaveOneMark x z = (HaveOneMark x z → ⊥) ⊎ Exceed (share x) (share z)
 
 -- what `join` did, by its code
-abbrev pub JoinedHandle : {X : Type 0} → (Handle → Option X) → (X → X → Type 0) → (X → X → Type 0)
+abbrev pub JoinedHandle : {X : Type 0} → (Handle → Option X) → (X → Share) → (X → X → Type 0)
     → (X → X → X → Type 0) → Handle → Handle → Handle → Handle → ℤ → Type 0
-JoinedHandle {X} of MayJoin MayNotJoin Joined old new other left code =
+JoinedHandle {X} of share HaveOneMark Joined old new other left code =
     ((code ≡ EmptyHandle) × ((of old ≡ None) ⊎ (of other ≡ None)) × AsItWas old new × AsItWas other left)
     ⊎ ((code ≡ OtherObject) × (x z : X) × (of old ≡ Some x) × (of other ≡ Some z) × AsItWas old new × AsItWas other left
-    × MayNotJoin x z)
+    × MayNotJoin share HaveOneMark x z)
     ⊎ ((code ≡ Done) × (x y z : X) × (of old ≡ Some x) × (of other ≡ Some z) × (of new ≡ Some y) × (held_by left ≡ None)
-    × MayJoin x z × Joined x y z)
+    × MayJoin share HaveOneMark x z × Joined x y z)
+
+-- what C is told of an object that was to be closed: it is, and the handle is empty; or the handle holds what it held
+abbrev pub IsToldEnding : {C T X : Type 0} → (X → Payload) → (C → T → Type 0) → Result C X → Option Payload → T → T → ℤ
+    → Type 0
+IsToldEnding wrap Tells (Ok closed) new old told code = (code ≡ Done) × (new ≡ None) × Tells closed told
+IsToldEnding wrap Tells (Err y) new old told code = (code ≡ Open) × (new ≡ Some (wrap y)) × (told ≡ old)
+
+-- C is told what became of an object that was to be closed
+pub record WasEnded {C T X : Type 0} (wrap : X → Payload) (Ended : Result C X → Type 0) (Tells : C → T → Type 0)
+    (new : Option Payload) (old told : T) (code : ℤ) : Type 0 where
+  pub outcome : Result C X
+  pub ended : Ended outcome
+  pub tells : IsToldEnding wrap Tells outcome new old told code
+
+-- the library's call gave an answer, which C is told, and the handle is for the same end
+pub record Answered {A X : Type 0} (Did : A → X → X → Type 0) (Tells : A → Type 0) (x : X) (new : Option X)
+    : Type 0 where
+  pub y : X
+  pub full : new ≡ Some y
+  pub answer : A
+  pub answered : Did answer x y
+  pub tells : Tells answer

@@ -23,7 +23,6 @@ pub mod QueueCalls
 pub mod QueueClosing
 pub mod QueueHeld
 pub mod QueueLooks
-pub mod QueueOutcomes
 pub mod QueueParts
 pub mod QueueTaking
 pub mod SeatAlarms
@@ -31,4 +30,5 @@ pub mod SeatCalls
 pub mod SeatClosing
 pub mod SeatHeld
 pub mod SeatReads
+pub mod Shares
 pub mod Told

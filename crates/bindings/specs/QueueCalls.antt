@@ -1,46 +1,31 @@
 -- What the calls for C do to the handles of queues. A handle has None where it is empty.
-use Rattle.std.specs.Prelude.{◌≡◌, ◌⊎◌, ◌≤◌, ◌<◌, ℕ, ℤ, Bool, true, pos, List, length, Result, MatchResult}
+use Rattle.std.specs.Prelude.{◌≡◌, ◌⊎◌, ◌≤◌, ◌<◌, ℕ, ℤ, pos, List, length, Result, MatchResult}
 use Rattle.std.specs.declared.option.Option.{Option}
-use Rattle.std.specs.declared.option.Option.TheVariants.{None, Some}
+use Rattle.std.specs.declared.option.Option.TheVariants.{Some}
 use Rattle.claim_queue.specs.declared.claim.ClaimRefusal.{ClaimRefusal}
 use Rattle.claim_queue.specs.declared.take.TakeRefusal.{TakeRefusal}
 use Rattle.bindings.specs.declared.answer.SynthAnswer.{SynthAnswer}
 use Rattle.bindings.specs.declared.answer.SynthClosed.{SynthClosed}
 use Rattle.bindings.specs.declared.queue.held.HeldQueue.{HeldQueue}
-use Rattle.bindings.specs.declared.handle.Handle.{Handle}
 use Rattle.bindings.specs.declared.payload.Payload.{Payload}
 use Rattle.bindings.specs.declared.payload.Payload.TheVariants.{Queue}
-use Rattle.bindings.specs.declared.queue.closing.Outcome.{Outcome}
-use Rattle.bindings.specs.declared.queue.closing.Outcome.TheVariants as ended
-use Rattle.bindings.specs.Handles.{held_by, AsItWas}
-use Rattle.bindings.specs.Hiding.{is_some}
-use Rattle.bindings.specs.Codes.{Done, Open, NoMemory, FullHandle, ShortBuffer, BadNumber}
+use Rattle.bindings.specs.Handles.{Answered, WasEnded}
+use Rattle.bindings.specs.Codes.{ShortBuffer}
 use Rattle.bindings.specs.Codes.{code_of_claim, head_of_claim, tail_of_claim, code_of_take, tail_of_take}
 use Rattle.bindings.specs.Codes.{code_of_some, tail_of_some}
-use Rattle.bindings.specs.QueueParts.{PutPart, TookPart, TookLinePart, TookSomePart, ShutPart}
-use Rattle.bindings.specs.QueueHeld.{AtSize, IsSize}
-use Rattle.bindings.specs.QueueHeld.{IsNewHeld, places_of}
-use Rattle.bindings.specs.QueueOutcomes.{EndedHeld}
+use Rattle.bindings.specs.QueueParts.{PutPart, TookPart, TookLinePart, TookSomePart}
+use Rattle.bindings.specs.QueueHeld.{AtSize, places_of}
+use Rattle.bindings.specs.QueueClosing.{EndedHeld}
 use Rattle.bindings.specs.Told.{IsCodeAlone}
 
--- what `new` did, by its code
-abbrev pub MadeQueue : ℕ → ℕ → ℕ → Handle → Handle → ℤ → Type 0
-MadeQueue places first mark old new code =
-    ((code ≡ FullHandle) × (is_some (held_by old) ≡ true) × AsItWas old new)
-    ⊎ ((code ≡ BadNumber) × (held_by old ≡ None) × AsItWas old new × (IsSize places → ⊥))
-    ⊎ ((code ≡ NoMemory) × (held_by old ≡ None) × AsItWas old new × IsSize places)
-    ⊎ ((code ≡ Done) × (held_by old ≡ None) × (y : HeldQueue) × (held_by new ≡ Some (Queue y))
-    × IsNewHeld places first mark y)
+-- what C is told of a put: the code, and the positions that the answer tells
+abbrev pub IsToldPut : Result ℕ ClaimRefusal → SynthAnswer → Type 0
+IsToldPut answer told = (told.code ≡ code_of_claim answer) × (told.head ≡ head_of_claim answer)
+    × (told.tail ≡ tail_of_claim answer)
 
--- The handle is still for the same end, and C is told what the library's `try_put` answered
-pub record WasPut (x : HeldQueue) (items : List ℕ) (new : Option HeldQueue) (told : SynthAnswer) : Type 0 where
-  pub y : HeldQueue
-  pub full : new ≡ Some y
-  pub answer : Result ℕ ClaimRefusal
-  pub answered : AtSize (PutPart items answer) x y
-  pub code : told.code ≡ code_of_claim answer
-  pub head : told.head ≡ head_of_claim answer
-  pub tail : told.tail ≡ tail_of_claim answer
+-- C is told what the library's `try_put` answered
+abbrev pub WasPut : HeldQueue → List ℕ → Option HeldQueue → SynthAnswer → Type 0
+WasPut x items new told = Answered (λ answer. AtSize (PutPart items answer)) (λ answer. IsToldPut answer told) x new
 
 -- what C is told of a taking of one item
 abbrev pub IsToldTake : Result ℕ TakeRefusal → ℕ → ℕ → SynthAnswer → Type 0
@@ -48,60 +33,26 @@ IsToldTake answer old new told = MatchResult answer
     (λ x. (new ≡ x) × (told.code ≡ pos 0) × (told.head ≡ 0) × (told.tail ≡ 0))
     (λ r. (new ≡ old) × (told.code ≡ code_of_take r) × (told.head ≡ 0) × (told.tail ≡ tail_of_take r))
 
--- The handle is still for the same end, and C is told what the library's `try_take` answered
-pub record WasTaken (x : HeldQueue) (old_item item : ℕ) (new : Option HeldQueue) (told : SynthAnswer) : Type 0 where
-  pub y : HeldQueue
-  pub full : new ≡ Some y
-  pub answer : Result ℕ TakeRefusal
-  pub answered : AtSize (TookPart answer) x y
-  pub tells : IsToldTake answer old_item item told
+-- C is told what the library's `try_take` answered
+abbrev pub WasTaken : HeldQueue → ℕ → ℕ → Option HeldQueue → SynthAnswer → Type 0
+WasTaken x old_item item new told =
+    Answered (λ answer. AtSize (TookPart answer)) (λ answer. IsToldTake answer old_item item told) x new
 
--- The handle is still for the same end, and this is what the library's `shut` answered
-pub record WasShut (x : HeldQueue) (was_open : Bool) (new : Option HeldQueue) : Type 0 where
-  pub y : HeldQueue
-  pub full : new ≡ Some y
-  pub answered : AtSize (ShutPart was_open) x y
+-- C is told what the library's `try_take_line` answered, and how many items the line has
+abbrev pub WasLineTaken : HeldQueue → List ℕ → List ℕ → ℕ → ℕ → Option HeldQueue → SynthAnswer → Type 0
+WasLineTaken x old_line line old_count count new told = Answered (λ answer. AtSize (TookLinePart old_line line answer))
+    (λ answer. IsToldTake answer old_count count told) x new
 
--- what C is told of a taking of a line into this buffer
-abbrev pub IsToldLine : Result ℕ TakeRefusal → ℕ → ℕ → SynthAnswer → Type 0
-IsToldLine answer old new told = MatchResult answer
-    (λ k. (new ≡ k) × (told.code ≡ pos 0) × (told.head ≡ 0) × (told.tail ≡ 0))
-    (λ r. (new ≡ old) × (told.code ≡ code_of_take r) × (told.head ≡ 0) × (told.tail ≡ tail_of_take r))
+-- what C is told of takings of one item each
+abbrev pub IsToldSome : ℕ → Option TakeRefusal → SynthAnswer → Type 0
+IsToldSome count refusal told = (told.code ≡ code_of_some count refusal) × (told.head ≡ 0)
+    × (told.tail ≡ tail_of_some refusal)
 
--- The handle is still for the same end, and C is told what the library's `try_take_line` answered
-pub record WasLineTaken (x : HeldQueue) (old_line line : List ℕ) (old_count count : ℕ) (new : Option HeldQueue)
-    (told : SynthAnswer)
-    : Type 0 where
-  pub y : HeldQueue
-  pub full : new ≡ Some y
-  pub answer : Result ℕ TakeRefusal
-  pub answered : AtSize (TookLinePart old_line line answer) x y
-  pub tells : IsToldLine answer old_count count told
-
--- The handle is still for the same end, and items were taken one by one into the buffer
-pub record WasTakenUpTo (x : HeldQueue) (old_items items : List ℕ) (count : ℕ) (new : Option HeldQueue)
-    (told : SynthAnswer)
-    : Type 0 where
-  pub y : HeldQueue
-  pub full : new ≡ Some y
-  pub refusal : Option TakeRefusal
-  pub answered : AtSize (TookSomePart old_items items (count, refusal)) x y
-  pub code : told.code ≡ code_of_some count refusal
-  pub head : told.head ≡ 0
-  pub tail : told.tail ≡ tail_of_some refusal
-
--- the queue is closed, and the numbers are told; or the handle holds what it held
-abbrev pub IsToldEnding : Outcome → Option Payload → SynthClosed → SynthClosed → ℤ → Type 0
-IsToldEnding (ended.Closed c) new old told code = (code ≡ Done) × (new ≡ None) × (told ≡ c)
-IsToldEnding (ended.Open y) new old told code = (code ≡ Open) × (new ≡ Some (Queue y)) × (told ≡ old)
-
--- C is told what became of the queue
-pub record WasEnded (x : HeldQueue) (old_items items : List ℕ) (new : Option Payload) (old told : SynthClosed)
-    (code : ℤ)
-    : Type 0 where
-  pub outcome : Outcome
-  pub ended : EndedHeld old_items items outcome x
-  pub tells : IsToldEnding outcome new old told code
+-- items were taken one by one into the buffer, and C is told why no more were
+abbrev pub WasTakenUpTo : HeldQueue → List ℕ → List ℕ → ℕ → Option HeldQueue → SynthAnswer → Type 0
+WasTakenUpTo x old_items items count new told =
+    Answered (λ refusal. AtSize (TookSomePart old_items items (count, refusal))) (λ refusal. IsToldSome count refusal told)
+    x new
 
 -- the buffer was too short, and nothing happened; or the line was taken
 abbrev pub WasLineTold : HeldQueue → List ℕ → List ℕ → ℕ → ℕ → Option HeldQueue → SynthAnswer → Type 0
@@ -121,4 +72,5 @@ abbrev pub WasClosed : HeldQueue → List ℕ → List ℕ → Option Payload �
 WasClosed x old_items items new old told code =
     ((code ≡ ShortBuffer) × (length old_items < places_of x) × (new ≡ Some (Queue x)) × (items ≡ old_items)
     × (told ≡ old))
-    ⊎ ((places_of x ≤ length old_items) × WasEnded x old_items items new old told code)
+    ⊎ ((places_of x ≤ length old_items) × WasEnded Queue (λ outcome. EndedHeld old_items items outcome x)
+    (λ c t. t ≡ c) new old told code)

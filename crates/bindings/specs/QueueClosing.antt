@@ -1,5 +1,5 @@
 -- What becomes of a queue that is to be closed.
-use Rattle.std.specs.Prelude.{◌≡◌, ◌≤◌, ℕ, List, map, take, Some}
+use Rattle.std.specs.Prelude.{◌≡◌, ◌≤◌, ℕ, List, map, take, Some, Result, Ok, Err}
 use Rattle.std.specs.Arc.{arc_value}
 use Rattle.table_theory.specs.Sharing.{the_whole}
 use Rattle.claim_queue.specs.declared.ends.ClaimQueue.{ClaimQueue}
@@ -9,8 +9,8 @@ use Rattle.claim_queue.specs.Closings.{ClosedNow}
 use Rattle.bindings.specs.QueueTaking.{IsKeptFrom}
 use Rattle.bindings.specs.declared.answer.SynthClosed.{SynthClosed}
 use Rattle.bindings.specs.declared.queue.part.Part.{Part}
-use Rattle.bindings.specs.declared.queue.closing.Ending.{Ending}
-use Rattle.bindings.specs.declared.queue.closing.Ending.TheVariants.{Closed, Open}
+use Rattle.bindings.specs.declared.queue.held.HeldQueue.{HeldQueue}
+use Rattle.bindings.specs.declared.queue.held.HeldQueue.TheVariants.{Small, Large}
 
 -- the queue is closed, and what was left lies at the beginning of the buffer
 abbrev pub ClosedInto : List ℕ → List ℕ → SynthClosed → (n : ℕ) → ClaimQueue n → QueueEnd n → Type 0
@@ -19,9 +19,15 @@ ClosedInto old new c n queue end = (c.first ≡ first_of queue) × (c.left ≤ n
 
 -- the end has all parts, and closed its queue
 abbrev pub ClosedPart : List ℕ → List ℕ → SynthClosed → (n : ℕ) → Part n → Type 0
-ClosedPart old new c n x = (x.parts ≡ the_whole) × ClosedInto old new c n (arc_value x.queue) x.end
+ClosedPart old new c n x = (x.share.parts ≡ the_whole) × ClosedInto old new c n (arc_value x.queue) x.end
 
 -- what became of the queue of this end: it is closed, or nothing happens
-abbrev pub EndedPart : List ℕ → List ℕ → (n : ℕ) → Ending n → Part n → Type 0
-EndedPart old new n (Closed c) x = ClosedPart old new c n x
-EndedPart old new n (Open y) x = (y ≡ x) × (new ≡ old)
+abbrev pub EndedPart : List ℕ → List ℕ → (n : ℕ) → Result SynthClosed (Part n) → Part n → Type 0
+EndedPart old new n (Ok c) x = ClosedPart old new c n x
+EndedPart old new n (Err y) x = (y ≡ x) × (new ≡ old)
+
+-- the same, of the queue of a handle
+abbrev pub EndedHeld : List ℕ → List ℕ → Result SynthClosed HeldQueue → HeldQueue → Type 0
+EndedHeld old new (Ok c) (Small x) = ClosedPart old new c 64 x
+EndedHeld old new (Ok c) (Large x) = ClosedPart old new c 256 x
+EndedHeld old new (Err y) x = (y ≡ x) × (new ≡ old)

@@ -1,6 +1,7 @@
 -- What a handle of a queue holds: an end of a queue of 64 places, or of one of 256.
-use Rattle.std.specs.Prelude.{◌≡◌, ◌⊎◌, ◌≤◌, ◌<◌, ◌+◌, ℕ}
-use Rattle.table_theory.specs.Sharing.{the_whole}
+use Rattle.std.specs.Prelude.{◌≡◌, ◌⊎◌, ℕ}
+use Rattle.bindings.specs.Shares.{IsOneMark}
+use Rattle.bindings.specs.declared.share.Share.{Share}
 use Rattle.bindings.specs.declared.queue.part.Part.{Part}
 use Rattle.bindings.specs.declared.queue.held.HeldQueue.{HeldQueue}
 use Rattle.bindings.specs.declared.queue.held.HeldQueue.TheVariants.{Small, Large}
@@ -15,10 +16,10 @@ abbrev pub places_of : HeldQueue → ℕ
 places_of (Small x) = 64
 places_of (Large x) = 256
 
--- how many parts of the queue the end has
-abbrev pub parts_of : HeldQueue → ℕ
-parts_of (Small x) = x.parts
-parts_of (Large x) = x.parts
+-- how much of the queue the end has
+abbrev pub share_of : HeldQueue → Share
+share_of (Small x) = x.share
+share_of (Large x) = x.share
 
 -- the queues have one size, and this holds of the ends
 abbrev pub AtSize : ((n : ℕ) → Part n → Part n → Type 0) → HeldQueue → HeldQueue → Type 0
@@ -34,19 +35,7 @@ AtSizes R x y z = ⊥
 
 -- the queues have one size and one mark
 abbrev pub HaveOneMark : HeldQueue → HeldQueue → Type 0
-HaveOneMark = AtSize (λ n x y. y.mark ≡ x.mark)
-
--- together the ends have no more parts than one queue has
-abbrev pub Fit : HeldQueue → HeldQueue → Type 0
-Fit x y = parts_of x + parts_of y ≤ the_whole
-
--- as far as the sizes, the marks and the parts tell, both are ends of one queue
-abbrev pub MayJoin : HeldQueue → HeldQueue → Type 0
-MayJoin x y = HaveOneMark x y × Fit x y
-
--- the sizes, the marks or the parts tell that they aren't
-abbrev pub MayNotJoin : HeldQueue → HeldQueue → Type 0
-MayNotJoin x y = (HaveOneMark x y → ⊥) ⊎ (the_whole < parts_of x + parts_of y)
+HaveOneMark = AtSize (λ n x y. IsOneMark x.share y.share)
 
 -- both are ends of one queue
 abbrev pub AreOfOneQueue : HeldQueue → HeldQueue → Type 0

@@ -1,8 +1,7 @@
 -- What the calls of a queue do to an end of it. Each says what the library's call says.
-use Rattle.std.specs.Prelude.{◌≡◌, ◌⊎◌, ◌≤◌, ◌<◌, ◌+◌, ℕ, Bool, take, List, [], ◌∷◌, length, Result, MatchResult}
+use Rattle.std.specs.Prelude.{◌≡◌, ◌≤◌, ℕ, Bool, take, List, [], ◌∷◌, length, Result, MatchResult}
 use Rattle.std.specs.Arc.{arc_value}
 use Rattle.std.specs.declared.option.Option.{Option}
-use Rattle.table_theory.specs.Sharing.{given, kept, the_whole}
 use Rattle.claim_queue.specs.declared.claim.ClaimRefusal.{ClaimRefusal}
 use Rattle.claim_queue.specs.declared.take.TakeRefusal.{TakeRefusal}
 use Rattle.claim_queue.specs.Handles.{IsSameEnd, AreOfOneQueue, view_of, first_of}
@@ -13,37 +12,26 @@ use Rattle.claim_queue.specs.Closings.{ShutNow}
 use Rattle.claim_queue.specs.Endings.{Divided, IsNewborn, TookIn}
 use Rattle.claim_queue.specs.Takings.{TookItems, RefusedTake, IsNone, IsOne, IsLine, IsBegun}
 use Rattle.bindings.specs.QueueTaking.{TookSome, IsKeptFrom}
+use Rattle.bindings.specs.Shares.{AllOf, WasDivided, WasJoined}
 use Rattle.bindings.specs.declared.queue.part.Part.{Part}
 
 -- the same end of the same queue
 abbrev pub IsSamePart : (n : ℕ) → Part n → Part n → Type 0
-IsSamePart n x y = (arc_value y.queue ≡ arc_value x.queue) × IsSameEnd x.end y.end × (y.mark ≡ x.mark)
+IsSamePart n x y = (arc_value y.queue ≡ arc_value x.queue) × IsSameEnd x.end y.end
 
--- the same, and it has as many parts as before
+-- the same, with its share as before
 abbrev pub IsKept : (n : ℕ) → Part n → Part n → Type 0
-IsKept n x y = IsSamePart n x y × (y.parts ≡ x.parts)
+IsKept n x y = IsSamePart n x y × (y.share ≡ x.share)
 
 -- both are ends of one queue
 abbrev pub IsOneQueue : (n : ℕ) → Part n → Part n → Type 0
 IsOneQueue n x y = AreOfOneQueue x.end y.end
 
--- together the ends have no more parts than one queue has
-abbrev pub FitPart : (n : ℕ) → Part n → Part n → Type 0
-FitPart n x y = x.parts + y.parts ≤ the_whole
-
--- as far as the marks and the parts tell, both are ends of one queue
-abbrev pub MayJoinPart : (n : ℕ) → Part n → Part n → Type 0
-MayJoinPart n x y = (y.mark ≡ x.mark) × FitPart n x y
-
--- the marks or the parts tell that they aren't
-abbrev pub MayNotJoinPart : (n : ℕ) → Part n → Part n → Type 0
-MayNotJoinPart n x y = (y.mark ≡ x.mark → ⊥) ⊎ (the_whole < x.parts + y.parts)
-
 -- the only end of a queue in which nothing was claimed
 abbrev pub IsNewPart : ℕ → ℕ → (n : ℕ) → Part n → Type 0
 IsNewPart first mark n x = (first_of (arc_value x.queue) ≡ first)
     × (view_of x.end ≡ newcomer (record { first = first; room = n }))
-    × (x.mark ≡ mark) × (x.parts ≡ the_whole)
+    × AllOf mark x.share
 
 -- `try_put` gave this answer
 abbrev pub PutPart : List ℕ → Result ℕ ClaimRefusal → (n : ℕ) → Part n → Part n → Type 0
@@ -75,11 +63,11 @@ ShutPart was_open n x y = IsKept n x y × ShutNow (view_of x.end) was_open (view
 
 -- `split` gave this end, of the same queue and with its parts of the share
 abbrev pub DividedPart : (n : ℕ) → Part n → Part n → Part n → Type 0
-DividedPart n x y born = IsSamePart n x y × (arc_value born.queue ≡ arc_value x.queue) × (born.mark ≡ x.mark)
-    × (born.parts ≡ given x.parts) × (y.parts ≡ kept x.parts)
+DividedPart n x y born = IsSamePart n x y × (arc_value born.queue ≡ arc_value x.queue)
+    × WasDivided x.share y.share born.share
     × Divided (view_of x.end) (view_of y.end) × IsNewborn (view_of x.end) (view_of y.end) (view_of born.end)
 
 -- `join` took the other end in, with its parts
 abbrev pub JoinedPart : (n : ℕ) → Part n → Part n → Part n → Type 0
 JoinedPart n x y other = IsSamePart n x y × TookIn (view_of x.end) (view_of other.end) (view_of y.end)
-    × (y.parts ≡ x.parts + other.parts)
+    × WasJoined x.share y.share other.share

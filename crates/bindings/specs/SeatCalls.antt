@@ -9,29 +9,14 @@ use Rattle.meters.specs.declared.alarms.SetRefusal.{SetRefusal}
 use Rattle.meters.specs.declared.alarms.SetRefusal.TheVariants as set
 use Rattle.meters.specs.declared.close.Metered.{Metered}
 use Rattle.bindings.specs.declared.answer.SynthAnswer.{SynthAnswer}
-use Rattle.bindings.specs.declared.handle.Handle.{Handle}
-use Rattle.bindings.specs.declared.payload.Payload.{Payload}
-use Rattle.bindings.specs.declared.payload.Payload.TheVariants.{Seat}
 use Rattle.bindings.specs.declared.seat.alarm.SynthAlarm.{SynthAlarm}
 use Rattle.bindings.specs.declared.seat.held.HeldSeat.{HeldSeat}
-use Rattle.bindings.specs.declared.seat.closing.Outcome.{Outcome}
-use Rattle.bindings.specs.declared.seat.closing.Outcome.TheVariants as ended
 use Rattle.bindings.specs.declared.seat.SynthMetered.{SynthMetered}
-use Rattle.bindings.specs.Handles.{held_by, AsItWas}
-use Rattle.bindings.specs.Hiding.{is_some}
-use Rattle.bindings.specs.Codes.{Done, Open, NoMemory, FullHandle, ShortBuffer, BadNumber}
+use Rattle.bindings.specs.Handles.{Answered}
+use Rattle.bindings.specs.Codes.{Done, ShortBuffer, BadNumber}
 use Rattle.bindings.specs.SeatAlarms.{alarm_told, IsAlarm, IsNoAlarm, IsRestKept, IsBlankFrom}
-use Rattle.bindings.specs.SeatHeld.{IsNewSeat}
 use Rattle.bindings.specs.SeatHeld.{WasTicked, WasAdvanced, WasSet, WasCancelled, WereFired}
-use Rattle.bindings.specs.SeatClosing.{Ended}
 use Rattle.bindings.specs.Told.{IsCodeAlone}
-
--- what `new` did, by its code
-abbrev pub MadeMeters : ℕ → ℕ → Handle → Handle → ℤ → Type 0
-MadeMeters clock mark old new code =
-    ((code ≡ FullHandle) × (is_some (held_by old) ≡ true) × AsItWas old new)
-    ⊎ ((code ≡ NoMemory) × (held_by old ≡ None) × AsItWas old new)
-    ⊎ ((code ≡ Done) × (held_by old ≡ None) × (y : HeldSeat) × (held_by new ≡ Some (Seat y)) × IsNewSeat clock mark y)
 
 -- what `tick` did, by its code
 abbrev pub TickTold : HeldSeat → ℕ → ℕ → ℕ → ℕ → Option HeldSeat → ℤ → Type 0
@@ -54,12 +39,8 @@ IsToldAdvance answer old new told = MatchResult answer
     (λ r. (new ≡ old) × (told.code ≡ code_of_advance r) × (told.head ≡ head_of_advance r) × (told.tail ≡ 0))
 
 -- C is told what the library's `advance` answered
-pub record AdvanceTold (x : HeldSeat) (old_clock clock : ℕ) (new : Option HeldSeat) (told : SynthAnswer) : Type 0 where
-  pub y : HeldSeat
-  pub full : new ≡ Some y
-  pub answer : Result ℕ AdvanceRefusal
-  pub answered : WasAdvanced answer x y
-  pub tells : IsToldAdvance answer old_clock clock told
+abbrev pub AdvanceTold : HeldSeat → ℕ → ℕ → Option HeldSeat → SynthAnswer → Type 0
+AdvanceTold x old_clock clock new told = Answered WasAdvanced (λ answer. IsToldAdvance answer old_clock clock told) x new
 
 abbrev pub code_of_set : SetRefusal → ℤ
 code_of_set set.NoRoom = pos 11
@@ -76,16 +57,9 @@ IsToldSet answer old new told = MatchResult answer
     (λ r. (new ≡ old) × (told.code ≡ code_of_set r) × (told.head ≡ head_of_set r) × (told.tail ≡ 0))
 
 -- C is told what the library's `try_set` answered of this alarm
-pub record WasSetTold (x : HeldSeat) (alarm : SynthAlarm) (old_slot slot : ℕ) (new : Option HeldSeat)
-    (told : SynthAnswer)
-    : Type 0 where
-  pub y : HeldSeat
-  pub full : new ≡ Some y
-  pub is : Alarm
-  pub is_told : alarm_told is ≡ alarm
-  pub answer : Result ℕ SetRefusal
-  pub answered : WasSet is answer x y
-  pub tells : IsToldSet answer old_slot slot told
+abbrev pub WasSetTold : HeldSeat → SynthAlarm → ℕ → ℕ → Option HeldSeat → SynthAnswer → Type 0
+WasSetTold x alarm old_slot slot new told = (is : Alarm) × (alarm_told is ≡ alarm)
+    × Answered (WasSet is) (λ answer. IsToldSet answer old_slot slot told) x new
 
 -- what `try_set` did: no such alarm is told as a number out of its range
 abbrev pub SetTold : HeldSeat → SynthAlarm → ℕ → ℕ → Option HeldSeat → SynthAnswer → Type 0
@@ -113,14 +87,3 @@ DueTold x old_alarms alarms old_count count new code =
 abbrev pub IsToldMetered : Metered → SynthMetered → Type 0
 IsToldMetered c told = (told.gauges ≡ c.gauges) × (told.clock ≡ c.clock) × (told.alarms ≡ length c.alarms.items)
     × (take told.alarms told.alarm ≡ map alarm_told c.alarms.items) × IsBlankFrom told.alarms told.alarm
-
--- what C is told of the end of meters. Where they aren't closed, the handle holds what it held
-abbrev pub IsToldEnding : Outcome → Option Payload → SynthMetered → SynthMetered → ℤ → Type 0
-IsToldEnding (ended.Closed c) new old told code = (code ≡ Done) × (new ≡ None) × IsToldMetered c told
-IsToldEnding (ended.Open y) new old told code = (code ≡ Open) × (new ≡ Some (Seat y)) × (told ≡ old)
-
--- C is told what became of the meters
-pub record WasClosed (x : HeldSeat) (new : Option Payload) (old told : SynthMetered) (code : ℤ) : Type 0 where
-  pub outcome : Outcome
-  pub ended : Ended outcome x
-  pub tells : IsToldEnding outcome new old told code

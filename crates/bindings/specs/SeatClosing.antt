@@ -1,15 +1,14 @@
 -- What becomes of meters that are to be closed.
-use Rattle.std.specs.Prelude.{◌≡◌}
+use Rattle.std.specs.Prelude.{◌≡◌, Result, Ok, Err}
 use Rattle.std.specs.Arc.{arc_value}
 use Rattle.table_theory.specs.Sharing.{the_whole}
 use Rattle.meters.specs.Handles.{view_of, first_of}
 use Rattle.meters.specs.Closings.{ClosedNow}
 use Rattle.bindings.specs.declared.seat.held.HeldSeat.{HeldSeat}
-use Rattle.bindings.specs.declared.seat.closing.Outcome.{Outcome}
-use Rattle.bindings.specs.declared.seat.closing.Outcome.TheVariants.{Closed, Open}
+use Rattle.meters.specs.declared.close.Metered.{Metered}
 
 -- they are closed, as the library's `close` tells, by the end that has all parts; or nothing happens
-abbrev pub Ended : Outcome → HeldSeat → Type 0
-Ended (Closed c) x = (x.parts ≡ the_whole)
+abbrev pub Ended : Result Metered HeldSeat → HeldSeat → Type 0
+Ended (Ok c) x = (x.share.parts ≡ the_whole)
     × ClosedNow (first_of (arc_value x.meters)) (view_of x.seat) c.gauges c.clock c.alarms.items
-Ended (Open y) x = y ≡ x
+Ended (Err y) x = y ≡ x

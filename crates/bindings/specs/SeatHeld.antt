@@ -1,7 +1,6 @@
 -- What the calls of meters do to an end of them. Each says what the library's call says.
 use Rattle.std.specs.Prelude.{◌≡◌, ◌⊎◌, ◌≤◌, ◌<◌, ◌+◌, ℕ, Bool, List, Result, MatchResult}
 use Rattle.std.specs.Arc.{arc_value}
-use Rattle.table_theory.specs.Sharing.{given, kept, the_whole}
 use Rattle.event_theory.specs.declared.alarm.Alarm.{Alarm}
 use Rattle.meters.specs.declared.gauges.AdvanceRefusal.{AdvanceRefusal}
 use Rattle.meters.specs.declared.alarms.SetRefusal.{SetRefusal}
@@ -11,53 +10,38 @@ use Rattle.meters.specs.Rules.{newcomer}
 use Rattle.meters.specs.Endings as endings
 use Rattle.meters.specs.Answers.{Ticked}
 use Rattle.meters.specs.Answers.{AdvancedNow, NotAdvanced, SetNow, NotSet, CancelledNow, FiredNow}
+use Rattle.bindings.specs.Shares.{AllOf, WasDivided, WasJoined}
 use Rattle.bindings.specs.declared.seat.held.HeldSeat.{HeldSeat}
 
 -- the same end of the same meters
 abbrev pub IsSameHeld : HeldSeat → HeldSeat → Type 0
-IsSameHeld x y = (arc_value y.meters ≡ arc_value x.meters) × IsSameSeat x.seat y.seat × (y.mark ≡ x.mark)
+IsSameHeld x y = (arc_value y.meters ≡ arc_value x.meters) × IsSameSeat x.seat y.seat
 
--- the same, and it has as many parts as before
+-- the same, with its share as before
 abbrev pub IsKept : HeldSeat → HeldSeat → Type 0
-IsKept x y = IsSameHeld x y × (y.parts ≡ x.parts)
+IsKept x y = IsSameHeld x y × (y.share ≡ x.share)
 
 -- both are ends of the same meters
 abbrev pub AreOfOneTable : HeldSeat → HeldSeat → Type 0
 AreOfOneTable x y = meters.AreOfOneTable x.seat y.seat
 
--- the meters have one mark
-abbrev pub HaveOneMark : HeldSeat → HeldSeat → Type 0
-HaveOneMark x y = y.mark ≡ x.mark
-
--- together the ends have no more parts than all ends of the same meters
-abbrev pub Fit : HeldSeat → HeldSeat → Type 0
-Fit x y = x.parts + y.parts ≤ the_whole
-
--- as far as the marks and the parts tell, they are ends of the same meters
-abbrev pub MayJoin : HeldSeat → HeldSeat → Type 0
-MayJoin x y = HaveOneMark x y × Fit x y
-
--- the marks or the parts tell that they aren't
-abbrev pub MayNotJoin : HeldSeat → HeldSeat → Type 0
-MayNotJoin x y = (HaveOneMark x y → ⊥) ⊎ (the_whole < x.parts + y.parts)
-
 -- the only end of new meters with this clock
 abbrev pub IsNewSeat : ℕ → ℕ → HeldSeat → Type 0
 IsNewSeat clock mark x = (first_of (arc_value x.meters) ≡ clock)
     × (view_of x.seat ≡ newcomer (record { clock = clock }))
-    × (x.mark ≡ mark) × (x.parts ≡ the_whole)
+    × AllOf mark x.share
 
 -- `split` gave this end, of the same meters and with its parts of the share
 abbrev pub Divided : HeldSeat → HeldSeat → HeldSeat → Type 0
-Divided x y born = IsSameHeld x y × (arc_value born.meters ≡ arc_value x.meters) × (born.mark ≡ x.mark)
-    × (born.parts ≡ given x.parts) × (y.parts ≡ kept x.parts)
+Divided x y born = IsSameHeld x y × (arc_value born.meters ≡ arc_value x.meters)
+    × WasDivided x.share y.share born.share
     × endings.Divided (view_of x.seat) (view_of y.seat)
     × endings.IsNewborn (view_of x.seat) (view_of y.seat) (view_of born.seat)
 
 -- `join` took the other end in, with its parts
 abbrev pub Joined : HeldSeat → HeldSeat → HeldSeat → Type 0
 Joined x y other = IsSameHeld x y × endings.TookIn (view_of x.seat) (view_of other.seat) (view_of y.seat)
-    × (y.parts ≡ x.parts + other.parts)
+    × WasJoined x.share y.share other.share
 
 -- `tick` gave this value of the gauge, the one before
 abbrev pub WasTicked : ℕ → ℕ → ℕ → HeldSeat → HeldSeat → Type 0

@@ -1,29 +1,31 @@
 //! The batch queue for C: each call is one of the library's, on the end that a handle holds.
 ghost use Rattle.std.specs.Prelude.{◌≡◌, ◌≤◌, ◌<◌, length};
-ghost use Rattle.std.specs.Option.{MatchOption};
-ghost use Rattle.bindings.specs.BatchCalls.{MadeBatch, PutTold, PutSomeTold, TakeTold, WasClosed};
 ghost use Rattle.bindings.specs.BatchCalls.{IsToldPut, IsToldPutSome, IsToldTake, code_of_put, positions_of_put};
-ghost use Rattle.bindings.specs.BatchHeld.{Divided, Joined, HaveOneMark, AreOfOneQueue, MayJoin, MayNotJoin};
-ghost use Rattle.bindings.specs.BatchHeld.{places_of, Took, TookUpTo, Counted, WasShut};
+ghost use Rattle.bindings.specs.BatchCalls.{WasClosed};
+ghost use Rattle.bindings.specs.BatchHeld.{IsCapacity, IsNewBatch, Divided, Joined, AreOfOneQueue};
+ghost use Rattle.bindings.specs.BatchHeld.{places_of, Put, PutSome, Took, TookUpTo, Counted, WasShut};
 ghost use Rattle.bindings.specs.Codes.{Done, EmptyHandle};
-ghost use Rattle.bindings.specs.Handles.{held_by, batch_of, AsItWas, NoneIn, HoldsThen, HoldsSome, TurnsThen};
-ghost use Rattle.bindings.specs.Handles.{FreedHandle, SplitHandle, JoinedHandle, MarksTell};
-ghost use Rattle.bindings.specs.Kinds.{batch_in};
+ghost use Rattle.bindings.specs.Handles.{held_by, batch_of, AsItWas, NoneIn, HoldsThen, TurnsThen, Answered};
+ghost use Rattle.bindings.specs.Handles.{MadeHandle, FreedHandle, SplitHandle, JoinedHandle, MarksTell};
+ghost use Rattle.bindings.specs.Shares.{HasTwo, HasNoTwo, IsOneMark};
+ghost use Rattle.bindings.specs.declared.payload.Payload.TheVariants.{Batch};
 
 mod closing;
 pub mod held;
 mod looking;
 
 use crate::answer::{
-    BAD_NUMBER, CLOSED, DONE, EMPTY, EMPTY_HANDLE, FULL, FULL_HANDLE, LOST, NO_ITEMS, NO_MEMORY,
-    NO_SHARE, OPEN, OTHER_OBJECT, SHORT_BUFFER, SPENT, TOO_LONG,
+    BAD_NUMBER, CLOSED, DONE, EMPTY, EMPTY_HANDLE, FULL, FULL_HANDLE, LOST, NO_ITEMS, OPEN,
+    SHORT_BUFFER, SPENT, TOO_LONG,
 };
+use crate::ends::{fill, free, join, split};
 use crate::handle::Handle;
+use crate::kind::Kind;
 use crate::payload::Payload;
 use batch_queue::{PutRefusal, TakeRefusal};
-use closing::{Outcome, SynthBatchClosed};
+use closing::SynthBatchClosed;
 use held::HeldBatch;
-use loose_box::{Loose, Vacant};
+use loose_box::Loose;
 use std::alloc::Global;
 
 /// The positions that a call tells. Where it tells only one of them, the other is 0.
@@ -123,7 +125,7 @@ pub extern "C" fn synth_raw_batch_new_marked(
     mark: u64,
     batch: &mut Handle,
 ) -> i32
-    ensures { MadeBatch places mark batch.old batch.new result }
+    ensures { MadeHandle Batch (IsCapacity places) (IsNewBatch places mark) batch.old batch.new result }
 {
     if batch.is_full() {
         return FULL_HANDLE;
@@ -131,14 +133,8 @@ pub extern "C" fn synth_raw_batch_new_marked(
     if !HeldBatch::is_capacity(places) {
         return BAD_NUMBER;
     }
-    let Some(held) = HeldBatch::new(alloc, places, mark) else {
-        return NO_MEMORY;
-    };
-    let Ok(held) = Box::new(alloc, Payload::Batch(held)) else {
-        return NO_MEMORY;
-    };
-    batch.put(held);
-    DONE
+    let made = HeldBatch::new(alloc, places, mark);
+    fill(alloc, made, batch)
 }
 
 /// Frees the handle, whose end is then never joined.
@@ -146,28 +142,7 @@ pub extern "C" fn synth_raw_batch_new_marked(
 pub extern "C" fn synth_raw_batch_free(alloc: Global, batch: &mut Handle) -> i32
     ensures { FreedHandle batch_of batch.old batch.new result }
 {
-    if batch.batch().is_none() {
-        return EMPTY_HANDLE;
-    }
-    let _held = batch.take(alloc);
-    DONE
-}
-
-// A new end in a box of its own. Nothing changes where no box can be had, or no more handles can be counted.
-fn split_boxed(alloc: Global, held: &mut HeldBatch) -> Option<Box<Payload, Global>>
-    requires { 2 ≤ held.old.parts }
-    ensures { MatchOption result (held.new ≡ held.old) (λ b. HoldsSome (batch_in b.value) (Divided held.old held.new)) }
-{
-    let Ok(room) = Vacant::take(alloc) else {
-        return None;
-    };
-    match held.split() {
-        Some(born) => Some(Loose::fill(room, Payload::Batch(born)).into_box()),
-        None => {
-            let _alloc = room.free();
-            None
-        }
-    }
+    free::<HeldBatch>(alloc, batch)
 }
 
 /// A second end of the queue, for another thread.
@@ -177,43 +152,20 @@ pub extern "C" fn synth_raw_batch_split(
     batch: &mut Handle,
     other: &mut Handle,
 ) -> i32
-    ensures { SplitHandle batch_of (λ x. x.parts) Divided batch.old batch.new other.old other.new result }
+    ensures { SplitHandle batch_of (λ x. HasTwo x.share) (λ x. HasNoTwo x.share) Divided
+        batch.old batch.new other.old other.new result }
 {
-    let Some(held) = batch.batch() else {
-        return EMPTY_HANDLE;
-    };
-    if other.is_full() {
-        return FULL_HANDLE;
-    }
-    if !held.is_divisible() {
-        return NO_SHARE;
-    }
-    match split_boxed(alloc, held) {
-        Some(made) => {
-            other.put(made);
-            DONE
-        }
-        None => NO_MEMORY,
-    }
+    split::<HeldBatch>(alloc, batch, (), other)
 }
 
 /// The first end then has all that both had, and the second handle is empty.
 #[unsafe(no_mangle)]
 pub extern "C" fn synth_raw_batch_join(alloc: Global, batch: &mut Handle, other: &mut Handle) -> i32
-    requires { MarksTell HaveOneMark AreOfOneQueue (batch_of batch.old) (batch_of other.old) }
-    ensures { JoinedHandle batch_of MayJoin MayNotJoin Joined batch.old batch.new other.old other.new result }
+    requires { MarksTell (λ x z. IsOneMark x.share z.share) AreOfOneQueue (batch_of batch.old) (batch_of other.old) }
+    ensures { JoinedHandle batch_of (λ x. x.share) (λ x z. IsOneMark x.share z.share) Joined
+        batch.old batch.new other.old other.new result }
 {
-    let Some(held) = batch.batch() else {
-        return EMPTY_HANDLE;
-    };
-    let Some(joined) = other.batch() else {
-        return EMPTY_HANDLE;
-    };
-    if !held.may_join(joined) {
-        return OTHER_OBJECT;
-    }
-    held.join(Box::into_inner(other.take(alloc)).into_batch());
-    DONE
+    join::<HeldBatch>(alloc, batch, other)
 }
 
 /// `BatchQueue::try_put`.
@@ -224,10 +176,10 @@ pub extern "C" fn synth_raw_batch_try_put(
     positions: &mut SynthPositions,
 ) -> i32
     ensures empty { NoneIn batch_of batch.old batch.new ((result ≡ EmptyHandle) × (positions.new ≡ positions.old)) }
-    ensures put { TurnsThen (batch_of batch.old) (batch_of batch.new)
-        (PutTold items.now positions.old positions.new result) }
+    ensures put { HoldsThen (batch_of batch.old) (λ x. Answered (Put items.now)
+        (λ answer. IsToldPut answer positions.old positions.new result) x (batch_of batch.new)) }
 {
-    let Some(held) = batch.batch() else {
+    let Some(held) = batch.find::<HeldBatch>() else {
         return EMPTY_HANDLE;
     };
     let answer = held.try_put(items);
@@ -244,10 +196,10 @@ pub extern "C" fn synth_raw_batch_try_put_some(
 ) -> i32
     ensures empty { NoneIn batch_of batch.old batch.new
         ((result ≡ EmptyHandle) × (count.new ≡ count.old) × (positions.new ≡ positions.old)) }
-    ensures put { TurnsThen (batch_of batch.old) (batch_of batch.new)
-        (PutSomeTold items.now count.old count.new positions.old positions.new result) }
+    ensures put { HoldsThen (batch_of batch.old) (λ x. Answered (PutSome items.now)
+        (λ answer. IsToldPutSome answer count.old count.new positions.old positions.new result) x (batch_of batch.new)) }
 {
-    let Some(held) = batch.batch() else {
+    let Some(held) = batch.find::<HeldBatch>() else {
         return EMPTY_HANDLE;
     };
     let answer = held.try_put_some(items);
@@ -264,10 +216,10 @@ pub extern "C" fn synth_raw_batch_try_take(
 ) -> i32
     ensures empty { NoneIn batch_of batch.old batch.new ((result ≡ EmptyHandle) × (items.new ≡ items.old)
         × (count.new ≡ count.old) × (positions.new ≡ positions.old)) }
-    ensures taken { TurnsThen (batch_of batch.old) (batch_of batch.new)
-        (TakeTold Took items.old items.new count.old count.new positions.old positions.new result) }
+    ensures taken { HoldsThen (batch_of batch.old) (λ x. Answered (Took items.old items.new)
+        (λ answer. IsToldTake answer count.old count.new positions.old positions.new result) x (batch_of batch.new)) }
 {
-    let Some(held) = batch.batch() else {
+    let Some(held) = batch.find::<HeldBatch>() else {
         return EMPTY_HANDLE;
     };
     let answer = held.try_take(items);
@@ -284,10 +236,10 @@ pub extern "C" fn synth_raw_batch_try_take_some(
 ) -> i32
     ensures empty { NoneIn batch_of batch.old batch.new ((result ≡ EmptyHandle) × (items.new ≡ items.old)
         × (count.new ≡ count.old) × (positions.new ≡ positions.old)) }
-    ensures taken { TurnsThen (batch_of batch.old) (batch_of batch.new)
-        (TakeTold TookUpTo items.old items.new count.old count.new positions.old positions.new result) }
+    ensures taken { HoldsThen (batch_of batch.old) (λ x. Answered (TookUpTo items.old items.new)
+        (λ answer. IsToldTake answer count.old count.new positions.old positions.new result) x (batch_of batch.new)) }
 {
-    let Some(held) = batch.batch() else {
+    let Some(held) = batch.find::<HeldBatch>() else {
         return EMPTY_HANDLE;
     };
     let answer = held.try_take_some(items);
@@ -301,7 +253,7 @@ pub extern "C" fn synth_raw_batch_len(batch: &mut Handle, count: &mut u64) -> i3
     ensures counted { TurnsThen (batch_of batch.old) (batch_of batch.new)
         (λ x y. Counted count.new x y × (result ≡ Done)) }
 {
-    let Some(held) = batch.batch() else {
+    let Some(held) = batch.find::<HeldBatch>() else {
         return EMPTY_HANDLE;
     };
     *count = held.len();
@@ -315,7 +267,7 @@ pub extern "C" fn synth_raw_batch_capacity(batch: &mut Handle, places: &mut usiz
     ensures told { HoldsThen (batch_of batch.old)
         (λ x. AsItWas batch.old batch.new × (places.new ≡ places_of x) × (result ≡ Done)) }
 {
-    let Some(held) = batch.batch() else {
+    let Some(held) = batch.find::<HeldBatch>() else {
         return EMPTY_HANDLE;
     };
     *places = held.places();
@@ -329,7 +281,7 @@ pub extern "C" fn synth_raw_batch_shut(batch: &mut Handle, was_open: &mut bool) 
     ensures shut { TurnsThen (batch_of batch.old) (batch_of batch.new)
         (λ x y. WasShut was_open.new x y × (result ≡ Done)) }
 {
-    let Some(held) = batch.batch() else {
+    let Some(held) = batch.find::<HeldBatch>() else {
         return EMPTY_HANDLE;
     };
     *was_open = held.shut();
@@ -350,20 +302,20 @@ pub extern "C" fn synth_raw_batch_close(
     ensures closed { HoldsThen (batch_of batch.old)
         (λ x. WasClosed x left.old left.new (held_by batch.new) closed.old closed.new result) }
 {
-    let Some(held) = batch.batch() else {
+    let Some(held) = batch.find::<HeldBatch>() else {
         return EMPTY_HANDLE;
     };
     if left.len() < held.places() {
         return SHORT_BUFFER;
     }
     let (payload, room) = Loose::of(batch.take(alloc)).take_out();
-    match payload.into_batch().close(left) {
-        Outcome::Closed(told) => {
+    match HeldBatch::unwrap(payload).close(left) {
+        Ok(told) => {
             let _alloc = room.free();
             *closed = told;
             DONE
         }
-        Outcome::Open(held) => {
+        Err(held) => {
             batch.put(Loose::fill(room, Payload::Batch(held)).into_box());
             OPEN
         }

@@ -9,7 +9,9 @@ pub mod held;
 use crate::answer::{
     BAD_NUMBER, DONE, EMPTY, EMPTY_HANDLE, FULL, FULL_HANDLE, NO_MEMORY, OTHER_OBJECT,
 };
+use crate::ends::free;
 use crate::handle::Handle;
+use crate::kind::Kind;
 use crate::payload::Payload;
 use held::{HeldIn, HeldOut};
 use spsc_line::{finish, line};
@@ -64,7 +66,7 @@ pub extern "C" fn synth_raw_line_push(input: &mut Handle, byte: u8) -> i32
     ensures empty { NoneIn line_in_of input.old input.new (result ≡ EmptyHandle) }
     ensures pushed { HoldsThen (line_in_of input.old) (λ x. PushTold x byte (line_in_of input.new) result) }
 {
-    let Some(held) = input.line_in() else {
+    let Some(held) = input.find::<HeldIn>() else {
         return EMPTY_HANDLE;
     };
     let answer = held.line.push(byte);
@@ -81,7 +83,7 @@ pub extern "C" fn synth_raw_line_pop(output: &mut Handle, byte: &mut u8) -> i32
     ensures popped { HoldsThen (line_out_of output.old)
         (λ x. PopTold x byte.old byte.new (line_out_of output.new) result) }
 {
-    let Some(held) = output.line_out() else {
+    let Some(held) = output.find::<HeldOut>() else {
         return EMPTY_HANDLE;
     };
     let answer = held.line.pop();
@@ -105,17 +107,17 @@ pub extern "C" fn synth_raw_line_finish(
     requires { MarksTell HaveOneMark AreOfOneLine (line_in_of input.old) (line_out_of output.old) }
     ensures { FinishedLine input.old input.new output.old output.new totals.old totals.new result }
 {
-    let Some(first) = input.line_in() else {
+    let Some(first) = input.find::<HeldIn>() else {
         return EMPTY_HANDLE;
     };
-    let Some(second) = output.line_out() else {
+    let Some(second) = output.find::<HeldOut>() else {
         return EMPTY_HANDLE;
     };
     if first.mark != second.mark {
         return OTHER_OBJECT;
     }
-    let first = Box::into_inner(input.take(alloc)).into_line_in();
-    let second = Box::into_inner(output.take(alloc)).into_line_out();
+    let first = HeldIn::unwrap(Box::into_inner(input.take(alloc)));
+    let second = HeldOut::unwrap(Box::into_inner(output.take(alloc)));
     let told = finish(first.line, second.line);
     *totals = SynthLineTotals {
         sent: told.sent,
@@ -130,11 +132,7 @@ pub extern "C" fn synth_raw_line_finish(
 pub extern "C" fn synth_raw_line_free_in(alloc: Global, input: &mut Handle) -> i32
     ensures { FreedHandle line_in_of input.old input.new result }
 {
-    if input.line_in().is_none() {
-        return EMPTY_HANDLE;
-    }
-    let _held = input.take(alloc);
-    DONE
+    free::<HeldIn>(alloc, input)
 }
 
 /// Frees the end that pops. The other goes on.
@@ -142,9 +140,5 @@ pub extern "C" fn synth_raw_line_free_in(alloc: Global, input: &mut Handle) -> i
 pub extern "C" fn synth_raw_line_free_out(alloc: Global, output: &mut Handle) -> i32
     ensures { FreedHandle line_out_of output.old output.new result }
 {
-    if output.line_out().is_none() {
-        return EMPTY_HANDLE;
-    }
-    let _held = output.take(alloc);
-    DONE
+    free::<HeldOut>(alloc, output)
 }

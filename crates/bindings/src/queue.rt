@@ -1,13 +1,13 @@
 //! The claim queue for C: each call is one of the library's, on the end that a handle holds.
 ghost use Rattle.std.specs.Prelude.{◌≡◌, ◌<◌, ◌≤◌, length};
-ghost use Rattle.std.specs.Option.{MatchOption};
 ghost use Rattle.bindings.specs.Codes.{Done, EmptyHandle};
-ghost use Rattle.bindings.specs.Handles.{held_by, queue_of, NoneIn, HoldsThen, HoldsSome};
-ghost use Rattle.bindings.specs.Handles.{FreedHandle, SplitHandle, JoinedHandle, MarksTell};
-ghost use Rattle.bindings.specs.Kinds.{queue_in};
-ghost use Rattle.bindings.specs.QueueCalls.{MadeQueue, WasPut, WasTaken, WasSomeTold, WasLineTold, WasShut, WasClosed};
-ghost use Rattle.bindings.specs.QueueHeld.{AtSizes, parts_of, HaveOneMark, AreOfOneQueue, MayJoin, MayNotJoin};
-ghost use Rattle.bindings.specs.QueueParts.{DividedPart, JoinedPart};
+ghost use Rattle.bindings.specs.Handles.{held_by, queue_of, NoneIn, HoldsThen, TurnsThen};
+ghost use Rattle.bindings.specs.Handles.{MadeHandle, FreedHandle, SplitHandle, JoinedHandle, MarksTell};
+ghost use Rattle.bindings.specs.declared.payload.Payload.TheVariants.{Queue};
+ghost use Rattle.bindings.specs.QueueCalls.{WasPut, WasTaken, WasSomeTold, WasLineTold, WasClosed};
+ghost use Rattle.bindings.specs.QueueHeld.{AtSize, AtSizes, IsSize, IsNewHeld, share_of, HaveOneMark, AreOfOneQueue};
+ghost use Rattle.bindings.specs.QueueParts.{ShutPart, DividedPart, JoinedPart};
+ghost use Rattle.bindings.specs.Shares.{HasTwo, HasNoTwo};
 ghost use Rattle.bindings.specs.Told.{IsCodeAlone};
 
 mod closing;
@@ -17,14 +17,15 @@ mod part;
 mod taking;
 
 use crate::answer::{
-    BAD_NUMBER, DONE, EMPTY_HANDLE, FULL_HANDLE, NO_MEMORY, NO_SHARE, OPEN, OTHER_OBJECT,
-    SHORT_BUFFER, SynthAnswer, SynthClosed, told, told_of_claim, told_of_some, told_of_take,
+    BAD_NUMBER, DONE, EMPTY_HANDLE, FULL_HANDLE, OPEN, SHORT_BUFFER, SynthAnswer, SynthClosed,
+    told, told_of_claim, told_of_some, told_of_take,
 };
+use crate::ends::{fill, free, join, split};
 use crate::handle::Handle;
+use crate::kind::Kind;
 use crate::payload::Payload;
-use closing::Outcome;
 use held::{HeldQueue, is_size};
-use loose_box::{Loose, Vacant};
+use loose_box::Loose;
 use std::alloc::Global;
 
 /// An empty queue of 64 or 256 places, whose first position is `first`. Each queue has a mark of its own.
@@ -36,7 +37,7 @@ pub extern "C" fn synth_raw_queue_new_marked(
     mark: u64,
     queue: &mut Handle,
 ) -> i32
-    ensures { MadeQueue places first mark queue.old queue.new result }
+    ensures { MadeHandle Queue (IsSize places) (IsNewHeld places first mark) queue.old queue.new result }
 {
     if queue.is_full() {
         return FULL_HANDLE;
@@ -44,14 +45,8 @@ pub extern "C" fn synth_raw_queue_new_marked(
     if !is_size(places) {
         return BAD_NUMBER;
     }
-    let Some(held) = HeldQueue::new(alloc, places, first, mark) else {
-        return NO_MEMORY;
-    };
-    let Ok(held) = Box::new(alloc, Payload::Queue(held)) else {
-        return NO_MEMORY;
-    };
-    queue.put(held);
-    DONE
+    let made = HeldQueue::new(alloc, places, first, mark);
+    fill(alloc, made, queue)
 }
 
 /// Frees the handle, whose end is then never joined.
@@ -59,29 +54,7 @@ pub extern "C" fn synth_raw_queue_new_marked(
 pub extern "C" fn synth_raw_queue_free(alloc: Global, queue: &mut Handle) -> i32
     ensures { FreedHandle queue_of queue.old queue.new result }
 {
-    if queue.queue().is_none() {
-        return EMPTY_HANDLE;
-    }
-    let _held = queue.take(alloc);
-    DONE
-}
-
-// A new end in a box of its own. Nothing changes where no box can be had, or no more handles can be counted.
-fn split_boxed(alloc: Global, held: &mut HeldQueue) -> Option<Box<Payload, Global>>
-    requires { 2 ≤ parts_of held.old }
-    ensures { MatchOption result (held.new ≡ held.old)
-        (λ b. HoldsSome (queue_in b.value) (AtSizes DividedPart held.old held.new)) }
-{
-    let Ok(room) = Vacant::take(alloc) else {
-        return None;
-    };
-    match held.split() {
-        Some(born) => Some(Loose::fill(room, Payload::Queue(born)).into_box()),
-        None => {
-            let _alloc = room.free();
-            None
-        }
-    }
+    free::<HeldQueue>(alloc, queue)
 }
 
 /// A second end of the queue, for another thread.
@@ -91,44 +64,20 @@ pub extern "C" fn synth_raw_queue_split(
     queue: &mut Handle,
     other: &mut Handle,
 ) -> i32
-    ensures { SplitHandle queue_of parts_of (AtSizes DividedPart) queue.old queue.new other.old other.new result }
+    ensures { SplitHandle queue_of (λ x. HasTwo (share_of x)) (λ x. HasNoTwo (share_of x)) (AtSizes DividedPart)
+        queue.old queue.new other.old other.new result }
 {
-    let Some(held) = queue.queue() else {
-        return EMPTY_HANDLE;
-    };
-    if other.is_full() {
-        return FULL_HANDLE;
-    }
-    if !held.is_divisible() {
-        return NO_SHARE;
-    }
-    match split_boxed(alloc, held) {
-        Some(made) => {
-            other.put(made);
-            DONE
-        }
-        None => NO_MEMORY,
-    }
+    split::<HeldQueue>(alloc, queue, (), other)
 }
 
 /// The first end then has all that both had, and the second handle is empty.
 #[unsafe(no_mangle)]
 pub extern "C" fn synth_raw_queue_join(alloc: Global, queue: &mut Handle, other: &mut Handle) -> i32
     requires { MarksTell HaveOneMark AreOfOneQueue (queue_of queue.old) (queue_of other.old) }
-    ensures { JoinedHandle queue_of MayJoin MayNotJoin (AtSizes JoinedPart) queue.old queue.new other.old other.new
-        result }
+    ensures { JoinedHandle queue_of share_of HaveOneMark (AtSizes JoinedPart)
+        queue.old queue.new other.old other.new result }
 {
-    let Some(held) = queue.queue() else {
-        return EMPTY_HANDLE;
-    };
-    let Some(joined) = other.queue() else {
-        return EMPTY_HANDLE;
-    };
-    if !held.may_join(joined) {
-        return OTHER_OBJECT;
-    }
-    held.join(Box::into_inner(other.take(alloc)).into_queue());
-    DONE
+    join::<HeldQueue>(alloc, queue, other)
 }
 
 /// `ClaimQueue::try_put`.
@@ -137,7 +86,7 @@ pub extern "C" fn synth_raw_queue_try_put(queue: &mut Handle, items: &[u64]) -> 
     ensures empty { NoneIn queue_of queue.old queue.new (IsCodeAlone EmptyHandle result) }
     ensures put { HoldsThen (queue_of queue.old) (λ x. WasPut x items.now (queue_of queue.new) result) }
 {
-    let Some(held) = queue.queue() else {
+    let Some(held) = queue.find::<HeldQueue>() else {
         return told(EMPTY_HANDLE);
     };
     let answer = held.try_put(items);
@@ -151,7 +100,7 @@ pub extern "C" fn synth_raw_queue_try_take(queue: &mut Handle, item: &mut u64) -
     ensures taken { HoldsThen (queue_of queue.old)
         (λ x. WasTaken x item.old item.new (queue_of queue.new) result) }
 {
-    let Some(held) = queue.queue() else {
+    let Some(held) = queue.find::<HeldQueue>() else {
         return told(EMPTY_HANDLE);
     };
     let answer = held.try_take();
@@ -176,7 +125,7 @@ pub extern "C" fn synth_raw_queue_take_up_to(
     ensures taken { HoldsThen (queue_of queue.old)
         (λ x. WasSomeTold x items.old items.new count.old count.new (queue_of queue.new) result) }
 {
-    let Some(held) = queue.queue() else {
+    let Some(held) = queue.find::<HeldQueue>() else {
         return told(EMPTY_HANDLE);
     };
     if items.len() == 0 {
@@ -199,7 +148,7 @@ pub extern "C" fn synth_raw_queue_try_take_line(
     ensures taken { HoldsThen (queue_of queue.old)
         (λ x. WasLineTold x line.old line.new count.old count.new (queue_of queue.new) result) }
 {
-    let Some(held) = queue.queue() else {
+    let Some(held) = queue.find::<HeldQueue>() else {
         return told(EMPTY_HANDLE);
     };
     if line.len() < held.places() {
@@ -219,10 +168,10 @@ pub extern "C" fn synth_raw_queue_try_take_line(
 #[unsafe(no_mangle)]
 pub extern "C" fn synth_raw_queue_shut(queue: &mut Handle, was_open: &mut bool) -> i32
     ensures empty { NoneIn queue_of queue.old queue.new ((result ≡ EmptyHandle) × (was_open.new ≡ was_open.old)) }
-    ensures shut { HoldsThen (queue_of queue.old)
-        (λ x. WasShut x was_open.new (queue_of queue.new) × (result ≡ Done)) }
+    ensures shut { TurnsThen (queue_of queue.old) (queue_of queue.new)
+        (λ x y. AtSize (ShutPart was_open.new) x y × (result ≡ Done)) }
 {
-    let Some(held) = queue.queue() else {
+    let Some(held) = queue.find::<HeldQueue>() else {
         return EMPTY_HANDLE;
     };
     *was_open = held.shut();
@@ -243,20 +192,20 @@ pub extern "C" fn synth_raw_queue_close(
     ensures closed { HoldsThen (queue_of queue.old)
         (λ x. WasClosed x left.old left.new (held_by queue.new) closed.old closed.new result) }
 {
-    let Some(held) = queue.queue() else {
+    let Some(held) = queue.find::<HeldQueue>() else {
         return EMPTY_HANDLE;
     };
     if left.len() < held.places() {
         return SHORT_BUFFER;
     }
     let (payload, room) = Loose::of(queue.take(alloc)).take_out();
-    match payload.into_queue().close(left) {
-        Outcome::Closed(told) => {
+    match HeldQueue::unwrap(payload).close(left) {
+        Ok(told) => {
             let _alloc = room.free();
             *closed = told;
             DONE
         }
-        Outcome::Open(held) => {
+        Err(held) => {
             queue.put(Loose::fill(room, Payload::Queue(held)).into_box());
             OPEN
         }

@@ -1,12 +1,13 @@
 //! The meters for C: each call is one of the library's, on the end that a handle holds.
 ghost use Rattle.std.specs.Prelude.{◌≡◌, ◌≤◌, ◌<◌};
-ghost use Rattle.std.specs.Option.{MatchOption};
 ghost use Rattle.bindings.specs.Codes.{EmptyHandle};
-ghost use Rattle.bindings.specs.Handles.{held_by, seat_of, NoneIn, HoldsThen, HoldsSome};
-ghost use Rattle.bindings.specs.Handles.{FreedHandle, SplitHandle, JoinedHandle, MarksTell};
-ghost use Rattle.bindings.specs.Kinds.{seat_in};
-ghost use Rattle.bindings.specs.SeatHeld.{Divided, Joined, HaveOneMark, AreOfOneTable, MayJoin, MayNotJoin};
-ghost use Rattle.bindings.specs.SeatCalls.{MadeMeters, TickTold, AdvanceTold, SetTold, CancelTold, DueTold, WasClosed};
+ghost use Rattle.bindings.specs.Handles.{held_by, seat_of, NoneIn, HoldsThen, WasEnded};
+ghost use Rattle.bindings.specs.Handles.{MadeHandle, FreedHandle, SplitHandle, JoinedHandle, MarksTell};
+ghost use Rattle.bindings.specs.declared.payload.Payload.TheVariants.{Seat};
+ghost use Rattle.bindings.specs.SeatHeld.{IsNewSeat, Divided, Joined, AreOfOneTable};
+ghost use Rattle.bindings.specs.Shares.{HasTwo, HasNoTwo, IsOneMark};
+ghost use Rattle.bindings.specs.SeatClosing.{Ended};
+ghost use Rattle.bindings.specs.SeatCalls.{TickTold, AdvanceTold, SetTold, CancelTold, DueTold};
 ghost use Rattle.bindings.specs.SeatCalls.{IsToldMetered, code_of_advance, head_of_advance, code_of_set, head_of_set};
 ghost use Rattle.bindings.specs.Told.{IsCodeAlone};
 
@@ -16,15 +17,16 @@ pub mod held;
 mod reading;
 
 use crate::answer::{
-    BAD_NUMBER, DONE, EMPTY_HANDLE, FULL_HANDLE, LOST, NO_MEMORY, NO_ROOM, NO_SHARE, OPEN,
-    OTHER_OBJECT, SHORT_BUFFER, SPENT, SynthAnswer, told, told_with,
+    BAD_NUMBER, DONE, EMPTY_HANDLE, FULL_HANDLE, LOST, NO_ROOM, OPEN, SHORT_BUFFER, SPENT,
+    SynthAnswer, told, told_with,
 };
+use crate::ends::{fill, free, join, split};
 use crate::handle::Handle;
+use crate::kind::Kind;
 use crate::payload::Payload;
 use alarm::{SynthAlarm, alarm_of, tell_alarms};
-use closing::Outcome;
 use held::HeldSeat;
-use loose_box::{Loose, Vacant};
+use loose_box::Loose;
 use meters::{AdvanceRefusal, Metered, SetRefusal};
 use std::alloc::Global;
 
@@ -86,19 +88,13 @@ pub extern "C" fn synth_raw_seat_new_marked(
     mark: u64,
     seat: &mut Handle,
 ) -> i32
-    ensures { MadeMeters clock mark seat.old seat.new result }
+    ensures { MadeHandle Seat (Unit {0}) (IsNewSeat clock mark) seat.old seat.new result }
 {
     if seat.is_full() {
         return FULL_HANDLE;
     }
-    let Some(held) = HeldSeat::new(alloc, clock, mark) else {
-        return NO_MEMORY;
-    };
-    let Ok(held) = Box::new(alloc, Payload::Seat(held)) else {
-        return NO_MEMORY;
-    };
-    seat.put(held);
-    DONE
+    let made = HeldSeat::new(alloc, clock, mark);
+    fill(alloc, made, seat)
 }
 
 /// Frees the handle, whose end is then never joined.
@@ -106,70 +102,26 @@ pub extern "C" fn synth_raw_seat_new_marked(
 pub extern "C" fn synth_raw_seat_free(alloc: Global, seat: &mut Handle) -> i32
     ensures { FreedHandle seat_of seat.old seat.new result }
 {
-    if seat.seat().is_none() {
-        return EMPTY_HANDLE;
-    }
-    let _held = seat.take(alloc);
-    DONE
-}
-
-// A new end in a box of its own. Nothing changes where no box can be had, or no more handles can be counted.
-fn split_boxed(alloc: Global, held: &mut HeldSeat) -> Option<Box<Payload, Global>>
-    requires { 2 ≤ held.old.parts }
-    ensures { MatchOption result (held.new ≡ held.old) (λ b. HoldsSome (seat_in b.value) (Divided held.old held.new)) }
-{
-    let Ok(room) = Vacant::take(alloc) else {
-        return None;
-    };
-    match held.split() {
-        Some(born) => Some(Loose::fill(room, Payload::Seat(born)).into_box()),
-        None => {
-            let _alloc = room.free();
-            None
-        }
-    }
+    free::<HeldSeat>(alloc, seat)
 }
 
 /// A second end of the meters, for another thread.
 #[unsafe(no_mangle)]
 pub extern "C" fn synth_raw_seat_split(alloc: Global, seat: &mut Handle, other: &mut Handle) -> i32
-    ensures { SplitHandle seat_of (λ x. x.parts) Divided seat.old seat.new other.old other.new result }
+    ensures { SplitHandle seat_of (λ x. HasTwo x.share) (λ x. HasNoTwo x.share) Divided
+        seat.old seat.new other.old other.new result }
 {
-    let Some(held) = seat.seat() else {
-        return EMPTY_HANDLE;
-    };
-    if other.is_full() {
-        return FULL_HANDLE;
-    }
-    if !held.is_divisible() {
-        return NO_SHARE;
-    }
-    match split_boxed(alloc, held) {
-        Some(made) => {
-            other.put(made);
-            DONE
-        }
-        None => NO_MEMORY,
-    }
+    split::<HeldSeat>(alloc, seat, (), other)
 }
 
 /// The first end then has all that both had, and the second handle is empty.
 #[unsafe(no_mangle)]
 pub extern "C" fn synth_raw_seat_join(alloc: Global, seat: &mut Handle, other: &mut Handle) -> i32
-    requires { MarksTell HaveOneMark AreOfOneTable (seat_of seat.old) (seat_of other.old) }
-    ensures { JoinedHandle seat_of MayJoin MayNotJoin Joined seat.old seat.new other.old other.new result }
+    requires { MarksTell (λ x z. IsOneMark x.share z.share) AreOfOneTable (seat_of seat.old) (seat_of other.old) }
+    ensures { JoinedHandle seat_of (λ x. x.share) (λ x z. IsOneMark x.share z.share) Joined
+        seat.old seat.new other.old other.new result }
 {
-    let Some(held) = seat.seat() else {
-        return EMPTY_HANDLE;
-    };
-    let Some(joined) = other.seat() else {
-        return EMPTY_HANDLE;
-    };
-    if !held.may_join(joined) {
-        return OTHER_OBJECT;
-    }
-    held.join(Box::into_inner(other.take(alloc)).into_seat());
-    DONE
+    join::<HeldSeat>(alloc, seat, other)
 }
 
 /// `Meters::tick`. The gauges are 0 to 7.
@@ -184,7 +136,7 @@ pub extern "C" fn synth_raw_seat_tick(
     ensures ticked { HoldsThen (seat_of seat.old)
         (λ x. TickTold x gauge amount before.old before.new (seat_of seat.new) result) }
 {
-    let Some(held) = seat.seat() else {
+    let Some(held) = seat.find::<HeldSeat>() else {
         return EMPTY_HANDLE;
     };
     if gauge >= 8 {
@@ -201,7 +153,7 @@ pub extern "C" fn synth_raw_seat_advance(seat: &mut Handle, clock: &mut u32) -> 
     ensures advanced { HoldsThen (seat_of seat.old)
         (λ x. AdvanceTold x clock.old clock.new (seat_of seat.new) result) }
 {
-    let Some(held) = seat.seat() else {
+    let Some(held) = seat.find::<HeldSeat>() else {
         return told(EMPTY_HANDLE);
     };
     let answer = held.advance();
@@ -225,7 +177,7 @@ pub extern "C" fn synth_raw_seat_try_set(
     ensures set { HoldsThen (seat_of seat.old)
         (λ x. SetTold x alarm.now slot.old slot.new (seat_of seat.new) result) }
 {
-    let Some(held) = seat.seat() else {
+    let Some(held) = seat.find::<HeldSeat>() else {
         return told(EMPTY_HANDLE);
     };
     let Some(alarm) = alarm_of(alarm) else {
@@ -253,7 +205,7 @@ pub extern "C" fn synth_raw_seat_cancel(
     ensures cancelled { HoldsThen (seat_of seat.old)
         (λ x. CancelTold x slot alarm.now cancelled.old cancelled.new (seat_of seat.new) result) }
 {
-    let Some(held) = seat.seat() else {
+    let Some(held) = seat.find::<HeldSeat>() else {
         return EMPTY_HANDLE;
     };
     if slot >= 16 {
@@ -278,7 +230,7 @@ pub extern "C" fn synth_raw_seat_due(
     ensures due { HoldsThen (seat_of seat.old)
         (λ x. DueTold x alarms.old alarms.new count.old count.new (seat_of seat.new) result) }
 {
-    let Some(held) = seat.seat() else {
+    let Some(held) = seat.find::<HeldSeat>() else {
         return EMPTY_HANDLE;
     };
     if alarms.len() < 16 {
@@ -298,19 +250,19 @@ pub extern "C" fn synth_raw_seat_close(
 ) -> i32
     ensures empty { NoneIn seat_of seat.old seat.new ((result ≡ EmptyHandle) × (metered.new ≡ metered.old)) }
     ensures closed { HoldsThen (seat_of seat.old)
-        (λ x. WasClosed x (held_by seat.new) metered.old metered.new result) }
+        (λ x. WasEnded Seat (λ outcome. Ended outcome x) IsToldMetered (held_by seat.new) metered.old metered.new result) }
 {
-    let Some(_held) = seat.seat() else {
+    let Some(_held) = seat.find::<HeldSeat>() else {
         return EMPTY_HANDLE;
     };
     let (payload, room) = Loose::of(seat.take(alloc)).take_out();
-    match payload.into_seat().close() {
-        Outcome::Closed(ended) => {
+    match HeldSeat::unwrap(payload).close() {
+        Ok(ended) => {
             let _alloc = room.free();
             *metered = told_of_metered(&ended);
             DONE
         }
-        Outcome::Open(held) => {
+        Err(held) => {
             seat.put(Loose::fill(room, Payload::Seat(held)).into_box());
             OPEN
         }

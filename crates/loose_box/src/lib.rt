@@ -2,7 +2,7 @@
 //! cross to C, and a box can't.
 //!
 //! Its value can be moved out, and another moved in: no memory is taken then. `Vacant` is a block that has room for a
-//! value; code without `unsafe` can't let it go: it is filled or freed.
+//! value; other crates can't take it apart or let it go: it is filled or freed.
 //!
 //! ```rust
 //! let Ok(boxed) = Box::new(rt.alloc(), 7u64) else {
@@ -17,6 +17,7 @@
 mod loose;
 #[cfg(test)]
 mod tests;
+mod vacant;
 
 pub use loose::Loose;
-pub use std_alloc::room::Vacant;
+pub use vacant::Vacant;

@@ -34,8 +34,8 @@ impl<T: Drop, A: Allocator> Loose<T, A> {
         unsafe { Box::from_raw(alloc, at) }
     }
 
-    /// Moves the value out. The block stays, and has room for another.
-    pub fn take_out(self) -> (T, Vacant<T, A>)
+    // Moves the value out. The block stays, and has room for another.
+    pub(crate) fn read_out(self) -> (T, Vacant<T, A>)
         ensures { result.0 ≡ self.value }
     {
         let Loose { at, alloc } = self;
@@ -43,8 +43,8 @@ impl<T: Drop, A: Allocator> Loose<T, A> {
         (value, Vacant { ptr: at, alloc })
     }
 
-    /// Moves a value into a block that has room for it.
-    pub fn fill(room: Vacant<T, A>, value: T) -> Loose<T, A>
+    // Moves a value into a block that has room for it.
+    pub(crate) fn write_in(room: Vacant<T, A>, value: T) -> Loose<T, A>
         ensures { result.value ≡ value }
     {
         let Vacant { ptr, alloc } = room;

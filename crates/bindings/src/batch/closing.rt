@@ -18,15 +18,6 @@ pub struct SynthBatchClosed {
     pub left: usize,
 }
 
-/// What becomes of a queue that is to be closed.
-#[derive(Drop)]
-pub enum Outcome {
-    /// It is closed, and the items left are in the buffer.
-    Closed(SynthBatchClosed),
-    /// The end hasn't all parts of the queue.
-    Open(HeldBatch),
-}
-
 // Copies what was left to the beginning of a buffer. Gives its number.
 fn copy_left(left: &LeftItems, out: &mut [u64]) -> usize
     requires { length (items_left left.now) ≤ length out.old }
@@ -65,31 +56,21 @@ fn close_queue(queue: BatchQueue, end: BatchEnd, out: &mut [u64]) -> SynthBatchC
 impl HeldBatch {
     ghost use Rattle.bindings.specs.BatchHeld.{places_of};
 
-    /// `BatchQueue::close`, where the end has all parts.
-    pub fn close(self, out: &mut [u64]) -> Outcome
+    /// `BatchQueue::close`, when the end has all parts. Else the end is returned.
+    pub fn close(self, out: &mut [u64]) -> Result<SynthBatchClosed, HeldBatch>
         requires { places_of self ≤ length out.old }
         ensures { Ended out.old out.new result self }
     {
-        if self.parts != u64::MAX {
-            return Outcome::Open(self);
+        if self.share.parts != u64::MAX {
+            return Err(self);
         }
-        let HeldBatch {
-            queue,
-            end,
-            parts,
-            mark,
-        } = self;
+        let HeldBatch { queue, end, share } = self;
         let queue = match Arc::try_unwrap(queue) {
             Ok(queue) => queue,
             Err(queue) => {
-                return Outcome::Open(HeldBatch {
-                    queue,
-                    end,
-                    parts,
-                    mark,
-                });
+                return Err(HeldBatch { queue, end, share });
             }
         };
-        Outcome::Closed(close_queue(queue, end, out))
+        Ok(close_queue(queue, end, out))
     }
 }

@@ -1,29 +1,27 @@
 //! What a handle of a batch queue stands for.
-ghost use Rattle.std.specs.Prelude.{◌≡◌, ◌≤◌, ◌<◌, MatchBool};
+ghost use Rattle.std.specs.Prelude.{◌≡◌, MatchBool};
 ghost use Rattle.std.specs.Option.{MatchOption};
 ghost use Rattle.std.specs.Arc.{arc_value};
 ghost use Rattle.batch_queue.specs.Handles.{IsEndOf, view_of};
 
+use crate::ends::End;
+use crate::share::Share;
 use batch_queue::{BatchEnd, BatchQueue, MOST_PLACES, PutRefusal, TakeRefusal};
 use std::alloc::Global;
 use std::sync::Arc;
-use table_theory::shares::MOST_GIVEN;
 
-/// One end of a batch queue that other handles share. It has so many parts of its queue, of u64::MAX. `mark` is the
-/// number that the queue was given.
+/// One end of a batch queue that other handles share.
 #[derive(Drop)]
 pub struct HeldBatch {
     pub(super) queue: Arc<BatchQueue, Global>,
     pub(super) end: BatchEnd,
-    pub(super) parts: u64,
-    pub(super) mark: u64,
+    pub(super) share: Share,
     ghost own: { IsEndOf (arc_value queue) end },
-    ghost known: { parts ≡ (view_of end).member.share },
+    ghost known: { share.parts ≡ (view_of end).member.share },
 }
 
 impl HeldBatch {
-    ghost use Rattle.bindings.specs.BatchHeld.{IsCapacity, IsNewBatch, Divided, Joined, AreOfOneQueue, MayJoin};
-    ghost use Rattle.bindings.specs.BatchHeld.{MayNotJoin, Fit, places_of, Put, PutSome, Took, TookUpTo, Counted};
+    ghost use Rattle.bindings.specs.BatchHeld.{IsCapacity, IsNewBatch, places_of, Put, PutSome, Took, TookUpTo, Counted};
     ghost use Rattle.bindings.specs.BatchHeld.{WasShut};
 
     /// Whether a queue can have so many places: a power of two, 2^24 at most.
@@ -49,8 +47,7 @@ impl HeldBatch {
         Some(HeldBatch {
             queue,
             end,
-            parts: u64::MAX,
-            mark,
+            share: Share::all(mark),
         })
     }
 
@@ -59,53 +56,6 @@ impl HeldBatch {
         ensures { result ≡ places_of self.now }
     {
         self.queue.room()
-    }
-
-    /// Whether the queues have one mark, and the ends have no more parts together than one queue has.
-    pub fn may_join(&self, other: &HeldBatch) -> bool
-        ensures { MatchBool result (MayJoin self.now other.now) (MayNotJoin self.now other.now) }
-    {
-        self.mark == other.mark && other.parts <= u64::MAX - self.parts
-    }
-
-    /// Whether there is a part to give away.
-    pub fn is_divisible(&self) -> bool
-        ensures { MatchBool result (2 ≤ self.now.parts) (self.now.parts < 2) }
-    {
-        self.parts >= 2
-    }
-
-    /// A new end of the queue. None where no more handles can be counted.
-    pub fn split(&mut self) -> Option<HeldBatch>
-        requires { 2 ≤ self.old.parts }
-        ensures { MatchOption result (self.new ≡ self.old) (Divided self.old self.new) }
-    {
-        let queue = Arc::try_clone(&self.queue).ok()?;
-        let given = (self.parts / 2).min(MOST_GIVEN);
-        let end = self.queue.split(&mut self.end);
-        self.parts -= given;
-        Some(HeldBatch {
-            queue,
-            end,
-            parts: given,
-            mark: self.mark,
-        })
-    }
-
-    /// Takes another end of the queue in.
-    pub fn join(&mut self, other: HeldBatch)
-        requires one_queue { AreOfOneQueue self.old other }
-        requires parts { Fit self.old other }
-        ensures { Joined self.old self.new other }
-    {
-        let HeldBatch {
-            queue: _queue,
-            end,
-            parts,
-            mark: _mark,
-        } = other;
-        self.queue.join(&mut self.end, end);
-        self.parts += parts;
     }
 
     /// `BatchQueue::try_put`.
@@ -148,5 +98,54 @@ impl HeldBatch {
         ensures { WasShut result self.old self.new }
     {
         self.queue.shut(&mut self.end)
+    }
+}
+
+impl End for HeldBatch {
+    ghost use Rattle.bindings.specs.BatchHeld.{Divided, Joined, AreOfOneQueue};
+    ghost use Rattle.bindings.specs.Shares.{HasTwo, HasNoTwo, IsOneMark};
+
+    type Wish = ();
+
+    ghost share = { λ x. x.share };
+
+    ghost MaySplit = { λ _ x. HasTwo x.share };
+
+    ghost MayNotSplit = { λ _ x. HasNoTwo x.share };
+
+    ghost Divided = { λ _. Divided };
+
+    ghost HaveOneMark = { λ x z. IsOneMark x.share z.share };
+
+    ghost AreOfOne = { AreOfOneQueue };
+
+    ghost Joined = { Joined };
+
+    fn why_not_split(&self, _wish: ()) -> Option<i32> {
+        self.share.why_not_split()
+    }
+
+    fn split(&mut self, _wish: ()) -> Option<HeldBatch> {
+        let queue = Arc::try_clone(&self.queue).ok()?;
+        let end = self.queue.split(&mut self.end);
+        Some(HeldBatch {
+            queue,
+            end,
+            share: self.share.split(),
+        })
+    }
+
+    fn may_join(&self, other: &HeldBatch) -> bool {
+        self.share.may_join(&other.share)
+    }
+
+    fn join(&mut self, other: HeldBatch) {
+        let HeldBatch {
+            queue: _queue,
+            end,
+            share,
+        } = other;
+        self.queue.join(&mut self.end, end);
+        self.share.join(share);
     }
 }

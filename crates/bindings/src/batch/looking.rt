@@ -48,7 +48,7 @@ pub extern "C" fn synth_raw_batch_look(batch: &mut Handle, look: &mut SynthBatch
     ensures looked { TurnsThen (batch_of batch.old) (batch_of batch.new)
         (λ x y. WasLookedAt (found_by look.new) x y × (result ≡ Done)) }
 {
-    let Some(held) = batch.batch() else {
+    let Some(held) = batch.find::<HeldBatch>() else {
         return EMPTY_HANDLE;
     };
     *look = report(held.look());

@@ -3,49 +3,29 @@ ghost use Rattle.std.specs.Prelude.{◌≡◌, false};
 ghost use Rattle.bindings.specs.ChainHeld.{Ended, has_turn};
 
 use super::held::HeldChain;
+use super::inbox::Inbox;
+use proc_chain::ChainClosed;
 use std::sync::Arc;
 
-/// What becomes of a chain that is to be closed.
-#[derive(Drop)]
-pub enum Outcome {
-    /// It is closed: so many notes were put, and so many run.
-    Closed { put: u32, run: u32 },
-    /// The end hasn't all parts of the chain.
-    Open(HeldChain),
-}
-
 impl HeldChain {
-    /// `ProcChain::close`, where the end has all parts.
-    pub fn close(self) -> Outcome
+    /// `ProcChain::close`, when the end has all parts. Else the end is returned.
+    pub fn close(self) -> Result<ChainClosed<Inbox>, HeldChain>
         requires { has_turn self ≡ false }
         ensures { Ended result self }
     {
-        if self.parts != u64::MAX {
-            return Outcome::Open(self);
+        if self.share.parts != u64::MAX {
+            return Err(self);
         }
-        let HeldChain {
-            chain,
-            end,
-            parts,
-            mark,
-        } = self;
+        let HeldChain { chain, end, share } = self;
         let chain = match Arc::try_unwrap(chain) {
             Ok(chain) => chain,
             Err(chain) => {
-                return Outcome::Open(HeldChain {
-                    chain,
-                    end,
-                    parts,
-                    mark,
-                });
+                return Err(HeldChain { chain, end, share });
             }
         };
         let Ok(closed) = chain.close(end) else {
             unreachable!()
         };
-        Outcome::Closed {
-            put: closed.put,
-            run: closed.taken,
-        }
+        Ok(closed)
     }
 }

@@ -1,26 +1,25 @@
 //! What a handle of a chain stands for.
-ghost use Rattle.std.specs.Prelude.{◌≡◌, ◌≤◌, ◌<◌, true, false, MatchBool};
+ghost use Rattle.std.specs.Prelude.{◌≡◌, true};
 ghost use Rattle.std.specs.Option.{MatchOption};
 ghost use Rattle.std.specs.Arc.{arc_value};
 ghost use Rattle.proc_chain.specs.Handles.{view_of};
 ghost use Rattle.bindings.specs.Inboxes.{IsHeldEnd};
 
 use super::inbox::Inbox;
+use crate::ends::End;
+use crate::share::Share;
 use proc_chain::{ChainEnd, ChainRefusal, Chained, ProcChain, ServedKept};
 use std::alloc::Global;
 use std::sync::Arc;
-use table_theory::shares::MOST_GIVEN;
 
-/// One end of a chain that other handles share. It has so many parts of its chain, of u64::MAX. `mark` is the number
-/// that the chain was given. An end that runs notes keeps its Turn.
+/// One end of a chain that other handles share. An end that runs notes keeps its Turn.
 #[derive(Drop)]
 pub struct HeldChain {
     pub(super) chain: Arc<ProcChain<Inbox>, Global>,
     pub(super) end: ChainEnd<Inbox>,
-    pub(super) parts: u64,
-    pub(super) mark: u64,
+    pub(super) share: Share,
     ghost own: { IsHeldEnd (arc_value chain) end },
-    ghost known: { parts ≡ (view_of end).member.share },
+    ghost known: { share.parts ≡ (view_of end).member.share },
 }
 
 /// What became of a note.
@@ -44,8 +43,7 @@ pub enum Pulled {
 }
 
 impl HeldChain {
-    ghost use Rattle.bindings.specs.ChainHeld.{IsNewChain, Divided, Joined, AreOfOneChain, MayJoin, MayNotJoin, Fit};
-    ghost use Rattle.bindings.specs.ChainHeld.{WasChained, WasPulled, has_turn};
+    ghost use Rattle.bindings.specs.ChainHeld.{IsNewChain, WasChained, WasPulled, has_turn};
 
     /// The only end of a new chain.
     pub fn new(alloc: Global, first: u32, mark: u64) -> Option<HeldChain>
@@ -58,23 +56,8 @@ impl HeldChain {
         Some(HeldChain {
             chain,
             end,
-            parts: u64::MAX,
-            mark,
+            share: Share::all(mark),
         })
-    }
-
-    /// Whether the chains have one mark, and the ends have no more parts together than one chain has.
-    pub fn may_join(&self, other: &HeldChain) -> bool
-        ensures { MatchBool result (MayJoin self.now other.now) (MayNotJoin self.now other.now) }
-    {
-        self.mark == other.mark && other.parts <= u64::MAX - self.parts
-    }
-
-    /// Whether there is a part to give away.
-    pub fn is_divisible(&self) -> bool
-        ensures { MatchBool result (2 ≤ self.now.parts) (self.now.parts < 2) }
-    {
-        self.parts >= 2
     }
 
     /// Whether the end runs notes.
@@ -82,39 +65,6 @@ impl HeldChain {
         ensures { result ≡ has_turn self.now }
     {
         self.end.has_turn()
-    }
-
-    /// A new end of the chain. None where no more handles can be counted.
-    pub fn split(&mut self) -> Option<HeldChain>
-        requires { 2 ≤ self.old.parts }
-        ensures { MatchOption result (self.new ≡ self.old) (Divided self.old self.new) }
-    {
-        let chain = Arc::try_clone(&self.chain).ok()?;
-        let given = (self.parts / 2).min(MOST_GIVEN);
-        let end = self.chain.split(&mut self.end);
-        self.parts -= given;
-        Some(HeldChain {
-            chain,
-            end,
-            parts: given,
-            mark: self.mark,
-        })
-    }
-
-    /// Takes another end of the chain in.
-    pub fn join(&mut self, other: HeldChain)
-        requires one_chain { AreOfOneChain self.old other }
-        requires parts { Fit self.old other }
-        ensures { Joined self.old self.new other }
-    {
-        let HeldChain {
-            chain: _chain,
-            end,
-            parts,
-            mark: _mark,
-        } = other;
-        self.chain.join(&mut self.end, end);
-        self.parts += parts;
     }
 
     /// `ProcChain::try_chain`. The end keeps the Turn that it gets.
@@ -141,5 +91,54 @@ impl HeldChain {
             ServedKept::More { ran: 0 } => Pulled::Again,
             ServedKept::More { .. } => Pulled::Note(self.chain.quaject(&mut self.end).note),
         }
+    }
+}
+
+impl End for HeldChain {
+    ghost use Rattle.bindings.specs.ChainHeld.{Divided, Joined, AreOfOneChain};
+    ghost use Rattle.bindings.specs.Shares.{HasTwo, HasNoTwo, IsOneMark};
+
+    type Wish = ();
+
+    ghost share = { λ x. x.share };
+
+    ghost MaySplit = { λ _ x. HasTwo x.share };
+
+    ghost MayNotSplit = { λ _ x. HasNoTwo x.share };
+
+    ghost Divided = { λ _. Divided };
+
+    ghost HaveOneMark = { λ x z. IsOneMark x.share z.share };
+
+    ghost AreOfOne = { AreOfOneChain };
+
+    ghost Joined = { Joined };
+
+    fn why_not_split(&self, _wish: ()) -> Option<i32> {
+        self.share.why_not_split()
+    }
+
+    fn split(&mut self, _wish: ()) -> Option<HeldChain> {
+        let chain = Arc::try_clone(&self.chain).ok()?;
+        let end = self.chain.split(&mut self.end);
+        Some(HeldChain {
+            chain,
+            end,
+            share: self.share.split(),
+        })
+    }
+
+    fn may_join(&self, other: &HeldChain) -> bool {
+        self.share.may_join(&other.share)
+    }
+
+    fn join(&mut self, other: HeldChain) {
+        let HeldChain {
+            chain: _chain,
+            end,
+            share,
+        } = other;
+        self.chain.join(&mut self.end, end);
+        self.share.join(share);
     }
 }

@@ -1,57 +1,40 @@
 //! Closing a table.
 ghost use Rattle.std.specs.Prelude.{◌≡◌};
 ghost use Rattle.bindings.specs.Codes.{EmptyHandle};
-ghost use Rattle.bindings.specs.Handles.{held_by, hand_of, NoneIn, HoldsThen};
-ghost use Rattle.bindings.specs.HandClosing.{Ended, WasClosed};
+ghost use Rattle.bindings.specs.Handles.{held_by, hand_of, NoneIn, HoldsThen, WasEnded};
+ghost use Rattle.bindings.specs.HandClosing.{Ended, IsToldPlaces};
+ghost use Rattle.bindings.specs.declared.payload.Payload.TheVariants.{Hand};
 
 use super::held::HeldHand;
 use super::places::{SynthPlaces, told_of_places};
 use crate::answer::{DONE, EMPTY_HANDLE, OPEN};
 use crate::handle::Handle;
+use crate::kind::Kind;
 use crate::payload::Payload;
 use loose_box::Loose;
 use std::alloc::Global;
 use std::sync::Arc;
 use thread_table::Places;
 
-/// What becomes of a table that is to be closed.
-#[derive(Drop)]
-pub enum Outcome {
-    /// It is closed.
-    Closed(Places),
-    /// The hand hasn't all parts of the table.
-    Open(HeldHand),
-}
-
 impl HeldHand {
-    /// `ThreadTable::close`, where the hand has all parts.
-    pub fn close(self) -> Outcome
+    /// `ThreadTable::close`, when the hand has all parts. Else the hand is returned.
+    pub fn close(self) -> Result<Places, HeldHand>
         ensures { Ended result self }
     {
-        if self.parts != u64::MAX {
-            return Outcome::Open(self);
+        if self.share.parts != u64::MAX {
+            return Err(self);
         }
-        let HeldHand {
-            table,
-            hand,
-            parts,
-            mark,
-        } = self;
+        let HeldHand { table, hand, share } = self;
         let table = match Arc::try_unwrap(table) {
             Ok(table) => table,
             Err(table) => {
-                return Outcome::Open(HeldHand {
-                    table,
-                    hand,
-                    parts,
-                    mark,
-                });
+                return Err(HeldHand { table, hand, share });
             }
         };
         let Ok(places) = table.close(hand) else {
             unreachable!()
         };
-        Outcome::Closed(places)
+        Ok(places)
     }
 }
 
@@ -64,19 +47,19 @@ pub extern "C" fn synth_raw_hand_close(
 ) -> i32
     ensures empty { NoneIn hand_of hand.old hand.new ((result ≡ EmptyHandle) × (places.new ≡ places.old)) }
     ensures closed { HoldsThen (hand_of hand.old)
-        (λ x. WasClosed x (held_by hand.new) places.old places.new result) }
+        (λ x. WasEnded Hand (λ outcome. Ended outcome x) IsToldPlaces (held_by hand.new) places.old places.new result) }
 {
-    let Some(_held) = hand.hand() else {
+    let Some(_held) = hand.find::<HeldHand>() else {
         return EMPTY_HANDLE;
     };
     let (payload, room) = Loose::of(hand.take(alloc)).take_out();
-    match payload.into_hand().close() {
-        Outcome::Closed(ended) => {
+    match HeldHand::unwrap(payload).close() {
+        Ok(ended) => {
             let _alloc = room.free();
             *places = told_of_places(&ended);
             DONE
         }
-        Outcome::Open(held) => {
+        Err(held) => {
             hand.put(Loose::fill(room, Payload::Hand(held)).into_box());
             OPEN
         }

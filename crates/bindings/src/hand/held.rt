@@ -1,31 +1,30 @@
 //! What a handle of a hand stands for.
-ghost use Rattle.std.specs.Prelude.{◌≡◌, ◌≢◌, ◌≤◌, ◌<◌, MatchBool, None, Some, true};
+ghost use Rattle.std.specs.Prelude.{◌≡◌, ◌≢◌, ◌≤◌, None, Some, true};
 ghost use Rattle.std.specs.Option.{MatchOption};
 ghost use Rattle.std.specs.Arc.{arc_value};
 ghost use Rattle.thread_table.specs.Handles.{IsHandOf, view_of};
 ghost use Rattle.thread_table.specs.Rules.{has, serves, running, MayStep};
 
+use crate::answer::{BAD_NUMBER, BUSY, NOT_SERVED};
+use crate::ends::End;
+use crate::share::Share;
 use event_theory::{Element, Processor};
 use std::alloc::Global;
 use std::sync::Arc;
-use table_theory::shares::MOST_GIVEN;
 use thread_table::{Hand, Spent, ThreadTable};
 
-/// One hand of a table of thread elements that other handles share. It has so many parts of its table, of u64::MAX.
-/// `mark` is the number that the table was given.
+/// One hand of a table of thread elements that other handles share.
 #[derive(Drop)]
 pub struct HeldHand {
     pub(super) table: Arc<ThreadTable, Global>,
     pub(super) hand: Hand,
-    pub(super) parts: u64,
-    pub(super) mark: u64,
+    pub(super) share: Share,
     ghost own: { IsHandOf (arc_value table) hand },
-    ghost known: { parts ≡ (view_of hand).member.share },
+    ghost known: { share.parts ≡ (view_of hand).member.share },
 }
 
 impl HeldHand {
-    ghost use Rattle.bindings.specs.HandHeld.{IsNewHand, Divided, Joined, AreOfOneTable, MayJoin, MayNotJoin, Fit};
-    ghost use Rattle.bindings.specs.HandHeld.{ServesAll, HasNoneOn, WasPutOn, WasTakenOff, WasCounted, WasDone};
+    ghost use Rattle.bindings.specs.HandHeld.{IsNewHand, WasPutOn, WasTakenOff, WasCounted, WasDone};
 
     /// The only hand of a new table.
     pub fn new(alloc: Global, first: u32, mark: u64) -> Option<HeldHand>
@@ -37,57 +36,8 @@ impl HeldHand {
         Some(HeldHand {
             table,
             hand,
-            parts: u64::MAX,
-            mark,
+            share: Share::all(mark),
         })
-    }
-
-    /// Whether the tables have one mark, and the hands have no more parts together than one table has.
-    pub fn may_join(&self, other: &HeldHand) -> bool
-        ensures { MatchBool result (MayJoin self.now other.now) (MayNotJoin self.now other.now) }
-    {
-        self.mark == other.mark && other.parts <= u64::MAX - self.parts
-    }
-
-    /// Whether there is a part to give away.
-    pub fn is_divisible(&self) -> bool
-        ensures { MatchBool result (2 ≤ self.now.parts) (self.now.parts < 2) }
-    {
-        self.parts >= 2
-    }
-
-    /// A new hand of the table, with the processors of the mask. None where no more handles can be counted.
-    pub fn split(&mut self, processors: u8) -> Option<HeldHand>
-        requires parts { 2 ≤ self.old.parts }
-        requires empty { ServesAll processors self.old × HasNoneOn processors self.old }
-        ensures { MatchOption result (self.new ≡ self.old) (Divided processors self.old self.new) }
-    {
-        let table = Arc::try_clone(&self.table).ok()?;
-        let given = (self.parts / 2).min(MOST_GIVEN);
-        let hand = self.table.split(&mut self.hand, processors);
-        self.parts -= given;
-        Some(HeldHand {
-            table,
-            hand,
-            parts: given,
-            mark: self.mark,
-        })
-    }
-
-    /// Takes another hand of the table in.
-    pub fn join(&mut self, other: HeldHand)
-        requires one_table { AreOfOneTable self.old other }
-        requires parts { Fit self.old other }
-        ensures { Joined self.old self.new other }
-    {
-        let HeldHand {
-            table: _table,
-            hand,
-            parts,
-            mark: _mark,
-        } = other;
-        self.table.join(&mut self.hand, hand);
-        self.parts += parts;
     }
 
     /// `Hand::holds`.
@@ -150,5 +100,64 @@ impl HeldHand {
         ensures { WasDone element result self.old self.new }
     {
         self.table.step_done(&mut self.hand, element)
+    }
+}
+
+impl End for HeldHand {
+    ghost use Rattle.bindings.specs.HandHeld.{Divided, Joined, AreOfOneTable, MaySplit, MayNotSplit};
+    ghost use Rattle.bindings.specs.Shares.{IsOneMark};
+
+    type Wish = u32;
+
+    ghost share = { λ x. x.share };
+
+    ghost MaySplit = { MaySplit };
+
+    ghost MayNotSplit = { MayNotSplit };
+
+    ghost Divided = { Divided };
+
+    ghost HaveOneMark = { λ x z. IsOneMark x.share z.share };
+
+    ghost AreOfOne = { AreOfOneTable };
+
+    ghost Joined = { Joined };
+
+    fn why_not_split(&self, processors: u32) -> Option<i32> {
+        if processors > 255 {
+            return Some(BAD_NUMBER);
+        }
+        let mask = processors as u8;
+        if !self.serves_all(mask) {
+            return Some(NOT_SERVED);
+        }
+        if !self.has_none_on(mask) {
+            return Some(BUSY);
+        }
+        self.share.why_not_split()
+    }
+
+    fn split(&mut self, processors: u32) -> Option<HeldHand> {
+        let table = Arc::try_clone(&self.table).ok()?;
+        let hand = self.table.split(&mut self.hand, processors as u8);
+        Some(HeldHand {
+            table,
+            hand,
+            share: self.share.split(),
+        })
+    }
+
+    fn may_join(&self, other: &HeldHand) -> bool {
+        self.share.may_join(&other.share)
+    }
+
+    fn join(&mut self, other: HeldHand) {
+        let HeldHand {
+            table: _table,
+            hand,
+            share,
+        } = other;
+        self.table.join(&mut self.hand, hand);
+        self.share.join(share);
     }
 }

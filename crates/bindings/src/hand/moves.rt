@@ -5,9 +5,8 @@ ghost use Rattle.thread_table.specs.Handles.{view_of};
 ghost use Rattle.thread_table.specs.Rules.{has};
 ghost use Rattle.bindings.specs.Codes.{EmptyHandle};
 ghost use Rattle.bindings.specs.Handles.{hand_of, NoneIn, HoldsThen};
-ghost use Rattle.bindings.specs.HandMoves.{WasMoved, WasWaited, WasTicket, code_of_move, head_of_move};
-ghost use Rattle.bindings.specs.HandMoves.{notifies_of_move, IsMoveCode, MovingTold, WaitingTold, TicketTold};
-ghost use Rattle.bindings.specs.HandMoves.{WaitingAtTold};
+ghost use Rattle.bindings.specs.HandMoves.{WasMoved, WasWaited, WasTicket, IsToldMove, IsMoveCode, MovingTold};
+ghost use Rattle.bindings.specs.HandMoves.{WaitingTold, TicketTold, WaitingAtTold};
 
 use super::held::HeldHand;
 use super::numbers::{element_of, wait_of};
@@ -86,8 +85,7 @@ fn code_alone(code: i32) -> SynthMoved
 
 // The code of the answer, and the numbers that it tells.
 fn told_of_move(answer: Result<(), MoveRefusal>) -> SynthMoved
-    ensures { (result.code ≡ code_of_move answer) × (result.head ≡ head_of_move answer)
-        × (result.notifies ≡ notifies_of_move answer) }
+    ensures { IsToldMove answer result }
 {
     match answer {
         Ok(()) => code_alone(DONE),
@@ -111,7 +109,7 @@ pub extern "C" fn synth_raw_hand_try_ready(hand: &mut Handle, element: u32) -> S
     ensures empty { NoneIn hand_of hand.old hand.new (IsMoveCode EmptyHandle result) }
     ensures moved { HoldsThen (hand_of hand.old) (λ x. MovingTold 0 element x (hand_of hand.new) result) }
 {
-    let Some(held) = hand.hand() else {
+    let Some(held) = hand.find::<HeldHand>() else {
         return code_alone(EMPTY_HANDLE);
     };
     let Some(element) = element_of(element) else {
@@ -130,7 +128,7 @@ pub extern "C" fn synth_raw_hand_try_retire(hand: &mut Handle, element: u32) -> 
     ensures empty { NoneIn hand_of hand.old hand.new (IsMoveCode EmptyHandle result) }
     ensures moved { HoldsThen (hand_of hand.old) (λ x. MovingTold 1 element x (hand_of hand.new) result) }
 {
-    let Some(held) = hand.hand() else {
+    let Some(held) = hand.find::<HeldHand>() else {
         return code_alone(EMPTY_HANDLE);
     };
     let Some(element) = element_of(element) else {
@@ -149,7 +147,7 @@ pub extern "C" fn synth_raw_hand_try_wait(hand: &mut Handle, element: u32, wait:
     ensures empty { NoneIn hand_of hand.old hand.new (IsMoveCode EmptyHandle result) }
     ensures moved { HoldsThen (hand_of hand.old) (λ x. WaitingTold element wait x (hand_of hand.new) result) }
 {
-    let Some(held) = hand.hand() else {
+    let Some(held) = hand.find::<HeldHand>() else {
         return code_alone(EMPTY_HANDLE);
     };
     let Some(element) = element_of(element) else {
@@ -172,7 +170,7 @@ pub extern "C" fn synth_raw_hand_ticket(hand: &mut Handle, wait: u32, ticket: &m
     ensures loaded { HoldsThen (hand_of hand.old)
         (λ x. TicketTold wait x ticket.old ticket.new (hand_of hand.new) result) }
 {
-    let Some(held) = hand.hand() else {
+    let Some(held) = hand.find::<HeldHand>() else {
         return EMPTY_HANDLE;
     };
     let Some(wait) = wait_of(wait) else {
@@ -194,7 +192,7 @@ pub extern "C" fn synth_raw_hand_try_wait_at(
     ensures moved { HoldsThen (hand_of hand.old)
         (λ x. WaitingAtTold element wait ticket x (hand_of hand.new) result) }
 {
-    let Some(held) = hand.hand() else {
+    let Some(held) = hand.find::<HeldHand>() else {
         return code_alone(EMPTY_HANDLE);
     };
     let Some(element) = element_of(element) else {

@@ -26,7 +26,7 @@ pub extern "C" fn synth_raw_hand_pending(hand: &mut Handle, element: u32, signal
     ensures loaded { HoldsThen (hand_of hand.old)
         (λ x. ReadPending element signals.old signals.new x (hand_of hand.new) result) }
 {
-    let Some(held) = hand.hand() else {
+    let Some(held) = hand.find::<HeldHand>() else {
         return EMPTY_HANDLE;
     };
     let Some(element) = element_of(element) else {

@@ -27,7 +27,7 @@ pub extern "C" fn synth_raw_hand_holds(hand: &mut Handle, element: u32, holds: &
     ensures told { HoldsThen (hand_of hand.old)
         (λ x. ((hand_of hand.new) ≡ (hand_of hand.old)) × HoldsTold element x holds.old holds.new result) }
 {
-    let Some(held) = hand.hand() else {
+    let Some(held) = hand.find::<HeldHand>() else {
         return EMPTY_HANDLE;
     };
     let code = tell_holds(held, element, holds);
@@ -52,7 +52,7 @@ pub extern "C" fn synth_raw_hand_serves(hand: &mut Handle, processor: u32, serve
         (λ x. ((hand_of hand.new) ≡ (hand_of hand.old))
         × ServesTold processor x serves.old serves.new result) }
 {
-    let Some(held) = hand.hand() else {
+    let Some(held) = hand.find::<HeldHand>() else {
         return EMPTY_HANDLE;
     };
     let code = tell_serves(held, processor, serves);
@@ -84,7 +84,7 @@ pub extern "C" fn synth_raw_hand_on_processor(
         (λ x. ((hand_of hand.new) ≡ (hand_of hand.old))
         × OnProcessorTold processor x element.old element.new result) }
 {
-    let Some(held) = hand.hand() else {
+    let Some(held) = hand.find::<HeldHand>() else {
         return EMPTY_HANDLE;
     };
     let code = tell_on_processor(held, processor, element);
@@ -120,7 +120,7 @@ pub extern "C" fn synth_raw_hand_on(hand: &mut Handle, processor: u32, element: 
     ensures on { TurnsThen (hand_of hand.old) (hand_of hand.new)
         (λ x y. OnTold processor element x y result) }
 {
-    let Some(held) = hand.hand() else {
+    let Some(held) = hand.find::<HeldHand>() else {
         return EMPTY_HANDLE;
     };
     let code = put_on(held, processor, element);
@@ -150,7 +150,7 @@ pub extern "C" fn synth_raw_hand_off(hand: &mut Handle, processor: u32, element:
     ensures off { TurnsThen (hand_of hand.old) (hand_of hand.new)
         (λ x y. OffTold processor x y element.old element.new result) }
 {
-    let Some(held) = hand.hand() else {
+    let Some(held) = hand.find::<HeldHand>() else {
         return EMPTY_HANDLE;
     };
     let code = take_off(held, processor, element);
@@ -177,7 +177,7 @@ pub extern "C" fn synth_raw_hand_pc(hand: &mut Handle, element: u32, steps: &mut
     ensures told { TurnsThen (hand_of hand.old) (hand_of hand.new)
         (λ x y. PcTold element x y steps.old steps.new result) }
 {
-    let Some(held) = hand.hand() else {
+    let Some(held) = hand.find::<HeldHand>() else {
         return EMPTY_HANDLE;
     };
     let code = tell_pc(held, element, steps);
@@ -209,7 +209,7 @@ pub extern "C" fn synth_raw_hand_step_done(hand: &mut Handle, element: u32, step
     ensures done { TurnsThen (hand_of hand.old) (hand_of hand.new)
         (λ x y. StepTold element x y steps.old steps.new result) }
 {
-    let Some(held) = hand.hand() else {
+    let Some(held) = hand.find::<HeldHand>() else {
         return EMPTY_HANDLE;
     };
     let code = count_step(held, element, steps);

@@ -153,7 +153,7 @@ pub extern "C" fn synth_raw_hand_stop(hand: &mut Handle, element: u32, was_clear
     ensures stopped { HoldsThen (hand_of hand.old)
         (λ x. StopTold element x was_clear.old was_clear.new (hand_of hand.new) result) }
 {
-    let Some(held) = hand.hand() else {
+    let Some(held) = hand.find::<HeldHand>() else {
         return EMPTY_HANDLE;
     };
     let Some(element) = element_of(element) else {
@@ -175,7 +175,7 @@ pub extern "C" fn synth_raw_hand_try_start(
     ensures started { HoldsThen (hand_of hand.old)
         (λ x. StartTold element x started.old started.new (hand_of hand.new) result) }
 {
-    let Some(held) = hand.hand() else {
+    let Some(held) = hand.find::<HeldHand>() else {
         return code_alone(EMPTY_HANDLE);
     };
     let Some(element) = element_of(element) else {
@@ -196,7 +196,7 @@ pub extern "C" fn synth_raw_hand_try_park(
     ensures parked { HoldsThen (hand_of hand.old)
         (λ x. ParkTold element x parked.old parked.new (hand_of hand.new) result) }
 {
-    let Some(held) = hand.hand() else {
+    let Some(held) = hand.find::<HeldHand>() else {
         return code_alone(EMPTY_HANDLE);
     };
     let Some(element) = element_of(element) else {
@@ -221,7 +221,7 @@ pub extern "C" fn synth_raw_hand_signal(
     ensures signalled { HoldsThen (hand_of hand.old)
         (λ x. SignalTold element signal x raised.old raised.new (hand_of hand.new) result) }
 {
-    let Some(held) = hand.hand() else {
+    let Some(held) = hand.find::<HeldHand>() else {
         return EMPTY_HANDLE;
     };
     let Some(element) = element_of(element) else {
@@ -245,7 +245,7 @@ pub extern "C" fn synth_raw_hand_try_deliver(
     ensures delivered { HoldsThen (hand_of hand.old)
         (λ x. DeliverTold element x signals.old signals.new (hand_of hand.new) result) }
 {
-    let Some(held) = hand.hand() else {
+    let Some(held) = hand.find::<HeldHand>() else {
         return code_alone(EMPTY_HANDLE);
     };
     let Some(element) = element_of(element) else {

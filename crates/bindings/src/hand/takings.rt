@@ -74,7 +74,7 @@ pub extern "C" fn synth_raw_hand_try_next(hand: &mut Handle, element: &mut u32) 
     ensures taken { HoldsThen (hand_of hand.old)
         (λ x. TakingTold 0 x element.old element.new (hand_of hand.new) result) }
 {
-    let Some(held) = hand.hand() else {
+    let Some(held) = hand.find::<HeldHand>() else {
         return told(EMPTY_HANDLE);
     };
     let answer = held.try_next();
@@ -88,7 +88,7 @@ pub extern "C" fn synth_raw_hand_try_free(hand: &mut Handle, element: &mut u32) 
     ensures taken { HoldsThen (hand_of hand.old)
         (λ x. TakingTold 1 x element.old element.new (hand_of hand.new) result) }
 {
-    let Some(held) = hand.hand() else {
+    let Some(held) = hand.find::<HeldHand>() else {
         return told(EMPTY_HANDLE);
     };
     let answer = held.try_free();
@@ -106,7 +106,7 @@ pub extern "C" fn synth_raw_hand_try_wake(
     ensures taken { HoldsThen (hand_of hand.old)
         (λ x. WakingTold wait x element.old element.new (hand_of hand.new) result) }
 {
-    let Some(held) = hand.hand() else {
+    let Some(held) = hand.find::<HeldHand>() else {
         return told(EMPTY_HANDLE);
     };
     let Some(wait) = wait_of(wait) else {

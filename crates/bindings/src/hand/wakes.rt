@@ -56,7 +56,7 @@ pub extern "C" fn synth_raw_hand_notify(hand: &mut Handle, wait: u32, head: &mut
     ensures notified { HoldsThen (hand_of hand.old)
         (λ x. NotifyTold wait x head.old head.new (hand_of hand.new) result) }
 {
-    let Some(held) = hand.hand() else {
+    let Some(held) = hand.find::<HeldHand>() else {
         return EMPTY_HANDLE;
     };
     let Some(wait) = wait_of(wait) else {
@@ -78,7 +78,7 @@ pub extern "C" fn synth_raw_hand_try_wake_before(
     ensures taken { HoldsThen (hand_of hand.old)
         (λ x. BeforeTold wait head x element.old element.new (hand_of hand.new) result) }
 {
-    let Some(held) = hand.hand() else {
+    let Some(held) = hand.find::<HeldHand>() else {
         return told(EMPTY_HANDLE);
     };
     let Some(wait) = wait_of(wait) else {

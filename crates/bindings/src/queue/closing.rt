@@ -11,15 +11,6 @@ use crate::answer::SynthClosed;
 use claim_queue::{ClaimQueue, QueueEnd};
 use std::sync::Arc;
 
-/// What becomes of a queue that is to be closed.
-#[derive(Drop)]
-pub enum Ending<const N: usize> {
-    /// It is closed, and the items left lie in the buffer.
-    Closed(SynthClosed),
-    /// The end hasn't all parts of the queue.
-    Open(Part<N>),
-}
-
 // Closes a queue by its only end.
 fn close_queue<const N: usize>(
     queue: ClaimQueue<N>,
@@ -45,61 +36,42 @@ fn close_queue<const N: usize>(
 }
 
 impl<const N: usize> Part<N> {
-    /// `ClaimQueue::close`, where the end has all parts.
-    pub fn close(self, out: &mut [u64]) -> Ending<N>
+    /// `ClaimQueue::close`, when the end has all parts. Else the end is returned.
+    pub fn close(self, out: &mut [u64]) -> Result<SynthClosed, Part<N>>
         requires { N ≤ length out.old }
         ensures { EndedPart out.old out.new N result self.entry }
     {
-        if self.parts != u64::MAX {
-            return Ending::Open(self);
+        if self.share.parts != u64::MAX {
+            return Err(self);
         }
-        let Part {
-            queue,
-            end,
-            parts,
-            mark,
-        } = self;
+        let Part { queue, end, share } = self;
         let queue = match Arc::try_unwrap(queue) {
             Ok(queue) => queue,
             Err(queue) => {
-                return Ending::Open(Part {
-                    queue,
-                    end,
-                    parts,
-                    mark,
-                });
+                return Err(Part { queue, end, share });
             }
         };
-        Ending::Closed(close_queue(queue, end, out))
+        Ok(close_queue(queue, end, out))
     }
-}
-
-/// What becomes of the queue of a handle.
-#[derive(Drop)]
-pub enum Outcome {
-    /// It is closed, and the items left lie in the buffer.
-    Closed(SynthClosed),
-    /// The end hasn't all parts of the queue.
-    Open(HeldQueue),
 }
 
 impl HeldQueue {
     ghost use Rattle.bindings.specs.QueueHeld.{places_of};
-    ghost use Rattle.bindings.specs.QueueOutcomes.{EndedHeld};
+    ghost use Rattle.bindings.specs.QueueClosing.{EndedHeld};
 
-    /// `ClaimQueue::close`, where the end has all parts.
-    pub fn close(self, out: &mut [u64]) -> Outcome
+    /// `ClaimQueue::close`, when the end has all parts. Else the end is returned.
+    pub fn close(self, out: &mut [u64]) -> Result<SynthClosed, HeldQueue>
         requires { places_of self ≤ length out.old }
         ensures { EndedHeld out.old out.new result self }
     {
         match self {
             HeldQueue::Small(part) => match part.close(out) {
-                Ending::Closed(closed) => Outcome::Closed(closed),
-                Ending::Open(part) => Outcome::Open(HeldQueue::Small(part)),
+                Ok(closed) => Ok(closed),
+                Err(part) => Err(HeldQueue::Small(part)),
             },
             HeldQueue::Large(part) => match part.close(out) {
-                Ending::Closed(closed) => Outcome::Closed(closed),
-                Ending::Open(part) => Outcome::Open(HeldQueue::Large(part)),
+                Ok(closed) => Ok(closed),
+                Err(part) => Err(HeldQueue::Large(part)),
             },
         }
     }

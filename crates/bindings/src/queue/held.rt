@@ -1,12 +1,14 @@
 //! What a handle of a queue stands for.
-ghost use Rattle.std.specs.Prelude.{◌≡◌, ◌≤◌, ◌<◌, length, MatchBool};
+ghost use Rattle.std.specs.Prelude.{◌≡◌, ◌≤◌, length, MatchBool};
 ghost use Rattle.std.specs.Option.{MatchOption};
-ghost use Rattle.bindings.specs.QueueHeld.{AtSize, AtSizes, IsSize, AreOfOneQueue, MayJoin, MayNotJoin, Fit};
-ghost use Rattle.bindings.specs.QueueHeld.{IsNewHeld, places_of, parts_of};
+ghost use Rattle.bindings.specs.QueueHeld.{AtSize, AtSizes, IsSize, HaveOneMark, AreOfOneQueue, IsNewHeld};
+ghost use Rattle.bindings.specs.QueueHeld.{places_of, share_of};
 ghost use Rattle.bindings.specs.QueueParts.{PutPart, TookPart, TookLinePart, TookSomePart};
 ghost use Rattle.bindings.specs.QueueParts.{ShutPart, DividedPart, JoinedPart};
+ghost use Rattle.bindings.specs.Shares.{HasTwo, HasNoTwo};
 
 use super::part::Part;
+use crate::ends::End;
 use claim_queue::{ClaimRefusal, TakeRefusal};
 use std::alloc::Global;
 
@@ -43,51 +45,6 @@ impl HeldQueue {
         match self {
             HeldQueue::Small(_) => 64,
             HeldQueue::Large(_) => 256,
-        }
-    }
-
-    /// Whether the queues of both have one size and one mark, and the ends no more parts together than one queue has.
-    pub fn may_join(&self, other: &HeldQueue) -> bool
-        ensures { MatchBool result (MayJoin self.now other.now) (MayNotJoin self.now other.now) }
-    {
-        match (self, other) {
-            (HeldQueue::Small(part), HeldQueue::Small(other)) => part.may_join(other),
-            (HeldQueue::Large(part), HeldQueue::Large(other)) => part.may_join(other),
-            _ => false,
-        }
-    }
-
-    /// Whether there is a part to give away.
-    pub fn is_divisible(&self) -> bool
-        ensures { MatchBool result (2 ≤ parts_of self.now) (parts_of self.now < 2) }
-    {
-        match self {
-            HeldQueue::Small(part) => part.is_divisible(),
-            HeldQueue::Large(part) => part.is_divisible(),
-        }
-    }
-
-    /// A new end of the queue. None where no more handles can be counted.
-    pub fn split(&mut self) -> Option<HeldQueue>
-        requires { 2 ≤ parts_of self.old }
-        ensures { MatchOption result (self.new ≡ self.old) (λ born. AtSizes DividedPart self.old self.new born) }
-    {
-        match self {
-            HeldQueue::Small(part) => Some(HeldQueue::Small(part.split()?)),
-            HeldQueue::Large(part) => Some(HeldQueue::Large(part.split()?)),
-        }
-    }
-
-    /// Takes another end of the queue in.
-    pub fn join(&mut self, other: HeldQueue)
-        requires one_queue { AreOfOneQueue self.old other }
-        requires parts { Fit self.old other }
-        ensures { AtSizes JoinedPart self.old self.new other }
-    {
-        match (self, other) {
-            (HeldQueue::Small(part), HeldQueue::Small(other)) => part.join(other),
-            (HeldQueue::Large(part), HeldQueue::Large(other)) => part.join(other),
-            _ => unreachable!(),
         }
     }
 
@@ -139,6 +96,54 @@ impl HeldQueue {
         match self {
             HeldQueue::Small(part) => part.shut(),
             HeldQueue::Large(part) => part.shut(),
+        }
+    }
+}
+
+impl End for HeldQueue {
+    type Wish = ();
+
+    ghost share = { share_of };
+
+    ghost MaySplit = { λ _ x. HasTwo (share_of x) };
+
+    ghost MayNotSplit = { λ _ x. HasNoTwo (share_of x) };
+
+    ghost Divided = { λ _. AtSizes DividedPart };
+
+    ghost HaveOneMark = { HaveOneMark };
+
+    ghost AreOfOne = { AreOfOneQueue };
+
+    ghost Joined = { AtSizes JoinedPart };
+
+    fn why_not_split(&self, _wish: ()) -> Option<i32> {
+        match self {
+            HeldQueue::Small(part) => part.share.why_not_split(),
+            HeldQueue::Large(part) => part.share.why_not_split(),
+        }
+    }
+
+    fn split(&mut self, _wish: ()) -> Option<HeldQueue> {
+        match self {
+            HeldQueue::Small(part) => Some(HeldQueue::Small(part.split()?)),
+            HeldQueue::Large(part) => Some(HeldQueue::Large(part.split()?)),
+        }
+    }
+
+    fn may_join(&self, other: &HeldQueue) -> bool {
+        match (self, other) {
+            (HeldQueue::Small(part), HeldQueue::Small(other)) => part.share.may_join(&other.share),
+            (HeldQueue::Large(part), HeldQueue::Large(other)) => part.share.may_join(&other.share),
+            _ => false,
+        }
+    }
+
+    fn join(&mut self, other: HeldQueue) {
+        match (self, other) {
+            (HeldQueue::Small(part), HeldQueue::Small(other)) => part.join(other),
+            (HeldQueue::Large(part), HeldQueue::Large(other)) => part.join(other),
+            _ => unreachable!(),
         }
     }
 }

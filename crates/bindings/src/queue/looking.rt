@@ -62,7 +62,7 @@ pub extern "C" fn synth_raw_queue_look(queue: &mut Handle, look: &mut SynthQueue
     ensures looked { TurnsThen (queue_of queue.old) (queue_of queue.new)
         (λ x y. AtSize (LookedAtPart (found_by look.new)) x y × (result ≡ Done)) }
 {
-    let Some(held) = queue.queue() else {
+    let Some(held) = queue.find::<HeldQueue>() else {
         return EMPTY_HANDLE;
     };
     *look = report(held.look());

@@ -1,34 +1,32 @@
 //! One end of a queue, whose queue other handles share.
-ghost use Rattle.std.specs.Prelude.{◌≡◌, ◌≤◌, ◌<◌, length, MatchBool};
+ghost use Rattle.std.specs.Prelude.{◌≡◌, ◌≤◌, length};
 ghost use Rattle.std.specs.Option.{MatchOption};
 ghost use Rattle.std.specs.Arc.{arc_value};
 ghost use Rattle.table_theory.specs.Listing.{AllRaised};
 ghost use Rattle.claim_queue.specs.Handles.{IsEndOf, view_of};
 
 use super::taking::{copy_line, take_up_to};
+use crate::share::Share;
 use arrayvec::ArrayVec;
 use claim_queue::{ClaimQueue, ClaimRefusal, QueueEnd, TakeRefusal};
 use std::alloc::Global;
 use std::sync::Arc;
-use table_theory::shares::MOST_GIVEN;
 
-/// One end of a queue that other handles share. It has so many parts of its queue, of u64::MAX, and has raised all that
-/// it claimed. `mark` is the number that the queue was given.
+/// One end of a queue that other handles share. It has raised all that it claimed.
 #[derive(Drop)]
 pub struct Part<const N: usize> {
     pub(super) queue: Arc<ClaimQueue<N>, Global>,
     pub(super) end: QueueEnd<N>,
-    pub(super) parts: u64,
-    pub(super) mark: u64,
+    pub(super) share: Share,
     ghost own: { IsEndOf (arc_value queue) end },
-    ghost known: { parts ≡ (view_of end).member.share },
+    ghost known: { share.parts ≡ (view_of end).member.share },
     ghost raised: { AllRaised (view_of end).own.runs },
 }
 
 impl<const N: usize> Part<N> {
     ghost use Rattle.bindings.specs.QueueParts.{IsNewPart, PutPart, TookPart, TookLinePart, TookSomePart, ShutPart};
-    ghost use Rattle.bindings.specs.QueueParts.{DividedPart, JoinedPart, IsOneQueue, MayJoinPart};
-    ghost use Rattle.bindings.specs.QueueParts.{MayNotJoinPart, FitPart};
+    ghost use Rattle.bindings.specs.QueueParts.{DividedPart, JoinedPart, IsOneQueue};
+    ghost use Rattle.bindings.specs.Shares.{Fit, HasTwo};
 
     /// An empty queue's first and only end.
     pub fn new(alloc: Global, first: u32, mark: u64) -> Option<Part<N>>
@@ -40,56 +38,37 @@ impl<const N: usize> Part<N> {
         Some(Part {
             queue,
             end,
-            parts: u64::MAX,
-            mark,
+            share: Share::all(mark),
         })
-    }
-
-    /// Whether the queues have one mark, and the ends have no more parts together than one queue has.
-    pub fn may_join(&self, other: &Part<N>) -> bool
-        ensures { MatchBool result (MayJoinPart N self.now other.now) (MayNotJoinPart N self.now other.now) }
-    {
-        self.mark == other.mark && other.parts <= u64::MAX - self.parts
-    }
-
-    /// Whether there is a part to give away.
-    pub fn is_divisible(&self) -> bool
-        ensures { MatchBool result (2 ≤ self.now.parts) (self.now.parts < 2) }
-    {
-        self.parts >= 2
     }
 
     /// A new end of the queue. None where no more handles can be counted.
     pub fn split(&mut self) -> Option<Part<N>>
-        requires { 2 ≤ self.old.parts }
+        requires { HasTwo self.old.share }
         ensures { MatchOption result (self.new ≡ self.old) (λ born. DividedPart N self.old self.new born) }
     {
         let queue = Arc::try_clone(&self.queue).ok()?;
-        let given = (self.parts / 2).min(MOST_GIVEN);
         let end = self.queue.split(&mut self.end);
-        self.parts -= given;
         Some(Part {
             queue,
             end,
-            parts: given,
-            mark: self.mark,
+            share: self.share.split(),
         })
     }
 
     /// Takes another end of the queue in.
     pub fn join(&mut self, other: Part<N>)
         requires one_queue { IsOneQueue N self.old other }
-        requires parts { FitPart N self.old other }
+        requires parts { Fit self.old.share other.share }
         ensures { JoinedPart N self.old self.new other.entry }
     {
         let Part {
             queue: _queue,
             end,
-            parts,
-            mark: _mark,
+            share,
         } = other;
         self.queue.join(&mut self.end, end);
-        self.parts += parts;
+        self.share.join(share);
     }
 
     /// `ClaimQueue::try_put`.

@@ -6,43 +6,32 @@ use super::held::HeldSeat;
 use meters::Metered;
 use std::sync::Arc;
 
-/// What becomes of meters that are to be closed.
-#[derive(Drop)]
-pub enum Outcome {
-    /// They are closed.
-    Closed(Metered),
-    /// The end hasn't all parts of the meters.
-    Open(HeldSeat),
-}
-
 impl HeldSeat {
-    /// `Meters::close`, where the end has all parts.
-    pub fn close(self) -> Outcome
+    /// `Meters::close`, when the end has all parts. Else the end is returned.
+    pub fn close(self) -> Result<Metered, HeldSeat>
         ensures { Ended result self }
     {
-        if self.parts != u64::MAX {
-            return Outcome::Open(self);
+        if self.share.parts != u64::MAX {
+            return Err(self);
         }
         let HeldSeat {
             meters,
             seat,
-            parts,
-            mark,
+            share,
         } = self;
         let meters = match Arc::try_unwrap(meters) {
             Ok(meters) => meters,
             Err(meters) => {
-                return Outcome::Open(HeldSeat {
+                return Err(HeldSeat {
                     meters,
                     seat,
-                    parts,
-                    mark,
+                    share,
                 });
             }
         };
         let Ok(metered) = meters.close(seat) else {
             unreachable!()
         };
-        Outcome::Closed(metered)
+        Ok(metered)
     }
 }

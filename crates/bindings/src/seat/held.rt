@@ -1,31 +1,29 @@
 //! What a handle of meters stands for.
-ghost use Rattle.std.specs.Prelude.{◌≡◌, ◌≤◌, ◌<◌, MatchBool};
+ghost use Rattle.std.specs.Prelude.{◌≡◌, ◌<◌};
 ghost use Rattle.std.specs.Option.{MatchOption};
 ghost use Rattle.std.specs.Arc.{arc_value};
 ghost use Rattle.meters.specs.Handles.{IsSeatOf, view_of};
 
+use crate::ends::End;
+use crate::share::Share;
 use arrayvec::ArrayVec;
 use event_theory::Alarm;
 use meters::{AdvanceRefusal, MeterSeat, Meters, SetRefusal};
 use std::alloc::Global;
 use std::sync::Arc;
-use table_theory::shares::MOST_GIVEN;
 
-/// One end of meters that other handles share. It has so many parts of its meters, of u64::MAX. `mark` is the number
-/// that the meters were given.
+/// One end of meters that other handles share.
 #[derive(Drop)]
 pub struct HeldSeat {
     pub(super) meters: Arc<Meters, Global>,
     pub(super) seat: MeterSeat,
-    pub(super) parts: u64,
-    pub(super) mark: u64,
+    pub(super) share: Share,
     ghost own: { IsSeatOf (arc_value meters) seat },
-    ghost known: { parts ≡ (view_of seat).member.share },
+    ghost known: { share.parts ≡ (view_of seat).member.share },
 }
 
 impl HeldSeat {
-    ghost use Rattle.bindings.specs.SeatHeld.{IsNewSeat, Divided, Joined, AreOfOneTable, MayJoin, MayNotJoin, Fit};
-    ghost use Rattle.bindings.specs.SeatHeld.{WasTicked, WasAdvanced, WasSet, WasCancelled, WereFired};
+    ghost use Rattle.bindings.specs.SeatHeld.{IsNewSeat, WasTicked, WasAdvanced, WasSet, WasCancelled, WereFired};
 
     /// The only end of new meters.
     pub fn new(alloc: Global, clock: u32, mark: u64) -> Option<HeldSeat>
@@ -36,56 +34,8 @@ impl HeldSeat {
         Some(HeldSeat {
             meters,
             seat,
-            parts: u64::MAX,
-            mark,
+            share: Share::all(mark),
         })
-    }
-
-    /// Whether the meters have one mark, and the ends have no more parts together than the meters of one.
-    pub fn may_join(&self, other: &HeldSeat) -> bool
-        ensures { MatchBool result (MayJoin self.now other.now) (MayNotJoin self.now other.now) }
-    {
-        self.mark == other.mark && other.parts <= u64::MAX - self.parts
-    }
-
-    /// Whether there is a part to give away.
-    pub fn is_divisible(&self) -> bool
-        ensures { MatchBool result (2 ≤ self.now.parts) (self.now.parts < 2) }
-    {
-        self.parts >= 2
-    }
-
-    /// A new end of the meters. None where no more handles can be counted.
-    pub fn split(&mut self) -> Option<HeldSeat>
-        requires { 2 ≤ self.old.parts }
-        ensures { MatchOption result (self.new ≡ self.old) (Divided self.old self.new) }
-    {
-        let meters = Arc::try_clone(&self.meters).ok()?;
-        let given = (self.parts / 2).min(MOST_GIVEN);
-        let seat = self.meters.split(&mut self.seat);
-        self.parts -= given;
-        Some(HeldSeat {
-            meters,
-            seat,
-            parts: given,
-            mark: self.mark,
-        })
-    }
-
-    /// Takes another end of the meters in.
-    pub fn join(&mut self, other: HeldSeat)
-        requires one_table { AreOfOneTable self.old other }
-        requires parts { Fit self.old other }
-        ensures { Joined self.old self.new other }
-    {
-        let HeldSeat {
-            meters: _meters,
-            seat,
-            parts,
-            mark: _mark,
-        } = other;
-        self.meters.join(&mut self.seat, seat);
-        self.parts += parts;
     }
 
     /// `Meters::tick`.
@@ -123,5 +73,54 @@ impl HeldSeat {
         ensures { WereFired result.items self.old self.new }
     {
         self.meters.due(&mut self.seat)
+    }
+}
+
+impl End for HeldSeat {
+    ghost use Rattle.bindings.specs.SeatHeld.{Divided, Joined, AreOfOneTable};
+    ghost use Rattle.bindings.specs.Shares.{HasTwo, HasNoTwo, IsOneMark};
+
+    type Wish = ();
+
+    ghost share = { λ x. x.share };
+
+    ghost MaySplit = { λ _ x. HasTwo x.share };
+
+    ghost MayNotSplit = { λ _ x. HasNoTwo x.share };
+
+    ghost Divided = { λ _. Divided };
+
+    ghost HaveOneMark = { λ x z. IsOneMark x.share z.share };
+
+    ghost AreOfOne = { AreOfOneTable };
+
+    ghost Joined = { Joined };
+
+    fn why_not_split(&self, _wish: ()) -> Option<i32> {
+        self.share.why_not_split()
+    }
+
+    fn split(&mut self, _wish: ()) -> Option<HeldSeat> {
+        let meters = Arc::try_clone(&self.meters).ok()?;
+        let seat = self.meters.split(&mut self.seat);
+        Some(HeldSeat {
+            meters,
+            seat,
+            share: self.share.split(),
+        })
+    }
+
+    fn may_join(&self, other: &HeldSeat) -> bool {
+        self.share.may_join(&other.share)
+    }
+
+    fn join(&mut self, other: HeldSeat) {
+        let HeldSeat {
+            meters: _meters,
+            seat,
+            share,
+        } = other;
+        self.meters.join(&mut self.seat, seat);
+        self.share.join(share);
     }
 }

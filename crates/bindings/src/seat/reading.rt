@@ -32,7 +32,7 @@ pub extern "C" fn synth_raw_seat_gauge(seat: &mut Handle, gauge: u32, value: &mu
     ensures loaded { HoldsThen (seat_of seat.old)
         (λ x. ReadGauge gauge value.old value.new x (seat_of seat.new) result) }
 {
-    let Some(held) = seat.seat() else {
+    let Some(held) = seat.find::<HeldSeat>() else {
         return EMPTY_HANDLE;
     };
     if gauge >= 8 {
@@ -49,7 +49,7 @@ pub extern "C" fn synth_raw_seat_clock(seat: &mut Handle, clock: &mut u32) -> i3
     ensures loaded { TurnsThen (seat_of seat.old) (seat_of seat.new)
         (λ x y. WasClock clock.new x y × (result ≡ Done)) }
 {
-    let Some(held) = seat.seat() else {
+    let Some(held) = seat.find::<HeldSeat>() else {
         return EMPTY_HANDLE;
     };
     *clock = held.clock();

@@ -1,9 +1,5 @@
-use Rattle.std.proofs.Common.{◌≡◌, refl, ap, pos}
-use Rattle.std.specs.declared.option.Option.TheVariants.{Some}
+use Rattle.bindings.proofs.Calls.{◌≡◌, refl, ap, pos, Some, HoldsSome, of_kind, batch_in, at_value}
 use Rattle.bindings.specs.BatchHeld.{WasShut}
-use Rattle.bindings.specs.Handles.{HoldsSome, of_kind}
-use Rattle.bindings.specs.Kinds.{batch_in}
-use Rattle.bindings.proofs.Telling.{at_value}
 use Rattle.bindings.proofs.batch.synth_raw_batch_shut.Goals as goal
 
 pub returns-clause-shut : goal.returns-clause-shut

@@ -1,11 +1,6 @@
-use Rattle.std.proofs.Common.{refl, sym, ap, ◌∙◌}
-use Rattle.std.specs.declared.option.Option.TheVariants.{Some}
+use Rattle.bindings.proofs.Calls.{refl, sym, ap, ◌∙◌, Some, Note, Again, Done, of_kind, chain_in, at_value}
 use Rattle.bindings.specs.ChainCalls.{PullTold, runs_notes}
-use Rattle.bindings.specs.Codes.{Note, Again, Done}
-use Rattle.bindings.specs.Handles.{of_kind}
-use Rattle.bindings.specs.Kinds.{chain_in}
 use Rattle.bindings.specs.declared.chain.held.Pulled.TheVariants as pulled
-use Rattle.bindings.proofs.Telling.{at_value}
 use Rattle.bindings.proofs.chain.synth_raw_chain_next.Goals as goal
 
 pub returns-in-Note-clause-pulled : goal.returns-in-Note-clause-pulled

@@ -1,32 +1,29 @@
-use Rattle.std.proofs.Common.{rules, inl, inr, refl, sym, ap, subst}
+use Rattle.bindings.proofs.Calls.{rules, inl, inr, refl, sym, ap, subst, LineIn, LineOut, of_kind, line_in_in}
+use Rattle.bindings.proofs.Calls.{line_out_in, unboxed}
 use Rattle.bindings.specs.declared.line.held.HeldIn.{HeldIn}
 use Rattle.bindings.specs.declared.line.held.HeldOut.{HeldOut}
 use Rattle.bindings.specs.declared.line.SynthLineTotals.{SynthLineTotals}
-use Rattle.bindings.specs.declared.payload.Payload.TheVariants.{LineIn, LineOut}
-use Rattle.bindings.specs.Handles.{of_kind}
-use Rattle.bindings.specs.Kinds.{line_in_in, line_out_in}
 use Rattle.bindings.specs.LineCalls.{IsTold}
-use Rattle.bindings.proofs.Telling.{unboxed}
 use Rattle.bindings.proofs.line.synth_raw_line_finish.Goals as goal
 
 pub returns-then-first-second : goal.returns-then-first-second
-returns-then-first-second c = let one = c.in-Some.ensures.value in let two = c.in-Some-line_out.ensures.value in
-    inr (inl (refl, c.in-Some.first.now, c.in-Some-line_out.second.now, ap (of_kind line_in_in) one, ap (of_kind line_out_in) two, sym one, sym two, refl, search rules))
+returns-then-first-second c = let one = c.in-Some.ensures.value in let two = c.in-Some-find.ensures.value in
+    inr (inl (refl, c.in-Some.first.now, c.in-Some-find.second.now, ap (of_kind line_in_in) one, ap (of_kind line_out_in) two, sym one, sym two, refl, search rules))
 
 pub returns : goal.returns
 returns c = let e = c.finish-told.ensures in let told : SynthLineTotals = record { sent = c.finish-told.result.sent; received = c.finish-told.result.received; left = c.finish-told.result.left } in
-    let x = c.in-Some.first.now in let z = c.in-Some-line_out.second.now in
-    let one = unboxed line_in_in (LineIn x) refl c.take.ensures.taken c.into_inner.ensures c.into_line_in-first.ensures in
-    let two = unboxed line_out_in (LineOut z) refl c.take-2.ensures.taken c.into_inner-2.ensures c.into_line_out-second.ensures in
+    let x = c.in-Some.first.now in let z = c.in-Some-find.second.now in
+    let one = unboxed line_in_in (LineIn x) refl c.take.ensures.taken c.into_inner.ensures c.unwrap-first.ensures in
+    let two = unboxed line_out_in (LineOut z) refl c.take-2.ensures.taken c.into_inner-2.ensures c.unwrap-second.ensures in
     inr (inr (
       refl,
       x,
       z,
       ap (of_kind line_in_in) c.in-Some.ensures.value,
-      ap (of_kind line_out_in) c.in-Some-line_out.ensures.value,
+      ap (of_kind line_out_in) c.in-Some-find.ensures.value,
       c.take.ensures.emptied,
       c.take-2.ensures.emptied,
       search rules,
-      subst (λ (h : HeldIn). IsTold h z told) one (subst (λ (h : HeldOut). IsTold c.into_line_in-first.result h told) two
+      subst (λ (h : HeldIn). IsTold h z told) one (subst (λ (h : HeldOut). IsTold c.unwrap-first.result h told) two
           (record { whole = e.whole; sent = e.sent; received = e.received; left = e.left; within = e.within })),
     ))

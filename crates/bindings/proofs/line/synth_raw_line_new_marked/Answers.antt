@@ -1,6 +1,4 @@
-use Rattle.std.proofs.Common.{rules, inr, refl, sym, ap, ◌∙◌}
-use Rattle.std.specs.declared.option.Option.TheVariants.{Some}
-use Rattle.bindings.proofs.Telling.{is_none}
+use Rattle.bindings.proofs.Calls.{rules, inr, refl, sym, ap, ◌∙◌, Some, is_none}
 use Rattle.bindings.proofs.line.synth_raw_line_new_marked.Goals as goal
 
 pub returns : goal.returns

@@ -1,10 +1,6 @@
-use Rattle.std.proofs.Common.{inl, inr, refl, ap, pos, length}
+use Rattle.bindings.proofs.Calls.{inl, inr, refl, ap, pos, length, Some, of_kind, line_out_in, at_value}
 use Rattle.bindings.specs.declared.line.held.HeldOut.{HeldOut}
 use Rattle.bindings.specs.LineCalls.{PopTold}
-use Rattle.std.specs.declared.option.Option.TheVariants.{Some}
-use Rattle.bindings.specs.Handles.{of_kind}
-use Rattle.bindings.specs.Kinds.{line_out_in}
-use Rattle.bindings.proofs.Telling.{at_value}
 use Rattle.bindings.proofs.line.synth_raw_line_pop.Goals as goal
 
 pub returns-in-Some-answer-clause-popped : goal.returns-in-Some-answer-clause-popped

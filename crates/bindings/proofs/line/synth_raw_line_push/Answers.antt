@@ -1,10 +1,6 @@
-use Rattle.std.proofs.Common.{inl, inr, refl, pos, ap}
+use Rattle.bindings.proofs.Calls.{inl, inr, refl, pos, ap, Some, of_kind, line_in_in, at_value, no_answer}
 use Rattle.bindings.specs.declared.line.held.HeldIn.{HeldIn}
 use Rattle.bindings.specs.LineCalls.{PushTold}
-use Rattle.std.specs.declared.option.Option.TheVariants.{Some}
-use Rattle.bindings.specs.Handles.{of_kind}
-use Rattle.bindings.specs.Kinds.{line_in_in}
-use Rattle.bindings.proofs.Telling.{at_value, no_answer}
 use Rattle.bindings.proofs.line.synth_raw_line_push.Goals as goal
 
 pub returns-in-Ok-clause-pushed : goal.returns-in-Ok-clause-pushed

@@ -1,10 +1,6 @@
-use Rattle.std.proofs.Common.{rules, inr, refl, ap, ◌∙◌, pos, map, length}
+use Rattle.bindings.proofs.Calls.{rules, inr, refl, ap, ◌∙◌, pos, map, length, Some, of_kind, seat_in, at_value}
 use Rattle.bindings.specs.SeatAlarms.{alarm_told}
 use Rattle.bindings.specs.SeatCalls.{DueTold}
-use Rattle.std.specs.declared.option.Option.TheVariants.{Some}
-use Rattle.bindings.specs.Handles.{of_kind}
-use Rattle.bindings.specs.Kinds.{seat_in}
-use Rattle.bindings.proofs.Telling.{at_value}
 use Rattle.bindings.proofs.seat.synth_raw_seat_due.Goals as goal
 
 pub returns-clause-due : goal.returns-clause-due

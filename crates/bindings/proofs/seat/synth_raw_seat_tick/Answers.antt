@@ -1,9 +1,5 @@
-use Rattle.std.proofs.Common.{rules, inr, refl, pos, ap}
+use Rattle.bindings.proofs.Calls.{rules, inr, refl, pos, ap, Some, of_kind, seat_in, at_value}
 use Rattle.bindings.specs.SeatCalls.{TickTold}
-use Rattle.std.specs.declared.option.Option.TheVariants.{Some}
-use Rattle.bindings.specs.Handles.{of_kind}
-use Rattle.bindings.specs.Kinds.{seat_in}
-use Rattle.bindings.proofs.Telling.{at_value}
 use Rattle.bindings.proofs.seat.synth_raw_seat_tick.Goals as goal
 
 pub returns-clause-ticked : goal.returns-clause-ticked

@@ -1,7 +1,14 @@
-use Rattle.std.proofs.Common.{rules, inr, refl, sym, ap, ◌∙◌}
-use Rattle.std.specs.declared.option.Option.TheVariants.{Some}
-use Rattle.bindings.proofs.Telling.{is_none}
+use Rattle.std.proofs.Common.{rules, sym, ◌∙◌, ◌≤◌}
+use mir.Syntax.{w32}
+use mir.Val.{SFits}
+use Rattle.bindings.specs.declared.payload.Payload.TheVariants.{Hand}
+use Rattle.bindings.specs.Handles.{MadeHandle}
+use Rattle.bindings.specs.HandHeld.{IsNewHand}
+use Rattle.bindings.proofs.Telling.{as_told, made_as}
 use Rattle.bindings.proofs.hand.ends.synth_raw_hand_new_marked.Goals as goal
 
 pub returns : goal.returns
-returns c = inr (inr (inr (refl, is_none c.args.hand.now.hidden.value (sym c.is_full.ensures ∙ c.if-is_full.false), search rules, c.in-Some.held, c.put.ensures ∙ ap Some c.in-Ok.ensures.ok, c.in-Some.ensures)))
+returns c = let f = c.fill in let fits : SFits w32 f.result = search rules in
+    as_told (MadeHandle (λ x. Hand x) (c.args.first ≤ 4294967231) (IsNewHand c.args.first c.args.mark) c.args.hand.now f.new.handle) f.result fits
+    (made_as (λ x. Hand x) (c.args.first ≤ 4294967231) (IsNewHand c.args.first c.args.mark) c.new-made.result c.args.hand.now f.new.handle f.result
+    (sym c.is_full.ensures ∙ c.if-is_full.false) (search rules) c.new-made.ensures f.ensures)

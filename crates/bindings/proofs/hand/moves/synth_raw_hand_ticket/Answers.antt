@@ -1,9 +1,5 @@
-use Rattle.std.proofs.Common.{ℕ, inr, refl, subst, pos, ap}
+use Rattle.bindings.proofs.Calls.{ℕ, inr, refl, subst, pos, ap, Some, of_kind, hand_in, at_value}
 use Rattle.bindings.specs.HandMoves.{WasTicket, TicketTold}
-use Rattle.std.specs.declared.option.Option.TheVariants.{Some}
-use Rattle.bindings.specs.Handles.{of_kind}
-use Rattle.bindings.specs.Kinds.{hand_in}
-use Rattle.bindings.proofs.Telling.{at_value}
 use Rattle.bindings.proofs.hand.moves.synth_raw_hand_ticket.Goals as goal
 
 pub returns-clause-loaded : goal.returns-clause-loaded

@@ -1,9 +1,5 @@
-use Rattle.std.proofs.Common.{rules, ℕ, inr, subst, refl, ap}
+use Rattle.bindings.proofs.Calls.{rules, ℕ, inr, subst, refl, ap, Some, of_kind, hand_in, answered, at_value}
 use Rattle.bindings.specs.HandMoves.{WasMoved, MovingTold}
-use Rattle.std.specs.declared.option.Option.TheVariants.{Some}
-use Rattle.bindings.specs.Handles.{of_kind}
-use Rattle.bindings.specs.Kinds.{hand_in}
-use Rattle.bindings.proofs.Telling.{at_value}
 use Rattle.bindings.proofs.hand.moves.synth_raw_hand_try_ready.Goals as goal
 
 pub returns-clause-moved : goal.returns-clause-moved
@@ -13,15 +9,6 @@ returns-clause-moved c = let a = c.try_ready-answer in let y = a.new.self in let
       m.ensures.1,
       inr (
         search rules,
-        record {
-          y = y;
-          full = refl;
-          answer = a.result;
-          answered = subst (λ (n : ℕ). WasMoved 0 n a.result c.in-Some.held.now y) m.ensures.0
-              a.ensures;
-          code = t.ensures.0;
-          head = t.ensures.1;
-          notifies = t.ensures.2;
-        },
+        answered y a.result (subst (λ (n : ℕ). WasMoved 0 n a.result c.in-Some.held.now y) m.ensures.0 a.ensures) t.ensures,
       ),
     ))

@@ -1,12 +1,8 @@
-use Rattle.std.proofs.Common.{rules, ◌≡◌, refl, ap}
-use Rattle.std.specs.declared.option.Option.TheVariants.{Some}
+use Rattle.bindings.proofs.Calls.{rules, ◌≡◌, refl, ap, Some, of_kind, hand_in, at_value, as_told}
 use mir.Syntax.{w32}
 use mir.Val.{SFits, of_z, to_z}
 use Rattle.bindings.specs.declared.hand.held.HeldHand.{HeldHand}
 use Rattle.bindings.specs.HandCalls.{OnTold}
-use Rattle.bindings.specs.Handles.{of_kind}
-use Rattle.bindings.specs.Kinds.{hand_in}
-use Rattle.bindings.proofs.Telling.{at_value, as_told}
 use Rattle.bindings.proofs.hand.placing.synth_raw_hand_on.Goals as goal
 
 pub returns-clause-on : goal.returns-clause-on

@@ -1,9 +1,5 @@
-use Rattle.std.proofs.Common.{ℕ, inr, refl, subst, pos, ap}
+use Rattle.bindings.proofs.Calls.{ℕ, inr, refl, subst, pos, ap, Some, of_kind, hand_in, at_value}
 use Rattle.bindings.specs.HandStates.{WasSignalled, SignalTold}
-use Rattle.std.specs.declared.option.Option.TheVariants.{Some}
-use Rattle.bindings.specs.Handles.{of_kind}
-use Rattle.bindings.specs.Kinds.{hand_in}
-use Rattle.bindings.proofs.Telling.{at_value}
 use Rattle.bindings.proofs.hand.states.synth_raw_hand_signal.Goals as goal
 
 pub returns-clause-signalled : goal.returns-clause-signalled

@@ -1,10 +1,6 @@
-use Rattle.std.proofs.Common.{rules, ℕ, inr, subst, arith, refl, ap}
+use Rattle.bindings.proofs.Calls.{rules, ℕ, inr, subst, arith, refl, ap, Some, of_kind, hand_in, answered, at_value}
 use Rattle.thread_table.specs.Handles.{view_of, call_of}
 use Rattle.bindings.specs.HandStates.{WereDelivered, DeliverTold}
-use Rattle.std.specs.declared.option.Option.TheVariants.{Some}
-use Rattle.bindings.specs.Handles.{of_kind}
-use Rattle.bindings.specs.Kinds.{hand_in}
-use Rattle.bindings.proofs.Telling.{at_value}
 use Rattle.bindings.proofs.HandFits.{fit_delivery}
 use Rattle.bindings.proofs.hand.states.synth_raw_hand_try_deliver.Goals as goal
 
@@ -18,12 +14,5 @@ returns-clause-delivered c = let a = c.try_deliver-answer in let y = a.new.self 
     (inr (inr (
       e.ensures.1,
       search rules,
-      record {
-        y = y;
-        full = refl;
-        answer = a.result;
-        answered = subst (λ (n : ℕ). WereDelivered n a.result c.in-Some.held.now y) e.ensures.0
-            a.ensures;
-        tells = t.ensures;
-      },
+      answered y a.result (subst (λ (n : ℕ). WereDelivered n a.result c.in-Some.held.now y) e.ensures.0 a.ensures) t.ensures,
     )))

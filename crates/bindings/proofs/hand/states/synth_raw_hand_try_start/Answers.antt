@@ -1,10 +1,6 @@
-use Rattle.std.proofs.Common.{ℕ, inr, subst, arith, refl, ap}
+use Rattle.bindings.proofs.Calls.{ℕ, inr, subst, arith, refl, ap, Some, of_kind, hand_in, answered, at_value}
 use Rattle.thread_table.specs.Handles.{view_of, call_of}
 use Rattle.bindings.specs.HandStates.{WasStarted, StartTold}
-use Rattle.std.specs.declared.option.Option.TheVariants.{Some}
-use Rattle.bindings.specs.Handles.{of_kind}
-use Rattle.bindings.specs.Kinds.{hand_in}
-use Rattle.bindings.proofs.Telling.{at_value}
 use Rattle.bindings.proofs.HandFits.{fit_start}
 use Rattle.bindings.proofs.hand.states.synth_raw_hand_try_start.Goals as goal
 
@@ -15,14 +11,4 @@ tell_start-requires c = let x = c.in-Some.held.now in let a = c.try_start-answer
 pub returns-clause-started : goal.returns-clause-started
 returns-clause-started c = let a = c.try_start-answer in let y = a.new.self in let t = c.tell_start in let e = c.in-Some-element_of in
     at_value (λ x. StartTold c.args.element x c.args.started.now t.new.started (Some y) t.result) (ap (of_kind hand_in) c.in-Some.ensures.value)
-    (inr (
-      e.ensures.1,
-      record {
-        y = y;
-        full = refl;
-        answer = a.result;
-        answered = subst (λ (n : ℕ). WasStarted n a.result c.in-Some.held.now y) e.ensures.0
-            a.ensures;
-        tells = t.ensures;
-      },
-    ))
+    (inr (e.ensures.1, answered y a.result (subst (λ (n : ℕ). WasStarted n a.result c.in-Some.held.now y) e.ensures.0 a.ensures) t.ensures))

@@ -1,10 +1,6 @@
-use Rattle.std.proofs.Common.{arith, refl, ap}
+use Rattle.bindings.proofs.Calls.{arith, refl, ap, Some, of_kind, hand_in, answered, at_value}
 use Rattle.thread_table.specs.Handles.{view_of, call_of}
 use Rattle.bindings.specs.HandTakings.{TakingTold}
-use Rattle.std.specs.declared.option.Option.TheVariants.{Some}
-use Rattle.bindings.specs.Handles.{of_kind}
-use Rattle.bindings.specs.Kinds.{hand_in}
-use Rattle.bindings.proofs.Telling.{at_value}
 use Rattle.bindings.proofs.HandFits.{fit_taking}
 use Rattle.bindings.proofs.hand.takings.synth_raw_hand_try_next.Goals as goal
 
@@ -15,10 +11,4 @@ tell_taking-requires c = let x = c.in-Some.held.now in let a = c.try_next-answer
 pub returns-clause-taken : goal.returns-clause-taken
 returns-clause-taken c = let a = c.try_next-answer in let y = a.new.self in let t = c.tell_taking in
     at_value (λ x. TakingTold 0 x c.args.element.now t.new.element (Some y) t.result) (ap (of_kind hand_in) c.in-Some.ensures.value)
-    (record {
-      y = y;
-      full = refl;
-      answer = a.result;
-      answered = a.ensures;
-      tells = t.ensures;
-    })
+    (answered y a.result a.ensures t.ensures)

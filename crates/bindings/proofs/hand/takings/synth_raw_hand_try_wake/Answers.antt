@@ -1,10 +1,6 @@
-use Rattle.std.proofs.Common.{ℕ, ◌+◌, inr, subst, arith, refl, ap}
+use Rattle.bindings.proofs.Calls.{ℕ, ◌+◌, inr, subst, arith, refl, ap, Some, of_kind, hand_in, answered, at_value}
 use Rattle.thread_table.specs.Handles.{view_of, call_of}
 use Rattle.bindings.specs.HandTakings.{WasTaken, WakingTold}
-use Rattle.std.specs.declared.option.Option.TheVariants.{Some}
-use Rattle.bindings.specs.Handles.{of_kind}
-use Rattle.bindings.specs.Kinds.{hand_in}
-use Rattle.bindings.proofs.Telling.{at_value}
 use Rattle.bindings.proofs.HandFits.{fit_taking}
 use Rattle.bindings.proofs.hand.takings.synth_raw_hand_try_wake.Goals as goal
 
@@ -15,14 +11,4 @@ tell_taking-requires c = let x = c.in-Some.held.now in let a = c.try_wake-answer
 pub returns-clause-taken : goal.returns-clause-taken
 returns-clause-taken c = let a = c.try_wake-answer in let y = a.new.self in let t = c.tell_taking in let m = c.in-Some-wait_of in
     at_value (λ x. WakingTold c.args.wait x c.args.element.now t.new.element (Some y) t.result) (ap (of_kind hand_in) c.in-Some.ensures.value)
-    (inr (
-      m.ensures.1,
-      record {
-        y = y;
-        full = refl;
-        answer = a.result;
-        answered = subst (λ (n : ℕ). WasTaken (n + 2) a.result c.in-Some.held.now y) m.ensures.0
-            a.ensures;
-        tells = t.ensures;
-      },
-    ))
+    (inr (m.ensures.1, answered y a.result (subst (λ (n : ℕ). WasTaken (n + 2) a.result c.in-Some.held.now y) m.ensures.0 a.ensures) t.ensures))

@@ -1,9 +1,5 @@
-use Rattle.std.proofs.Common.{ℕ, inr, refl, subst, pos, ap}
+use Rattle.bindings.proofs.Calls.{ℕ, inr, refl, subst, pos, ap, Some, of_kind, hand_in, at_value}
 use Rattle.bindings.specs.HandWakes.{WasNotified, NotifyTold}
-use Rattle.std.specs.declared.option.Option.TheVariants.{Some}
-use Rattle.bindings.specs.Handles.{of_kind}
-use Rattle.bindings.specs.Kinds.{hand_in}
-use Rattle.bindings.proofs.Telling.{at_value}
 use Rattle.bindings.proofs.hand.wakes.synth_raw_hand_notify.Goals as goal
 
 pub returns-clause-notified : goal.returns-clause-notified

@@ -1,10 +1,6 @@
-use Rattle.std.proofs.Common.{ℕ, ◌+◌, inr, subst, arith, refl, ap}
+use Rattle.bindings.proofs.Calls.{ℕ, ◌+◌, inr, subst, arith, refl, ap, Some, of_kind, hand_in, answered, at_value}
 use Rattle.thread_table.specs.Handles.{view_of, call_of}
 use Rattle.bindings.specs.HandWakes.{WasTriedBefore, BeforeTold}
-use Rattle.std.specs.declared.option.Option.TheVariants.{Some}
-use Rattle.bindings.specs.Handles.{of_kind}
-use Rattle.bindings.specs.Kinds.{hand_in}
-use Rattle.bindings.proofs.Telling.{at_value}
 use Rattle.bindings.proofs.HandFits.{fit_before}
 use Rattle.bindings.proofs.hand.wakes.synth_raw_hand_try_wake_before.Goals as goal
 
@@ -17,12 +13,5 @@ returns-clause-taken c = let a = c.try_wake_before-answer in let y = a.new.self 
     at_value (λ x. BeforeTold c.args.wait c.args.head x c.args.element.now t.new.element (Some y) t.result) (ap (of_kind hand_in) c.in-Some.ensures.value)
     (inr (
       m.ensures.1,
-      record {
-        y = y;
-        full = refl;
-        answer = a.result;
-        answered = subst (λ (q : ℕ). WasTriedBefore q c.args.head a.result c.in-Some.held.now y) m.ensures.0
-            a.ensures;
-        tells = t.ensures;
-      },
+      answered y a.result (subst (λ (q : ℕ). WasTriedBefore q c.args.head a.result c.in-Some.held.now y) m.ensures.0 a.ensures) t.ensures,
     ))

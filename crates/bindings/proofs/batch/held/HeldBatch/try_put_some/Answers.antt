@@ -1,5 +1,4 @@
-use Rattle.std.proofs.Common.{ℕ, length, refl, sym, ap, subst, ◌∙◌}
-use Rattle.std.specs.Prelude.{MatchResult, IfErr}
+use Rattle.bindings.proofs.Calls.{ℕ, length, refl, sym, ap, subst, ◌∙◌, MatchResult, IfErr}
 use Rattle.batch_queue.specs.Answers.{WhyNotPutSome}
 use Rattle.batch_queue.specs.Handles.{view_of, room_of}
 use Rattle.batch_queue.specs.Puts.{IsPutSome, RefusedSome}
@@ -11,7 +10,7 @@ invariant_of-self-clause-known c = let x = c.args.self.now in let t = c.try_put_
 
 pub returns : goal.returns
 returns c = let t = c.try_put_some in let e = t.ensures in let v = view_of c.args.self.now.end in let w = view_of t.new.end in let items = c.args.items.now in let at = ap room_of c.deref.ensures in record {
-  same = ((refl, e.handle, refl), refl);
+  same = ((refl, e.handle), refl);
   effect = e.effect;
   error = subst (λ (room : ℕ). IfErr t.result (λ r. WhyNotPutSome v room (length items) r w)) at e.error;
   shut = e.shut;

@@ -1,5 +1,4 @@
-use Rattle.std.proofs.Common.{rules, sym, ap, subst, ◌∙◌, ℕ, List, [], ◌∷◌, length}
-use Rattle.std.specs.declared.option.Option.TheVariants.{None, Some}
+use Rattle.bindings.proofs.Calls.{rules, sym, ap, subst, ◌∙◌, ℕ, List, [], ◌∷◌, length, None, Some}
 use Rattle.proc_chain.specs.Handles.{me_of, view_of}
 use Rattle.proc_chain.specs.Own.{queue_of}
 use Rattle.proc_chain.specs.Shown.{notes_of}

@@ -1,9 +1,0 @@
-use Rattle.std.proofs.Common.{ap, ◌∙◌, inr}
-use Rattle.bindings.specs.Handles.{of_kind}
-use Rattle.bindings.specs.Kinds.{seat_in}
-use Rattle.bindings.proofs.Holding.{same_handle, other_than_seat}
-use Rattle.bindings.proofs.handle.Handle.seat.Goals as goal
-
-pub returns-in_default : goal.returns-in_default
-returns-in_default c = let p = c.as_mut.result.now in let e = c.as_mut.ensures.value in
-    (ap inr (same_handle c.args.self.now p e), record { writes_back = tt; value = ap (of_kind seat_in) e ∙ other_than_seat p c.in_default.not-Seat })

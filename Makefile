@@ -1,6 +1,11 @@
 # make: proves and builds the programs where one is missing or older than its sources
 # make doc: the reference as linked pages, from docs/out/index.html on
 # make test: the gate. The last line is that of `rt ci`, and so is the status.
+# make install PREFIX=/where DESTDIR=/stage: the programs, the libraries, headers, pages of the manual and documents;
+#     /usr/local if no PREFIX is named. make uninstall, with the same words, removes them.
+# make dist: archives and packages of all that, and of the sources, in packaging/out. GATE_LOG names what a gate
+#     printed.
+# PROGRAMS and LIBRARY name others than those that are proved here.
 
 # No source is made from another, and to look for such rules takes seconds.
 MAKEFLAGS += --no-builtin-rules
@@ -9,7 +14,14 @@ programs := crates/synthesis/out/synthesis crates/draw/out/draw
 # Folders count too, since a file may have been taken away.
 sources := $(shell find crates/*/src crates/*/specs crates/*/proofs crates.txt HANDLES)
 
-.PHONY: all doc test
+PREFIX := /usr/local
+DESTDIR :=
+GATE_LOG :=
+PROGRAMS := $(programs)
+LIBRARY := bindings/out/libsynthesis.a
+named = PREFIX='$(PREFIX)' DESTDIR='$(DESTDIR)' GATE_LOG='$(GATE_LOG)' PROGRAMS='$(PROGRAMS)' LIBRARY='$(LIBRARY)'
+
+.PHONY: all doc test install uninstall dist library
 
 all: $(programs)
 
@@ -21,3 +33,16 @@ doc:
 
 test:
 	tools/gate
+
+# Another library than the one here is there already.
+library: $(PROGRAMS)
+	@[ '$(LIBRARY)' != bindings/out/libsynthesis.a ] || $(MAKE) -s -C bindings library PREFIX= LIBRARY=out/libsynthesis.a
+
+install: library
+	$(named) packaging/install
+
+uninstall:
+	@$(named) packaging/uninstall
+
+dist: library
+	$(named) tools/dist

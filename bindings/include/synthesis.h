@@ -165,6 +165,9 @@ const char *synth_code_name(synth_code code);
 /** A short text about a code, such as "there was no room". Of another number: "not a code". */
 const char *synth_code_text(synth_code code);
 
+/** The version of the library that is linked: SYNTH_VERSION of the header that it was built with. */
+const char *synth_version(void);
+
 /** @} */
 
 /**

@@ -185,7 +185,7 @@ impl Hand {
     ///
     /// ```
     /// # use synthesis_kernel::{Hand, Signal};
-    /// let mut hand = Hand::new(0)?;
+    /// let mut hand = Hand::new()?;
     /// let element = hand.try_free()?;
     /// hand.signal(element, Signal::new(4).unwrap());
     /// assert_eq!((hand.pending(element), hand.pending(element)), (16, 16));

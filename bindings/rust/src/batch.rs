@@ -348,9 +348,7 @@ impl BatchEnd {
     pub fn look(&mut self) -> Status {
         let mut found = raw::BatchStatus::default();
         match raw::synth_raw_batch_look(self.share.handle(), &mut found) {
-            raw::OK => {
-                Status { tail: found.tail, published: found.published, head: found.head, shut: found.shut }
-            }
+            raw::OK => Status { tail: found.tail, published: found.published, head: found.head, shut: found.shut },
             code => raw::no_such_answer(code),
         }
     }

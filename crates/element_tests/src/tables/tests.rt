@@ -2,7 +2,7 @@ ghost use Rattle.std.specs.Prelude.{◌≡◌, ◌+◌, true, false, Some, IfOk,
 ghost use Rattle.thread_table.specs.Handles.{view_of, IsHandOf, IsSameHand};
 ghost use Rattle.thread_table.specs.Rules.{has, serves, running};
 
-use crate::fixtures::{begins, closes, element, is_told, processor, signal, wait_queue};
+use crate::fixtures::{begins, closes, element, is_told, processor, wait_queue};
 use crate::tables::scripts::{Act, does, free, plays};
 use event_theory::{Element, OutOfMemory, Processor, WaitNumber};
 use std::alloc::Global;
@@ -157,21 +157,54 @@ fn pending_anywhere(rt: HostRuntime) {
     assert!(rt; (closed.stops, closed.pending[0]) == (1, 0));
 }
 
-/// What a hand has on a processor it can look at there: all sixteen signals, each by its bit. So can another hand.
+const SIXTEEN_SIGNALS: &[Act] = &[
+    Act::Signal(0, 0, Signalled::Raised),
+    Act::Pending(0, 1),
+    Act::Signal(0, 1, Signalled::Raised),
+    Act::Pending(0, 3),
+    Act::Signal(0, 2, Signalled::Raised),
+    Act::Pending(0, 7),
+    Act::Signal(0, 3, Signalled::Raised),
+    Act::Pending(0, 15),
+    Act::Signal(0, 4, Signalled::Raised),
+    Act::Pending(0, 31),
+    Act::Signal(0, 5, Signalled::Raised),
+    Act::Pending(0, 63),
+    Act::Signal(0, 6, Signalled::Raised),
+    Act::Pending(0, 127),
+    Act::Signal(0, 7, Signalled::Raised),
+    Act::Pending(0, 255),
+    Act::Signal(0, 8, Signalled::Raised),
+    Act::Pending(0, 511),
+    Act::Signal(0, 9, Signalled::Raised),
+    Act::Pending(0, 1_023),
+    Act::Signal(0, 10, Signalled::Raised),
+    Act::Pending(0, 2_047),
+    Act::Signal(0, 11, Signalled::Raised),
+    Act::Pending(0, 4_095),
+    Act::Signal(0, 12, Signalled::Raised),
+    Act::Pending(0, 8_191),
+    Act::Signal(0, 13, Signalled::Raised),
+    Act::Pending(0, 16_383),
+    Act::Signal(0, 14, Signalled::Raised),
+    Act::Pending(0, 32_767),
+    Act::Signal(0, 15, Signalled::Raised),
+    Act::Pending(0, 65_535),
+];
+
+/// What a hand has on a processor it can look at there: all sixteen signals, each by its bit, which another hand sends.
 #[test]
 fn pending_on_a_processor(rt: HostRuntime) {
     let (table, mut first) = ThreadTable::new(rt.alloc()).expect(&rt, "memory");
     let (a, p, e) = (&mut first, processor(&rt, 5), element(&rt, 0));
     let mut b = table.split(a, 0);
-    does(&rt, &table, a, &[Act::Free(0), Act::On(5, 0, Ok(()))]);
-    let mut wanted = 0u16;
-    for s in 0..16u8 {
-        assert!(rt; table.pending(a, e) == wanted);
-        assert!(rt; table.signal(&mut b, e, signal(&rt, s)) == Signalled::Raised);
-        wanted |= 1 << s;
-        assert!(rt; table.pending(&mut b, e) == wanted);
-    }
-    assert!(rt; wanted == 65_535);
+    does(
+        &rt,
+        &table,
+        a,
+        &[Act::Free(0), Act::On(5, 0, Ok(())), Act::Pending(0, 0)],
+    );
+    does(&rt, &table, &mut b, SIXTEEN_SIGNALS);
     assert!(rt; a.serves(p));
     assert!(rt; look_and_take_off(&table, a, e, p) == (65_535, Ok(e)));
     does(

@@ -17,19 +17,19 @@ bytes_kept bytes more mark is =
     let fits : mark.end - mark.begin ≤ length (drop mark.begin bytes) = omega arith in
     rw (drop-append-le mark.begin bytes more low, take-append-le (mark.end - mark.begin) (drop mark.begin bytes) more fits) refl
 
--- the bytes behind a store are the line of the mark that begins there and ends with them
+-- bytes appended to a store are the line of the mark that begins at its end and ends with them
 pub bytes_last : (bytes more : List ℕ) (mark : Mark) → mark.begin ≡ length bytes → mark.end ≡ length bytes + length more → take (mark.end - mark.begin) (drop mark.begin (bytes ++ more)) ≡ more
 bytes_last bytes more mark begins ends =
     let long : mark.end - mark.begin ≡ length more = omega arith in
     rw (long, begins, drop-append_seam bytes more, take-length more) refl
 
--- a mark behind others, of the bytes behind a store, adds one line
+-- one more mark, of the bytes appended to a store, adds one line
 pub lines_pushed : (bytes more : List ℕ) (marks : List Mark) (mark : Mark) → AllByRecursion (IsWithin (length bytes)) marks → mark.begin ≡ length bytes → mark.end ≡ length bytes + length more → map (line_in (bytes ++ more)) (marks ++ mark ∷ []) ≡ map (line_in bytes) marks ++ ((mark.thread, mark.step), more) ∷ []
 lines_pushed bytes more [] mark all begins ends = rw (bytes_last bytes more mark begins ends) refl
 lines_pushed bytes more (first ∷ marks) mark all begins ends =
     rw (bytes_kept bytes more first all.0, lines_pushed bytes more marks mark all.1 begins ends) refl
 
--- the same, where the bytes are those of items
+-- one more mark, of the bytes of items, adds one line
 pub items_pushed : (old new : List ℕ) (items : List ℕ) (index : ℕ) (marks kept after : List Mark) (mark : Mark) (lines : List Line) → map (line_in old) marks ≡ lines → new ≡ old ++ bytes_of (take index items) → length items ≤ index → kept ≡ marks → after ≡ kept ++ mark ∷ [] → AllByRecursion (IsWithin (length old)) marks → mark.begin ≡ length old → mark.end ≡ length old + length items → map (line_in new) after ≡ lines ++ ((mark.thread, mark.step), bytes_of items) ∷ []
 items_pushed old new items index marks kept after mark lines shown bytes all same pushed within begins ends =
     let whole : take index items ≡ items = take_all index items all in

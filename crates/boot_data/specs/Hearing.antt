@@ -1,4 +1,4 @@
--- What threads heard: lines of bytes, each with whose it is.
+-- Lines of bytes that threads heard, each with its thread and step.
 use Rattle.std.specs.Prelude.{◌≡◌, ◌%◌, ℕ, List, [], map, slice_index_or, Option, Some, None}
 use Rattle.std.specs.List.{slice_get}
 use Rattle.boot_data.specs.declared.heard.HeardPlace.{HeardPlace}
@@ -15,7 +15,7 @@ Line = Key × List ℕ
 abbrev pub bytes_of : List ℕ → List ℕ
 bytes_of items = map (λ item. item % 256) items
 
--- the lines that one processor heard, in this order, how many there is room for, and the most bytes of a line
+-- the lines that one processor heard, in order, how many lines there is room for, and the most bytes of a line
 pub record Heard : Type 0 where
   pub lines : List Line
   pub room : ℕ
@@ -27,29 +27,29 @@ pub record NamedLine : Type 0 where
   pub step : ℕ
   pub bytes : List ℕ
 
--- nothing, with room for nothing
+-- no lines, and room for none
 abbrev pub nothing_heard : Heard
 nothing_heard = record { lines = []; room = 0; longest = 0 }
 
--- the line at a place: of these processors' lines
+-- the line at a place, among the lines of these processors
 abbrev pub line_at : List Heard → HeardPlace → Option Line
 line_at processors place = slice_get (slice_index_or processors place.processor nothing_heard).lines place.number
 
--- there is a line at the place, and it is of the thread and the step that the place has
+-- there is a line at the place, and it has the thread and the step of the place
 pub record IsPlace (processors : List Heard) (place : HeardPlace) : Type 0 where
   pub line : Line
   pub is : line_at processors place ≡ Some line
   pub key : line.0 ≡ (place.thread, place.step)
 
--- the bytes at a place
+-- the bytes of a line; none if there is no line
 abbrev pub bytes_in : Option Line → List ℕ
 bytes_in None = []
 bytes_in (Some line) = line.1
 
--- the line at a place, as a list of keys and bytes has it
+-- the line at a place: the thread and the step of the place, and the bytes of the line that lies there
 abbrev pub heard_at : List Heard → HeardPlace → Line
 heard_at processors place = ((place.thread, place.step), bytes_in (line_at processors place))
 
--- the same, with the thread's name; a thread that has none has the empty one
+-- a line with the name of its thread; a thread without a name has the empty name
 abbrev pub named_line : List (List ℕ) → Line → NamedLine
 named_line names line = record { thread = slice_index_or names line.0.0 []; step = line.0.1; bytes = line.1 }

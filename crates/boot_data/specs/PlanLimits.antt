@@ -1,4 +1,4 @@
--- The limits of a plan: how many there are of what, and that each number in it names something of the plan.
+-- The limits of a plan: how many of each kind it has, and the things that its numbers name, which have to exist.
 use Rattle.std.specs.Prelude.{◌≡◌, ◌≢◌, ℕ, ◌<◌, ◌≤◌, ◌*◌, ◌%◌, List, [], ◌∷◌, length}
 use Rattle.std.specs.List.{AllByRecursion}
 use Rattle.event_theory.specs.declared.alarm.Alarm.{Alarm}
@@ -24,17 +24,17 @@ many_of plan kind.Mover = length plan.movers
 many_of plan kind.Gauge = length plan.gauges
 many_of plan kind.Thread = length plan.threads
 
--- a queue is one of the small ones, or one of the two of each tty
+-- the queue exists: a small one is a queue or pipe of the plan, and a large one is one of the two of a tty
 abbrev pub IsQueueOf : (Kind → ℕ) → QueueIndex → Type 0
 IsQueueOf many (Small queue) = queue < many kind.Queue
 IsQueueOf many (Large queue) = queue < many kind.Tty * 2
 
--- a queue or pipe, or the screen queue of a tty, which has the odd number
+-- the queue can be said to: it is a queue or pipe, or the screen queue of a tty, which has the odd number
 abbrev pub IsSaidTo : (Kind → ℕ) → QueueIndex → Type 0
 IsSaidTo many (Small queue) = queue < many kind.Queue
 IsSaidTo many (Large queue) = (queue < many kind.Tty * 2) × (queue % 2 ≡ 1)
 
--- what a step names is there
+-- whatever a step names exists
 abbrev pub IsStepOf : (Kind → ℕ) → Step → Type 0
 IsStepOf many (Say queue text) = IsSaidTo many queue
 IsStepOf many (Hear queue) = IsQueueOf many queue
@@ -48,35 +48,35 @@ IsStepOf many (Poke mover) = mover < many kind.Mover
 IsStepOf many Pass = Unit {0}
 IsStepOf many (Close queue) = queue < many kind.Queue
 
--- where the lines of a way go is there
+-- the queue or pipe of a way exists
 abbrev pub IsWayOf : (Kind → ℕ) → Way → Type 0
 IsWayOf many way = way.to < many kind.Queue
 
--- ways behind these keys: no two have the same key
+-- no two of the ways have the same key, and none of them has one of these earlier keys
 abbrev pub AreApart : List ℕ → List Way → Type 0
 AreApart keys [] = Unit {0}
 AreApart keys (way ∷ ways) = AllByRecursion (λ key. way.key ≢ key) keys × AreApart (way.key ∷ keys) ways
 
--- the queues of a pump or switch are there; a switch has a way at least, and no two with the same key
+-- the queues of a pump or switch and of its ways exist; a switch has at least one way, and no key twice
 abbrev pub IsMoverOf : (Kind → ℕ) → Mover → Type 0
 IsMoverOf many (Pump from to) = (from < many kind.Queue) × (to < many kind.Queue)
 IsMoverOf many (Switch from other ways) =
     (from < many kind.Queue) × (other < many kind.Queue) × AllByRecursion (IsWayOf many) ways
     × (1 ≤ length ways) × AreApart [] ways
 
--- the thread of an alarm is there
+-- the thread of an alarm exists
 abbrev pub IsAlarmOf : (Kind → ℕ) → Alarm → Type 0
 IsAlarmOf many alarm = alarm.element < many kind.Thread
 
--- a program has 64 steps at most, and what they name is there
+-- a program has at most 64 steps, and whatever they name exists
 abbrev pub IsProgramOf : (Kind → ℕ) → PlannedThread → Type 0
 IsProgramOf many thread = (length thread.steps ≤ 64) × AllByRecursion (IsStepOf many) thread.steps
 
--- a device types 1,024 bytes at most
+-- a device types at most 1,024 bytes
 abbrev pub IsTyped : PlannedTty → Type 0
 IsTyped tty = length tty.typed ≤ 1024
 
--- There are no more of a kind than a boot may have, and what is named is there
+-- The plan is within the limits of a boot, and whatever it names exists
 pub record IsPlan (plan : Plan) : Type 0 where
   pub queues : length plan.queues ≤ 8
   pub ttys : length plan.ttys ≤ 2

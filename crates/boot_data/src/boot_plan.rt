@@ -6,10 +6,10 @@ use crate::fixed::Name;
 use crate::plan::{PlannedMover, PlannedQueue, PlannedThread, PlannedTty};
 use event_theory::{Alarm, Items};
 
-/// What a boot script says, each list in the order of the script.
+/// The content of a boot script, each list in the order of the script.
 ///
 /// There are at most 8 queues and pipes, 2 ttys, 4 pumps and switches, 8 gauges, 16 alarms and 64 threads, a program has
-/// at most 64 steps, and whatever is named by its number is there.
+/// at most 64 steps, and whatever is named by its number exists.
 #[derive(Debug, Drop)]
 pub struct BootPlan {
     pub queues: Items<PlannedQueue>,

@@ -51,7 +51,7 @@ impl<const N: usize> Text<N> {
         self.bytes.as_slice()
     }
 
-    /// Appends bytes where there is room for all of them. Else the text stays as it is, and the answer is false.
+    /// Appends bytes if there is room for all of them. Else the text stays as it is, and the answer is false.
     pub fn append(&mut self, bytes: &[u8]) -> bool
         ensures room { IsTrue result ↔ (length self.old + length bytes.now ≤ N) }
         ensures appended { result ≡ true → self.new ≡ self.old ++ bytes.now }
@@ -60,7 +60,7 @@ impl<const N: usize> Text<N> {
         self.bytes.try_extend_from_slice(bytes).is_ok()
     }
 
-    /// Appends a byte where there is room. Else the text stays as it is, and the answer is false.
+    /// Appends a byte if there is room. Else the text stays as it is, and the answer is false.
     pub fn push(&mut self, byte: u8) -> bool
         ensures room { IsTrue result ↔ (length self.old < N) }
         ensures pushed { result ≡ true → self.new ≡ self.old ++ byte ∷ [] }

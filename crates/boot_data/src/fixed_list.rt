@@ -1,6 +1,6 @@
-//! A list whose room is taken when it is made, and stays as it is.
+//! A list whose memory is allocated when it is made, and never grows.
 //!
-//! What goes into it lies in memory that it has. No function here takes memory but the one that makes the list, and
+//! Items are stored in memory that the list has. No function here takes memory except the one that makes the list, and
 //! none hands out the allocator, the list inside or a way to make it longer.
 
 ghost use Rattle.std.specs.Prelude.{◌≡◌, ◌<◌, ◌++◌, ◌∷◌, [], length, vec_capacity, IfOk};
@@ -25,7 +25,7 @@ impl<T> FixedList<T> {
         }
     }
 
-    // No items, and room for so many. `OutOfMemory` comes only where the allocation was refused.
+    // No items, and room for so many. `OutOfMemory` is returned only if the allocation was refused.
     pub(crate) fn with_room(alloc: Global, room: usize) -> Result<Self, OutOfMemory>
         ensures items { IfOk result (λ l. l.list.items ≡ []) }
         ensures room { IfOk result (λ l. vec_capacity l.list ≡ room) }

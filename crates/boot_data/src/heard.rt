@@ -1,5 +1,5 @@
-//! What threads heard: for each processor its lines, one behind the other in one store of bytes, and for a report the
-//! order of all of them. Who sorts or reports lines moves their places, and no text.
+//! Lines that threads heard: for each processor its lines, one after the other in one store of bytes, and for a report
+//! the order of all of them. Sorting or reporting lines moves their places, and no text.
 
 ghost use Rattle.std.specs.Prelude.{◌≡◌, ◌<◌, ◌≤◌, ◌*◌, ◌++◌, ◌∷◌, [], length, map, vec_capacity, IfOk, IfSome};
 ghost use Rattle.std.specs.List.{AllByRecursion, slice_get};
@@ -11,7 +11,7 @@ use event_theory::OutOfMemory;
 use std::alloc::Global;
 use std::marker::Model;
 
-/// Where a line stands in its store, and whose it is.
+/// The place of a line in its store, with its thread and step.
 #[derive(Clone, Copy)]
 struct Mark {
     thread: u8,
@@ -20,9 +20,9 @@ struct Mark {
     end: usize,
 }
 
-/// The lines that one processor heard, in the order in which it heard them, with room for so many, and for so many bytes
-/// of each. That room is taken when it is made, and never grows. Contracts see the lines, how many there is room for,
-/// and how long the longest may be.
+/// The lines that one processor heard, in the order in which it heard them, with room for so many, and for so many
+/// bytes of each. The room is allocated when the value is made, and never grows. Contracts see the lines, how many
+/// there is room for, and how long the longest may be.
 #[derive(Drop)]
 pub struct HeardLines {
     marks: FixedList<Mark>,
@@ -31,7 +31,7 @@ pub struct HeardLines {
     longest: usize,
 }
 
-/// Where a heard line is: the processor that has it, its number among that processor's lines, and whose it is.
+/// The place of a heard line: its processor, its number among that processor's lines, and its thread and step.
 #[derive(Clone, Copy)]
 pub struct HeardPlace {
     pub thread: u8,
@@ -40,7 +40,7 @@ pub struct HeardPlace {
     pub number: usize,
 }
 
-/// What all processors heard, in an order of their own, with the threads' names. Contracts see the list of named lines.
+/// The lines that all processors heard, in their own order, with the threads' names. Contracts see the named lines.
 #[derive(Drop)]
 pub struct HeardReport {
     names: Vec<Name>,
@@ -76,8 +76,8 @@ impl HeardLines {
         }
     }
 
-    /// No lines, and room for so many, each of up to so many bytes as `longest` says. None of this room is written before
-    /// a line is. `OutOfMemory` comes only where an allocation was refused.
+    /// No lines, and room for so many, each of up to so many bytes as `longest` says. None of this room is written
+    /// before a line is. `OutOfMemory` is returned only if an allocation was refused.
     pub fn with_room(alloc: Global, lines: usize, longest: usize) -> Result<Self, OutOfMemory>
         requires lines { lines ≤ 65536 }
         requires longest { longest ≤ 256 }
@@ -154,10 +154,10 @@ impl Model for HeardReport {
 }
 
 impl HeardReport {
-    /// The lines at these places, in their order, of what the processors heard, with the names of the threads, in
-    /// their order. Takes no memory.
+    /// The lines at these places, in the order of the places, among the lines that the processors heard. `names` has
+    /// the names of the threads, in their order. Takes no memory.
     ///
-    /// Condition: there is a line at each place, and it is of the thread and step that the place has.
+    /// Condition: there is a line at each place, and it has the thread and the step of the place.
     pub fn new(names: Vec<Name>, places: Vec<HeardPlace>, processors: Vec<HeardLines>) -> Self
         requires { AllByRecursion (IsPlace processors.items) places.items }
         ensures { result ≡ map (named_line names.items) (map (heard_at processors.items) places.items) }
@@ -176,7 +176,7 @@ impl HeardReport {
         self.places.len()
     }
 
-    /// The bytes of the name of the thread of the line with this number; none where the thread has no name.
+    /// The bytes of the name of the thread of the line with this number; none if the thread has no name.
     pub fn thread(&self, number: usize) -> &[u8]
         requires { number < length self.now }
         ensures { IfSome (slice_get self.now number) (λ line. result.now ≡ line.thread) }

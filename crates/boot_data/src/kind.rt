@@ -1,6 +1,6 @@
-//! What a boot has several of.
+//! The kinds of things in a boot.
 
-/// What a name of a boot script was declared for.
+/// The kind that a name of a boot script was declared for.
 #[derive(Clone, Copy)]
 pub enum Kind {
     /// A queue or pipe.

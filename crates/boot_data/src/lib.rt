@@ -1,7 +1,7 @@
-//! A boot as data: the plan that a boot script says, and the report of what came of it.
+//! A boot as data: the plan that a boot script says, and the report of its run.
 //!
-//! `boot_script` reads plans and prints reports; the kernel runs the one and makes the other. Both lie in lists of bounded
-//! length, and a plan names nothing that isn't in it.
+//! `boot_script` reads plans and prints reports; the kernel runs a plan and makes a report. Both have lists of bounded
+//! length, and each thing that a plan names is in the plan.
 #![tactic(auto)]
 
 mod boot_plan;

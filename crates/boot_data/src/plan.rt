@@ -1,9 +1,9 @@
-//! What a boot script says: the plan of a boot.
+//! The content of a boot script: the plan of a boot.
 //!
-//! Queues and pipes, ttys, pumps and switches, gauges, alarms and threads stand in the order of the script, and are named
-//! by their place there, from 0. A kernel has two lists of queues. The small ones are the queues and pipes, in that order,
-//! and then the raw queue of each tty. The large ones are each tty's line queue and screen queue, one tty after the
-//! other.
+//! Queues and pipes, ttys, pumps and switches, gauges, alarms and threads are in the order of the script, and are named
+//! by their place there, from 0. A kernel has two lists of queues. The small ones are the queues and pipes, in that
+//! order, and then the raw queue of each tty. The large ones are each tty's line queue and screen queue, one tty after
+//! the other.
 
 ghost use Rattle.std.specs.Prelude.{◌≡◌, ◌≤◌, ◌<◌, ◌++◌, ◌∷◌, [], length, IsTrue, ◌↔◌, true, false};
 
@@ -16,9 +16,9 @@ use std::marker::Model;
 /// The wait queues of a pipe.
 #[derive(Clone, Copy, Debug)]
 pub struct PipeWaits {
-    /// Where who finds nothing to hear waits.
+    /// The wait queue of threads that find nothing to hear.
     pub readers: WaitNumber,
-    /// Where who finds no room to say waits.
+    /// The wait queue of threads that find no room to say.
     pub writers: WaitNumber,
 }
 
@@ -26,7 +26,7 @@ pub struct PipeWaits {
 #[derive(Debug, Drop)]
 pub struct PlannedQueue {
     pub name: Name,
-    /// Those of a pipe; a plain queue has none.
+    /// The wait queues of a pipe; a plain queue has none.
     pub waits: Option<PipeWaits>,
 }
 
@@ -37,11 +37,11 @@ pub struct PlannedTty {
     pub typed: Text<1024>,
 }
 
-/// A way of a switch: where lines go whose first item is the key.
+/// A way of a switch: its key, and the queue for the lines whose first item is the key.
 #[derive(Clone, Copy, Default, Debug)]
 pub struct Way {
     pub key: u8,
-    /// A small queue.
+    /// The number of a small queue.
     pub to: usize,
 }
 
@@ -59,7 +59,7 @@ pub enum Mover {
         from: usize,
         to: usize,
     },
-    /// Lines go each its way by their first item, and those of no way to the other queue.
+    /// Lines go to queues by their first item; lines of no way go to the other queue.
     Switch {
         from: usize,
         other: usize,
@@ -92,7 +92,7 @@ pub enum Step {
     Hear { queue: QueueIndex },
     /// The thread waits.
     Wait { wait: WaitNumber },
-    /// All who wait there go on.
+    /// All threads that wait there go on.
     Wake { wait: WaitNumber },
     /// The signal becomes pending at the thread.
     Signal { thread: Element, signal: Signal },
@@ -144,7 +144,7 @@ impl Ways {
         self.ways.as_slice()
     }
 
-    /// Appends a way where there is room. Else the ways stay as they are, and the answer is false.
+    /// Appends a way if there is room. Else the ways stay as they are, and the answer is false.
     pub fn push(&mut self, way: Way) -> bool
         ensures room { IsTrue result ↔ (length self.old < 4) }
         ensures pushed { result ≡ true → self.new ≡ self.old ++ way ∷ [] }

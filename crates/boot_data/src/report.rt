@@ -1,7 +1,7 @@
-//! What a boot reports where its turns are over.
+//! The report of a boot after its turns.
 //!
 //! A report has one list for each kind of line, each in the order of the script, and `print_report` writes it. Queues
-//! and pipes stand in one list, and so do pumps and switches.
+//! and pipes are in one list, and so are pumps and switches.
 
 use crate::fixed::Name;
 use crate::heard::HeardReport;
@@ -41,7 +41,7 @@ pub struct TtyLines {
     pub name: Name,
     /// Bytes that were popped from its device line.
     pub typed: u64,
-    /// Bytes of those that the raw queue refused.
+    /// Bytes among these that the raw queue refused.
     pub overrun: u64,
     /// Notes that ran on its cooked tty.
     pub notes: u64,
@@ -49,13 +49,13 @@ pub struct TtyLines {
     pub held: u64,
     /// The queue of what was typed.
     pub raw: ItemCounts,
-    /// The queue of cooked lines, for those who hear.
+    /// The queue of cooked lines, for threads that hear.
     pub line: ItemCounts,
-    /// The queue of what the screen shows.
+    /// The queue of the bytes that the screen shows.
     pub screen: ItemCounts,
 }
 
-/// The word of the script that declares what moves lines between queues.
+/// The word of the script that declares a pump or a switch.
 #[derive(Clone, Copy, Debug, PartialEq, Eq)]
 pub enum MoverKind {
     /// `pump`: all lines go to one queue.
@@ -87,7 +87,7 @@ pub struct GaugeLine {
     pub value: u64,
 }
 
-/// How many alarms were set, fired and left. They have a line where one was set.
+/// How many alarms were set, fired and left. They have a line if one was set.
 #[derive(Clone, Copy, Debug, PartialEq, Eq)]
 pub struct AlarmCounts {
     pub set: u64,
@@ -96,7 +96,7 @@ pub struct AlarmCounts {
     pub left: u64,
 }
 
-/// Where a thread is. One that isn't ended is live.
+/// The state of a thread. A thread that isn't ended is live.
 #[derive(Clone, Copy, Debug, PartialEq, Eq)]
 pub enum ThreadState {
     /// Among the free elements, with all steps done.
@@ -118,11 +118,11 @@ pub struct ThreadLine {
     pub state: ThreadState,
     /// How many of its steps are done.
     pub steps: u32,
-    /// Bit s is set where signal s was delivered.
+    /// Bit s is set if signal s was delivered.
     pub signals: u16,
 }
 
-/// What a boot reports.
+/// The report of a boot.
 #[derive(Drop)]
 pub struct Report {
     pub queues: Items<QueueLine>,

@@ -1,4 +1,4 @@
--- The lines of a boot script: read, spelled, read again, at fault.
+-- The lines of a boot script: read, spelled, read again, and invalid.
 pub mod Faults
 pub mod Readers
 pub mod WaysRead

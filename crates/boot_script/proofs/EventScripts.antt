@@ -1,4 +1,4 @@
--- The lines of events: read, spelled, read again, at fault.
+-- The lines of events: read, spelled, read again, and invalid.
 pub mod Items
 pub mod EventsRead
 pub mod Claims

@@ -1,4 +1,4 @@
--- What a line of a boot script says, or why it is refused. The order of the steps is the order of the refusals.
+-- The reading of a line of a boot script: its `Line`, or why it is refused. The checks have the order of the refusals.
 use Rattle.std.specs.Prelude.{◌≡◌, ℕ, ◌<◌, slice_index_or, Bool, true, false, ◌||◌, ◌==◌, List, [], ◌∷◌, Some}
 use Rattle.std.specs.Prelude.{None, Result, Ok, Err, if◌then◌else◌}
 use Rattle.std.specs.List.{list_all}
@@ -29,11 +29,11 @@ abbrev pub is_key : List ℕ → ℕ → Bool
 is_key [] key = false
 is_key (k ∷ keys) key = (key == k) || is_key keys key
 
--- the keys are those whose byte is marked
+-- a byte is marked exactly if it is one of the keys
 abbrev pub AreSeen : List Bool → List ℕ → Type 0
 AreSeen seen keys = (key : ℕ) → key < 256 → slice_index_or seen key false ≡ is_key keys key
 
--- a key is a word of one byte, which none of the earlier ways has
+-- a key is a word of one byte, and differs from the keys of the earlier ways
 abbrev pub key_of : List ℕ → List ℕ → Result ℕ ScriptRefusal
 key_of keys (key ∷ []) = if is_key keys key then Err NameTwice else Ok key
 key_of keys word = Err BadName
@@ -45,7 +45,7 @@ way_of names keys key to = do
   t ← number_named kind.Queue names to
   Ok (record { key = k; to = t })
 
--- the ways that the words say, by twos, behind ways with these keys
+-- the ways that the words say, two words for each way; `keys` are the keys of the earlier ways
 unfoldable pub ways_from : List Named → List ℕ → List (List ℕ) → Result (List Way) ScriptRefusal
 ways_from names keys [] = Ok []
 ways_from names keys (key ∷ []) = way_of names keys key [] >>= λ way. Ok (way ∷ [])
@@ -54,7 +54,7 @@ ways_from names keys (key ∷ to ∷ words) =
     >>= λ way. ways_from names (way.key ∷ keys) words
     >>= λ ways. Ok (way ∷ ways)
 
--- the ways of a switch, one at least; they are all read before they are counted
+-- the ways of a switch, at least 1 and at most 4; all of them are read before they are counted
 abbrev pub ways_of : List Named → List (List ℕ) → Result (List Way) ScriptRefusal
 ways_of names [] = Err BadName
 ways_of names (word ∷ words) = do
@@ -62,7 +62,7 @@ ways_of names (word ∷ words) = do
   end ← at_most_of 4 ways
   Ok ways
 
--- a name, the queue from which lines come, the one for lines of no way, and the ways
+-- the words of a `switch` line: a name, the source queue, the queue for lines of no way, and the ways
 unfoldable pub switch_words : List Named → List (List ℕ) → Result Line ScriptRefusal
 switch_words names words = do
   name ← new_name names (word_at 0 words)
@@ -71,21 +71,21 @@ switch_words names words = do
   ways ← ways_of names (words_from 3 words)
   Ok (Mover (record { name = name; mover = Switch from other ways }))
 
--- a tty, and what its device types
+-- the words of a `type` line: a tty, and the text that its device types, at most 1,024 bytes
 unfoldable pub type_words : List Named → List (List ℕ) → Result Line ScriptRefusal
 type_words names words = do
   tty ← number_named kind.Tty names (word_at 0 words)
   text ← text_of 1024 (words_from 1 words)
   Ok (Types tty text)
 
--- a queue, and the text of a line
+-- the words of a `say` line: a queue, and the text of a line, at most 63 bytes
 unfoldable pub say_words : List Named → List (List ℕ) → Result Line ScriptRefusal
 say_words names words = do
   queue ← queue_named false names (word_at 0 words)
   text ← text_of 63 (words_from 1 words)
   Ok (Step (step.Say queue text))
 
--- what a word and those behind it say
+-- the line that a first word and the words after it say
 unfoldable pub line_of : Version → List Named → BootWord → List (List ℕ) → Result Line ScriptRefusal
 line_of version names word.Queue words =
     one_word (new_name names) (λ name. Queue (record { name = name; waits = None })) words
@@ -126,13 +126,13 @@ line_of version names word.Pass words = no_words (Step step.Pass) words
 line_of version names word.Close words =
     one_word (number_named kind.Queue names) (λ queue. Step (step.Close queue)) words
 
--- what the words of a line say, where a thread's program goes on or none does
+-- the line that the words say; `going` is whether there is a current thread, whose program gets the next step
 abbrev pub words_line : Version → List Named → Bool → List (List ℕ) → Result Line ScriptRefusal
 words_line version names going words = do
   word ← boot_word_of version going (word_at 0 words)
   line_of version names word (words_from 1 words)
 
--- what a line says
+-- the line that a text line says; each byte of the text line has to be printable
 unfoldable pub boot_line : Version → List Named → Bool → List ℕ → Result Line ScriptRefusal
 boot_line version names going line =
     if list_all is_printable line then words_line version names going (words_of line) else Err NotAscii

@@ -1,4 +1,4 @@
--- The one spelling of each line of a boot script, but for the escapes of a text, and the texts that are spelled so.
+-- The spelling of each line of a boot script, unique except for the escapes of a text, and the texts of such lines.
 use Rattle.std.specs.Prelude.{◌≡◌, ◌≢◌, ◌⊎◌, ℕ, ◌+◌, ◌*◌, ◌/◌, ◌%◌, ◌<◌, ◌≤◌, ◌&&◌, Bool, true, false, List, [], ◌∷◌}
 use Rattle.std.specs.Prelude.{◌++◌, length, Option, Some, None, Ok, nat_lt, ◌==◌, if◌then◌else◌, codes}
 use Rattle.std.specs.List.{AllByRecursion, join_with_byte}
@@ -36,7 +36,7 @@ digit_for n = if nat_lt n 10 then n + 48 else n + 55
 abbrev pub escape : ℕ → List ℕ
 escape byte = 92 ∷ digit_for (byte / 16) ∷ digit_for (byte % 16) ∷ []
 
--- a printable byte that isn't `\` is spelled by itself, and each byte by its escape
+-- the spellings of a byte: the byte itself if it is printable and not `\`, or, for a byte below 256, its escape
 abbrev pub SpellsByte : ℕ → List ℕ → Type 0
 SpellsByte byte written =
     ((is_printable byte ≡ true) × (byte ≢ 92) × (written ≡ byte ∷ [])) ⊎ ((byte < 256) × (written ≡ escape byte))
@@ -47,18 +47,18 @@ IsText [] text = text ≡ []
 IsText (byte ∷ bytes) text =
     (written : List ℕ) × (rest : List ℕ) × SpellsByte byte written × (text ≡ written ++ rest) × IsText bytes rest
 
--- names behind earlier ones: each is new and has the next number of its kind
+-- the names follow the earlier ones in order: each has the form of a name, is new, and has the next number of its kind
 abbrev pub FollowInOrder : List Named → List Named → Type 0
 FollowInOrder earlier [] = Unit {0}
 FollowInOrder earlier (named ∷ names) =
     (is_name named.name ≡ true) × (is_declared earlier named.name ≡ false)
     × (named.number ≡ count_of named.kind earlier) × FollowInOrder (earlier ++ named ∷ []) names
 
--- each has the form of a name, none is there twice, and those of each kind are numbered from 0 on
+-- each has the form of a name, no name occurs twice, and the names of each kind are numbered from 0
 abbrev pub AreInOrder : List Named → Type 0
 AreInOrder names = FollowInOrder [] names
 
--- the name of what has this number among those of its kind
+-- the name of this kind that has this number; it is empty if there is none
 abbrev pub name_of_number : Kind → List Named → ℕ → List ℕ
 name_of_number kind [] number = []
 name_of_number kind (named ∷ names) number =
@@ -68,12 +68,12 @@ name_of_number kind (named ∷ names) number =
 abbrev pub part_name : ℕ → List ℕ
 part_name queue = if (queue % 2) == 0 then codes ".line" else codes ".screen"
 
--- the word for a queue: the name of a queue or pipe, or that of a tty and the part of it
+-- the word for a queue: the name of a queue or pipe, or the name of a tty and its part
 abbrev pub queue_word : List Named → QueueIndex → List ℕ
 queue_word names (Small queue) = name_of_number kind.Queue names queue
 queue_word names (Large queue) = name_of_number kind.Tty names (queue / 2) ++ part_name queue
 
--- the words of ways: of each its key, and the name of the queue
+-- the words of ways: for each way its key, and the name of its queue or pipe
 abbrev pub way_words : List Named → List Way → List (List ℕ)
 way_words names [] = []
 way_words names (way ∷ ways) = (way.key ∷ []) ∷ name_of_number kind.Queue names way.to ∷ way_words names ways
@@ -120,49 +120,49 @@ line_words names (Thread name) = codes "thread" ∷ name ∷ []
 line_words names (More thread) = codes "more" ∷ name_of_number kind.Thread names thread ∷ []
 line_words names (Step one) = step_words names one
 
--- a line of words and a text; before a text without bytes the space may be missing
+-- a line of words and a text; the space before an empty text may be missing
 abbrev pub EndsInText : List (List ℕ) → List ℕ → List ℕ → Type 0
 EndsInText words bytes line =
     ((text : List ℕ) × IsText bytes text × (line ≡ join_with_byte 32 (words ++ text ∷ [])))
     ⊎ ((bytes ≡ []) × (line ≡ join_with_byte 32 words))
 
--- the line says this, where these names were declared
+-- the line is a spelling of `said`, if these names were declared
 abbrev pub IsSpelling : List Named → Line → List ℕ → Type 0
 IsSpelling names (Types tty text) line = EndsInText (line_words names (Types tty text)) text line
 IsSpelling names (Step (step.Say queue text)) line =
     EndsInText (line_words names (Step (step.Say queue text))) text line
 IsSpelling names said line = line ≡ join_with_byte 32 (line_words names said)
 
--- a name that was not declared before
+-- a word that has the form of a name, and was not declared before
 abbrev pub IsNew : List Named → List ℕ → Type 0
 IsNew names name = (is_name name ≡ true) × (is_declared names name ≡ false)
 
--- the wait queues of a version
+-- the wait queues of a pipe are among the wait queues of the version; a plain queue has none
 abbrev pub FitsWaits : Version → Option PipeWaits → Type 0
 FitsWaits version None = Unit {0}
 FitsWaits version (Some waits) = (waits.readers ≤ last_wait version) × (waits.writers ≤ last_wait version)
 
--- a queue that was declared; a line queue is only heard
+-- the queue was declared; the line queue of a tty can only be heard
 abbrev pub FitsQueue : Bool → List Named → QueueIndex → Type 0
 FitsQueue heard names (Small queue) = queue < count_of kind.Queue names
 FitsQueue heard names (Large queue) =
     (queue < count_of kind.Tty names * 2) × ((heard ≡ true) ⊎ (queue % 2 ≡ 1))
 
--- a key is a printable byte and no space, that none of the earlier ways has; its lines go to a queue or pipe
+-- each key is printable, not a space, and differs from the earlier keys; each way leads to a declared queue or pipe
 abbrev pub FitWays : List Named → List ℕ → List Way → Type 0
 FitWays names keys [] = Unit {0}
 FitWays names keys (way ∷ ways) =
     (33 ≤ way.key) × (way.key ≤ 126) × AllByRecursion (λ key. way.key ≢ key) keys
     × (way.to < count_of kind.Queue names) × FitWays names (way.key ∷ keys) ways
 
--- a pump or switch between queues or pipes; a switch has 1 to 4 ways
+-- a pump or switch between declared queues or pipes; a switch has 1 to 4 ways, which satisfy `FitWays`
 abbrev pub FitsMover : List Named → movers.Mover → Type 0
 FitsMover names (mover.Pump from to) = (from < count_of kind.Queue names) × (to < count_of kind.Queue names)
 FitsMover names (mover.Switch from other ways) =
     (from < count_of kind.Queue names) × (other < count_of kind.Queue names)
     × FitWays names [] ways × (1 ≤ length ways) × (length ways ≤ 4)
 
--- the ranges of a step
+-- each number and text of a step is in its range, and whatever the step names was declared
 abbrev pub FitsStep : Version → List Named → steps.Step → Type 0
 FitsStep version names (step.Say queue text) = FitsQueue false names queue × (length text ≤ 63)
 FitsStep version names (step.Hear queue) = FitsQueue true names queue
@@ -177,7 +177,7 @@ FitsStep version names (step.Poke mover) = mover < count_of kind.Mover names
 FitsStep version names step.Pass = Unit {0}
 FitsStep version names (step.Close queue) = (is_later version ≡ true) × (queue < count_of kind.Queue names)
 
--- the ranges of a line, where these names were declared and a program goes on or none does
+-- each part of a line is in its range, with these declared names; a step also needs a current thread (`going`)
 abbrev pub FitsLine : Version → List Named → Bool → Line → Type 0
 FitsLine version names going (Queue queue) = IsNew names queue.name × FitsWaits version queue.waits
 FitsLine version names going (Tty name) = IsNew names name
@@ -190,7 +190,7 @@ FitsLine version names going (Thread name) = IsNew names name
 FitsLine version names going (More thread) = thread < count_of kind.Thread names
 FitsLine version names going (Step one) = (going ≡ true) × FitsStep version names one
 
--- the lines behind a draft are silent or spell what is added next, up to the last draft
+-- each line is silent or spells what is added next; the lines lead from the draft `d` to the draft `last`
 abbrev pub SpellFrom : Version → List (List ℕ) → Draft → Draft → Type 0
 SpellFrom version [] d last = d ≡ last
 SpellFrom version (line ∷ lines) d last =
@@ -198,7 +198,7 @@ SpellFrom version (line ∷ lines) d last =
     ⊎ ((said : Line) × (next : Draft) × FitsLine version d.names (goes_on d.going) said
     × IsSpelling d.names said line × (added version said d ≡ Ok next) × SpellFrom version lines next last)
 
--- the text is the first line of a version, and then lines that spell the declarations and steps of the plan
+-- the text, of at most 65,536 bytes, is the first line of a version, and then lines that spell the plan
 abbrev pub SpellsPlan : List ℕ → Plan → Type 0
 SpellsPlan text plan =
     (version : Version) × (lines : List (List ℕ)) × (last : Draft) × (length text ≤ 65536)

@@ -42,12 +42,12 @@ boot_words =
     Say ∷ Hear ∷ Pass ∷ Queue ∷ Pipe ∷ Tty ∷ Types ∷ Pump ∷ Switch ∷ Gauge ∷ Alarm ∷ Thread ∷ More ∷ Wait ∷ Wake ∷
     Signal ∷ Stop ∷ Start ∷ Tick ∷ Poke ∷ Close ∷ []
 
--- the first of the words that is written so
+-- the first word in the list that is written like this
 unfoldable pub word_named : List ℕ → List BootWord → Result BootWord ScriptRefusal
 word_named written [] = Err UnknownWord
 word_named written (word ∷ words) = if bytes_eq written (boot_word word) then Ok word else word_named written words
 
--- the words of declarations; all others are steps
+-- whether a word is a step; the other words are declarations
 abbrev pub is_step : BootWord → Bool
 is_step Queue = false
 is_step Pipe = false
@@ -61,16 +61,16 @@ is_step Thread = false
 is_step More = false
 is_step word = true
 
--- The words of a version: `close` comes with the second. Before the first thread there are no steps, so that it has to
--- be told whether a thread's program goes on
+-- The words of a version: `close` is a word from the second version on. A step is a word only if there is a current
+-- thread (`going`), as no step comes before the first thread
 abbrev pub has_word : Version → Bool → BootWord → Bool
 has_word version going Close = is_later version && going
 has_word version going word = going || not (is_step word)
 
--- a word, where the version has it
+-- a word, if the version has it
 abbrev pub if_had : Version → Bool → BootWord → Result BootWord ScriptRefusal
 if_had version going word = if has_word version going word then Ok word else Err UnknownWord
 
--- the word of a version that is written so
+-- the word of a version that is written like this
 unfoldable pub boot_word_of : Version → Bool → List ℕ → Result BootWord ScriptRefusal
 boot_word_of version going written = word_named written boot_words >>= λ word. if_had version going word

@@ -45,18 +45,18 @@ commands =
     Queue ∷ Chain ∷ Claim ∷ Raise ∷ Take ∷ On ∷ Off ∷ Stop ∷ Park ∷ Start ∷ Signal ∷ Deliver ∷ Done ∷ Notify ∷
     Round ∷ Leave ∷ Tick ∷ Advance ∷ Set ∷ Fire ∷ Cancel ∷ Join ∷ Shut ∷ WaitAt ∷ []
 
--- the first of the commands whose word it is
+-- the first command in the list that has this word
 unfoldable pub named : List ℕ → List Command → Result Command ScriptRefusal
 named word [] = Err UnknownWord
 named word (command ∷ commands) = if bytes_eq word (command_word command) then Ok command else named word commands
 
--- the commands of a version: `shut` and `waitat` come with the second
+-- the commands of a version: `shut` and `waitat` are commands from the second version on
 abbrev pub knows : Version → Command → Bool
 knows version Shut = is_later version
 knows version WaitAt = is_later version
 knows version command = true
 
--- a command, where the version has it
+-- a command, if the version has it
 abbrev pub if_known : Version → Command → Result Command ScriptRefusal
 if_known version command = if knows version command then Ok command else Err UnknownWord
 

@@ -1,4 +1,4 @@
--- How what a reader has kept of a boot script compares with what the lines have said.
+-- How the draft that a reader keeps of a boot script compares with what the lines have said.
 use Rattle.std.specs.Prelude.{◌≡◌, ℕ, ◌<◌, true, length, Result, Ok, Err, slice_index_or}
 use Rattle.boot_data.specs.declared.kind.Kind.TheVariants as kind
 use Rattle.boot_script.specs.declared.draft.Draft.{Draft}
@@ -19,7 +19,7 @@ kept_plan kept = record {
   threads = kept.threads.items;
 }
 
--- Names and counts are those of what was said, and the plan is, where no growth was refused
+-- The kept names and counts are those of the lines so far, and so is the kept plan, if no allocation was refused
 pub record Draws (kept : Draft) (d : plans.Draft) : Type 0 where
   pub names : kept.names ≡ d.names
   pub going : kept.going ≡ d.going
@@ -32,12 +32,12 @@ pub record Draws (kept : Draft) (d : plans.Draft) : Type 0 where
   pub sizes : (length kept.typed ≡ 2) × (length kept.step_counts ≡ 64)
   pub plan : kept.kept ≡ true → kept_plan kept ≡ d.plan
 
--- what is kept after an answer, where this was said
+-- the answer is that of what was said: Ok, and the kept draft is its draft, or the same refusal
 abbrev pub Added : Result (Unit {0}) ScriptRefusal → Draft → Result plans.Draft ScriptRefusal → Type 0
 Added (Ok done) kept said = (d : plans.Draft) × (said ≡ Ok d) × Draws kept d
 Added (Err refusal) kept said = said ≡ Err refusal
 
--- an answer is the one that these words have, behind whatever was said before
+-- whatever draft `old` keeps, the answer and the draft that `new` keeps are those of `more` for that draft
 abbrev pub AddsTo : Draft → Result (Unit {0}) ScriptRefusal → Draft
     → (plans.Draft → Result plans.Draft ScriptRefusal) → Type 0
 AddsTo old answer new more = (d : plans.Draft) → Draws old d → Added answer new (more d)

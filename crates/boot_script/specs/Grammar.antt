@@ -1,4 +1,4 @@
--- The event that a line says, or why the line is refused. The order of the steps is the order of the refusals.
+-- The reading of a line of a list of events: its event or its refusal. The checks have the order of the refusals.
 use Rattle.std.specs.Prelude.{ℕ, ◌&&◌, Bool, List, [], ◌∷◌, length, Result, Ok, Err, nat_le, if◌then◌else◌}
 use Rattle.std.specs.List.{list_all}
 use Rattle.event_theory.specs.declared.event.Event.{Event}
@@ -28,20 +28,20 @@ abbrev pub no_more_of : List (List ℕ) → Result (Unit {0}) ScriptRefusal
 no_more_of [] = Ok tt
 no_more_of (word ∷ words) = Err UnknownWord
 
--- a value of no words
+-- a value that is read from no words; a word that is left is refused
 unfoldable pub no_words : {R : Type 0} → R → List (List ℕ) → Result R ScriptRefusal
 no_words value words = do
   end ← no_more_of words
   Ok value
 
--- a value of one word
+-- a value that is read from exactly one word
 unfoldable pub one_word : {A R : Type 0} → Reader A → (A → R) → List (List ℕ) → Result R ScriptRefusal
 one_word first value words = do
   a ← first (word_at 0 words)
   end ← no_more_of (words_from 1 words)
   Ok (value a)
 
--- a value of two words
+-- a value that is read from exactly two words
 unfoldable pub two_words :
     {A B R : Type 0} → Reader A → Reader B → (A → B → R) → List (List ℕ) → Result R ScriptRefusal
 two_words first second value words = do
@@ -50,7 +50,7 @@ two_words first second value words = do
   end ← no_more_of (words_from 2 words)
   Ok (value a b)
 
--- a value of three words
+-- a value that is read from exactly three words
 unfoldable pub three_words :
     {A B C R : Type 0} → Reader A → Reader B → Reader C → (A → B → C → R) → List (List ℕ)
     → Result R ScriptRefusal
@@ -61,7 +61,7 @@ three_words first second third value words = do
   end ← no_more_of (words_from 3 words)
   Ok (value a b c)
 
--- a value of four words
+-- a value that is read from exactly four words
 unfoldable pub four_words :
     {A B C D R : Type 0} → Reader A → Reader B → Reader C → Reader D → (A → B → C → D → R) → List (List ℕ)
     → Result R ScriptRefusal
@@ -78,18 +78,18 @@ abbrev pub numbers_of : ℕ → List (List ℕ) → Result (List ℕ) ScriptRefu
 numbers_of most [] = Ok []
 numbers_of most (word ∷ words) = number_of most word >>= λ n. numbers_of most words >>= λ ns. Ok (n ∷ ns)
 
--- no more items than a line may have
+-- there are at most `most` items
 abbrev pub at_most_of : {A : Type 0} → ℕ → List A → Result (Unit {0}) ScriptRefusal
 at_most_of most items = if nat_le (length items) most then Ok tt else Err TooMany
 
--- the items of a claim are all read before they are counted
+-- the items of a claim, at most 256; all of them are read before they are counted
 abbrev pub items_of : List (List ℕ) → Result (List ℕ) ScriptRefusal
 items_of words = do
   items ← numbers_of u64_max words
   end ← at_most_of 256 items
   Ok items
 
--- a call, a queue and items
+-- the words of a `claim` line: a call, a queue and items
 unfoldable pub claim_words : Version → List (List ℕ) → Result Event ScriptRefusal
 claim_words version words = do
   call ← call_of (word_at 0 words)
@@ -97,12 +97,12 @@ claim_words version words = do
   items ← items_of (words_from 2 words)
   Ok (Claim call queue items)
 
--- the event of a notify
+-- the event of a notify: of a chain, or of a wait queue
 abbrev pub notify_event : ℕ → Listener → Event
 notify_event call (listener.Chain chain) = Notify call chain
 notify_event call (listener.Wait wait) = NotifyWait call wait
 
--- the event that a command and the words behind it say
+-- the event that a command and the words after it say
 unfoldable pub event_of : Version → Command → List (List ℕ) → Result Event ScriptRefusal
 event_of version command.Queue words = one_word (number_of 65535) Queue words
 event_of version command.Chain words = no_words Chain words
@@ -135,12 +135,12 @@ event_of version command.WaitAt words =
 abbrev pub is_printable : ℕ → Bool
 is_printable byte = nat_le 32 byte && nat_le byte 126
 
--- the event that the words of a line say: a command, and the words behind it
+-- the event that the words of a line say: a command, and the words after it
 abbrev pub words_event : Version → List (List ℕ) → Result Event ScriptRefusal
 words_event version words = do
   command ← command_of version (word_at 0 words)
   event_of version command (words_from 1 words)
 
--- the event that a line says
+-- the event that a line says; each byte of the line has to be printable
 unfoldable pub line_event : Version → List ℕ → Result Event ScriptRefusal
 line_event version line = if list_all is_printable line then words_event version (words_of line) else Err NotAscii

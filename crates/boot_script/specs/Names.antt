@@ -11,12 +11,12 @@ use Rattle.boot_script.specs.declared.version.Version.{Version}
 use Rattle.boot_script.specs.Words.{◌>>=◌, number_of}
 use Rattle.boot_script.specs.Versions.{last_element, last_processor, last_wait, is_later}
 
--- a number that is part of a name
+-- a number that is part of a name; each refusal of it becomes BadName
 abbrev pub in_a_name : Result ℕ ScriptRefusal → Result ℕ ScriptRefusal
 in_a_name (Ok n) = Ok n
 in_a_name (Err e) = Err BadName
 
--- a letter and a number
+-- the number, at most `most`, of a word that is this letter and a number
 abbrev pub numbered_name : ℕ → ℕ → List ℕ → Result ℕ ScriptRefusal
 numbered_name letter most [] = Err BadName
 numbered_name letter most (first ∷ digits) =
@@ -58,13 +58,13 @@ chain_of word = numbered_name 107 7 word
 abbrev pub wait_of : Version → List ℕ → Result ℕ ScriptRefusal
 wait_of version word = numbered_name 119 (last_wait version) word
 
--- the first reading, or the second where that is refused
+-- the first reading, or the second one if the first is refused
 infixr 5 ◌or◌
 abbrev pub ◌or◌ : {A E : Type 0} → Result A E → Result A E → Result A E
 (Ok x) or second = Ok x
 (Err e) or second = second
 
--- a name that is this word
+-- the value of a name that is exactly this word
 abbrev pub the_word : {A : Type 0} → List ℕ → A → List ℕ → Result A ScriptRefusal
 the_word named x word = if bytes_eq word named then Ok x else Err BadName
 
@@ -77,7 +77,7 @@ queue_of version word =
     or (chain_of word >>= λ chain. Ok (Notes chain))
     or (wait_of version word >>= λ wait. Ok (Wait wait))
 
--- a notify tells a chain, and from the second version on a wait queue
+-- a notify goes to a chain, or, from the second version on, to a wait queue
 unfoldable pub listener_of : Version → List ℕ → Result Listener ScriptRefusal
 listener_of version word =
     (chain_of word >>= λ chain. Ok (listeners.Chain chain))

@@ -1,4 +1,4 @@
--- The plan that a boot script says: its lines one after the other, each with the names declared so far.
+-- The plan that a boot script says: its lines are read one after the other, each with the names declared so far.
 use Rattle.std.specs.Prelude.{ℕ, zero, suc, ◌+◌, Bool, true, false, List, [], ◌∷◌, ◌++◌, length, Option, Some, None}
 use Rattle.std.specs.Prelude.{Result, Ok, Err}
 use Rattle.std.specs.Prelude.{nat_le, nat_lt, if◌then◌else◌}
@@ -24,7 +24,7 @@ use Rattle.boot_script.specs.BootNames.{count_of, room_of, with_name}
 use Rattle.boot_script.specs.Scripts.{says_nothing, at_line, opening_of}
 use Rattle.boot_script.specs.Words.{◌>>=◌}
 
--- What lines have said so far: the plan, the names that they declared, and the thread whose program goes on
+-- The draft after some lines: the plan, the declared names, and the current thread, whose program gets the next step
 pub record Draft : Type 0 where
   pub plan : Plan
   pub names : List Named
@@ -34,58 +34,58 @@ pub record Draft : Type 0 where
 abbrev pub no_plan : Plan
 no_plan = record { queues = []; ttys = []; movers = []; gauges = []; alarms = []; threads = [] }
 
--- nothing was said, and no thread's program goes on
+-- the draft before the first line: an empty plan, no names, and no current thread
 abbrev pub first_draft : Draft
 first_draft = record { plan = no_plan; names = []; going = None }
 
--- whether a thread's program goes on
+-- whether there is a current thread
 abbrev pub goes_on : Option ℕ → Bool
 goes_on None = false
 goes_on (Some thread) = true
 
--- what a tty's device types so far
+-- the bytes that the device of a tty types so far; none if there is no tty
 abbrev pub typed_in : Option PlannedTty → List ℕ
 typed_in None = []
 typed_in (Some tty) = tty.typed
 
--- what the device of the tty with this number types so far
+-- the bytes that the device of the tty with this number types so far; none if there is no such tty
 abbrev pub typed_at : List PlannedTty → ℕ → List ℕ
 typed_at ttys tty = typed_in (slice_get ttys tty)
 
--- the list with the item at a place changed
+-- the list with the item at a place changed; past the end nothing changes
 abbrev pub change_at : {A : Type 0} → (A → A) → List A → ℕ → List A
 change_at change [] place = []
 change_at change (x ∷ xs) zero = change x ∷ xs
 change_at change (x ∷ xs) (suc place) = x ∷ change_at change xs place
 
--- a tty whose device types this besides
+-- a tty whose device types this text after its earlier texts
 abbrev pub with_text : List ℕ → PlannedTty → PlannedTty
 with_text text tty = record tty { typed = tty.typed ++ text }
 
--- a thread with a step more
+-- a thread with one more step at the end of its program
 abbrev pub with_step : Step → PlannedThread → PlannedThread
 with_step step thread = record thread { steps = thread.steps ++ step ∷ [] }
 
--- a device types 1,024 bytes at most
+-- a device types at most 1,024 bytes
 abbrev pub text_room : ℕ → Result (Unit {0}) ScriptRefusal
 text_room count = if nat_le count 1024 then Ok tt else Err TextTooLong
 
--- there are 16 alarms at most
+-- one more alarm may be set: there are fewer than 16
 abbrev pub alarm_room : List Alarm → Result (Unit {0}) ScriptRefusal
 alarm_room alarms = if nat_lt (length alarms) 16 then Ok tt else Err TooMany
 
--- a program has 64 steps at most
+-- one more step may be added: the program has fewer than 64
 abbrev pub step_room : List Step → Result (Unit {0}) ScriptRefusal
 step_room steps = if nat_lt (length steps) 64 then Ok tt else Err TooMany
 
--- a step more in the program of the thread that goes on
+-- one more step in the program of the current thread; without a current thread nothing changes
 abbrev pub add_step : Step → Option ℕ → Draft → Result Draft ScriptRefusal
 add_step step None d = Ok d
 add_step step (Some thread) d = do
   room ← step_room (steps_at d.plan.threads thread)
   Ok (record d { plan = record d.plan { threads = change_at (with_step step) d.plan.threads thread } })
 
--- what a line says, added to what was said before; too many of a kind are refused last
+-- the draft with this line added; it is refused if there is no room for the line
 unfoldable pub added : Version → Line → Draft → Result Draft ScriptRefusal
 added version (line.Queue queue) d = do
   room ← room_of version kind.Queue d.names
@@ -127,13 +127,13 @@ added version (line.Thread name) d = do
 added version (line.More thread) d = Ok (record d { going = Some thread })
 added version (line.Step step) d = add_step step d.going d
 
--- a line more
+-- the draft with one more text line: the text line is read, and then added
 unfoldable pub line_added : Version → List ℕ → Draft → Result Draft ScriptRefusal
 line_added version line d = do
   said ← boot_line version d.names (goes_on d.going) line
   added version said d
 
--- what the lines say behind a draft, where the first line has this number
+-- the draft after these lines, if `d` is the draft before them; the first line has this number
 unfoldable pub plan_from : Version → ℕ → List (List ℕ) → Draft → Result Draft ScriptFault
 plan_from version number [] d = Ok d
 plan_from version number (line ∷ lines) d =
@@ -141,7 +141,7 @@ plan_from version number (line ∷ lines) d =
     else at_line number (line_added version line d)
     >>= λ next. plan_from version (number + 1) lines next
 
--- the plan of a draft
+-- the plan of a draft; a fault stays the fault
 abbrev pub plan_only : Result Draft ScriptFault → Result Plan ScriptFault
 plan_only (Ok d) = Ok d.plan
 plan_only (Err fault) = Err fault

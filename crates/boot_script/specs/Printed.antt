@@ -1,4 +1,4 @@
--- What is printed.
+-- The printed text of a status, of a refused event, and of faults.
 use Rattle.std.specs.Prelude.{ℕ, ◌+◌, ◌/◌, ◌%◌, ◌==◌, ◌&&◌, Bool, true, false, not, List, [], ◌∷◌, ◌++◌, nat_lt}
 use Rattle.std.specs.Prelude.{if◌then◌else◌, codes}
 use Rattle.std.specs.Fmt.{decimal}
@@ -22,11 +22,11 @@ use Rattle.boot_script.specs.RefusalNames.{script_refusal_name, script_refusal_n
 abbrev pub end_of_line : List ℕ
 end_of_line = 10 ∷ []
 
--- a word that is there only where the test holds
+-- a word that is printed only if the test holds
 abbrev pub word_if : Bool → List ℕ → List ℕ
 word_if test word = if test then word else []
 
--- the lines of things, the first of which has this number
+-- the lines of things, which are numbered from this number on
 abbrev pub numbered_lines : {A : Type 0} → (ℕ → A → List ℕ) → ℕ → List A → List ℕ
 numbered_lines line number [] = []
 numbered_lines line number (x ∷ xs) = line number x ++ numbered_lines line (number + 1) xs
@@ -69,12 +69,12 @@ hex_digit n = if nat_lt n 10 then 48 + n else 87 + n
 unfoldable pub hex_digits : ℕ → List ℕ
 hex_digits n = hex_digit (n / 4096) ∷ hex_digit (n / 256 % 16) ∷ hex_digit (n / 16 % 16) ∷ hex_digit (n % 16) ∷ []
 
--- among the free elements
+-- whether an element is among the free elements
 abbrev pub is_free : Place → Bool
 is_free Free = true
 is_free place = false
 
--- an element in its first state: free, with no step done, no signal pending and the stop bit clear
+-- whether an element is in its first state: free, with no step done, no signal pending and the stop bit clear
 abbrev pub is_first_state : ElementStatus → Bool
 is_first_state element = is_free element.place && element.done == 0 && element.pending == 0 && not element.stop
 
@@ -85,27 +85,27 @@ element_words number element =
     ++ codes " done " ++ decimal element.done ++ codes " pending " ++ hex_digits element.pending
     ++ word_if element.stop (codes " stop") ++ end_of_line
 
--- the line of an element with this number, where it has one
+-- the line of an element with this number; an element in its first state has none
 abbrev pub element_line : ℕ → ElementStatus → List ℕ
 element_line number element = if is_first_state element then [] else element_words number element
 
--- the line of a gauge with this number, where it isn't 0
+-- the line of a gauge with this number; a gauge at 0 has none
 unfoldable pub gauge_line : ℕ → ℕ → List ℕ
 gauge_line number value =
     if value == 0 then [] else codes "gauge g" ++ decimal number ++ codes " " ++ decimal value ++ end_of_line
 
--- the line of the clock, where it isn't 0
+-- the line of the clock; a clock at 0 has none
 unfoldable pub clock_line : ℕ → List ℕ
 clock_line clock = if clock == 0 then [] else codes "clock " ++ decimal clock ++ end_of_line
 
--- the line of the alarms, where one was set
+-- the line of the alarms; there is none if no alarm was set
 unfoldable pub alarm_line : AlarmStatus → List ℕ
 alarm_line alarms =
     if alarms.set == 0 then []
     else codes "alarms set " ++ decimal alarms.set ++ codes " fired " ++ decimal alarms.fired
     ++ codes " cancelled " ++ decimal alarms.cancelled ++ end_of_line
 
--- the line of a wait queue with this number, where it had a notify
+-- the line of a wait queue with this number; a wait queue without a notify has none
 unfoldable pub notified_line : ℕ → ℕ → List ℕ
 notified_line number count =
     if count == 0 then [] else codes "notified w" ++ decimal number ++ codes " " ++ decimal count ++ end_of_line
@@ -124,13 +124,13 @@ refused_text line refusal =
     codes "refused " ++ decimal line ++ codes " " ++ decimal (refusal_number refusal)
     ++ codes " " ++ refusal_name refusal ++ end_of_line
 
--- how a script's fault is told
+-- the text of a script's fault
 abbrev pub fault_text : ScriptFault → List ℕ
 fault_text fault =
     codes "line " ++ decimal fault.line ++ codes ": " ++ decimal (script_refusal_number fault.refusal)
     ++ codes " " ++ script_refusal_name fault.refusal
 
--- how a replay's fault is told
+-- the text of a replay's fault
 abbrev pub replay_fault_text : ReplayFault → List ℕ
 replay_fault_text (Script fault) = fault_text fault
 replay_fault_text Memory = codes "no memory"

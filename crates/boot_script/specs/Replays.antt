@@ -1,4 +1,4 @@
--- What the replay of a list of events answers and prints.
+-- The answer of the replay of a list of events, and its printed text.
 use Rattle.std.specs.Prelude.{◌≡◌, ℕ, List, ◌++◌, map, take, Option, Result, Ok, Err, IsOk, IsSomeAnd}
 use Rattle.std.specs.List.{slice_get}
 use Rattle.std.specs.Io.KnownBytes.{Appends}
@@ -18,38 +18,38 @@ use Rattle.boot_script.specs.Printed.{status_text, refused_text}
 abbrev pub alone : List (ℕ × Event) → List Event
 alone events = map (λ numbered. numbered.1) events
 
--- all events were allowed, or those before the first that isn't; that one is on this line
+-- from `old` to `new` all events are allowed, or the events before the first refused one, which is on this line
 abbrev pub Replays : Replayed → List (ℕ × Event) → State → State → Type 0
 Replays AllAllowed events old new = Reaches old (alone events) new
 Replays (Refused line refusal) events old new =
     (count : ℕ) × Reaches old (alone (take count events)) new
     × IsSomeAnd (slice_get events count) (λ numbered. (numbered.0 ≡ line) × (step numbered.1 new ≡ Err refusal))
 
--- a run of the events from a state ends with this answer in a state with this status
+-- a run of the events from `old` gives this answer, and ends in a state with this status
 abbrev pub Ends : Replayed → Status → List (ℕ × Event) → State → Type 0
 Ends replayed status events old =
     (new : State) × Replays replayed events old new × (status ≡ status_of new)
 
--- the status, and the line of the event that isn't allowed
+-- the printed text: the status, and then the line of the refused event, if there is one
 abbrev pub replay_text : Replayed → Status → List ℕ
 replay_text AllAllowed status = status_text status
 replay_text (Refused line refusal) status = status_text status ++ refused_text line refusal
 
--- the text has no fault, the answer is that of its events on a fresh core, and their status is appended, with the
--- refusal behind it where an event was refused
+-- the text has no fault, the answer is the answer of its events on a fresh core, and exactly the printed text of that
+-- answer and its status is appended
 abbrev pub IsReplay :
     Result (ℕ × List (ℕ × Event)) ScriptFault → Replayed → Option (List ℕ) → Option (List ℕ) → Type 0
 IsReplay (Err fault) replayed old new = ⊥
 IsReplay (Ok said) replayed old new =
     (status : Status) × Ends replayed status said.1 (first_state said.0) × Appends old new (replay_text replayed status)
 
--- the answer alone
+-- the text has no fault, and the answer is the answer of its events on a fresh core, whatever is printed
 abbrev pub IsAnswer : Result (ℕ × List (ℕ × Event)) ScriptFault → Replayed → Type 0
 IsAnswer (Err fault) replayed = ⊥
 IsAnswer (Ok said) replayed = (status : Status) × Ends replayed status said.1 (first_state said.0)
 
--- a script's fault is the first of the text; memory is wanting, or the writer fails, only where the text has none; the
--- reader may fail with any text
+-- `Script` has the first fault of the text; `Memory` and `Write` are answered only if the text has no fault; `Read` may
+-- be answered for any text
 abbrev pub IsReplayFault : Result (ℕ × List (ℕ × Event)) ScriptFault → ReplayFault → Type 0
 IsReplayFault said (Script fault) = said ≡ Err fault
 IsReplayFault said Memory = IsOk said

@@ -43,7 +43,7 @@ queue_line queue = named (queue_word queue.kind) queue.name ++ counts_words queu
 unfoldable pub tty_queue : List ℕ → List ℕ → ItemCounts → List ℕ
 tty_queue name queue items = named (codes "tty") name ++ codes " " ++ queue ++ counts_words items
 
--- the first line of a tty: what it had, and what it holds
+-- the first line of a tty: the counts of its bytes and notes, and of the bytes that it holds
 unfoldable pub tty_line : TtyLines → List ℕ
 tty_line tty =
     named (codes "tty") tty.name ++ codes " typed " ++ decimal tty.typed ++ codes " overrun " ++ decimal tty.overrun
@@ -71,7 +71,7 @@ mover_line mover =
 unfoldable pub gauge_line : GaugeLine → List ℕ
 gauge_line gauge = named (codes "gauge") gauge.name ++ codes " " ++ decimal gauge.value ++ end_of_line
 
--- the line of the alarms, where one was set
+-- the line of the alarms; there is none if no alarm was set
 unfoldable pub alarms_line : AlarmCounts → List ℕ
 alarms_line alarms =
     if alarms.set == 0 then []
@@ -86,7 +86,7 @@ state_word (Wait number) = codes "wait" ++ decimal number
 state_word Stopped = codes "stopped"
 state_word Held = codes "held"
 
--- the signals that were delivered, where one was
+-- the words of the signals that were delivered; there are none if no signal was
 unfoldable pub signals_words : ℕ → List ℕ
 signals_words signals = if signals == 0 then [] else codes " signals " ++ hex_digits signals
 
@@ -96,7 +96,7 @@ thread_line thread =
     named (codes "thread") thread.name ++ codes " " ++ state_word thread.state ++ codes " " ++ decimal thread.steps
     ++ signals_words thread.signals ++ end_of_line
 
--- a byte that stands for itself in a text: 0x20 to 0x7E, but not `\`
+-- whether a byte is written as itself in a text: 0x20 to 0x7E, except `\`
 abbrev pub stands_for_itself : ℕ → Bool
 stands_for_itself byte = nat_le 32 byte && nat_le byte 126 && not (byte == 92)
 
@@ -104,12 +104,12 @@ stands_for_itself byte = nat_le 32 byte && nat_le byte 126 && not (byte == 92)
 abbrev pub upper_digit : ℕ → ℕ
 upper_digit n = if nat_lt n 10 then 48 + n else 55 + n
 
--- how a byte is written: as itself, or as `\` and two digits
+-- a byte as it is written: the byte itself, or `\` and two digits
 unfoldable pub written_byte : ℕ → List ℕ
 written_byte byte =
     if stands_for_itself byte then byte ∷ [] else 92 ∷ upper_digit (byte / 16) ∷ upper_digit (byte % 16) ∷ []
 
--- how bytes are written
+-- bytes as they are written
 abbrev pub heard_text : List ℕ → List ℕ
 heard_text bytes = flat_map written_byte bytes
 

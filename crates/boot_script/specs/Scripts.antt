@@ -1,4 +1,4 @@
--- What both scripts share, and the list of events that a text says, or its first fault.
+-- The common parts of both kinds of script, and the list of events that a text says, or its first fault.
 use Rattle.std.specs.Prelude.{ℕ, ◌+◌, Bool, true, List, [], ◌∷◌, length, Result, Ok, Err, nat_lt, ◌==◌}
 use Rattle.std.specs.Prelude.{if◌then◌else◌}
 use Rattle.std.specs.List.{list_all}
@@ -15,7 +15,7 @@ use Rattle.boot_script.specs.Words.{◌>>=◌, lines_of}
 use Rattle.boot_script.specs.Versions.{elements_of, version_line}
 use Rattle.boot_script.specs.Grammar.{is_printable, line_event}
 
--- an empty line and a comment say nothing
+-- whether a line says nothing: it is empty or a comment
 abbrev pub says_nothing : List ℕ → Bool
 says_nothing [] = true
 says_nothing (first ∷ bytes) = first == 35
@@ -25,7 +25,7 @@ abbrev pub at_line : {A : Type 0} → ℕ → Result A ScriptRefusal → Result 
 at_line line (Ok x) = Ok x
 at_line line (Err refusal) = Err (record { line = line; refusal = refusal })
 
--- the events that the lines say, each with the number of its line, where the first line has this number
+-- the events that the lines say, each with the number of its line; the first line has this number
 unfoldable pub events_from : Version → ℕ → List (List ℕ) → Result (List (ℕ × Event)) ScriptFault
 events_from version number [] = Ok []
 events_from version number (line ∷ lines) =
@@ -44,18 +44,18 @@ version_of script line =
     else Err NotVersion)
     else Err NotAscii
 
--- the version that the first line names, and the lines behind it
+-- the version that the first line names, and the lines after it
 unfoldable pub versioned : Script → List (List ℕ) → Result (Version × List (List ℕ)) ScriptFault
 versioned script [] = Err (record { line = 1; refusal = NotVersion })
 versioned script (first ∷ lines) = at_line 1 (version_of script first) >>= λ version. Ok (version, lines)
 
--- a text of at most 65,536 bytes: its version, and the lines behind the first
+-- the version of a text of at most 65,536 bytes, and the lines after its first line
 unfoldable pub opening_of : Script → List ℕ → Result (Version × List (List ℕ)) ScriptFault
 opening_of script text =
     if nat_lt 65536 (length text) then Err (record { line = 0; refusal = TooMany })
     else versioned script (lines_of text)
 
--- what a list of events says: how many elements its version has, and the events
+-- the content of a list of events: how many elements its version has, and the events, each with the number of its line
 unfoldable pub text_events : List ℕ → Result (ℕ × List (ℕ × Event)) ScriptFault
 text_events text = do
   opening ← opening_of Events text

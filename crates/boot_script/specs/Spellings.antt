@@ -1,4 +1,4 @@
--- The one spelling of each event, and the texts that are spelled so.
+-- The unique spelling of each event, and the texts of such spellings.
 use Rattle.std.specs.Prelude.{◌≡◌, ◌⊎◌, ℕ, ◌+◌, ◌≤◌, true, List, [], ◌∷◌, length, map, codes}
 use Rattle.std.specs.List.{AllByRecursion, join_with_byte}
 use Rattle.std.specs.Fmt.{decimal}
@@ -88,7 +88,7 @@ event_words (WaitAt call wait element ticket) =
 unfoldable pub spelling : Event → List ℕ
 spelling event = join_with_byte 32 (event_words event)
 
--- the queues that a version names
+-- the queue can be named in this version
 abbrev pub FitsQueue : Version → QueueName → Type 0
 FitsQueue version (queues.Bytes queue) = queue ≤ 7
 FitsQueue version (queues.Notes chain) = chain ≤ 7
@@ -100,7 +100,7 @@ FitsQueue version queues.Free = Unit {0}
 abbrev pub FitsItem : ℕ → Type 0
 FitsItem item = item ≤ u64_max
 
--- the ranges of an event in a version
+-- each number of an event is in its range in this version, and so is the number of items of a claim
 abbrev pub Fits : Version → Event → Type 0
 Fits version (Queue capacity) = capacity ≤ 65535
 Fits version Chain = Unit {0}
@@ -134,7 +134,7 @@ Fits version (WaitAt call wait element ticket) =
     (is_later version ≡ true) × (call ≤ 63) × (wait ≤ last_wait version) × (element ≤ last_element version)
     × (ticket ≤ u32_max)
 
--- the lines, the first of which has this number, are silent or spell the next event
+-- each line is silent or spells the next event, and no event is left after them; the first line has this number
 abbrev pub Spells : Version → ℕ → List (List ℕ) → List (ℕ × Event) → Type 0
 Spells version number [] events = events ≡ []
 Spells version number (line ∷ lines) events =
@@ -142,7 +142,7 @@ Spells version number (line ∷ lines) events =
     ⊎ ((event : Event) × (later : List (ℕ × Event)) × (events ≡ (number, event) ∷ later)
     × Fits version event × (line ≡ spelling event) × Spells version (number + 1) lines later)
 
--- the text is the first line of a version with so many elements, and then lines that spell the events
+-- the text, of at most 65,536 bytes, is the first line of a version with so many elements, and then lines of the events
 abbrev pub SpellsText : List ℕ → ℕ → List (ℕ × Event) → Type 0
 SpellsText text elements events =
     (version : Version) × (lines : List (List ℕ)) × (elements ≡ elements_of version) × (length text ≤ 65536)

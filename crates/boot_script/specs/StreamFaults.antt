@@ -1,4 +1,4 @@
--- How reading ends, and why a reader or a writer is at fault. `answers` and `fails` have what each call on it did.
+-- How reading ends, and the causes of read and write faults. `answers` and `fails` describe single calls on a stream.
 use Rattle.std.specs.Prelude.{◌≡◌, ◌≢◌, ◌⊎◌, ◌<◌, ◌≤◌, ◌+◌, ℕ, List, [], ◌∷◌, length, All, Result, Ok, Err}
 use Rattle.std.specs.IoError.{error_kind}
 use Rattle.std.specs.declared.io.Error.{Error}
@@ -24,12 +24,12 @@ GoesOn (Err error) = error_kind error ≡ Interrupted
 abbrev pub WentOn : List (Result ℕ Error) → Type 0
 WentOn calls = All GoesOn calls × (bytes_of calls ≤ 65536)
 
--- this call was the last; fewer than 131,072 came before it, and reading went on after each of those
+-- this call was the last; fewer than 131,072 calls came before it, and `WentOn` holds of them
 abbrev pub EndsWith :
     {R : Type 0} → (R → Result ℕ Error → R → Type 0) → Result ℕ Error → List (Result ℕ Error) → R → R → Type 0
 EndsWith answers last calls old new = Calls answers (last ∷ calls) old new × WentOn calls × (length calls < 131072)
 
--- the last call answered an error other than that it was interrupted
+-- the last call answered an error other than Interrupted
 abbrev pub HasFailed : {R : Type 0} → (R → Result ℕ Error → R → Type 0) → R → R → Type 0
 HasFailed answers old new =
     (calls : List (Result ℕ Error)) × (error : Error) × EndsWith answers (Err error) calls old new
@@ -40,7 +40,7 @@ abbrev pub WasCalledMost : {R : Type 0} → (R → Result ℕ Error → R → Ty
 WasCalledMost answers old new =
     (calls : List (Result ℕ Error)) × Calls answers calls old new × WentOn calls × (length calls ≡ 131072)
 
--- why there is a read fault: the reader failed, or was called as often as a script may take
+-- the cause of a read fault: the reader failed, or the limit of 131,072 calls was reached
 abbrev pub IsReadFault : {R : Type 0} → (R → Result ℕ Error → R → Type 0) → R → R → Type 0
 IsReadFault answers old new = HasFailed answers old new ⊎ WasCalledMost answers old new
 
@@ -55,10 +55,10 @@ IsTooMuch answers n old new =
     (calls : List (Result ℕ Error)) × (more : ℕ) × EndsWith answers (Ok more) calls old new
     × (n ≡ bytes_of calls + more) × (65536 < n)
 
--- how reading ends with so many bytes, where the reader is not at fault
+-- reading has ended without a read fault, with so many bytes
 abbrev pub HasRead : {R : Type 0} → (R → Result ℕ Error → R → Type 0) → ℕ → R → R → Type 0
 HasRead answers n old new = HasEnded answers n old new ⊎ IsTooMuch answers n old new
 
--- why there is a write fault: the last call on the writer answered an error
+-- the cause of a write fault: the last call on the writer answered an error
 abbrev pub IsWriteFault : {W : Type 0} → (W → W → Type 0) → W → Type 0
 IsWriteFault {W} fails new = (before : W) × fails before new

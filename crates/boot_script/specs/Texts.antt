@@ -25,7 +25,7 @@ abbrev pub before : ℕ → Result (List ℕ) ScriptRefusal → Result (List ℕ
 before byte (Ok bytes) = Ok (byte ∷ bytes)
 before byte (Err refusal) = Err refusal
 
--- the bytes of a text: behind each `\` stand two digits
+-- the bytes of a text: after each `\` come two digits
 unfoldable pub bytes_of : List ℕ → Result (List ℕ) ScriptRefusal
 bytes_of [] = Ok []
 bytes_of (byte ∷ []) = if byte == 92 then Err BadNumber else Ok (byte ∷ [])
@@ -34,15 +34,15 @@ bytes_of (byte ∷ high ∷ low ∷ text) =
     if byte == 92 then escape_of high low >>= (λ escaped. before escaped (bytes_of text))
     else before byte (bytes_of (high ∷ low ∷ text))
 
--- no more bytes than a text may have
+-- the bytes, if there are at most `most`
 abbrev pub within_of : ℕ → List ℕ → Result (List ℕ) ScriptRefusal
 within_of most bytes = if nat_le (length bytes) most then Ok bytes else Err TextTooLong
 
--- the text that stands behind the other words of a line: all that is left of it, with the spaces between its words
+-- the text after the other words of a line: the rest of the line, with the spaces between its words
 abbrev pub text_of : ℕ → List (List ℕ) → Result (List ℕ) ScriptRefusal
 text_of most words = bytes_of (join_with_byte 32 words) >>= λ bytes. within_of most bytes
 
--- what was read, and nothing where it was refused
+-- the bytes that were read; none if the text was refused
 abbrev pub read : Result (List ℕ) ScriptRefusal → List ℕ
 read (Ok bytes) = bytes
 read (Err refusal) = []

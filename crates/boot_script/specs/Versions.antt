@@ -29,7 +29,7 @@ last_wait One = 7
 last_wait Two = 7
 last_wait Three = 15
 
--- queues are shut and wait queues told from the second version on
+-- whether queues can be shut and wait queues notified, as from the second version on
 abbrev pub is_later : Version → Bool
 is_later One = false
 is_later Two = true

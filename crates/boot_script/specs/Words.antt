@@ -8,46 +8,46 @@ use Rattle.std.specs.Fmt.{decimal}
 use Rattle.boot_script.specs.declared.fault.ScriptRefusal.{ScriptRefusal}
 use Rattle.boot_script.specs.declared.fault.ScriptRefusal.TheVariants.{BadNumber}
 
--- what comes next, where nothing was refused
+-- applies `f` to the value of a result; an error stays the error
 infixl 10 ◌>>=◌
 abbrev pub ◌>>=◌ : {A B E : Type 0} → Result A E → (A → Result B E) → Result B E
 (Ok x) >>= f = f x
 (Err e) >>= f = Err e
 
--- the parts between the separators: one more than there are separators
+-- the parts between the separators; there is one more part than separators
 abbrev pub pieces : ℕ → List ℕ → List (List ℕ)
 pieces separator bytes = slice_split (λ b. b == separator) bytes
 
--- the parts of what is still to be taken off, if anything is
+-- the parts of the bytes that are still to be cut; none if nothing is left
 abbrev pub pieces_left : ℕ → Option (List ℕ) → List (List ℕ)
 pieces_left separator None = []
 pieces_left separator (Some bytes) = pieces separator bytes
 
--- a part, where it has a byte
+-- a list of one part, if the part has a byte; else the empty list
 abbrev pub unless_empty : List ℕ → List (List ℕ)
 unless_empty [] = []
 unless_empty (byte ∷ bytes) = (byte ∷ bytes) ∷ []
 
--- a last separator begins no further part
+-- the parts without the last one, if the last one is empty: a separator at the end begins no part
 abbrev pub without_last_empty : List (List ℕ) → List (List ℕ)
 without_last_empty [] = []
 without_last_empty (part ∷ []) = unless_empty part
 without_last_empty (part ∷ next ∷ parts) = part ∷ without_last_empty (next ∷ parts)
 
--- lines are parted by 0x0A
+-- the lines of a text; each ends with 0x0A, except that the last may end with the text
 unfoldable pub lines_of : List ℕ → List (List ℕ)
 lines_of text = without_last_empty (pieces 10 text)
 
--- words are parted by one space
+-- the words of a line, which are separated by one space
 abbrev pub words_of : List ℕ → List (List ℕ)
 words_of line = pieces 32 line
 
--- the first word; one that is missing is empty
+-- the first word; a missing word is empty
 abbrev pub first_word : List (List ℕ) → List ℕ
 first_word [] = []
 first_word (word ∷ words) = word
 
--- the words behind the first
+-- the words after the first
 abbrev pub later_words : List (List ℕ) → List (List ℕ)
 later_words [] = []
 later_words (word ∷ words) = words
@@ -62,7 +62,7 @@ abbrev pub words_from : ℕ → List (List ℕ) → List (List ℕ)
 words_from zero words = words
 words_from (suc place) words = words_from place (later_words words)
 
--- a number has one spelling, the one in which it is printed
+-- the number, at most `most`, that a word spells: the word has to be exactly the printed number
 unfoldable pub number_of : ℕ → List ℕ → Result ℕ ScriptRefusal
 number_of most word =
     let n = digits_value 10 word in

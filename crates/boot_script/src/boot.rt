@@ -1,7 +1,7 @@
 //! Boot scripts: a line that names the version, and then declarations and the steps of threads, one a line.
 //!
-//! Empty lines and comments, which begin with `#`, say nothing. The first line at fault decides, and want of memory is
-//! told only where no line is at fault.
+//! Empty lines and comments, which begin with `#`, say nothing. The first invalid line decides the fault. Out of memory
+//! is returned only if no line is invalid.
 
 ghost use Rattle.std.specs.Prelude.{◌≡◌, ◌≤◌, length};
 ghost use Rattle.boot_script.specs.Words.{lines_of};
@@ -35,7 +35,7 @@ fn plan_kept(draft: Draft) -> BootPlan
     }
 }
 
-/// What the lines from line 2 on say. After a refused growth the lines are still checked.
+/// The plan that the lines from line 2 on say. After a refused allocation the lines are still checked.
 fn plan_said(alloc: Global, version: Version, text: &[u8]) -> Result<BootPlan, ScriptFault>
     requires { length text.now ≤ 65536 }
     ensures { Says plan_of result (plan_only (plan_from version 2 (lines_of text.now) first_draft)) }
@@ -68,8 +68,8 @@ fn plan_said(alloc: Global, version: Version, text: &[u8]) -> Result<BootPlan, S
 
 /// The plan that a boot script says.
 ///
-/// The fault is the first of the text: the line at fault, or line 0 with `TooMany` where the text has more than 65,536
-/// bytes. Only where the text has no fault can a refused growth be the answer, as line 0 with `OutOfMemory`.
+/// The fault is the first of the text: the first invalid line, or line 0 with `TooMany` if the text has more than
+/// 65,536 bytes. A refused allocation is returned only if the text has no fault, as line 0 with `OutOfMemory`.
 #[tactic(auto, unfolding(crate::specs::Plans::text_plan))]
 pub fn parse_boot(alloc: Global, text: &[u8]) -> Result<BootPlan, ScriptFault>
     ensures { Says plan_of result (text_plan text.now) }

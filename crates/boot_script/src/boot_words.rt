@@ -7,7 +7,7 @@ use crate::fault::ScriptRefusal;
 use crate::text::same_word;
 use crate::version::Version;
 
-/// What a line of a boot script declares, or what a thread does.
+/// The kind of a line of a boot script: a declaration, or a step of a thread.
 #[derive(Clone, Copy)]
 pub(crate) enum BootWord {
     Queue,
@@ -59,7 +59,7 @@ const BOOT_WORDS: [BootWord; 21] = [
 ];
 
 impl BootWord {
-    /// How the word is written.
+    /// The word as it is written.
     fn word(self) -> &'static [u8]
         ensures { result.now ≡ boot_word self }
     {
@@ -107,7 +107,7 @@ impl BootWord {
         }
     }
 
-    /// Whether a version has this word, where a thread's program goes on or none does.
+    /// Whether a version has this word. `going` is whether there is a current thread, whose program gets the next step.
     fn is_in(self, version: Version, going: bool) -> bool
         ensures { result ≡ has_word version going self }
     {
@@ -118,7 +118,7 @@ impl BootWord {
     }
 }
 
-/// The word that is written so, in whatever version. Else UnknownWord.
+/// The word that is written like this, in any version. Else UnknownWord.
 fn named_word(word: &[u8]) -> Result<BootWord, ScriptRefusal>
     ensures exact { result ≡ word_named word.now boot_words }
     ensures refused { IfErr result (λ refusal. refusal ≡ ScriptRefusal.UnknownWord) }
@@ -131,7 +131,7 @@ fn named_word(word: &[u8]) -> Result<BootWord, ScriptRefusal>
     Err(ScriptRefusal::UnknownWord)
 }
 
-/// The first word of a line of this version, where a thread's program goes on or none does. Else UnknownWord.
+/// The first word of a line of this version; `going` is whether there is a current thread. Else UnknownWord.
 #[tactic(auto, unfolding(crate::specs::BootWords::boot_word_of))]
 pub(crate) fn line_word(
     version: Version,

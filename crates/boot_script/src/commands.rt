@@ -6,7 +6,7 @@ ghost use Rattle.boot_script.specs.Commands.{command_word, commands, named, know
 use crate::fault::ScriptRefusal;
 use crate::version::Version;
 
-/// What a line of a list of events tells the core to do.
+/// The command of a line of a list of events, which the core executes.
 #[derive(Clone, Copy)]
 pub(crate) enum Command {
     Queue,

@@ -1,5 +1,5 @@
-//! The names that a boot script has declared so far. They are kept in place, so that a fault is told where memory is
-//! wanting.
+//! The names that a boot script has declared so far. They are stored inline, so that a fault is returned even when
+//! memory is exhausted.
 
 ghost use Rattle.std.specs.Prelude.{◌≡◌, ◌<◌, ◌≤◌, [], IfOk, IfErr, OnOk, length, true};
 ghost use Rattle.std.specs.List.{list_all};
@@ -80,7 +80,7 @@ impl Default for Named {
     }
 }
 
-/// Whether two kinds are one.
+/// Whether two kinds are equal.
 fn same_kind(one: Kind, other: Kind) -> bool
     ensures { result ≡ same_kind one other }
 {
@@ -94,7 +94,7 @@ fn same_kind(one: Kind, other: Kind) -> bool
     )
 }
 
-/// How many of this kind a script of a version may have.
+/// How many names of this kind a script of a version may declare.
 fn most_of(version: Version, kind: Kind) -> usize
     ensures { result ≡ most_of version kind }
 {
@@ -116,14 +116,14 @@ fn is_letter(byte: u8) -> bool
     b'a' <= byte && byte <= b'z'
 }
 
-/// Whether a byte may stand in a name, behind its first.
+/// Whether a byte may occur in a name after its first byte.
 fn is_name_byte(byte: u8) -> bool
     ensures { result ≡ is_name_byte byte }
 {
     is_letter(byte) || (b'0' <= byte && byte <= b'9')
 }
 
-/// Whether all bytes may stand in a name, behind its first.
+/// Whether each of the bytes may occur in a name after its first byte.
 fn are_name_bytes(bytes: &[u8]) -> bool
     ensures { result ≡ list_all is_name_byte bytes.now }
 {
@@ -163,7 +163,7 @@ impl Names {
         }
     }
 
-    /// The number of what a name names, where it was declared for this kind. Else NameUnknown.
+    /// The number of the thing with this name, if the name was declared for this kind. Else NameUnknown.
     fn find(&self, kind: Kind, name: &[u8]) -> Result<usize, ScriptRefusal>
         ensures exact { result ≡ find kind self.now name.now }
         ensures within { IfOk result (λ number. number < most_of Version.Three kind) }
@@ -181,7 +181,7 @@ impl Names {
         Err(ScriptRefusal::NameUnknown)
     }
 
-    /// Whether a name was declared, for whatever kind.
+    /// Whether a name was declared, for any kind.
     fn has(&self, name: &[u8]) -> bool
         ensures { result ≡ is_declared self.now name.now }
     {
@@ -193,7 +193,7 @@ impl Names {
         false
     }
 
-    /// The number of the word's name, which was declared for something of this kind. Else BadName, NameUnknown.
+    /// The number of the name that the word is, if it was declared for this kind. Else BadName, NameUnknown.
     pub(crate) fn number(&self, kind: Kind, word: &[u8]) -> Result<usize, ScriptRefusal>
         ensures exact { result ≡ number_named kind self.now word.now }
         ensures within { IfOk result (λ number. number < most_of Version.Three kind) }
@@ -204,7 +204,7 @@ impl Names {
         self.find(kind, word)
     }
 
-    /// The element of the thread of the word's name. Else BadName, NameUnknown.
+    /// The element of the thread that the word names. Else BadName, NameUnknown.
     pub(crate) fn thread(&self, word: &[u8]) -> Result<Element, ScriptRefusal>
         ensures exact { result ≡ number_named Kind.Thread self.now word.now }
     {
@@ -212,7 +212,7 @@ impl Names {
         Element::new(number as u8).ok_or(ScriptRefusal::NameUnknown)
     }
 
-    /// The tty of the word's name. Else BadName, NameUnknown.
+    /// The tty that the word names. Else BadName, NameUnknown.
     pub(crate) fn tty(&self, word: &[u8]) -> Result<TtyNumber, ScriptRefusal>
         ensures exact { result ≡ number_named Kind.Tty self.now word.now }
     {
@@ -220,7 +220,7 @@ impl Names {
         Ok(TtyNumber { number })
     }
 
-    /// The gauge of the word's name. Else BadName, NameUnknown.
+    /// The gauge that the word names. Else BadName, NameUnknown.
     pub(crate) fn gauge(&self, word: &[u8]) -> Result<Gauge, ScriptRefusal>
         ensures exact { result ≡ number_named Kind.Gauge self.now word.now }
     {
@@ -228,7 +228,7 @@ impl Names {
         Gauge::new(number as u8).ok_or(ScriptRefusal::NameUnknown)
     }
 
-    /// The word's name, which was not declared before. Else BadName, NameTwice.
+    /// The name that the word is, if it was not declared before. Else BadName, NameTwice.
     pub(crate) fn new_name(&self, word: &[u8]) -> Result<Name, ScriptRefusal>
         ensures { result ≡ new_name self.now word.now }
     {
@@ -240,7 +240,7 @@ impl Names {
         }
     }
 
-    /// How many things of a kind were declared.
+    /// How many names of a kind were declared.
     pub(crate) fn count(&self, kind: Kind) -> usize
         ensures count { result ≡ count_of kind self.now }
         ensures few { result ≤ most_of Version.Three kind }
@@ -254,7 +254,7 @@ impl Names {
         count
     }
 
-    /// Adds a name, which gets the next number of its kind. TooMany where the version has no more of the kind.
+    /// Adds a name, which gets the next number of its kind. TooMany if the version allows no more names of the kind.
     pub(crate) fn add(
         &mut self,
         version: Version,
@@ -273,7 +273,7 @@ impl Names {
         Ok(())
     }
 
-    /// The part of a tty that a word names: its screen queue, and where a line is heard also its line queue. Else
+    /// The part of a tty that a word names: its screen queue, or, if a line is heard, its line queue. Else
     /// NameUnknown.
     fn part(tty: usize, heard: bool, part: &[u8]) -> Result<QueueIndex, ScriptRefusal>
         requires { tty < 2 }
@@ -288,7 +288,7 @@ impl Names {
         Err(ScriptRefusal::NameUnknown)
     }
 
-    /// A part of the tty of a name. Else NameUnknown.
+    /// A part of the tty that has this name. Else NameUnknown.
     fn tty_part(&self, heard: bool, name: &[u8], part: &[u8]) -> Result<QueueIndex, ScriptRefusal>
         ensures { result ≡ tty_part heard self.now name.now part.now }
     {

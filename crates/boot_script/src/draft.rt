@@ -1,7 +1,7 @@
-//! The plan as far as the lines have said it.
+//! The plan that the lines have said so far.
 //!
-//! What tells whether a line is at fault (the names, and how many there are of what) is kept in place. After a refused growth
-//! the plan itself is not made any longer, and the lines are still checked.
+//! The data that decides whether a line is invalid (the names and the counts) is stored inline. After a refused
+//! allocation the plan itself no longer grows, and the lines are still checked.
 
 ghost use Rattle.std.specs.Prelude.{◌≡◌, ◌<◌, ◌≤◌, ◌+◌, ◌++◌, ◌∷◌, [], Ok, Some, true, length, nat_lt, if◌then◌else◌};
 ghost use Rattle.std.specs.List.{list_all};
@@ -31,7 +31,7 @@ const MOST_ALARMS: usize = 16;
 /// How many steps a program may have.
 const MOST_STEPS: usize = 64;
 
-/// The plan so far, the names that were declared, and the thread whose program goes on.
+/// The plan so far, the declared names, and the current thread, whose program gets the next step.
 #[derive(Drop)]
 pub(crate) struct Draft {
     pub(crate) queues: Vec<PlannedQueue>,
@@ -46,32 +46,32 @@ pub(crate) struct Draft {
     typed: [usize; 2],
     alarm_count: usize,
     step_counts: [usize; 64],
-    /// No growth was refused.
+    /// No allocation was refused.
     pub(crate) kept: bool,
 }
 
-/// Appends to a list where nothing was lost before, and tells whether that is still so.
+/// Appends to a list if nothing was lost before, and returns whether nothing is lost now.
 fn keep<T: Drop>(kept: bool, list: &mut Vec<T>, item: T) -> bool
     ensures { result ≡ true → (kept ≡ true) × (list.new.items ≡ list.old.items ++ item ∷ []) }
 {
     kept && list.push(item).is_ok()
 }
 
-/// Whether both hold.
+/// Whether both are true.
 fn both(first: bool, second: bool) -> bool
     ensures { result ≡ true → (first ≡ true) × (second ≡ true) }
 {
     first && second
 }
 
-/// The new count of what is there, and else the old one.
+/// The new count if the counted thing exists, and else the old count.
 fn count_if(there: bool, new: usize, old: usize) -> usize
     ensures { result ≡ (if there then new else old) }
 {
     if there { new } else { old }
 }
 
-/// Types a text at a tty, which has room for it.
+/// Types a text at a tty, for which there is room.
 fn type_at(ttys: &mut Vec<PlannedTty>, tty: usize, text: &[u8])
     ensures { length (typed_at ttys.old.items tty) + length text.now ≤ 1024
         → ttys.new.items ≡ change_at (with_text text.now) ttys.old.items tty }
@@ -81,7 +81,7 @@ fn type_at(ttys: &mut Vec<PlannedTty>, tty: usize, text: &[u8])
     }
 }
 
-/// Appends a step to a thread's program, and tells whether no growth was refused.
+/// Appends a step to a thread's program, and returns whether no allocation was refused.
 fn step_at(threads: &mut Vec<PlannedThread>, thread: usize, step: Step) -> bool
     ensures { result ≡ true → threads.new.items ≡ change_at (with_step step) threads.old.items thread }
 {
@@ -93,7 +93,7 @@ fn step_at(threads: &mut Vec<PlannedThread>, thread: usize, step: Step) -> bool
 }
 
 impl Draft {
-    /// Nothing was said.
+    /// An empty draft.
     pub(crate) fn new(alloc: Global) -> Self
         ensures { Draws result first_draft }
     {
@@ -113,7 +113,7 @@ impl Draft {
         }
     }
 
-    /// A queue or pipe more. TooMany where there are eight.
+    /// Adds a queue or pipe. TooMany if there are eight.
     fn add_queue(&mut self, version: Version, queue: PlannedQueue) -> Result<(), ScriptRefusal>
         ensures { AddsTo self.old result self.new (λ d. added version (Line.Queue queue) d) }
     {
@@ -126,7 +126,7 @@ impl Draft {
         }
     }
 
-    /// A tty more. TooMany where there are two.
+    /// Adds a tty. TooMany if there are two.
     fn add_tty(&mut self, version: Version, name: Name) -> Result<(), ScriptRefusal>
         ensures { AddsTo self.old result self.new (λ d. added version (Line.Tty name) d) }
     {
@@ -140,7 +140,7 @@ impl Draft {
         }
     }
 
-    /// What a tty's device types besides. TextTooLong where that were more than 1,024 bytes.
+    /// Adds a text to the bytes that a tty's device types. TextTooLong if they would be more than 1,024 bytes.
     fn add_text(&mut self, tty: TtyNumber, text: &Text<1024>) -> Result<(), ScriptRefusal>
         ensures { (version : Version)
             → AddsTo self.old result self.new (λ d. added version (Line.Types tty text.now) d) }
@@ -156,7 +156,7 @@ impl Draft {
         Ok(())
     }
 
-    /// The same of a text as it stands in the script.
+    /// Adds a text, given as it is written in the script, to the bytes that a tty's device types. TextTooLong as above.
     fn add_typed(&mut self, tty: TtyNumber, text: &Typed) -> Result<(), ScriptRefusal>
         ensures { (version : Version)
             → AddsTo self.old result self.new (λ d. added version (Line.Types tty text.now) d) }
@@ -164,7 +164,7 @@ impl Draft {
         self.add_text(tty, &text.to_text())
     }
 
-    /// A pump or switch more. TooMany where there are four.
+    /// Adds a pump or switch. TooMany if there are four.
     fn add_mover(&mut self, version: Version, mover: PlannedMover) -> Result<(), ScriptRefusal>
         ensures { AddsTo self.old result self.new (λ d. added version (Line.Mover mover) d) }
     {
@@ -177,7 +177,7 @@ impl Draft {
         }
     }
 
-    /// A gauge more. TooMany where there are eight.
+    /// Adds a gauge. TooMany if there are eight.
     fn add_gauge(&mut self, version: Version, name: Name) -> Result<(), ScriptRefusal>
         ensures { AddsTo self.old result self.new (λ d. added version (Line.Gauge name) d) }
     {
@@ -190,7 +190,7 @@ impl Draft {
         }
     }
 
-    /// An alarm more. TooMany where there are sixteen.
+    /// Adds an alarm. TooMany if there are sixteen.
     fn add_alarm(&mut self, alarm: Alarm) -> Result<(), ScriptRefusal>
         ensures { (version : Version) → AddsTo self.old result self.new (λ d. added version (Line.Alarm alarm) d) }
     {
@@ -202,7 +202,7 @@ impl Draft {
         Ok(())
     }
 
-    /// A thread more, whose program is the one that goes on. TooMany where the version has no more.
+    /// Adds a thread, which becomes the current one. TooMany if the version allows no more threads.
     fn add_thread(
         &mut self,
         alloc: Global,
@@ -223,14 +223,14 @@ impl Draft {
         }
     }
 
-    /// The program of this thread goes on.
+    /// Makes this thread the current one, whose program gets the next steps.
     fn go_on(&mut self, thread: Element)
         ensures { (version : Version) → AddsTo self.old (Ok tt) self.new (λ d. added version (Line.More thread) d) }
     {
         self.going = Some(thread);
     }
 
-    /// Whether the thread with this number was declared. One that has steps was, so the names are counted once.
+    /// Whether the thread with this number was declared. A thread with steps was, so the names are not counted for it.
     #[tactic(auto, using(crate::proofs::Drafts::Drawn::thread_is))]
     fn has_thread(&self, thread: usize) -> bool
         requires { thread < 64 }
@@ -239,7 +239,7 @@ impl Draft {
         self.step_counts[thread] != 0 || thread < self.names.count(Kind::Thread)
     }
 
-    /// A step more in a thread's program. TooMany where it has 64.
+    /// Adds a step to a thread's program. TooMany if the program has 64 steps.
     fn add_step(&mut self, thread: Element, step: Step) -> Result<(), ScriptRefusal>
         ensures { AddsTo self.old result self.new (λ d. add_step step (Some thread) d) }
     {
@@ -254,7 +254,7 @@ impl Draft {
         Ok(())
     }
 
-    /// What a line says, added to what was said before.
+    /// Adds a line that was read.
     #[tactic(auto, unfolding(crate::specs::Plans::added))]
     fn add(&mut self, alloc: Global, version: Version, line: Line) -> Result<(), ScriptRefusal>
         ensures { AddsTo self.old result self.new (λ d. added version line.entry d) }
@@ -278,7 +278,7 @@ impl Draft {
         }
     }
 
-    /// A line more. `seen` tells that each byte of it was seen to be printable.
+    /// Reads a line and adds it. If `seen` is true, each byte of the line is known to be printable.
     #[tactic(auto, unfolding(crate::specs::Plans::line_added))]
     pub(crate) fn add_line(
         &mut self,

@@ -1,7 +1,7 @@
 //! Lists of events as text: a line that names the version, and then an event a line.
 //!
-//! Empty lines and comments, which begin with `#`, say nothing. The first line at fault decides, and want of memory is
-//! told only where no line is at fault.
+//! Empty lines and comments, which begin with `#`, say nothing. The first invalid line decides the fault. Out of memory
+//! is returned only if no line is invalid.
 
 ghost use Rattle.std.specs.Prelude.{◌≡◌, ◌≤◌, IfOk, length};
 ghost use Rattle.boot_script.specs.Words.{lines_of};
@@ -16,7 +16,7 @@ use crate::version::{Script, Version};
 use event_theory::Event;
 use std::alloc::Global;
 
-/// The events of the lines from line 2 on. After a refused growth the lines are still checked.
+/// The events of the lines from line 2 on. After a refused allocation the lines are still checked.
 fn events_said(
     alloc: Global,
     version: Version,
@@ -55,8 +55,8 @@ fn events_said(
 
 /// How many thread elements the version of the text has, and its events, each with the number of its line.
 ///
-/// The fault is the first of the text: the line at fault, or line 0 with `TooMany` where the text has more than 65,536
-/// bytes. Only where the text has no fault can a refused growth be the answer, as line 0 with `OutOfMemory`.
+/// The fault is the first of the text: the first invalid line, or line 0 with `TooMany` if the text has more than
+/// 65,536 bytes. A refused allocation is returned only if the text has no fault, as line 0 with `OutOfMemory`.
 #[tactic(auto, unfolding(crate::specs::Scripts::text_events))]
 pub fn parse_events(alloc: Global, text: &[u8]) -> Result<(u8, Vec<(u32, Event)>), ScriptFault>
     ensures said { Says (λ script. (script.0, script.1.items)) result (text_events text.now) }

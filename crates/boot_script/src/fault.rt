@@ -1,6 +1,6 @@
-//! Why a script is refused: the line at fault, and what is wrong there.
+//! Why a script is refused: the invalid line, and the reason.
 //!
-//! The refusals are those of both kinds of scripts, so a list of events never meets some of them.
+//! The refusals cover both kinds of scripts, so a list of events is never refused for some of them.
 
 ghost use Rattle.std.specs.Prelude.{Some};
 
@@ -9,39 +9,39 @@ use std::fmt;
 
 /// Why a script is refused, with the number that is printed.
 ///
-/// The first line at fault decides, and in a line the first word at fault, from left to right. A word too many is
-/// told behind the faults of all other words, and `TooMany` behind it. `OutOfMemory` is the last of all.
+/// The first invalid line decides, and in a line the first invalid word, from left to right. A word too many is
+/// reported after the faults of all other words, and `TooMany` after a word too many. `OutOfMemory` is the last of all.
 #[derive(Clone, Copy, Debug, PartialEq, Eq)]
 pub enum ScriptRefusal {
-    /// The first line is not that of a known version.
+    /// The first line is not the first line of a known version.
     NotVersion = 1,
-    /// The first word of a line is not known, or a word stands behind the last.
+    /// The first word of a line is not known, or a word follows the last one.
     UnknownWord = 2,
     /// A word is not a number in its range, with no sign and no leading zero.
     BadNumber = 3,
-    /// A word has not the form of the name that stands there.
+    /// A word does not have the form of the name that is expected there.
     BadName = 4,
     /// A name is declared a second time, or a way of a switch has the key of an earlier one.
     NameTwice = 5,
-    /// A name is not declared, or names something of another kind; or what stands behind its full stop is no such part.
+    /// A name is not declared, or names something of another kind; or the text after its full stop names no such part.
     NameUnknown = 6,
     /// The text has more than 65,536 bytes, a line more items or ways than it may have, or the script more declarations
     /// or steps.
     TooMany = 7,
-    /// A text is longer than it may be, or would make what a tty's device types longer than that may be.
+    /// A text is longer than allowed, or would make the text that a tty's device types longer than allowed.
     TextTooLong = 8,
-    /// A line that is no comment has a byte other than 0x20 to 0x7E.
+    /// A line that is not a comment has a byte other than 0x20 to 0x7E.
     NotAscii = 9,
-    /// A growth was refused, and nothing else is at fault.
+    /// An allocation was refused, and nothing is invalid.
     OutOfMemory = 10,
 }
 
 /// The first fault of a script.
 #[derive(Clone, Copy, Debug, PartialEq, Eq)]
 pub struct ScriptFault {
-    /// The line at fault, from 1; 0 where it is the text as a whole.
+    /// The invalid line, from 1; 0 if the fault is of the text as a whole.
     pub line: u32,
-    /// What is wrong there.
+    /// Why it is invalid.
     pub refusal: ScriptRefusal,
 }
 
@@ -84,7 +84,7 @@ impl fmt::Display for ScriptFault {
 impl StdError for ScriptFault {}
 
 impl ScriptFault {
-    /// Want of memory is a fault of no line.
+    /// Out of memory, which is a fault of no line.
     pub(crate) const NO_MEMORY: ScriptFault = ScriptFault {
         line: 0,
         refusal: ScriptRefusal::OutOfMemory,

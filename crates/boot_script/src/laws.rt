@@ -21,8 +21,8 @@ pub fn read_again()
         → line_event version (spelling event) ≡ Ok event }
 {}
 
-/// A text says these events exactly where it is the first line of a version, and then lines each of which is silent or
-/// the spelling of the next event.
+/// A text says these events exactly if it is the first line of a version, and then lines each of which is silent or the
+/// spelling of the next event.
 pub fn whole_text()
     ensures spelled { (text : List ℕ) (elements : ℕ) (events : List (ℕ × Event))
         → text_events text ≡ Ok (elements, events) → SpellsText text elements events }
@@ -30,7 +30,7 @@ pub fn whole_text()
         → text_events text ≡ Ok (elements, events) }
 {}
 
-/// No text is at fault by want of memory, so a reader that answers it has found no fault.
+/// No text is invalid because memory is exhausted, so a reader that returns `OutOfMemory` has found no fault.
 pub fn memory_is_no_fault()
     ensures { (text : List ℕ) (fault : ScriptFault) → text_events text ≡ Err fault → fault.refusal ≢ OutOfMemory }
 {}

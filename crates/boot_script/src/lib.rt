@@ -1,4 +1,4 @@
-//! Scripts as text: what their lines say, what is wrong with them, and what is printed of them.
+//! Scripts as text: the content of their lines, their faults, and the text that is printed after a run.
 //!
 //! ```rust
 //! let list = b"events 1\nqueue 4\nclaim c1 q0 104 10\ntake c2 q0 1\n".as_slice();

@@ -1,6 +1,6 @@
 //! The names in a line of a list of events: a letter, and a number with no leading zero.
 //!
-//! Only the form and the range of a name are tested here. Whether there is such a queue is the core's to say.
+//! Only the form and the range of a name are tested here. The core tests whether the named queue exists.
 
 ghost use Rattle.std.specs.Prelude.{◌≡◌, ◌≤◌, IfOk, IfErr};
 ghost use Rattle.boot_script.specs.Names.{numbered_name, call_of, processor_of, element_of, gauge_of, signal_of};
@@ -15,7 +15,7 @@ use event_theory::{
     Call, ChainNumber, Element, Gauge, Processor, QueueName, QueueNumber, Signal, Slot, WaitNumber,
 };
 
-/// Who is told by a notify.
+/// The listener that a notify goes to.
 #[derive(Clone, Copy)]
 pub(crate) enum Listener {
     /// The runner of a chain.
@@ -24,7 +24,7 @@ pub(crate) enum Listener {
     Wait(WaitNumber),
 }
 
-/// The number behind a letter. Else BadName.
+/// The number after a letter. Else BadName.
 fn numbered(word: &[u8], letter: u8, most: u8) -> Result<u8, ScriptRefusal>
     ensures exact { result ≡ numbered_name letter most word.now }
     ensures within { IfOk result (λ n. n ≤ most) }
@@ -150,7 +150,7 @@ pub(crate) fn queue(version: Version, word: &[u8]) -> Result<QueueName, ScriptRe
     Ok(QueueName::Wait(wait(version, word)?))
 }
 
-/// Who is told by a notify: a chain, and from the second version on also a wait queue. Else BadName.
+/// The listener of a notify: a chain, and from the second version on also a wait queue. Else BadName.
 #[tactic(auto, unfolding(crate::specs::Names::listener_of))]
 pub(crate) fn notify_listener(version: Version, word: &[u8]) -> Result<Listener, ScriptRefusal>
     ensures exact { result ≡ listener_of version word.now }

@@ -1,4 +1,4 @@
-//! What both scripts share: their length, their first line, and the lines that say nothing.
+//! The common parts of both kinds of script: their length, their first line, and the lines that say nothing.
 
 ghost use Rattle.std.specs.Prelude.{◌≡◌, ◌≤◌, IfOk, length};
 ghost use Rattle.boot_script.specs.Words.{lines_of};
@@ -13,7 +13,7 @@ use crate::version::{Script, Version};
 /// How many bytes a script may have.
 pub(crate) const MOST_BYTES: usize = 65_536;
 
-/// An empty line and a comment say nothing.
+/// Whether a line says nothing: it is empty or a comment.
 pub(crate) fn is_silent(line: &[u8]) -> bool
     ensures { result ≡ says_nothing line.now }
 {
@@ -40,7 +40,7 @@ fn version_said(script: Script, line: &[u8]) -> Result<Version, ScriptRefusal>
     Err(ScriptRefusal::NotVersion)
 }
 
-/// The version of a script, and the text behind its first line.
+/// The version of a script, and the text after its first line.
 #[tactic(auto, unfolding(crate::specs::Scripts::versioned, crate::specs::Scripts::opening_of, crate::specs::Words::lines_of))]
 pub(crate) fn opening(script: Script, text: &[u8]) -> Result<(Version, &[u8]), ScriptFault>
     ensures said { Equals (λ opening. (opening.0, lines_of opening.1.now)) result (opening_of script text.now) }

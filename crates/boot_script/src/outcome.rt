@@ -9,7 +9,7 @@ use event_theory::{OutOfMemory, Refusal};
 use std::error::Error as StdError;
 use std::fmt;
 
-/// What a replay has printed: a status, and the line of the first event that isn't allowed, where there is one.
+/// The printed result of a replay: a status, and the line of the first event that isn't allowed, if there is one.
 #[derive(Clone, Copy, Debug, PartialEq, Eq)]
 pub enum Replayed {
     /// Each event was allowed.
@@ -23,16 +23,16 @@ pub enum Replayed {
     },
 }
 
-/// Why a replay has ended early. Nothing was written, but where the fault is `Write`.
+/// Why a replay has ended early. Nothing was written, except if the fault is `Write`.
 #[derive(Clone, Copy, Debug, PartialEq, Eq)]
 pub enum ReplayFault {
-    /// The script is at fault.
+    /// The script is invalid.
     Script(ScriptFault),
-    /// A growth was refused, and the script is not at fault.
+    /// An allocation was refused, and the script is valid.
     Memory,
     /// The reader failed, or there were more than 131,072 reads.
     Read,
-    /// The writer failed. A front of what is printed may be written.
+    /// The writer failed. A prefix of the printed text may have been written.
     Write,
 }
 

@@ -1,4 +1,4 @@
-//! A page of text on the stack, so that what is printed goes out in few writes, each of whole lines.
+//! A page of text on the stack, so that the printed text goes out in few writes, each of whole lines.
 
 ghost use Rattle.std.specs.Prelude.{◌≡◌, ℕ, List, [], ◌≤◌, Some, take};
 
@@ -9,7 +9,7 @@ use std::marker::Model;
 /// How many bytes a page has room for. The longest status of a core is shorter.
 const ROOM: usize = 8192;
 
-/// A text that takes no memory, and takes no more bytes where it is full. Contracts see its bytes.
+/// A text that takes no memory, and takes no more bytes when it is full. Contracts see its bytes.
 #[derive(Drop)]
 pub(crate) struct Page {
     bytes: [u8; ROOM],
@@ -35,7 +35,7 @@ impl Page {
         }
     }
 
-    /// All that stands on the page.
+    /// All text of the page.
     pub(crate) fn text(&self) -> &[u8]
         ensures { result.now ≡ self.now }
     {

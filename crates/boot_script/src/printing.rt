@@ -1,7 +1,7 @@
-//! What is printed of a core: its status, and the event that it refused. Nothing here takes memory.
+//! The printed text of a core: its status, and the event that it refused. Nothing here takes memory.
 //!
-//! Things that are as they were at first have no line, but for queues and chains. Both go out as one text, for which
-//! the longest status of a core has room, so that who reads a pipe sees whole lines.
+//! Things in their first state have no line, except queues and chains. Each of the two goes out as one text. The page
+//! has room for the longest status of a core, so that a reader of a pipe sees whole lines.
 
 ghost use Rattle.std.specs.Prelude.{◌≡◌, ◌<◌, ◌++◌, OnOk, OnErr};
 ghost use Rattle.std.specs.Io.KnownBytes.{Appends};
@@ -20,7 +20,7 @@ use event_theory::{
 use itoa::{Buffer, Integer};
 use std::io;
 
-/// A word, and a number behind it.
+/// A word, and a number after it.
 pub(crate) fn print_number<W: Sink, I: Integer>(
     word: &'static str,
     number: I,
@@ -34,7 +34,7 @@ pub(crate) fn print_number<W: Sink, I: Integer>(
     out.write_text(digits.format(number).as_bytes())
 }
 
-/// A word that is there only where the test holds.
+/// A word that is printed only if the test holds.
 fn word_where(test: bool, word: &'static str) -> &'static str
     ensures { result.now ≡ word_if test word.now }
 {
@@ -150,7 +150,7 @@ pub(crate) fn digits_of(signals: u16) -> [u8; 4]
     ]
 }
 
-/// Whether an element is as it was at first.
+/// Whether an element is in its first state.
 fn is_untouched(element: &ElementStatus) -> bool
     ensures { result ≡ is_first_state element.now }
 {
@@ -178,7 +178,7 @@ fn print_element<W: Sink>(number: usize, element: &ElementStatus, out: &mut W) -
     out.write_text(b"\n")
 }
 
-/// The lines of the elements that aren't as they were at first.
+/// The lines of the elements that aren't in their first state.
 fn print_elements<W: Sink>(elements: &[ElementStatus], out: &mut W) -> io::Result<()>
     ensures effect { OnOk result (Appends (W.contents out.old) (W.contents out.new)
         (numbered_lines element_line 0 elements.now)) }
@@ -192,7 +192,7 @@ fn print_elements<W: Sink>(elements: &[ElementStatus], out: &mut W) -> io::Resul
     Ok(())
 }
 
-/// The line of one gauge, where it isn't 0.
+/// The line of one gauge, if it isn't 0.
 #[tactic(auto, unfolding(crate::specs::Printed::gauge_line))]
 fn print_gauge<W: Sink>(number: usize, value: u64, out: &mut W) -> io::Result<()>
     ensures effect { OnOk result (Appends (W.contents out.old) (W.contents out.new) (gauge_line number value)) }
@@ -218,7 +218,7 @@ fn print_gauges<W: Sink>(gauges: &[u64], out: &mut W) -> io::Result<()>
     Ok(())
 }
 
-/// The line of the clock, where it isn't 0.
+/// The line of the clock, if it isn't 0.
 #[tactic(auto, unfolding(crate::specs::Printed::clock_line))]
 fn print_clock<W: Sink>(clock: u32, out: &mut W) -> io::Result<()>
     ensures effect { OnOk result (Appends (W.contents out.old) (W.contents out.new) (clock_line clock)) }
@@ -231,7 +231,7 @@ fn print_clock<W: Sink>(clock: u32, out: &mut W) -> io::Result<()>
     out.write_text(b"\n")
 }
 
-/// The line of the alarms, where one was set.
+/// The line of the alarms, if one was set.
 #[tactic(auto, unfolding(crate::specs::Printed::alarm_line))]
 fn print_alarms<W: Sink>(alarms: &AlarmStatus, out: &mut W) -> io::Result<()>
     ensures effect { OnOk result (Appends (W.contents out.old) (W.contents out.new) (alarm_line alarms.now)) }
@@ -246,7 +246,7 @@ fn print_alarms<W: Sink>(alarms: &AlarmStatus, out: &mut W) -> io::Result<()>
     out.write_text(b"\n")
 }
 
-/// The line of one wait queue, where it had a notify.
+/// The line of one wait queue, if it had a notify.
 #[tactic(auto, unfolding(crate::specs::Printed::notified_line))]
 fn print_notified<W: Sink>(number: usize, count: u32, out: &mut W) -> io::Result<()>
     ensures effect { OnOk result (Appends (W.contents out.old) (W.contents out.new) (notified_line number count)) }
@@ -289,11 +289,11 @@ fn print_lines<W: Sink>(status: &Status, out: &mut W) -> io::Result<()>
     print_notifies(status.notified.as_slice(), out)
 }
 
-/// Prints the status of a core: how many events were allowed, a line for each queue and chain, and one for each
-/// element, gauge, clock and wait queue that isn't as it was at first. Takes no memory.
+/// Prints the status of a core: how many events were allowed, a line for each queue and chain, one for each element,
+/// gauge, clock and wait queue not in its first state, and one for the alarms if one was set. Takes no memory.
 ///
-/// It is one text for the writer, up to 8,192 bytes; none that a core has is longer. After a fault of the writer a
-/// front of the text may be written. There is no other fault.
+/// The status is one text for the writer, up to 8,192 bytes; no core has a longer status. After a fault of the writer a
+/// prefix of the text may have been written. There is no other fault.
 pub fn print_status<W: Sink>(status: &Status, out: &mut W) -> io::Result<()>
     ensures effect { OnOk result (Appends (W.contents out.old) (W.contents out.new) (status_text status.now)) }
     ensures error { OnErr result (IsWriteFault W.fails out.new) }
@@ -352,8 +352,8 @@ fn print_refusal<W: Sink>(line: u32, refusal: Refusal, out: &mut W) -> io::Resul
 
 /// Prints the line of an event that was refused: its line in the script, and the refusal's number and name.
 ///
-/// Takes no memory. The line is one text for the writer. After a fault of the writer a front of it may be written.
-/// There is no other fault.
+/// Takes no memory. The line is one text for the writer. After a fault of the writer a prefix of the line may have been
+/// written. There is no other fault.
 pub fn print_refused<W: Sink>(line: u32, refusal: Refusal, out: &mut W) -> io::Result<()>
     ensures effect { OnOk result (Appends (W.contents out.old) (W.contents out.new) (refused_text line refusal)) }
     ensures error { OnErr result (IsWriteFault W.fails out.new) }

@@ -30,11 +30,11 @@ impl fmt::Display for ReadFault {
 
 impl StdError for ReadFault {}
 
-/// Fills the front of the buffer up to the end of the reader, or just past the length that a script may have, and gives
-/// the length of that front. It says what all bytes of the reader say, as a list of events and as a boot script.
+/// Fills the front of the buffer up to the end of the reader, or just past the length limit of a script, and returns
+/// the length of that front. The front says what all bytes of the reader say, as a list of events and as a boot script.
 ///
-/// Takes no memory, so that a fault of the text is told where memory is wanting. After a call that reads a byte or is
-/// interrupted, reading goes on. Any other call is the last one, and so is the 131,072nd.
+/// Takes no memory, so that a fault of the text is returned even when memory is exhausted. After a call that reads a
+/// byte or is interrupted, reading goes on. Any other call is the last one, and so is the 131,072nd.
 ///
 /// Condition: the buffer has 65,537 bytes.
 pub fn read_script<R: Source>(reader: &mut R, buffer: &mut [u8]) -> Result<usize, ReadFault>

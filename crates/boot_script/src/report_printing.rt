@@ -1,6 +1,6 @@
-//! What is printed of a report. Nothing here takes memory.
+//! The printed text of a report. Nothing here takes memory.
 //!
-//! Lines are gathered in a buffer, which is written out where the next lines don't fit, so that a report goes out in
+//! Lines are gathered in a buffer, which is written out when the next lines don't fit, so that a report goes out in
 //! few writes, each of whole lines.
 
 ghost use Rattle.std.specs.Prelude.{◌≡◌, ◌<◌, ◌++◌, [], OnOk, OnErr, length, Some, codes};
@@ -177,7 +177,7 @@ fn print_state<W: Sink>(state: ThreadState, out: &mut W) -> io::Result<()>
     }
 }
 
-/// The signals that were delivered, where one was.
+/// The signals that were delivered, if there are any.
 #[tactic(auto, unfolding(crate::specs::Reports::signals_words))]
 fn print_signals<W: Sink>(signals: u16, out: &mut W) -> io::Result<()>
     ensures effect { OnOk result (Appends (W.contents out.old) (W.contents out.new) (signals_words signals)) }
@@ -216,7 +216,7 @@ fn upper_digit_of(nibble: u8) -> u8
     }
 }
 
-/// Whether a byte stands for itself in a text.
+/// Whether a byte is written as itself in a text.
 fn is_plain(byte: u8) -> bool
     ensures { result ≡ stands_for_itself byte }
 {
@@ -278,7 +278,7 @@ impl<'a> Lines for HeardLine<'a> {
     }
 }
 
-/// The line with this number of what was heard.
+/// The heard line with this number.
 fn line_at(heard: &HeardReport, number: usize) -> HeardLine<'_>
     requires { number < length heard.now }
     ensures { slice_get heard.now number ≡ Some (shown result) }
@@ -317,7 +317,7 @@ fn write_out<W: Sink>(buffer: &mut Buffer, out: &mut W) -> io::Result<()>
     Ok(())
 }
 
-/// Puts whole lines in the buffer. Where they don't fit beside what is there, that goes out first; where they don't fit
+/// Puts whole lines in the buffer. If they don't fit after its content, the content goes out first; if they don't fit
 /// even then, they go out by themselves.
 fn put_text<W: Sink>(text: &[u8], buffer: &mut Buffer, out: &mut W) -> io::Result<()>
     ensures effect { OnOk result (Appends (append_known (W.contents out.old) buffer.old.items)
@@ -334,7 +334,7 @@ fn put_text<W: Sink>(text: &[u8], buffer: &mut Buffer, out: &mut W) -> io::Resul
     out.write_text(text)
 }
 
-/// Puts the lines of one thing in the buffer. `own` is room to print them in, whatever stands there.
+/// Puts the lines of one thing in the buffer. `own` is room to print them in; its old content is dropped.
 fn put<L: Lines, W: Sink>(
     lines: &L,
     own: &mut Buffer,
@@ -349,7 +349,7 @@ fn put<L: Lines, W: Sink>(
     match lines.print(own) {
         Ok(()) => put_text(own.as_slice(), buffer, out),
         Err(_) => {
-            // Longer than a buffer, as no lines of one thing are today.
+            // The lines are longer than a buffer, which no lines of one thing are today.
             write_out(buffer, out)?;
             lines.print(out)
         }
@@ -426,8 +426,8 @@ fn add_heard(line: &HeardLine, room: &mut Buffer) -> Result<(), CapacityError>
     add(b"\n", room)
 }
 
-/// Puts a line that was heard in the buffer. `room` is a buffer to put it together in, whatever stands there: with no
-/// writer where its step is below 100, as each is today.
+/// Puts a line that was heard in the buffer. `room` is a buffer to build the line in; its old content is dropped. No
+/// writer is used to build the line if its step is below 100, as each step is today.
 fn put_line<W: Sink>(
     line: &HeardLine,
     room: &mut Buffer,
@@ -445,7 +445,7 @@ fn put_line<W: Sink>(
     put(line, room, buffer, out)
 }
 
-/// Puts the lines of what was heard in the buffer.
+/// Puts all lines that were heard in the buffer.
 fn put_heard<W: Sink>(
     heard: &HeardReport,
     own: &mut Buffer,
@@ -462,11 +462,11 @@ fn put_heard<W: Sink>(
     Ok(())
 }
 
-/// Prints a report: the lines of its lists one behind the other, that of the alarms where one was set, and at the end
-/// that of the chains. Takes no memory.
+/// Prints a report: the lines of its lists, one list after the other, the line of the alarms if one was set, and at the
+/// end the line of the chains. Takes no memory.
 ///
-/// The lines go out in writes of up to 8,192 bytes, each of whole lines. After a fault of the writer a front of the
-/// text may be written. There is no other fault.
+/// The lines go out in writes of up to 8,192 bytes, each of whole lines. After a fault of the writer a prefix of the
+/// text may have been written. There is no other fault.
 #[tactic(auto, unfolding(crate::specs::Reports::report_text))]
 pub fn print_report<W: Sink>(report: &Report, out: &mut W) -> io::Result<()>
     ensures effect { OnOk result (Appends (W.contents out.old) (W.contents out.new) (report_text report.now)) }

@@ -57,7 +57,7 @@ fn run_events(
     Ok((replayed, status))
 }
 
-/// Prints the status, and then the line of the event that was refused.
+/// Prints the status, and then the line of the event that was refused, if there is one.
 fn print_replay<W: Sink>(replayed: Replayed, status: &Status, writer: &mut W) -> io::Result<()>
     ensures effect { OnOk result (Appends (W.contents writer.old) (W.contents writer.new)
         (replay_text replayed status.now)) }
@@ -97,12 +97,12 @@ fn run_text<W: Sink>(alloc: Global, text: &[u8], writer: &mut W) -> Result<Repla
 
 /// Runs the list of events that is read on a fresh core, and prints the core's status.
 ///
-/// Printed is the status after the events before the first that isn't allowed, and then that event's `refused` line,
-/// where there is one. After a fault other than `Write` nothing was written. `Memory` is answered only where the text
-/// has no fault. After each call of read but the last, reading went on: it read a byte or more, or was interrupted.
-/// `Read` comes only where the last call on the reader answered an error other than an interruption, or at 131,072
-/// calls. Any other answer comes only where the last call found the end, or read a byte too much. `Write` comes only
-/// where the last call on the writer answered an error.
+/// The text is the status after the events before the first that isn't allowed, and then the `refused` line of that
+/// event, if there is one. After a fault other than `Write` nothing was written. `Memory` is returned only if the text
+/// has no fault. After each call of read except the last, reading went on: it read a byte or more, or was interrupted.
+/// `Read` is returned only if the last call on the reader answered an error other than an interruption, or at 131,072
+/// calls. Any other answer comes only if the last call found the end, or read a byte too much. `Write` is returned only
+/// if the last call on the writer answered an error.
 pub fn replay_on<R: Source, W: Sink>(
     alloc: Global,
     reader: &mut R,
@@ -123,7 +123,7 @@ pub fn replay_on<R: Source, W: Sink>(
     run_text(alloc, &buffer[..filled], writer)
 }
 
-/// The same of a reader and a writer that are handed over.
+/// As `replay_on`, for a reader and a writer that are handed over.
 pub fn replay<R: Source + Drop, W: Sink + Drop>(
     alloc: Global,
     mut reader: R,

@@ -1,5 +1,5 @@
-//! Laws of boot scripts: each line has one spelling but for the escapes of a text, each text one reading, and each plan
-//! that is read is within the limits of a boot.
+//! Laws of boot scripts: each line has one spelling except for the escapes of a text, each text has one reading, and
+//! each plan that is read is within the limits of a boot.
 
 ghost use Rattle.std.specs.Prelude.{◌≡◌, ◌≢◌, ◌<◌, ℕ, Bool, List, Ok, Err, true};
 ghost use Rattle.std.specs.List.{AllByRecursion, list_all};
@@ -22,7 +22,7 @@ pub fn text_has_spelling()
         → (text : List ℕ) × IsText bytes text × (list_all is_printable text ≡ true) }
 {}
 
-/// A text of printable bytes says these bytes exactly where it is one of their spellings. A spelling is printable, so
+/// A text of printable bytes says these bytes exactly if it is one of their spellings. A spelling is printable, so
 /// that each text spells one list of bytes.
 pub fn text_spellings()
     ensures spelled { (text bytes : List ℕ) → list_all is_printable text ≡ true → bytes_of text ≡ Ok bytes
@@ -31,40 +31,40 @@ pub fn text_spellings()
     ensures printable { (text bytes : List ℕ) → IsText bytes text → list_all is_printable text ≡ true }
 {}
 
-/// Where names are in order, a line that says something spells it, and what is said is in its ranges. There is no other
-/// spelling but for the escapes of a text, and for the space before a text without bytes.
+/// If names are in order, a line that says something spells it, and each part of it is in its range. There is no other
+/// spelling, except for the escapes of a text and for the space before a text without bytes.
 pub fn one_spelling()
     ensures { (version : Version) (names : List Named) (going : Bool) (line : List ℕ) (said : Line)
         → AreInOrder names → boot_line version names going line ≡ Ok said
         → FitsLine version names going said × IsSpelling names said line }
 {}
 
-/// Where names are in order, a line that spells what is in its ranges says it.
+/// If names are in order, a line that spells something in its ranges says it.
 pub fn read_again()
     ensures { (version : Version) (names : List Named) (going : Bool) (line : List ℕ) (said : Line)
         → AreInOrder names → FitsLine version names going said → IsSpelling names said line
         → boot_line version names going line ≡ Ok said }
 {}
 
-/// Behind whatever lines were read names are in order.
+/// After any lines that were read, names are in order.
 pub fn names_in_order()
     ensures { (version : Version) (number : ℕ) (lines : List (List ℕ)) (d : Draft)
         → plan_from version number lines first_draft ≡ Ok d → AreInOrder d.names }
 {}
 
-/// A text says a plan exactly where it is the first line of a version, and then lines each of which is silent or spells
+/// A text says a plan exactly if it is the first line of a version, and then lines each of which is silent or spells
 /// the next declaration or step.
 pub fn whole_text()
     ensures spelled { (text : List ℕ) (plan : Plan) → text_plan text ≡ Ok plan → SpellsPlan text plan }
     ensures read { (text : List ℕ) (plan : Plan) → SpellsPlan text plan → text_plan text ≡ Ok plan }
 {}
 
-/// A plan that a text says is within the limits of a boot, and whatever it names is there.
+/// A plan that a text says is within the limits of a boot, and whatever it names exists.
 pub fn within_limits()
     ensures { (text : List ℕ) (plan : Plan) → text_plan text ≡ Ok plan → IsPlan plan }
 {}
 
-/// No text is at fault by want of memory, so a reader that answers it has found no fault.
+/// No text is invalid because memory is exhausted, so a reader that returns `OutOfMemory` has found no fault.
 pub fn memory_is_no_fault()
     ensures { (text : List ℕ) (fault : ScriptFault) → text_plan text ≡ Err fault → fault.refusal ≢ OutOfMemory }
 {}

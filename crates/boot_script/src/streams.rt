@@ -1,7 +1,7 @@
-//! What a script is read from, and what text is written on: every reader, and every writer.
+//! The source of a script, and the sink of a text: every reader, and every writer.
 //!
-//! A fault of a stream has to have its cause. `answers` and `fails` carry it: code that is generic over a stream knows
-//! of them only what a call on that stream ensured. So a contract that says one of them says that the call was made.
+//! A fault of a stream has to have its cause. `answers` and `fails` carry the cause. Code that is generic over a stream
+//! knows of them only what a call ensured. So a contract that names one of them states that the call was made.
 
 ghost use Rattle.std.specs.Prelude.{◌≡◌, ℕ, List, Result, ⊤, OnOk, OnErr};
 ghost use Rattle.std.specs.declared.io.Error.{Error};
@@ -12,9 +12,9 @@ ghost use Rattle.boot_script.specs.StreamFaults.{IsWriteFault};
 use std::io;
 use std::io::{Read, Write};
 
-/// What a script is read from. Every reader is one.
+/// The source of a script. Every reader is one.
 pub trait Source: Read {
-    /// One call of `read` found the first of these readers, answered so, and left the second.
+    /// One call of `read` found the first of these readers, gave this answer, and left the second.
     ghost answers: { Self → Result ℕ Error → Self → Type 0 };
 
     /// Calls `read` once.
@@ -32,7 +32,7 @@ impl<R: Read> Source for R {
     }
 }
 
-/// What text is written on. Every writer is one.
+/// The sink of a text. Every writer is one.
 pub trait Sink: Write {
     /// One call on the first of these writers answered an error, and left the second.
     ghost fails: { Self → Self → Type 0 };
@@ -51,7 +51,7 @@ impl<W: Write> Sink for W {
     }
 }
 
-/// What has lines to be printed.
+/// A thing that has lines to be printed.
 pub trait Lines {
     /// The bytes of its lines.
     ghost text: { Self → List ℕ };

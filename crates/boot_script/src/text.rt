@@ -1,6 +1,6 @@
-//! Lines, words and numbers: what each script is cut into, whatever its words mean.
+//! Lines, words and numbers: the parts of each script, whatever its words mean.
 //!
-//! A line ends with 0x0A, words are parted by one space, and a number is the word that prints as its own value.
+//! A line ends with 0x0A, words are separated by one space, and a number is the word that prints as its own value.
 
 ghost use Rattle.std.specs.Prelude.{◌≡◌, ◌∷◌, ◌<◌, ◌↔◌, ◌==◌, IsTrue, [], position, ◌≤◌, IfOk, IfErr, length, IfSome};
 ghost use Rattle.std.specs.Prelude.{IfNone, not, true};
@@ -14,14 +14,14 @@ ghost use Rattle.boot_script.specs.Words.{pieces, pieces_left, first_word, later
 use crate::fault::ScriptRefusal;
 use std::marker::Model;
 
-/// Where the first separator stands.
+/// The place of the first separator.
 fn place_of(bytes: &[u8], separator: u8) -> Option<usize>
     ensures { result ≡ position (λ b. b == separator) bytes.now }
 {
     bytes.iter().position(|b| *b == separator)
 }
 
-/// The bytes before the first separator, and those behind it where there is one.
+/// The bytes before the first separator, and the bytes after it if there is one.
 #[tactic(auto, using(crate::proofs::Basics::Cuts::cut_at, crate::proofs::Basics::Cuts::cut_nowhere))]
 pub(crate) fn cut(bytes: &[u8], separator: u8) -> (&[u8], Option<&[u8]>)
     ensures pieces { pieces separator bytes.now ≡ result.0.now ∷ pieces_left separator (option_copied result.1) }
@@ -34,7 +34,7 @@ pub(crate) fn cut(bytes: &[u8], separator: u8) -> (&[u8], Option<&[u8]>)
     }
 }
 
-/// Whether two words are the same. They are compared from their ends on, as names mostly differ there.
+/// Whether two words are the same. They are compared from their ends on, as most names differ there.
 pub(crate) fn same_word(one: &[u8], other: &[u8]) -> bool
     ensures { result ≡ bytes_eq one.now other.now }
 {
@@ -75,7 +75,7 @@ impl<'a> Words<'a> {
         Words { rest: Some(line) }
     }
 
-    /// The next word; one that is missing is empty.
+    /// The next word; a missing word is empty.
     pub(crate) fn next_word(&mut self) -> &'a [u8]
         ensures word { result.now ≡ first_word self.old }
         ensures rest { self.new ≡ later_words self.old }
@@ -107,7 +107,7 @@ impl<'a> Words<'a> {
         Words { rest: self.rest }
     }
 
-    /// No word is left.
+    /// Whether no word is left.
     #[tactic(auto, using(crate::proofs::Basics::Cuts::some_pieces))]
     pub(crate) fn is_done(&self) -> bool
         ensures { IsTrue result ↔ (self.now ≡ []) }
@@ -148,7 +148,7 @@ pub fn number(word: &[u8], most: u64) -> Result<u64, ScriptRefusal>
     Ok(value)
 }
 
-/// A number of 32 bits.
+/// The number that a word spells, at most 32 bits. Else `BadNumber`.
 pub(crate) fn number_u32(word: &[u8]) -> Result<u32, ScriptRefusal>
     ensures exact { result ≡ number_of u32_max word.now }
     ensures refused { IfErr result (λ refusal. refusal ≡ ScriptRefusal.BadNumber) }
@@ -156,7 +156,7 @@ pub(crate) fn number_u32(word: &[u8]) -> Result<u32, ScriptRefusal>
     Ok(number(word, u64::from(u32::MAX))? as u32)
 }
 
-/// The first line, and the text behind its end.
+/// The first line, and the text after its end.
 #[tactic(auto, using(crate::proofs::Basics::Cuts::one_line, crate::proofs::Basics::Cuts::last_line))]
 pub(crate) fn first_line(text: &[u8]) -> (&[u8], &[u8])
     requires { 0 < length text.now }
@@ -169,22 +169,22 @@ pub(crate) fn first_line(text: &[u8]) -> (&[u8], &[u8])
     }
 }
 
-/// Whether a byte of a line is one of 0x20 to 0x7E, as its end is not.
+/// Whether a byte of a line is one of 0x20 to 0x7E, which the end of a line is not.
 fn is_printable(byte: u8) -> bool
     ensures { result ≡ is_printable byte }
 {
     (b' '..=b'~').contains(&byte)
 }
 
-/// Where the first byte stands that isn't printable.
+/// The place of the first byte that isn't printable.
 fn place_of_other(text: &[u8]) -> Option<usize>
     ensures { result ≡ position (λ b. not (is_printable b)) text.now }
 {
     text.iter().position(|b| !is_printable(*b))
 }
 
-/// The first line, the text behind its end, and whether each byte of the line was seen to be printable. Most lines are
-/// so, and then one look at each byte finds their end too.
+/// The first line, the text after its end, and whether each byte of the line was seen to be printable. Most lines are
+/// printable, and then one pass over the bytes also finds the end of the line.
 #[tactic(auto, using(crate::proofs::Basics::Seen::line_seen, crate::proofs::Basics::Seen::text_seen, crate::proofs::Basics::Seen::ended_line, crate::proofs::Basics::Seen::only_line))]
 pub(crate) fn seen_line(text: &[u8]) -> (&[u8], &[u8], bool)
     requires { 0 < length text.now }

@@ -1,4 +1,4 @@
-//! The text behind the other words of a line: each byte as itself, or as `\` and two digits.
+//! The text after the other words of a line: each byte as itself, or as `\` and two digits.
 
 ghost use Rattle.std.specs.Prelude.{◌≡◌, ◌<◌, IfOk, IfErr, Err, length};
 ghost use Rattle.boot_script.specs.Texts.{before, digit_of, escape_of, bytes_of, text_of};
@@ -32,7 +32,7 @@ fn escape(high: u8, low: u8) -> Result<u8, ScriptRefusal>
     Ok(high * 16 + low)
 }
 
-/// The first byte that a text says, and the text behind it. BadNumber where two digits are wanting.
+/// The first byte that a text says, and the text after it. BadNumber if a `\` is not followed by two digits.
 fn next_byte(text: &[u8]) -> Result<(u8, &[u8]), ScriptRefusal>
     requires { 0 < length text.now }
     ensures next { IfOk result (λ next. bytes_of text.now ≡ before next.0 (bytes_of next.1.now)) }
@@ -53,8 +53,8 @@ fn next_byte(text: &[u8]) -> Result<(u8, &[u8]), ScriptRefusal>
     }
 }
 
-/// The text of the words that are left. BadNumber where two digits are wanting behind a `\`; behind that TextTooLong,
-/// where there is no room for all bytes.
+/// The text of the words that are left. BadNumber if a `\` is not followed by two digits; after this fault TextTooLong,
+/// if there is no room for all bytes.
 pub(crate) fn text_said<const N: usize>(words: &Words) -> Result<Text<N>, ScriptRefusal>
     ensures { result ≡ text_of N words.now }
 {
@@ -77,7 +77,7 @@ pub(crate) fn text_said<const N: usize>(words: &Words) -> Result<Text<N>, Script
     }
 }
 
-/// What a device types, as it stands in the script. Contracts see its bytes.
+/// The text that a device types, as it is written in the script. Contracts see its bytes.
 #[derive(Drop)]
 pub(crate) struct Typed<'a> {
     words: Words<'a>,
@@ -104,7 +104,7 @@ impl<'a> Typed<'a> {
     }
 }
 
-/// What the words that are left say that a device types. It is refused where their text is.
+/// The text that a device types, of the words that are left. It is refused if `text_said` refuses the words.
 pub(crate) fn typed_said<'a>(words: &Words<'a>) -> Result<Typed<'a>, ScriptRefusal>
     ensures { result ≡ text_of 1024 words.now }
 {

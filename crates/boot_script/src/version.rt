@@ -54,7 +54,7 @@ impl Version {
         }
     }
 
-    /// Whether queues are shut and wait queues told in this version, as in each but the first.
+    /// Whether queues can be shut and wait queues notified in this version, as in each version except the first.
     pub(crate) fn is_later(self) -> bool
         ensures { result ≡ is_later self }
     {

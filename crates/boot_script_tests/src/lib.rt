@@ -1,4 +1,4 @@
-//! The tests of `boot_script`, in a crate of their own: beside it they would prove it once more.
+//! The tests of `boot_script`. They are a crate of their own, since `boot_script` would be proved again with them.
 #![tactic(auto)]
 
 #[cfg(test)]

@@ -65,7 +65,7 @@ last_where : (first_goes : Bool) (all : List Row) (events : List (ℕ × Event))
 last_where true all events old new h = last_less all events old new h
 last_where false all events old new h = h
 
--- the rows that are kept tell of one event more
+-- the kept rows record one more event
 pub last_kept : (all : List Row) (events : List (ℕ × Event)) (old new : State) (row : Row) (numbered : ℕ × Event) (next : State)
     → TellsLast all events old new → step numbered.1 new ≡ Ok next → Tells row numbered.0 next → TellsLast (kept all row) (events ++ numbered ∷ []) old next
 last_kept all events old new row numbered next h = last_more (if nat_le 200 (length all) then remove all 0 else all) events old new row numbered next (last_where (nat_le 200 (length all)) all events old new h)
@@ -102,7 +102,7 @@ many_where false all row n e h = length-append all (row ∷ []) ∙ one_more_of 
 pub as_many_kept : (all : List Row) (row : Row) (n : ℕ) → length all ≡ min 200 n → length (kept all row) ≡ min 200 (n + 1)
 as_many_kept all row n h = many_where (nat_le 200 (length all)) all row n refl h
 
--- the refused event stands behind those that were allowed
+-- the refused event comes after the events that were allowed
 pub refused_here : (events : List (ℕ × Event)) (at : ℕ) (numbered : ℕ × Event) (old new : State) (end : Replayed) → at < length events → numbered ≡ get_or events at numbered
     → Reaches old (alone (take at events)) new → IsRefused end numbered.0 (step numbered.1 new) → Replays end events old new
 refused_here events at numbered old new AllAllowed within is reached refused = absurd refused

@@ -1,4 +1,4 @@
--- The text of trees that stand beside each other.
+-- The text of trees beside each other.
 use Rattle.std.proofs.Common.{◌≡◌, append_assoc, append-nil, ℕ, suc, ◌<◌, ◌+◌, List, [], ◌∷◌, ◌++◌, ◌∙◌, sym, ap, length, drop, get_or, add-one, refl, Option}
 use Rattle.std.proofs.Math.Seq.{drop-cons}
 use Rattle.std.specs.Io.KnownBytes.{Appends}
@@ -39,7 +39,7 @@ element_before name attributes inside behind =
     let bare : text ++ [] ≡ text = append-nil text in
     ap (λ w. w ++ forest_text behind) bare
 
--- the text of a part and of those behind it
+-- the text of a part and of the parts after it
 pub shape_before : (shape : Shape) (behind : Forest) → forest_text (shape_tree shape Nothing) ++ forest_text behind ≡ forest_text (shape_tree shape behind)
 shape_before (Cell x y width height fill) behind = element_before (codes "rect") (worded (codes "stroke") (codes "#222222") ∷ box_attributes x y width height fill) Nothing behind
 shape_before (Bar x y width height fill) behind = element_before (codes "rect") (box_attributes x y width height fill) Nothing behind

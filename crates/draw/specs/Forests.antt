@@ -3,7 +3,7 @@ use Rattle.std.specs.Prelude.{ℕ, ◌==◌, ◌&&◌, nat_le, List, [], ◌∷�
 use Rattle.std.specs.Fmt.{decimal}
 use Rattle.std.specs.List.{flat_map}
 
--- a byte of a text: one with a meaning of its own by its name, and one that is no printable ASCII as `?`
+-- an escaped byte: `&`, `<`, `>` and `"` become named entities, and a byte that isn't printable ASCII becomes `?`
 abbrev pub escaped_byte : ℕ → List ℕ
 escaped_byte byte =
     if byte == 38 then codes "&amp;" else if byte == 60 then codes "&lt;" else if byte == 62 then codes "&gt;"
@@ -29,14 +29,14 @@ pub record Attribute : Type 0 where
 unfoldable pub attribute_text : Attribute → List ℕ
 attribute_text a = codes " " ++ a.name ++ codes "=\"" ++ flat_map piece_text a.value ++ codes "\""
 
--- trees beside each other: nothing, or a text or an element and those behind it; an element has its name, its
+-- trees beside each other: nothing, or a text or an element and the trees after it; an element has its name, its
 -- attributes, and trees inside it
 pub data Forest : Type 0 where
   Nothing : Forest
   Text : List ℕ → Forest → Forest
   Element : List ℕ → List Attribute → Forest → Forest → Forest
 
--- an element whose inside has this text; its end ends the line
+-- the text of an element with this text inside; its closing tag ends the line
 unfoldable pub element_text : List ℕ → List Attribute → List ℕ → List ℕ
 element_text name attributes inside =
     codes "<" ++ name ++ flat_map attribute_text attributes ++ codes ">" ++ inside

@@ -15,13 +15,13 @@ numeric name n = record { name = name; value = Number n ∷ [] }
 abbrev pub worded : List ℕ → List ℕ → Attribute
 worded name word = record { name = name; value = Word word ∷ [] }
 
--- where a box is, how large, and its colour
+-- the attributes of a box: its place, its size, and its colour
 abbrev pub box_attributes : ℕ → ℕ → ℕ → ℕ → Colour → List Attribute
 box_attributes x y width height fill =
     numeric (codes "x") x ∷ numeric (codes "y") y ∷ numeric (codes "width") width ∷ numeric (codes "height") height
     ∷ worded (codes "fill") (colour_code fill) ∷ []
 
--- where a text is, and how
+-- the attributes of a text: its place, its anchor, and its colour
 abbrev pub words_attributes : ℕ → ℕ → Anchor → Colour → List Attribute
 words_attributes x y anchor ink =
     numeric (codes "x") x ∷ numeric (codes "y") y ∷ worded (codes "text-anchor") (anchor_code anchor)
@@ -32,7 +32,7 @@ abbrev pub path_from : ℕ → ℕ → List ℕ → Attribute
 path_from x y steps =
     record { name = codes "d"; value = Word (codes "M") ∷ Number x ∷ Word (codes " ") ∷ Number y ∷ Word steps ∷ [] }
 
--- a part of a picture, before others
+-- the tree of a part of a picture, before the trees of other parts
 abbrev pub shape_tree : Shape → Forest → Forest
 shape_tree (Cell x y width height fill) behind =
     Element (codes "rect") (worded (codes "stroke") (codes "#222222") ∷ box_attributes x y width height fill)

@@ -1,11 +1,11 @@
-//! What is drawn of a picture so far: each part at its place.
+//! The drawn parts of a picture, each at its place.
 
 use crate::shapes::{Anchor, Colour, Shape};
 use crate::words::text_of;
 use event_theory::{Items, OutOfMemory};
 use std::alloc::Global;
 
-/// How high a box is, and how far below its upper side its letters stand.
+/// How high a box is, and how far below its upper side its letters are.
 pub(crate) const BOX: u32 = 18;
 
 const LETTERS: u32 = 13;

@@ -1,4 +1,4 @@
-//! Where the columns of a picture stand: the events, each queue, each chain, and the thread elements.
+//! The places of the columns of a picture: the events, each queue, each chain, and the thread elements.
 
 use crate::history::Row;
 use event_theory::{ElementStatus, Items, OutOfMemory, Place, QueueStatus};
@@ -17,7 +17,7 @@ const CHAIN: u32 = 136;
 /// How wide an element's cell is.
 pub(crate) const ELEMENT: u32 = 32;
 
-/// Where the events' words begin, behind the numbers of their lines, and how many letters they may have.
+/// Where the events' words begin, to the right of the line numbers, and how many letters they may have.
 pub(crate) const EVENT: u32 = 56;
 
 pub(crate) const MOST_LETTERS: usize = 36;
@@ -64,7 +64,7 @@ fn is_plain(element: &ElementStatus) -> bool {
         && element.pending == 0
 }
 
-/// How many elements there are up to the last one that isn't as it was at first.
+/// How many elements there are up to the last one that isn't in its first state.
 fn touched(elements: &[ElementStatus]) -> usize {
     let mut count = 0;
     for (number, element) in elements.iter().enumerate() {
@@ -115,7 +115,7 @@ fn wide(count: usize, each: u32) -> u32 {
         .saturating_mul(each)
 }
 
-/// The side behind so many things of this width from here on, and a space.
+/// The right side of so many things of this width from here on, and a space.
 fn behind(from: u32, count: usize, each: u32) -> u32 {
     from.saturating_add(wide(count, each)).saturating_add(GAP)
 }

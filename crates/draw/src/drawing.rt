@@ -20,7 +20,7 @@ const ROW: u32 = 36;
 
 const BOXES: u32 = 9;
 
-/// Where the title, the note under it and the first row stand.
+/// The places of the title, the note under it and the first row.
 const TITLE: u32 = 22;
 
 const NOTE: u32 = 42;
@@ -134,14 +134,14 @@ fn add_row(
     add_status(canvas, row, columns, y.saturating_add(BOXES))
 }
 
-/// What is said of a refusal.
+/// The text of a refusal.
 fn refusal_text(alloc: Global, refusal: Refusal) -> Result<Items<u8>, OutOfMemory> {
     let number = refusal as u8;
     let text = format!(in alloc; "refused: {number} {refusal}")?;
     Ok(Items::new(text.into_bytes()))
 }
 
-/// Draws the row of the refused event, where there is one, and gives the side where the next thing begins.
+/// Draws the row of the refused event, if there is one, and returns the side where the next thing begins.
 fn add_refused(
     canvas: &mut Canvas,
     script: &[u8],
@@ -160,7 +160,7 @@ fn add_refused(
     Ok(y.saturating_add(ROW + 16))
 }
 
-/// The note under the title: how many events are shown, where not all are.
+/// The note under the title: how many events are shown, if not all are.
 fn add_note(canvas: &mut Canvas, history: &History) -> Result<(), OutOfMemory> {
     let shown = history.rows.len();
     let allowed = history.allowed;
@@ -184,7 +184,7 @@ fn letters(script: &[u8], history: &History) -> usize {
     most.min(MOST_LETTERS + 2)
 }
 
-/// Draws all rows, and gives the side below them.
+/// Draws all rows, and returns the side below them.
 fn add_rows(
     canvas: &mut Canvas,
     script: &[u8],
@@ -227,7 +227,7 @@ fn add_head(
     add_names(canvas, columns)
 }
 
-/// Draws the rows, that of the refused event, a line below them, and the legend.
+/// Draws the rows, the row of the refused event, a line below them, and the legend.
 fn add_body(
     canvas: &mut Canvas,
     script: &[u8],
@@ -240,7 +240,7 @@ fn add_body(
     add_legend(canvas, columns, below.saturating_add(14))
 }
 
-/// The picture of what a list of events led to. Its title is the first comment of the script.
+/// The picture of the states that a list of events led to. Its title is the first comment of the script.
 pub(crate) fn picture(
     alloc: Global,
     script: &[u8],

@@ -19,7 +19,7 @@ fn colour(place: Place) -> Colour {
     }
 }
 
-/// A place's letter, with its number where it has one.
+/// A place's letter, with its number if it has one.
 fn letter(alloc: Global, place: &Place) -> Result<Items<u8>, OutOfMemory> {
     match place {
         Place::Free => text_of(alloc, b"F"),

@@ -11,10 +11,10 @@ use event_theory::{Event, Items, OutOfMemory, Refusal, Status};
 use quaject_core::Core;
 use std::alloc::Global;
 
-/// How many rows a picture has at most, but for that of a refused event.
+/// How many rows a picture has at most, not counting the row of a refused event.
 pub(crate) const MOST_ROWS: usize = 200;
 
-/// An event that was allowed, by its line, and what it led to.
+/// An event that was allowed, by its line, and the state that it led to.
 #[derive(Drop)]
 pub(crate) struct Row {
     pub(crate) line: u32,
@@ -58,7 +58,7 @@ fn row_of(alloc: Global, line: u32, core: &Core, tapes: &Tapes) -> Result<Row, O
     })
 }
 
-/// Appends a row; where there are as many as a picture may have, the first one goes.
+/// Appends a row; if there are as many as a picture may have, the first one is removed.
 fn keep(rows: &mut Vec<Row>, row: Row) -> Result<(), OutOfMemory>
     ensures { OnOk result (rows.new.items ≡ kept rows.old.items row) }
 {
@@ -68,7 +68,7 @@ fn keep(rows: &mut Vec<Row>, row: Row) -> Result<(), OutOfMemory>
     Ok(rows.push(row)?)
 }
 
-/// Applies an event. Where it is refused, the answer is how its list ends.
+/// Applies an event. If the event is refused, the answer is how its list ends.
 fn apply_next(core: &mut Core, line: u32, event: &Event) -> Result<Option<Replayed>, OutOfMemory>
     ensures { IfOk result (λ end. IsNext end line event.now (state core.old) (state core.new)) }
 {

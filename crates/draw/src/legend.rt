@@ -1,4 +1,4 @@
-//! The legend: what the boxes, the marks and the letters stand for.
+//! The legend: the meaning of the boxes, the marks and the letters.
 
 use crate::canvas::{BOX, Canvas};
 use crate::columns::Columns;
@@ -28,7 +28,7 @@ enum Sample {
     Free,
     Ready,
     Stopped,
-    /// The cell of one on this processor, in this wait queue, or held by this call.
+    /// The cell of an element on this processor, in this wait queue, or held by this call.
     Processor(u8),
     Wait(u8),
     Held(u8),
@@ -119,7 +119,7 @@ fn add_line(canvas: &mut Canvas, line: Line, y: u32) -> Result<(), OutOfMemory> 
     Ok(())
 }
 
-/// A line where there is something that it is about, else none.
+/// A line if the thing that it explains is there, else none.
 fn line_for(is_there: bool, line: Line) -> Line {
     if is_there { line } else { &[] }
 }

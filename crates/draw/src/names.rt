@@ -6,7 +6,7 @@ use crate::shapes::{Anchor, Colour};
 use crate::words::numbered;
 use event_theory::OutOfMemory;
 
-/// How far below the picture's upper side the names stand.
+/// How far below the picture's upper side the names are.
 const NAMES: u32 = 66;
 
 /// Draws a column's name.

@@ -5,7 +5,7 @@ ghost use Rattle.std.specs.Prelude.{◌≡◌};
 use event_theory::{Call, Event, Items, OutOfMemory, QueueName};
 use std::alloc::Global;
 
-/// An item that was claimed: by which call, as which one of which run, and whether it is raised.
+/// An item that was claimed: its call, its run and its index there, and whether it is raised.
 #[derive(Clone, Copy)]
 pub(crate) struct Seat {
     pub(crate) call: Call,
@@ -51,7 +51,7 @@ impl Tape {
         }
     }
 
-    /// The runs of the other call are the call's.
+    /// Gives the runs of the other call to the call.
     fn join(&mut self, call: Call, other: Call) {
         for seat in &mut self.seats {
             if seat.call == other {
@@ -60,7 +60,7 @@ impl Tape {
         }
     }
 
-    /// The items but for the first so many.
+    /// The items without the first so many.
     fn left(&self, alloc: Global, taken: u64) -> Result<Items<Seat>, OutOfMemory> {
         let taken = usize::try_from(taken).unwrap_or(usize::MAX);
         let left = self.seats.get(taken..).unwrap_or(&[]);

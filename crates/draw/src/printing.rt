@@ -26,7 +26,7 @@ fn print_byte<W: Write>(byte: u8, out: &mut W) -> io::Result<()>
     }
 }
 
-/// A text, with the bytes escaped that have a meaning of their own.
+/// A text; bytes with a meaning of their own are escaped.
 fn print_text<W: Write>(text: &[u8], out: &mut W) -> io::Result<()>
     ensures { OnOk result (Appends (W.contents out.old) (W.contents out.new) (escaped text.now)) }
 {

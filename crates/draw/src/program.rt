@@ -17,7 +17,7 @@ use std::alloc::Global;
 use std::io;
 use std::io::{Read, Write};
 
-/// The status of words, since the program takes none.
+/// The exit status if there are words, since the program takes none.
 const USAGE_FAULT: u8 = 2;
 
 /// One byte more than a script may have, so that a longer one is seen.
@@ -79,9 +79,9 @@ pub fn draw_on<R: Read, W: Write>(
 
 /// Runs the program, which takes no words.
 ///
-/// Status 0 says that each event was allowed, 1 that an event was refused, or that the script is at fault; 2 that there
-/// are words; 3 that memory was wanting; 5 that the reader or the writer failed. Under 2, 3 and a fault of the script
-/// nothing was written.
+/// Status 0 is returned if each event was allowed; 1 if an event was refused, or the script is invalid; 2 if there are
+/// words; 3 if memory was exhausted; 5 if the reader or the writer failed. Under 2, 3 and a fault of the script nothing
+/// was written.
 pub fn run_on<R: Read, W: Write, E: Write>(
     alloc: Global,
     words: usize,
@@ -108,7 +108,7 @@ pub fn run_on<R: Read, W: Write, E: Write>(
     }
 }
 
-/// The same of streams that are handed over, with the exit status alone. Faults of the error stream are ignored.
+/// As `run_on`, for streams that are handed over, with the exit status alone. Faults of the error stream are ignored.
 pub fn run_main<R: Read + Drop, W: Write + Drop, E: Write + Drop>(
     alloc: Global,
     words: usize,
@@ -122,7 +122,7 @@ pub fn run_main<R: Read + Drop, W: Write + Drop, E: Write + Drop>(
     run_on(alloc, words, &mut reader, &mut writer, &mut errors).status
 }
 
-/// Tells that there is no memory, and gives the status of that.
+/// Reports that there is no memory, and returns the exit status for that.
 pub fn no_memory<E: Write>(errors: &mut E) -> u8
     ensures { result ≡ 3 }
 {
@@ -131,7 +131,7 @@ pub fn no_memory<E: Write>(errors: &mut E) -> u8
     status(answer)
 }
 
-/// Tells how the program is called, and gives the status of other words.
+/// Reports how the program is called, and returns the exit status for words.
 pub fn usage<E: Write>(errors: &mut E) -> u8
     ensures { result ≡ 2 }
 {
@@ -151,7 +151,7 @@ fn status(answer: Result<Replayed, ReplayFault>) -> u8
     }
 }
 
-/// Tells why there is no picture. Of one that was printed nothing is told.
+/// Reports why there is no picture. For a printed picture nothing is reported.
 fn tell<E: Write>(answer: Result<Replayed, ReplayFault>, errors: &mut E) -> io::Result<()>
     ensures { OnOk result (Appends (E.contents errors.old) (E.contents errors.new) (words_of answer)) }
 {
@@ -161,7 +161,7 @@ fn tell<E: Write>(answer: Result<Replayed, ReplayFault>, errors: &mut E) -> io::
     }
 }
 
-/// Tells how the program is called.
+/// Reports how the program is called.
 fn tell_usage<E: Write>(errors: &mut E) -> io::Result<()>
     ensures { OnOk result (Appends (E.contents errors.old) (E.contents errors.new) usage_words) }
 {

@@ -7,7 +7,7 @@ use crate::shapes::{Anchor, Colour};
 use crate::words::numbered;
 use event_theory::{OutOfMemory, QueueStatus};
 
-/// The narrowest box that has its call's number inside.
+/// The smallest width of a box that has its call's number inside.
 const ROOM_FOR_NUMBER: u32 = 20;
 
 /// A place of a queue.
@@ -34,7 +34,7 @@ impl PlaceState {
     }
 }
 
-/// The seat of a place, where it is claimed: the first that is left lies at the tail.
+/// The seat of a place, if the place is claimed: the first one that is left lies at the tail.
 fn seat_at<'a>(left: &'a [Seat], queue: &QueueStatus, place: u16) -> Option<&'a Seat> {
     let places = u64::from(queue.capacity);
     if places == 0 {
@@ -45,7 +45,7 @@ fn seat_at<'a>(left: &'a [Seat], queue: &QueueStatus, place: u16) -> Option<&'a 
     left.get(usize::try_from(behind).unwrap_or(usize::MAX))
 }
 
-/// How a place stands.
+/// The state of a place.
 fn state_of(seat: Option<&Seat>, queue: &QueueStatus, place: u16) -> PlaceState {
     match seat {
         Some(Seat { raised: true, .. }) => PlaceState::Raised,
@@ -85,7 +85,7 @@ fn add_place(
     }
 }
 
-/// Where the place at which a count of items ends stands: its left side.
+/// The left side of the place where a count of items ends.
 fn side_of(column: &QueueColumn, count: u64) -> u32 {
     let places = u64::from(column.places);
     if places == 0 {
@@ -97,7 +97,7 @@ fn side_of(column: &QueueColumn, count: u64) -> u32 {
         .saturating_add(place.saturating_mul(column.place))
 }
 
-/// The marks: the tail, which is taken next, below, and the head, which is claimed next, above.
+/// The marks: the tail, the next place to be taken, below, and the head, the next place to be claimed, above.
 fn add_marks(
     canvas: &mut Canvas,
     queue: &QueueStatus,
@@ -111,7 +111,7 @@ fn add_marks(
     canvas.down(head, y.saturating_sub(7))
 }
 
-/// The boxes of all places. The answer is their right side.
+/// The boxes of all places. The answer is the right side of the boxes.
 fn add_places(
     canvas: &mut Canvas,
     queue: &QueueStatus,

@@ -1,4 +1,4 @@
-//! What a picture is made of: boxes, bars, marks and words, each at its place.
+//! The parts of a picture: boxes, bars, marks and words, each at its place.
 //!
 //! Places count in pixels from the picture's left upper corner, to the right and down.
 
@@ -8,7 +8,7 @@ ghost use Rattle.draw.specs.Colours.{colour_code, anchor_code};
 use event_theory::Items;
 use std::fmt;
 
-/// A colour. Those of states are told apart by readers who see fewer colours too (Okabe and Ito, 2008).
+/// A colour. Readers who see fewer colours can also distinguish the colours of states (Okabe and Ito, 2008).
 #[derive(Clone, Copy)]
 pub enum Colour {
     Ink,
@@ -77,7 +77,7 @@ pub enum Shape {
         height: u32,
         fill: Colour,
     },
-    /// A bar without one.
+    /// A bar without a border.
     Bar {
         x: u32,
         y: u32,

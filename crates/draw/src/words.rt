@@ -3,18 +3,18 @@
 use event_theory::{Items, OutOfMemory};
 use std::alloc::Global;
 
-/// These bytes as a text of their own.
+/// A copy of these bytes.
 pub(crate) fn text_of(alloc: Global, bytes: &[u8]) -> Result<Items<u8>, OutOfMemory> {
     Ok(Items::new(bytes.to_vec(alloc)?))
 }
 
-/// A letter, or none, and a number behind it.
+/// A letter, or none, and a number after it.
 pub(crate) fn numbered(alloc: Global, letter: &str, number: u64) -> Result<Items<u8>, OutOfMemory> {
     let text = format!(in alloc; "{letter}{number}")?;
     Ok(Items::new(text.into_bytes()))
 }
 
-/// The front of a line; where the line is longer, two full stops end it.
+/// The front of a line; if the line is longer, two full stops end the front.
 pub(crate) fn front_of(alloc: Global, line: &[u8], most: usize) -> Result<Items<u8>, OutOfMemory> {
     if line.len() <= most {
         return text_of(alloc, line);
@@ -24,7 +24,7 @@ pub(crate) fn front_of(alloc: Global, line: &[u8], most: usize) -> Result<Items<
     Ok(Items::new(text))
 }
 
-/// The line of this number, from 1 on; nothing where there is none.
+/// The line of this number, from 1 on; nothing if there is none.
 pub(crate) fn line_at(script: &[u8], number: u32) -> &[u8] {
     let mut at = 1u32;
     for line in script.split(|byte| *byte == b'\n') {
@@ -36,7 +36,7 @@ pub(crate) fn line_at(script: &[u8], number: u32) -> &[u8] {
     b""
 }
 
-/// What the first comment says; nothing where there is none.
+/// The text of the first comment; nothing if there is none.
 pub(crate) fn first_comment(script: &[u8]) -> &[u8] {
     for line in script.split(|byte| *byte == b'\n') {
         if let Some(comment) = line.strip_prefix(b"# ") {

@@ -1,4 +1,4 @@
-//! Boot scripts. How each is booted and what it then reports is tried with the built program; here each is read.
+//! Boot scripts, each of which is only read here. Boots and their reports are tested with the built program.
 
 use boot_script::parse_boot;
 use std::{fs, io};
@@ -6,7 +6,7 @@ use std::{fs, io};
 /// The folder of the boot scripts, each NAME.boot, with their reports.
 pub const BOOTS: &str = "boots";
 
-/// Whether a script has no fault. Tells the fault of one that has.
+/// Whether a script has no fault. Prints the fault of an invalid script.
 fn is_read(rt: &HostRuntime, file: &str) -> io::Result<bool> {
     let script = fs::read(rt, format!(in rt.alloc(); "{BOOTS}/{file}")?)?;
     let fault = parse_boot(rt.alloc(), &script).err();
@@ -16,7 +16,7 @@ fn is_read(rt: &HostRuntime, file: &str) -> io::Result<bool> {
     Ok(fault.is_none())
 }
 
-/// Reads each script among these files of the folder, tells how many there are, and answers whether none has a fault.
+/// Reads each script among these files of the folder, prints how many there are, and returns whether none has a fault.
 pub fn read_boots(rt: &HostRuntime, files: &[String]) -> io::Result<bool> {
     let mut count = 0u32;
     let mut same = true;

@@ -1,11 +1,11 @@
-//! Tables of texts that are read or refused. The head of each table says how its lines are read.
+//! Tables of texts that are read or refused. The head of each table describes how its lines are read.
 
 use boot_script::{parse_boot, parse_events, parse_number};
 use std::alloc::Global;
 use std::io::Write;
 use std::{fs, io};
 
-/// The table of lists of events, and that of boot scripts.
+/// The table of lists of events, and the table of boot scripts.
 pub const TABLES: [&str; 2] = ["event-faults.txt", "boot-faults.txt"];
 
 /// Adds a part of a piece that has no byte named by its number.
@@ -45,7 +45,7 @@ fn add_piece(text: &mut Vec<u8>, piece: &[u8]) -> io::Result<()> {
     }
 }
 
-/// Adds all pieces of what a table writes of a text.
+/// Adds all pieces of a text, as a table writes it.
 fn add_text(text: &mut Vec<u8>, said: &[u8]) -> io::Result<()> {
     for piece in said.split(|byte| *byte == b'|') {
         add_piece(text, piece)?;
@@ -57,16 +57,16 @@ fn add_text(text: &mut Vec<u8>, said: &[u8]) -> io::Result<()> {
 #[derive(Drop)]
 struct Table {
     is_boot: bool,
-    /// What stands in front of each text.
+    /// The text before each text.
     front: Vec<u8>,
-    /// What is wanted of each text.
+    /// The expected result of each text.
     wanted: Vec<u8>,
     count: u32,
     same: bool,
 }
 
 impl Table {
-    /// The first fault of a text, as it is printed, and `read` where there is none.
+    /// The first fault of a text, as it is printed, and `read` if there is none.
     fn fault_of(&self, alloc: Global, text: &[u8]) -> io::Result<String> {
         let fault = if self.is_boot {
             parse_boot(alloc, text).err()
@@ -79,7 +79,7 @@ impl Table {
         })
     }
 
-    /// Compares what is told of a text. Tells what is told instead where it isn't what is wanted.
+    /// Compares the result of a text with the expected one. Prints a result that differs.
     fn compare(&mut self, rt: &HostRuntime, said: &[u8]) -> io::Result<()> {
         let mut text = Vec::from_slice(rt.alloc(), &self.front)?;
         add_text(&mut text, said)?;
@@ -93,7 +93,7 @@ impl Table {
         Ok(())
     }
 
-    /// Reads a line: a text in quotes, what is wanted of the texts behind it, or what stands in front of them.
+    /// Reads a line: a text in quotes, the expected result of the later texts, or the text before each of them.
     fn read(&mut self, rt: &HostRuntime, line: &[u8]) -> io::Result<()> {
         if let Some(quoted) = line.strip_prefix(b"\"") {
             self.compare(rt, quoted.strip_suffix(b"\"").unwrap_or(quoted))?;
@@ -107,7 +107,7 @@ impl Table {
     }
 }
 
-/// Reads each text of a table, tells how many there are, and answers whether all are told of as is wanted.
+/// Reads each text of a table, prints how many there are, and returns whether each result is the expected one.
 pub fn compare_faults(rt: &HostRuntime, name: &str) -> io::Result<bool> {
     let mut table = Table {
         is_boot: name.starts_with("boot"),

@@ -1,6 +1,6 @@
-//! Replays each example and compares what is printed with the status that lies beside it, and so each row of the
-//! table of events and refusals. Reads each text of the tables of faults, and compares what is told of it. Reads each
-//! boot script.
+//! Replays each example and compares the printed text with the status that lies beside it, and each row of the table of
+//! events and refusals in the same way. Reads each text of the tables of faults, and compares the result with the
+//! expected one. Reads each boot script.
 #![tactic(auto)]
 
 mod boots;
@@ -14,10 +14,10 @@ use std::process::ExitCode;
 use std::{fs, io};
 
 /// The table of events and refusals. Each file beside the tables and the folder of boot scripts is NAME.events, a list
-/// of events, or NAME.status, what it prints.
+/// of events, or NAME.status, the text that the list prints.
 const ROWS: &str = "rows.txt";
 
-/// Whether the answer of a replay says what is printed: which event was refused, that none was, or nothing at all.
+/// Whether the answer of a replay agrees with the printed text: an event was refused, none was, or nothing was printed.
 fn is_as_answered(
     alloc: Global,
     replayed: &Result<Replayed, ReplayFault>,
@@ -36,8 +36,8 @@ fn is_as_answered(
     })
 }
 
-/// Replays a list, and answers whether it is read to its end, prints what is wanted and answers so. Tells under which
-/// name where it doesn't.
+/// Replays a list, and returns whether it is read to its end and has the expected text and answer. If not, prints the
+/// name and the printed text.
 fn is_as_printed(
     rt: &HostRuntime,
     name: &str,
@@ -56,7 +56,7 @@ fn is_as_printed(
     Ok((false, replayed))
 }
 
-/// Replays one example, tells how what it printed compares, and answers whether it is the same.
+/// Replays one example, prints whether its text is the expected one, and returns that.
 fn compare(rt: &HostRuntime, name: &str) -> io::Result<bool> {
     let events = fs::read(rt, format!(in rt.alloc(); "{name}.events")?)?;
     let status = fs::read(rt, format!(in rt.alloc(); "{name}.status")?)?;
@@ -70,7 +70,7 @@ fn compare(rt: &HostRuntime, name: &str) -> io::Result<bool> {
     Ok(same)
 }
 
-/// A row of the table: its title, its list of events, and what that prints.
+/// A row of the table: its title, its list of events, and the expected printed text.
 #[derive(Drop)]
 struct Row {
     title: Vec<u8>,
@@ -87,7 +87,7 @@ impl Row {
         }
     }
 
-    /// Adds a line: `## ` stands before the title, `= ` before what is printed.
+    /// Adds a line: `## ` precedes the title, and `= ` precedes the expected text.
     fn add(&mut self, line: &[u8]) -> io::Result<()> {
         if let Some(title) = line.strip_prefix(b"## ") {
             self.title.extend_from_slice(title)?;
@@ -107,8 +107,8 @@ impl Row {
     }
 }
 
-/// Replays each row of the table, tells how many there are, and answers whether all print what is wanted. Rows are
-/// parted by empty lines.
+/// Replays each row of the table, prints how many there are, and returns whether each prints the expected text. Rows
+/// are separated by empty lines.
 fn compare_rows(rt: &HostRuntime) -> io::Result<bool> {
     let table = fs::read(rt, ROWS)?;
     let mut row = Row::new(rt.alloc());
@@ -137,8 +137,8 @@ fn files(rt: &HostRuntime, folder: &str) -> io::Result<Vec<String>> {
     Ok(names)
 }
 
-/// Replays the example that a file has the list of events of. Another file has to be the status of such a list, a table
-/// or the folder of boot scripts; one that is none of these is told, and the answer is then false.
+/// Replays the example of a file that is a list of events. Another file has to be the status of such a list, a table or
+/// the folder of boot scripts; any other file is reported, and the answer is then false.
 fn compare_file(rt: &HostRuntime, file: &str) -> io::Result<bool> {
     if let Some(name) = file.strip_suffix(".events") {
         return compare(rt, name);

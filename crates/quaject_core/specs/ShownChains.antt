@@ -7,7 +7,7 @@ use Rattle.event_theory.specs.Results.{Changes}
 use Rattle.event_theory.specs.declared.refusal.Refusal.{Refusal}
 use Rattle.quaject_core.specs.declared.chaining.StoredChain.{StoredChain}
 
--- the chain that is stored here
+-- the chain that a stored chain represents
 abbrev pub chain : StoredChain → Chain
 chain stored = record {
   notes = queue stored.notes;
@@ -16,6 +16,6 @@ chain stored = record {
   owing = set_of stored.owing;
 }
 
--- the event was done to what is stored, or it was refused and nothing changed
+-- the event was applied to the stored chain, or it was refused and nothing changed
 abbrev pub Does : Result (Unit {0}) Refusal → (Chain → Result Chain Refusal) → StoredChain → StoredChain → Type 0
 Does result event old new = Changes result (event (chain old)) (chain old) (chain new)

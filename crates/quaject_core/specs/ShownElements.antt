@@ -7,7 +7,7 @@ use Rattle.event_theory.specs.Results.{Changes}
 use Rattle.event_theory.specs.declared.refusal.Refusal.{Refusal}
 use Rattle.quaject_core.specs.declared.elements.StoredElements.{StoredElements}
 
--- the elements that are stored here
+-- the elements that the stored elements represent
 abbrev pub elements : StoredElements → Elements
 elements stored = record {
   threads = map thread stored.threads.items;
@@ -17,7 +17,7 @@ elements stored = record {
   held = stored.held.holds.items;
 }
 
--- the event was done to what is stored, or it was refused and nothing changed
+-- the event was applied to the stored elements, or it was refused and nothing changed
 abbrev pub Does :
     Result (Unit {0}) Refusal → (Elements → Result Elements Refusal) → StoredElements → StoredElements → Type 0
 Does result event old new = Changes result (event (elements old)) (elements old) (elements new)

@@ -6,7 +6,7 @@ use Rattle.event_theory.specs.declared.refusal.Refusal.{Refusal}
 use Rattle.event_theory.specs.declared.status.AlarmStatus.{AlarmStatus}
 use Rattle.quaject_core.specs.declared.metering.StoredMeters.{StoredMeters}
 
--- what is stored here
+-- the meters that the stored meters represent
 abbrev pub meters : StoredMeters → Meters
 meters stored = record {
   gauges = stored.gauges;
@@ -21,6 +21,6 @@ meters stored = record {
 abbrev pub alarm_status : Meters → AlarmStatus
 alarm_status m = record { set = length m.set; fired = length m.fired; cancelled = length m.cancelled }
 
--- the event was done to what is stored, or it was refused and nothing changed
+-- the event was applied to the stored meters, or it was refused and nothing changed
 abbrev pub Does : Result (Unit {0}) Refusal → (Meters → Result Meters Refusal) → StoredMeters → StoredMeters → Type 0
 Does result event old new = Changes result (event (meters old)) (meters old) (meters new)

@@ -9,7 +9,7 @@ use Rattle.quaject_core.specs.ShownMeters.{meters}
 use Rattle.event_theory.specs.declared.refusal.Refusal.{Refusal}
 use Rattle.quaject_core.specs.declared.store.Store.{Store}
 
--- the state that is stored here
+-- the state that a store represents
 abbrev pub stored_state : Store → State
 stored_state store = record {
   queues = map queue store.queues.items;
@@ -19,6 +19,6 @@ stored_state store = record {
   events = store.events;
 }
 
--- the event was done to what is stored, or it was refused and nothing changed
+-- the event was applied to the store, or it was refused and nothing changed
 abbrev pub Does : Result (Unit {0}) Refusal → (State → Result State Refusal) → Store → Store → Type 0
 Does result event old new = Changes result (event (stored_state old)) (stored_state old) (stored_state new)

@@ -3,7 +3,7 @@ use Rattle.event_theory.specs.Elements.{Thread}
 use Rattle.quaject_core.specs.Layout.{set_of}
 use Rattle.quaject_core.specs.declared.threading.StoredThread.{StoredThread}
 
--- the element that is stored here
+-- the element that a stored element represents
 abbrev pub thread : StoredThread → Thread
 thread stored = record {
   pending = set_of stored.pending;

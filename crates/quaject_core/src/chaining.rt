@@ -9,7 +9,7 @@ use crate::queueing::{StoredQueue, renamed};
 use event_theory::{Call, ChainStatus, Gate, Refusal};
 use std::alloc::Global;
 
-/// The notes, who runs them, and of each call whether it owes a notify.
+/// The notes, who runs them, and for each call whether it owes a notify.
 #[derive(Drop)]
 pub(crate) struct StoredChain {
     notes: StoredQueue,
@@ -84,7 +84,7 @@ impl StoredChain {
         self.owing[usize::from(call.number())]
     }
 
-    /// Tells the runner to look again. Where nobody runs the notes, the call does from now on.
+    /// Notifies the runner to look again. If nobody runs the notes, the call becomes the runner.
     pub(crate) fn notify(&mut self, call: Call) -> Result<(), Refusal>
         ensures change { Does result (notify call) self.old self.new }
         ensures memory { IsNotMemory result }
@@ -100,7 +100,7 @@ impl StoredChain {
         Ok(())
     }
 
-    /// The runner sees what was notified.
+    /// The runner observes the notifies so far.
     pub(crate) fn round(&mut self, call: Call) -> Result<(), Refusal>
         ensures change { Does result (round call) self.old self.new }
         ensures memory { IsNotMemory result }
@@ -122,7 +122,7 @@ impl StoredChain {
         self.notes.first_are_raised(1) && !self.owes(call)
     }
 
-    /// The runner leaves, where it has seen all notifies and no note is forgotten.
+    /// The runner leaves, if it has observed all notifies and no note is forgotten.
     pub(crate) fn leave(&mut self, call: Call) -> Result<(), Refusal>
         ensures change { Does result (leave call) self.old self.new }
         ensures memory { IsNotMemory result }
@@ -138,7 +138,7 @@ impl StoredChain {
         Ok(())
     }
 
-    /// Gives the call what the other call claimed, runs and owes.
+    /// Gives the call everything that the other call claimed, runs and owes.
     pub(crate) fn join(&mut self, call: Call, other: Call)
         ensures { chain self.new ≡ join_chain call other (chain self.old) }
     {

@@ -61,7 +61,7 @@ impl StoredElements {
         index_of(element) < self.threads.len()
     }
 
-    /// The element of this number, where there is one.
+    /// The element of this number, if there is one.
     fn thread(&self, element: Element) -> Option<StoredThread>
         ensures { result ≡ slice_get self.now.threads.items element }
     {
@@ -75,7 +75,7 @@ impl StoredElements {
         has_past(self.threads.len(), items)
     }
 
-    /// Where the call's hold of the first of the items stands.
+    /// The index of the call's hold of the first of the items.
     fn find_first(&self, call: Call, items: &[u64]) -> Option<usize>
         ensures { result ≡ first_hold call (slice_get items.now 0) self.now.held.holds.items }
     {
@@ -201,7 +201,7 @@ impl StoredElements {
         Ok(())
     }
 
-    /// Clears the stop bit of an element; where it stands in its stop cell, the call then holds it.
+    /// Clears the stop bit of an element. If the element is in its stop cell, the call then holds it.
     pub(crate) fn start(&mut self, call: Call, element: Element) -> Result<(), Refusal>
         requires { IsLawfulElements (elements self.old) }
         ensures change { Does result (start call element) self.old self.new }
@@ -292,7 +292,7 @@ impl StoredElements {
         self.notified[usize::from(wait.number())]
     }
 
-    /// Claims a place in a wait queue for an element that the call holds, while its number of notifies is the ticket.
+    /// Claims a place in a wait queue for an element that the call holds, if its number of notifies is the ticket.
     pub(crate) fn wait_at(
         &mut self,
         call: Call,
@@ -317,7 +317,7 @@ impl StoredElements {
         Ok(())
     }
 
-    /// What the other call holds, put on a processor or claimed is the call's.
+    /// Gives the call everything that the other call holds, put on a processor or claimed.
     pub(crate) fn join(&mut self, call: Call, other: Call)
         ensures { elements self.new ≡ join_elements call other (elements self.old) }
     {
@@ -347,14 +347,14 @@ impl StoredElements {
     }
 }
 
-/// Whether one of the items is past so many.
+/// Whether one of the items is not below this count.
 fn has_past(count: usize, items: &[u64]) -> bool
     ensures { result ≡ list_any (nat_le count) items.now }
 {
     items.iter().any(|item| *item >= count as u64)
 }
 
-/// Where an element stands among all elements.
+/// The index of an element among all elements.
 fn index_of(element: Element) -> usize
     ensures { result ≡ element }
 {

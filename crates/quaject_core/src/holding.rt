@@ -26,14 +26,14 @@ impl HeldList {
         })
     }
 
-    /// Each hold, in their order.
+    /// Each hold, in the order in which they began.
     pub(crate) fn as_slice(&self) -> &[Hold]
         ensures { result.now ≡ self.now.holds.items }
     {
         self.holds.as_slice()
     }
 
-    /// Where the call's hold of the element stands.
+    /// The index of the call's hold of the element.
     pub(crate) fn find(&self, call: Call, element: u64) -> Option<usize>
         ensures { result ≡ position (is_hold call element) self.now.holds.items }
     {
@@ -51,7 +51,7 @@ impl HeldList {
             .any(|hold| hold.call == call && hold.element == element)
     }
 
-    /// One hold more.
+    /// Adds a hold.
     pub(crate) fn push(&mut self, hold: Hold)
         requires { length self.old.holds.items < 64 }
         ensures { self.new.holds.items ≡ self.old.holds.items ++ hold ∷ [] }
@@ -59,7 +59,7 @@ impl HeldList {
         self.holds.push_reserved(hold);
     }
 
-    /// One hold more, where there is one.
+    /// Adds a hold, if there is one.
     pub(crate) fn push_if(&mut self, is_there: bool, hold: Hold)
         requires { is_there ≡ true → length self.old.holds.items < 64 }
         ensures { self.new.holds.items ≡ self.old.holds.items ++ (if is_there then hold ∷ [] else []) }
@@ -69,7 +69,7 @@ impl HeldList {
         }
     }
 
-    /// The hold at this place ends.
+    /// Removes the hold at this place.
     pub(crate) fn remove(&mut self, index: usize)
         requires { index < vec_len self.old.holds }
         ensures { self.new.holds.items ≡ remove self.old.holds.items index }
@@ -77,7 +77,7 @@ impl HeldList {
         let _hold = self.holds.remove(index);
     }
 
-    /// What the other call holds is the call's.
+    /// Gives the call everything that the other call holds.
     pub(crate) fn join(&mut self, call: Call, other: Call)
         ensures { self.new.holds.items ≡ map (join_hold call other) self.old.holds.items }
     {

@@ -37,9 +37,9 @@
 //! assert!(rt; core.status()?.queues.as_slice() == [numbers].as_slice());
 //! ```
 //!
-//! `Core` holds a kernel's queues, chains, thread elements and meters as plain data with no atomics in it, and applies
-//! the events of `event_theory` to them, whose names it passes on. An event that isn't allowed is refused, and changes
-//! nothing.
+//! `Core` holds a kernel's queues, chains, thread elements and meters as plain data with no atomics in it. It applies
+//! the events of `event_theory` to them, and re-exports the names of that crate. An event that isn't allowed is
+//! refused, and changes nothing.
 #![tactic(auto)]
 
 mod chaining;

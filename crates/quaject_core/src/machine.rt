@@ -11,9 +11,9 @@ use std::alloc::Global;
 /// The plain machine: the queues, chains, thread elements and meters of a kernel, changed by one atomic event at a
 /// time.
 ///
-/// Whatever was done to a core, its state is lawful. It came of events, each allowed in its turn, on a first state, and
-/// it agrees with them: signals became pending as often as they were delivered, or are pending still, and steps done
-/// and alarms are those of the events.
+/// Whatever was done to a core, its state is lawful. Events led to the state from a first state, each allowed in its
+/// turn, and the state agrees with them: each signal became pending as often as it was delivered, and once more if it
+/// is pending. Steps done and alarms are those of the events.
 #[derive(Drop)]
 pub struct Core {
     store: Store,
@@ -61,7 +61,7 @@ impl Core {
         self.store.apply(event)
     }
 
-    /// Applies events in their order, up to the first that is refused, and gives that one's index and refusal.
+    /// Applies events in their order, up to the first that is refused, and returns the index and refusal of that event.
     pub fn run(&mut self, events: &[Event]) -> Result<(), (usize, Refusal)>
         ensures exact { AppliesAll result events.now (state self.old) (state self.new) }
         ensures memory { HadToGrow result events.now }

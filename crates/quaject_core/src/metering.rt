@@ -3,7 +3,7 @@
 use event_theory::{Alarm, AlarmStatus, Gauge, Refusal, Slot};
 use std::alloc::Global;
 
-/// The gauges, the clock, the alarm that stands in each slot, and all alarms that were set, fired and cancelled.
+/// The gauges, the clock, the alarm in each slot, and all alarms that were set, fired and cancelled.
 #[derive(Drop)]
 pub(crate) struct StoredMeters {
     gauges: [u64; 8],
@@ -76,7 +76,7 @@ impl StoredMeters {
         Ok(())
     }
 
-    /// The alarm that stands in a slot.
+    /// The alarm in a slot.
     fn standing(&self, slot: Slot) -> Result<Alarm, Refusal>
         ensures { result ≡ standing slot (meters self.now) }
     {
@@ -97,7 +97,7 @@ impl StoredMeters {
         Ok(())
     }
 
-    /// Takes out an alarm that won't fire.
+    /// Takes out an alarm before it fires.
     pub(crate) fn cancel(&mut self, slot: Slot) -> Result<(), Refusal>
         ensures { Does result (cancel slot) self.old self.new }
     {

@@ -15,7 +15,7 @@ use crate::threading::StoredThread;
 use event_theory::{Call, ElementStatus, Hold, OutOfMemory, Place, Processor, WaitNumber};
 use std::alloc::Global;
 
-/// Whether the element stands on this processor.
+/// Whether the element is on this processor.
 fn is_on(element: u64, seat: Option<Hold>) -> bool
     ensures { result ≡ is_on element seat }
 {
@@ -25,14 +25,14 @@ fn is_on(element: u64, seat: Option<Hold>) -> bool
     }
 }
 
-/// Which processor the element stands on.
+/// The index of the processor that the element is on.
 fn seat_of(processors: &[Option<Hold>; 8], element: u64) -> Option<usize>
     ensures { result ≡ position (is_on element) processors.now }
 {
     processors.iter().position(|seat| is_on(element, *seat))
 }
 
-/// The processor on which the element stands.
+/// The processor that the element is on.
 fn processor_of(processors: &[Option<Hold>; 8], element: u64) -> Option<Processor>
     ensures { result ≡ position (is_on element) processors.now }
 {
@@ -59,7 +59,7 @@ fn holder(held: &[Hold], element: u64) -> Option<Call>
     None
 }
 
-/// What the element queue stands for.
+/// The place of the elements in this element queue.
 fn ring_place(ring: usize) -> Place
     requires { ring < RINGS }
     ensures { result ≡ ring_place ring }
@@ -71,7 +71,7 @@ fn ring_place(ring: usize) -> Place
     }
 }
 
-/// Where an element is that is on no processor and in no queue.
+/// The place of an element that is on no processor and in no queue.
 fn held_place(held: Option<Call>) -> Place
     ensures { result ≡ held_place held }
 {

@@ -10,7 +10,7 @@ ghost use Rattle.quaject_core.specs.Joined.{renamed_span};
 use event_theory::{Call, OutOfMemory, QueueStatus, Refusal};
 use std::alloc::Global;
 
-/// Where a run lies: its call, the position of its first item and how many it has.
+/// The place of a run: its call, the position of its first item, and the number of its items.
 #[derive(Clone, Copy)]
 pub(crate) struct Span {
     call: Call,
@@ -25,7 +25,7 @@ pub(crate) struct StoredItem {
     raised: bool,
 }
 
-/// All places that were ever claimed, side by side, and where each run lies among them.
+/// All places that were ever claimed, side by side, and the place of each run among them.
 #[derive(Drop)]
 pub(crate) struct StoredQueue {
     capacity: u16,
@@ -132,7 +132,7 @@ impl StoredQueue {
         Ok(())
     }
 
-    /// Where the run with this number lies.
+    /// The place of the run with this number.
     fn span(&self, run: u32) -> Option<Span>
         ensures { result ≡ slice_get self.now.runs.items run }
     {
@@ -169,7 +169,7 @@ impl StoredQueue {
         count <= self.left() && all_raised(&self.rest()[..count])
     }
 
-    /// What a taking of the first `count` items that are left would be refused for. Takes nothing.
+    /// The refusal of a taking of the first `count` items that are left. Takes nothing.
     pub(crate) fn check_take(&self, longest: u16, count: u32) -> Result<(), Refusal>
         ensures { take_first longest count (queue self.now) ≡ allowed result (after_take count (queue self.now)) }
     {
@@ -194,7 +194,7 @@ impl StoredQueue {
         Ok(())
     }
 
-    /// Refuses the claims to come.
+    /// Shuts the queue: all later claims are refused.
     pub(crate) fn shut(&mut self)
         ensures { queue self.new ≡ shut (queue self.old) }
     {

@@ -35,7 +35,7 @@ pub(crate) fn of_wait(wait: WaitNumber) -> usize
     usize::from(wait.number()) + FIRST_WAIT
 }
 
-/// The queues as they begin: all elements are free.
+/// The queues in their first state: all elements are free.
 pub(crate) fn new(alloc: Global, count: u8) -> Result<Vec<StoredQueue>, OutOfMemory>
     ensures count { IfOk result (λ rings. vec_len rings ≡ RINGS) }
     ensures what { IfOk result
@@ -67,7 +67,7 @@ pub(crate) fn claim(
     rings[ring].claim(1, call, items)
 }
 
-/// What such a claim would be refused for. Claims nothing.
+/// The refusal of a claim of one element. Claims nothing.
 pub(crate) fn check_claim(
     rings: &Vec<StoredQueue>,
     ring: usize,
@@ -139,7 +139,7 @@ pub(crate) fn take(rings: &mut Vec<StoredQueue>, ring: usize, count: u32) -> Res
     rings[ring].take(1, count)
 }
 
-/// The runs of the other call are the call's.
+/// Gives the runs of the other call to the call.
 pub(crate) fn join(rings: &mut Vec<StoredQueue>, call: Call, other: Call)
     ensures same { vec_len rings.new ≡ vec_len rings.old }
     ensures what { map queue rings.new.items ≡ map (join_queue call other) (map queue rings.old.items) }

@@ -1,4 +1,4 @@
-//! Which element stands on which processor, and who put it there.
+//! Which element is on which processor, and who put it there.
 
 ghost use Rattle.std.specs.Prelude.{◌≡◌, map, option_map};
 ghost use Rattle.std.specs.List.{list_any};
@@ -17,7 +17,7 @@ pub(crate) fn is_put(processors: &[Option<Hold>; 8], call: Call, element: u64) -
     })
 }
 
-/// What the other call put on a processor is the call's.
+/// Gives the call everything that the other call put on a processor.
 pub(crate) fn join(processors: &mut [Option<Hold>; 8], call: Call, other: Call)
     ensures { processors.new ≡ map (option_map (join_hold call other)) processors.old }
 {
@@ -26,7 +26,7 @@ pub(crate) fn join(processors: &mut [Option<Hold>; 8], call: Call, other: Call)
     }
 }
 
-/// What stands on a processor after the join of another call to the first.
+/// The seat after the join of another call to the first.
 fn join_seat(seat: Option<Hold>, call: Call, other: Call) -> Option<Hold>
     ensures { result ≡ option_map (join_hold call other) seat }
 {

@@ -1,4 +1,4 @@
-//! What a core stores, and what each event makes of it.
+//! The stored data of a core, and the effect of each event on it.
 
 use crate::chaining::StoredChain;
 use crate::elements::StoredElements;
@@ -64,7 +64,7 @@ impl Store {
         Ok(())
     }
 
-    /// Applies one event, but for its counting.
+    /// Applies one event, without counting it.
     fn effect(&mut self, event: &Event) -> Result<(), Refusal>
         requires { IsLawful (stored_state self.old) }
         ensures change { Does result (effect event.now) self.old self.new }
@@ -374,7 +374,7 @@ ghost use Rattle.event_theory.specs.Chains.{join_chain};
 ghost use Rattle.quaject_core.specs.Shown.{queue};
 ghost use Rattle.quaject_core.specs.ShownChains.{chain};
 
-/// The runs of the other call are the call's, in each of these queues.
+/// Gives the runs of the other call to the call, in each of these queues.
 fn join_queues(queues: &mut [StoredQueue], call: Call, other: Call)
     ensures { map queue queues.new ≡ map (join_queue call other) (map queue queues.old) }
 {
@@ -383,7 +383,7 @@ fn join_queues(queues: &mut [StoredQueue], call: Call, other: Call)
     }
 }
 
-/// All that the other call owns, runs or owes is the call's, in each of these chains.
+/// Gives the call everything that the other call owns, runs or owes, in each of these chains.
 fn join_chains(chains: &mut [StoredChain], call: Call, other: Call)
     ensures { map chain chains.new ≡ map (join_chain call other) (map chain chains.old) }
 {

@@ -9,7 +9,7 @@ ghost use Rattle.quaject_core.specs.ShownThreads.{thread};
 use event_theory::{OutOfMemory, Signal};
 use std::alloc::Global;
 
-/// The signals that are pending, how many steps are done, the stop bit, and whether it stands in its stop cell.
+/// The signals that are pending, how many steps are done, the stop bit, and whether the element is in its stop cell.
 #[derive(Clone, Copy)]
 pub(crate) struct StoredThread {
     pending: [bool; 16],
@@ -90,14 +90,14 @@ impl StoredThread {
         self.pending[usize::from(signal.number())] = true;
     }
 
-    /// No signal is pending any more.
+    /// Clears all pending signals.
     pub(crate) fn deliver(&mut self)
         ensures { thread self.new ≡ record (thread self.old) { pending = λ signal. false } }
     {
         self.pending = [false; 16];
     }
 
-    /// One step more is done.
+    /// Counts one more step.
     pub(crate) fn step(&mut self)
         requires { (thread self.old).done < u32_max }
         ensures { thread self.new ≡ record (thread self.old) { done = (thread self.old).done + 1 } }

@@ -1,4 +1,4 @@
-//! The tests of `quaject_core`, in a crate of their own: beside it they would prove it once more.
+//! The tests of `quaject_core`. They are a crate of their own, since `quaject_core` would be proved again with them.
 #![tactic(auto)]
 
 #[cfg(test)]

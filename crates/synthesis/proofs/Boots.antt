@@ -1,4 +1,4 @@
--- The answer of a boot, as it stands in the exit of a run, and alone.
+-- The answer of a boot, in the exit of a run and alone.
 use Rattle.std.proofs.Common.{◌≢◌, refl, ℕ, List, Option, Some, None, Result, Ok, Err, IfOk, IfErr, IfSome}
 use Rattle.std.specs.Result.{result_ok}
 use Rattle.std.specs.Io.KnownBytes.{Keeps}

@@ -1,4 +1,4 @@
--- What the words of the program ask for.
+-- The commands that the words of the program ask for.
 use Rattle.std.specs.Prelude.{◌≡◌, ◌≢◌, ◌≤◌, ℕ, List, [], ◌∷◌, codes, Ok}
 use Rattle.boot_script.specs.Words.{number_of}
 use Rattle.synthesis.specs.declared.command.Command.{Command}
@@ -21,12 +21,12 @@ pub record IsBootCommand (words : List (List ℕ)) (processors turns : ℕ) : Ty
   pub words_are : words ≡ codes "boot" ∷ first ∷ second ∷ []
   pub numbers : AreNumbers first second processors turns
 
--- the words ask for nothing
+-- the words are no command
 pub record IsNoCommand (words : List (List ℕ)) : Type 0 where
   pub no_replay : words ≢ replay_command
   pub no_boot : (processors turns : ℕ) → IsBootCommand words processors turns → ⊥
 
--- the words ask for this
+-- the words ask for this command
 abbrev pub Asks : List (List ℕ) → Command → Type 0
 Asks words Replay = words ≡ replay_command
 Asks words (Boot processors turns) = IsBootCommand words processors turns

@@ -1,4 +1,4 @@
--- What the exit status and the words of a run say.
+-- The exit status of each run, and the words for standard error.
 use Rattle.std.specs.Prelude.{◌≡◌, ◌≢◌, ◌⊎◌, ℕ, List, [], ◌++◌, codes, Option, Some, None, Result, Ok, Err, IfErr, IfSome}
 use Rattle.std.specs.Prelude.{OnOk}
 use Rattle.std.specs.declared.io.Error.{Error}
@@ -25,11 +25,11 @@ use Rattle.synth_kernel.specs.Boots.{RunsOf, CameBackPlain, HasNumbers, IsBoot, 
 use Rattle.turn_io.specs.declared.gate.NoGate.{NoGate}
 use Rattle.synthesis.specs.declared.program.Exit.{Exit}
 
--- what is told of other words
+-- the words for standard error if the words of the program are no command
 abbrev pub usage_words : List ℕ
 usage_words = codes "usage: synthesis replay | synthesis boot P TURNS" ++ end_of_line
 
--- what is told where there is no memory
+-- the words for standard error if there is no memory
 abbrev pub no_memory_words : List ℕ
 no_memory_words = codes "no memory" ++ end_of_line
 
@@ -42,23 +42,23 @@ exit_code_of (Err Memory) = 3
 exit_code_of (Err Read) = 5
 exit_code_of (Err Write) = 5
 
--- what is told of a replay: nothing of one that was printed, else the line that names its fault
+-- the words for standard error: none if the replay was printed, else the line that names the fault
 abbrev pub words_of : Result Replayed ReplayFault → List ℕ
 words_of (Ok replayed) = []
 words_of (Err fault) = replay_fault_text fault ++ end_of_line
 
--- the text has the answer, and where that is printed, just that is appended
+-- the answer is correct for the text; if the replay was printed, exactly its printed text is appended
 abbrev pub Answers :
     Result (ℕ × List (ℕ × Event)) ScriptFault → Result Replayed ReplayFault → Option (List ℕ) → Option (List ℕ) → Type 0
 Answers said (Ok replayed) old new = IsReplay said replayed old new
 Answers said (Err fault) old new = IsReplayFault said fault
 
--- nothing was written under another fault than the writer's
+-- after a fault other than `Write` nothing was written
 abbrev pub IsUnwritten : Result Replayed ReplayFault → Option (List ℕ) → Option (List ℕ) → Type 0
 IsUnwritten (Ok replayed) old new = Unit {0}
 IsUnwritten (Err fault) old new = fault ≢ Write → Keeps old new
 
--- a replay of the bytes, where they are known, has this answer, and turns the bytes of the writer from old to new
+-- the answer is correct for the bytes that were read, if known; after a fault other than `Write` nothing was written
 abbrev pub IsReplayOf : Option (List ℕ) → Result Replayed ReplayFault → Option (List ℕ) → Option (List ℕ) → Type 0
 IsReplayOf known answer old new =
     IfSome known (λ bytes. Answers (text_events bytes) answer old new) × IsUnwritten answer old new
@@ -69,16 +69,16 @@ abbrev pub HasCause : {R W : Type 0} → (R → Result ℕ Error → R → Type 
 HasCause answers fails answer old new written = IfErr answer (λ fault.
     (fault ≡ Read → IsReadFault answers old new) × (fault ≡ Write → IsWriteFault fails written))
 
--- a run has the status, and where the error stream took all that was told, just the words are appended to it
+-- the exit has this status; if the error stream took all words, exactly these words were appended to it
 abbrev pub IsExit : Exit → ℕ → List ℕ → Option (List ℕ) → Option (List ℕ) → Type 0
 IsExit exit status words old new = (exit.status ≡ status) × OnOk exit.told (Appends old new words)
 
--- the answer alone
+-- the answer is correct for the text, whatever was written
 abbrev pub IsAnswerOf : Result (ℕ × List (ℕ × Event)) ScriptFault → Result Replayed ReplayFault → Type 0
 IsAnswerOf said (Ok replayed) = IsAnswer said replayed
 IsAnswerOf said (Err fault) = IsReplayFault said fault
 
--- an exit status is that of a replay of a text that says this
+-- the status is the exit status of a replay of a text that says this
 abbrev pub IsStatus : Result (ℕ × List (ℕ × Event)) ScriptFault → ℕ → Type 0
 IsStatus said status = (answer : Result Replayed ReplayFault) × IsAnswerOf said answer × (status ≡ exit_code_of answer)
 
@@ -91,7 +91,7 @@ boot_exit_code_of (Err boot_faults.Memory) = 3
 boot_exit_code_of (Err boot_faults.Read) = 5
 boot_exit_code_of (Err boot_faults.Write) = 5
 
--- what is told of a boot: nothing of one whose report was printed, else the line that names its fault
+-- the words for standard error: none if the report was printed, else the line that names the fault
 abbrev pub boot_words_of : Result endings.Ended BootFault → List ℕ
 boot_words_of (Ok ended) = []
 boot_words_of (Err fault) = boot_fault_text fault ++ end_of_line
@@ -101,8 +101,8 @@ abbrev pub answer_in : Result (Booted NoGate) BootFault → Result endings.Ended
 answer_in (Ok booted) = Ok booted.ended
 answer_in (Err fault) = Err fault
 
--- What was read has the answer on so many processors, after so many turns of each, and where that is printed, just the
--- report is appended. What the boot came to is there, with both numbers
+-- The answer of a boot on so many processors, with so many turns of each, is correct for what was read. If the report
+-- was printed, exactly the report is appended, and `booted` has this answer and both numbers; else it is None
 abbrev pub BootAnswers : RunsOf NoGate → (Unmade → Type 0) → Option (List ℕ) → ℕ → ℕ
     → Result endings.Ended BootFault → Option (Booted NoGate) → Option (List ℕ) → Option (List ℕ) → Type 0
 BootAnswers ran shown read processors turns (Ok ended) (Some booted) old new = (booted.ended ≡ ended)
@@ -112,13 +112,13 @@ BootAnswers ran shown read processors turns (Err fault) None old new =
     IfSome read (λ bytes. IsBootFault (text_plan bytes) fault)
 BootAnswers ran shown read processors turns answer booted old new = ⊥
 
--- nothing was written under another fault of a boot than the writer's
+-- after a fault of a boot other than `Write` nothing was written
 abbrev pub IsBootUnwritten : Result endings.Ended BootFault → Option (List ℕ) → Option (List ℕ) → Type 0
 IsBootUnwritten (Ok ended) old new = Unit {0}
 IsBootUnwritten (Err fault) old new = fault ≢ boot_faults.Write → Keeps old new
 
--- a boot of the bytes, where they are known, has this answer and came to this, and turns the bytes of the writer from
--- old to new
+-- the answer of a boot and `booted` are correct for what was read, if that is known; after a fault other than `Write`
+-- nothing was written
 abbrev pub IsBootedBy : RunsOf NoGate → (Unmade → Type 0) → Option (List ℕ) → ℕ → ℕ
     → Result endings.Ended BootFault → Option (Booted NoGate) → Option (List ℕ) → Option (List ℕ) → Type 0
 IsBootedBy ran shown read processors turns answer booted old new =
@@ -134,14 +134,14 @@ HasBootCause answers fails answer old new written = IfErr answer (λ fault.
 abbrev pub HasStreamFailed : {R W : Type 0} → (R → Result ℕ Error → R → Type 0) → (W → W → Type 0) → R → R → W → Type 0
 HasStreamFailed answers fails old new written = IsReadFault answers old new ⊎ IsWriteFault fails written
 
--- such an answer, whatever is printed
+-- the answer of a boot is correct for what was read, whatever was written
 abbrev pub IsBootAnswerOf : RunsOf NoGate → (Unmade → Type 0) → Option (List ℕ) → ℕ → ℕ
     → Result endings.Ended BootFault → Type 0
 IsBootAnswerOf ran shown read processors turns (Ok ended) = (back : List NoGate) × (closed : Unmade)
     × IsBootAnswer (CameBackPlain ran shown processors turns back closed) read ended
 IsBootAnswerOf ran shown read processors turns (Err fault) = IfSome read (λ bytes. IsBootFault (text_plan bytes) fault)
 
--- an exit status is that of a boot of what was read, on so many processors, after so many turns of each
+-- the status is the exit status of a boot of what was read, on so many processors, with so many turns of each
 abbrev pub IsBootStatus : RunsOf NoGate → (Unmade → Type 0) → Option (List ℕ) → ℕ → ℕ → ℕ
     → Type 0
 IsBootStatus ran shown read processors turns status = (answer : Result endings.Ended BootFault)

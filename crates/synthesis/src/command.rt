@@ -1,4 +1,4 @@
-//! What the words of the program ask for.
+//! The commands that the words of the program ask for.
 
 ghost use Rattle.std.specs.Prelude.{◌≡◌, ◌↔◌, ℕ, map, IsTrue, IfSome, IfNone};
 ghost use Rattle.synthesis.specs.Commands.{replay_command, Asks, IsWithin, AreNumbers, IsNoCommand, IsBootOf};
@@ -11,7 +11,7 @@ const MOST_PROCESSORS: u64 = 8;
 /// The most turns of each processor of a boot.
 const MOST_TURNS: u64 = 100_000_000;
 
-/// What words ask for.
+/// A command of the program.
 #[derive(Clone, Copy, Debug, PartialEq, Eq)]
 pub enum Command {
     /// A list of events is replayed.
@@ -20,7 +20,7 @@ pub enum Command {
     Boot { processors: u8, turns: u32 },
 }
 
-/// What the words ask for, or nothing where they are no command.
+/// The command that the words ask for; none if they are no command.
 pub fn command_of(words: &[&str]) -> Option<Command>
     ensures asks { IfSome result (λ command. Asks (map (λ word. word.now) words.now) command) }
     ensures within { IfSome result IsWithin }

@@ -1,4 +1,4 @@
-//! The program `synthesis`: runs scripts of the kernel's core and tells how they end.
+//! The program `synthesis`: runs scripts of the kernel's core and reports how they end.
 #![tactic(auto)]
 
 mod command;

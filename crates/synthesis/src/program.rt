@@ -21,7 +21,7 @@ use std::io::Write;
 use std::sync::Wait;
 use synth_kernel::{BootFault, Booted, Ended, NoGate, Shared, Witness, Work, Worked, boot_on};
 
-/// The status of words that are no command.
+/// The exit status if the words are no command.
 const USAGE_FAULT: u8 = 2;
 
 /// How a run has ended.
@@ -31,17 +31,17 @@ pub struct Exit {
     pub status: u8,
     /// Whether the error stream took all the words for it.
     pub told: io::Result<()>,
-    /// What a boot answered whose report was printed.
+    /// The result of a boot whose report was printed.
     pub booted: Option<Booted<NoGate>>,
 }
 
 /// Runs the program with its words.
 ///
-/// The words are looked at before anything is read. Status 0 says that each event of a replay was allowed, or that all
-/// threads of a boot have ended; 1 that an event was refused, or that the script is at fault; 2 that the words are no
-/// command; 3 that memory was wanting; 4 that threads of a boot have not ended; 5 that the reader or the writer failed.
-/// Under 2, 3 and a fault of the script nothing was written. Under 5 the last call on the reader or the writer returned
-/// an error, or there were 131,072 calls of `read`.
+/// The words are read before anything else. Status 0 is returned if each event of a replay was allowed, or all threads
+/// of a boot have ended; 1 if an event was refused, or the script is invalid; 2 if the words are no command; 3 if
+/// memory was exhausted; 4 if threads of a boot have not ended; 5 if the reader or the writer failed. Under 2, 3 and a
+/// fault of the script nothing was written. Under 5 the last call on the reader or the writer returned an error, or
+/// there were 131,072 calls of `read`.
 pub fn run_on<
     RT: Witness<Shared, Worked<NoGate>, Work<NoGate>> + Wait + Sync,
     R: Source,
@@ -74,7 +74,7 @@ pub fn run_on<
     }
 }
 
-/// The same of streams that are handed over, with the exit status alone. Faults of the error stream are ignored.
+/// As `run_on`, for streams that are handed over, with the exit status alone. Faults of the error stream are ignored.
 pub fn run_main<
     RT: Witness<Shared, Worked<NoGate>, Work<NoGate>> + Wait + Sync,
     R: Source + Drop,
@@ -91,7 +91,7 @@ pub fn run_main<
     run_on(rt, alloc, words, &mut reader, &mut writer, &mut errors).status
 }
 
-/// Replays, and tells how that has ended.
+/// Replays, and reports how the replay has ended.
 fn run_replay<R: Source, W: Sink, E: Write>(
     alloc: Global,
     reader: &mut R,
@@ -107,7 +107,7 @@ fn run_replay<R: Source, W: Sink, E: Write>(
     told_of_replay(answer, errors)
 }
 
-/// Tells how a replay has ended.
+/// Reports how a replay has ended.
 fn told_of_replay<E: Write>(answer: Result<Replayed, ReplayFault>, errors: &mut E) -> Exit
     ensures { IsExit result (exit_code_of answer) (words_of answer) (E.contents errors.old) (E.contents errors.new) }
 {
@@ -118,7 +118,7 @@ fn told_of_replay<E: Write>(answer: Result<Replayed, ReplayFault>, errors: &mut 
     }
 }
 
-/// Tells how a boot has ended.
+/// Reports how a boot has ended.
 fn told_of_boot<E: Write>(answer: Result<Booted<NoGate>, BootFault>, errors: &mut E) -> Exit
     ensures exit { IsExit result (boot_exit_code_of (answer_in answer)) (boot_words_of (answer_in answer))
         (E.contents errors.old) (E.contents errors.new) }
@@ -138,14 +138,14 @@ fn told_of_boot<E: Write>(answer: Result<Booted<NoGate>, BootFault>, errors: &mu
     }
 }
 
-/// Tells that there is no memory, as of a replay that wants it.
+/// Reports that there is no memory, as after a replay without memory.
 pub fn no_memory<E: Write>(errors: &mut E) -> Exit
     ensures { IsExit result 3 no_memory_words (E.contents errors.old) (E.contents errors.new) }
 {
     told_of_replay(Err(ReplayFault::Memory), errors)
 }
 
-/// Tells the commands, as to words that are none.
+/// Reports the commands, as after words that are no command.
 pub fn usage<E: Write>(errors: &mut E) -> Exit
     ensures { IsExit result 2 usage_words (E.contents errors.old) (E.contents errors.new) }
 {
@@ -168,7 +168,7 @@ fn status(answer: Result<Replayed, ReplayFault>) -> u8
     }
 }
 
-/// Tells why a replay has ended early. Of one that was printed nothing is told.
+/// Reports why a replay has ended early. For a replay that was printed nothing is reported.
 fn tell<E: Write>(answer: Result<Replayed, ReplayFault>, errors: &mut E) -> io::Result<()>
     ensures { OnOk result (Appends (E.contents errors.old) (E.contents errors.new) (words_of answer)) }
 {
@@ -178,7 +178,7 @@ fn tell<E: Write>(answer: Result<Replayed, ReplayFault>, errors: &mut E) -> io::
     }
 }
 
-/// Tells the commands.
+/// Reports the commands.
 fn tell_usage<E: Write>(errors: &mut E) -> io::Result<()>
     ensures { OnOk result (Appends (E.contents errors.old) (E.contents errors.new) usage_words) }
 {

@@ -28,12 +28,12 @@ pub no_more_ok : (words : List (List ℕ)) (u : Unit {0}) → no_more_of words �
 no_more_ok [] u h = refl
 no_more_ok (word ∷ words) u h = absurd (cc)
 
--- what is left ends the line
+-- if no word may be left, no word is left, and the value is the result
 pub last_ok : {A : Type 0} (words : List (List ℕ)) (x y : A) → (no_more_of words >>= λ end. Ok x) ≡ Ok y → (words ≡ []) × (x ≡ y)
 last_ok [] x y h = (refl, cc)
 last_ok (word ∷ words) x y h = absurd (cc)
 
--- what is refused isn't refused for want of memory
+-- the result is not refused as out of memory
 abbrev pub Known : {A : Type 0} → Result A ScriptRefusal → Type 0
 Known said = said ≡ Err OutOfMemory → ⊥
 
@@ -59,7 +59,7 @@ no_more_known (word ∷ words) = λ p. cc
 pub last_known : {A : Type 0} (words : List (List ℕ)) (x : A) → Known (no_more_of words >>= λ end. Ok x)
 last_known words x = bind_known (no_more_of words) _ (no_more_known words) (λ end. ok_known x)
 
--- the same of a fault with its line
+-- the fault, with its line, is not out of memory
 abbrev pub IsKnown : {A : Type 0} → Result A ScriptFault → Type 0
 IsKnown said = (fault : ScriptFault) → said ≡ Err fault → fault.refusal ≡ OutOfMemory → ⊥
 

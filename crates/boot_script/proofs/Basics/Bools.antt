@@ -1,4 +1,4 @@
--- What tests tell.
+-- The meaning of tests.
 use Rattle.std.proofs.Common.{◌≡◌, ◌⊎◌, inl, inr, refl, true, false, Bool, cond, Ok, Err}
 use Rattle.boot_script.specs.declared.fault.ScriptRefusal.{ScriptRefusal}
 

@@ -12,11 +12,11 @@ other_length xs ys h = false_from_ne_true (bytes_eq xs ys) (λ same. h (ap lengt
 pub other_byte : (xs ys : List ℕ) (i : ℕ) → (get_or xs i 0 ≡ get_or ys i 0 → ⊥) → bytes_eq xs ys ≡ false
 other_byte xs ys i h = false_from_ne_true (bytes_eq xs ys) (λ same. h (ap (λ bytes. get_or bytes i 0) ((bytes_eq-Decides xs ys).0 same)))
 
--- nothing stands behind all bytes
+-- nothing is left after all bytes
 pub same_none : (xs ys : List ℕ) → length xs ≡ length ys → drop (length xs) xs ≡ drop (length xs) ys
 same_none xs ys e = drop_all (length xs) xs (omega arith) ∙ sym (drop_all (length xs) ys (omega (arith, e)))
 
--- one byte more is the same
+-- words that are equal from `left` on and at the byte before it are equal from that byte on
 pub same_from : (xs ys : List ℕ) (left i : ℕ) → left ≡ i + 1 → left ≤ length xs → left ≤ length ys → get_or xs i 0 ≡ get_or ys i 0 → drop left xs ≡ drop left ys → drop i xs ≡ drop i ys
 same_from xs ys left i e within within' byte rest =
     let next : left ≡ suc i = e ∙ add-one i in

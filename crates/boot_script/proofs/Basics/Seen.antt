@@ -23,7 +23,7 @@ chosen text at place is below =
     let yes : ltb at (length text) ≡ true = grind (arith, nat_tests) in
     sym (ap (λ n. cond (ltb n (length text)) (Some n) None) is ∙ ap (λ b. cond b (Some at) None) yes)
 
--- what stands before the first byte that isn't printable
+-- the bytes before the first byte that isn't printable are printable
 pub line_seen : (text : List ℕ) (at : ℕ) → Some at ≡ position (λ b. not (is_printable b)) text → list_all is_printable (take at text) ≡ true
 line_seen text at h =
     let p = some_chosen _ at _ h in
@@ -32,14 +32,14 @@ line_seen text at h =
     let below : k < at = omega (arith, within, length-take-le at text (omega (arith, here))) in
     ap is_printable (get_or-take at text k d below) ∙ passes _ (fails_before_first (λ b. not (is_printable b)) text k d (omega (arith, p.1, below))))
 
--- no byte is such
+-- if no byte isn't printable, all are printable
 pub text_seen : (text : List ℕ) → None ≡ position (λ b. not (is_printable b)) text → list_all is_printable text ≡ true
 text_seen text h =
     let no = none_chosen _ _ h in
     let past : length text ≤ position_or_len (λ b. not (is_printable b)) text = grind (arith, nat_tests, no) in
     list_all-from_AllPass is_printable text (λ k d within. passes _ (fails_before_first (λ b. not (is_printable b)) text k d (omega (arith, past, within))))
 
--- the first byte that isn't printable ends the line
+-- if the first byte that isn't printable is 0x0A, it is the first 0x0A
 end_at : (text : List ℕ) (at : ℕ) → Some at ≡ position (λ b. not (is_printable b)) text → get_or text at 0 ≡ 10 → Some at ≡ position (λ b. eqb b 10) text
 end_at text at h ten =
     let p = some_chosen _ at _ h in
@@ -47,7 +47,7 @@ end_at text at h ten =
     let is = position_or_len_is (λ b. eqb b 10) text at 0 (omega (arith, below)) (λ k before. no_end _ (fails_before_first (λ b. not (is_printable b)) text k 0 (omega (arith, p.1, before)))) (λ w. ap (λ b. eqb b 10) ten) in
     chosen text at (position_or_len (λ b. eqb b 10) text) is below
 
--- there is no end of a line
+-- if all bytes are printable, there is no 0x0A
 end_nowhere : (text : List ℕ) → None ≡ position (λ b. not (is_printable b)) text → None ≡ position (λ b. eqb b 10) text
 end_nowhere text h =
     let no = none_chosen _ _ h in

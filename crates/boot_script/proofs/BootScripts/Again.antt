@@ -1,4 +1,4 @@
--- What is spelled as a line of a boot script is read again.
+-- The spelling of a line of a boot script is read as that line again.
 use Rattle.std.proofs.Common.{◌≡◌, ℕ, ◌<◌, ◌≤◌, ◌&&◌, List, [], ◌∷◌, ◌∙◌, refl, ap, length, true, false, Bool, Option, Some, None, Ok}
 use Rattle.std.specs.Prelude.{◌||◌, codes}
 use Rattle.std.specs.List.{join_with_byte, list_all}
@@ -59,21 +59,21 @@ word_again : (version : Version) (going : Bool) (one : BootWord) → has_word ve
 unfolding boot_word_of
 word_again version going one h = ap (λ r. r >>= λ one. if_had version going one) (named_again one) ∙ rw h refl
 
--- printable bytes, the first word and what the words behind it say make what a line says
+-- a line of printable bytes says what its first word and the words after it say
 pub line_by : (version : Version) (names : List Named) (going : Bool) (bytes : List ℕ) (one : BootWord) (words : List (List ℕ)) (said : Line) → list_all is_printable bytes ≡ true → words_of bytes ≡ boot_word one ∷ words → has_word version going one ≡ true → line_of version names one words ≡ Ok said
     → boot_line version names going bytes ≡ Ok said
 unfolding boot_line
 line_by version names going bytes one words said printable split has h =
     rw printable (ap (words_line version names going) split ∙ (ap (λ r. r >>= λ one. line_of version names one words) (word_again version going one has) ∙ h))
 
--- the same of words with no space
+-- a line of words with no space says what its words say
 plain_line : (version : Version) (names : List Named) (going : Bool) (one : BootWord) (words : List (List ℕ)) (said : Line) → ArePlain (boot_word one ∷ words) → has_word version going one ≡ true → line_of version names one words ≡ Ok said
     → (bytes : List ℕ) → bytes ≡ join_with_byte 32 (boot_word one ∷ words) → boot_line version names going bytes ≡ Ok said
 plain_line version names going one words said plain has h bytes e =
     ap (boot_line version names going) e
     ∙ line_by version names going (join_with_byte 32 (boot_word one ∷ words)) one words said (print_words (boot_word one) words plain) (words_again (boot_word one) words plain) has h
 
--- a step stands with one
+-- a step needs a current thread, and nothing else
 steps_on : (going : Bool) → going ≡ true → (going || false) ≡ true
 steps_on going h = rw h refl
 

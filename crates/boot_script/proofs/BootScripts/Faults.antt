@@ -1,4 +1,4 @@
--- No boot script is at fault by want of memory.
+-- No boot script is invalid because memory is exhausted.
 use Rattle.std.proofs.Common.{ℕ, ◌+◌, ◌-◌, ◌*◌, ◌&&◌, List, [], ◌∷◌, length, true, false, Bool, cond, Option, Some, None, Result, Ok, Err, codes}
 use Rattle.std.proofs.Math.Dec.{eqb}
 use Rattle.std.specs.Prelude.{nat_le, nat_lt}
@@ -33,7 +33,7 @@ use Rattle.boot_script.proofs.Basics.Binds.{Known, bind_known, test_known, ok_kn
 use Rattle.boot_script.proofs.LineWords.Readers.{number_known}
 use Rattle.boot_script.proofs.LineWords.Openings.{opening_known}
 
--- no word is refused for want of memory
+-- no word is refused as out of memory
 abbrev AllKnown : {A : Type 0} → Reader A → Type 0
 AllKnown read = (word : List ℕ) → Known (read word)
 
@@ -194,7 +194,7 @@ boot_word_known version going written =
     bind_known (word_named written boot_words) (λ word. if_had version going word) (word_named_known written boot_words)
     (λ word. test_known (has_word version going word) (Ok word) (Err UnknownWord) (ok_known word) (λ p. cc))
 
--- no line is refused for want of memory
+-- no line is refused as out of memory
 pub boot_line_known : (version : Version) (names : List Named) (going : Bool) (bytes : List ℕ) → Known (boot_line version names going bytes)
 unfolding boot_line
 boot_line_known version names going bytes =
@@ -230,7 +230,7 @@ pub line_added_known : (version : Version) (bytes : List ℕ) (d : Draft) → Kn
 unfolding line_added
 line_added_known version bytes d = bind_known (boot_line version d.names (goes_on d.going) bytes) (λ said. added version said d) (boot_line_known version d.names (goes_on d.going) bytes) (λ said. added_known version said d)
 
--- no lines are at fault by want of memory
+-- the fault of lines is not out of memory
 pub plan_known : (version : Version) (number : ℕ) (lines : List (List ℕ)) (d : Draft) → IsKnown (plan_from version number lines d)
 unfolding plan_from
 plan_known version number [] d = ok_is_known d
@@ -243,7 +243,7 @@ pub plan_only_known : (said : Result Draft ScriptFault) → IsKnown said → IsK
 plan_only_known (Ok d) k = ok_is_known d.plan
 plan_only_known (Err fault) k = λ other p. k other (cc)
 
--- no text is at fault by want of memory
+-- the fault of a text is not out of memory
 pub text_plan_known : (text : List ℕ) → IsKnown (text_plan text)
 unfolding text_plan
 text_plan_known text =

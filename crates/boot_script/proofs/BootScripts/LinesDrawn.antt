@@ -10,7 +10,7 @@ use Rattle.boot_script.specs.Plans as plans
 use Rattle.boot_script.specs.Plans.{line_added, plan_from, plan_only}
 use Rattle.boot_script.specs.Drafts.{Draws}
 
--- a draft is kept, from which the lines that are left lead to what is said
+-- the kept draft is one from which the lines that are left lead to what the text says
 pub record IsDrawnSoFar (version : Version) (number : ℕ) (kept : Draft) (lines : List (List ℕ)) (said : Result plans.Draft ScriptFault) : Type 0 where
   pub d : plans.Draft
   pub drawn : Draws kept d
@@ -21,7 +21,7 @@ pub silent_line : (version : Version) (number : ℕ) (line : List ℕ) (lines : 
 unfolding plan_from
 silent_line version number line lines d said silent all = rw (← silent) at all
 
--- what a line that says something, and those behind it, say
+-- a line that says something, and the lines after it, say what they say one after the other
 pub from_line : (version : Version) (number : ℕ) (line : List ℕ) (lines : List (List ℕ)) (d : plans.Draft) (told : Result plans.Draft ScriptRefusal) → false ≡ says_nothing line → line_added version line d ≡ told
     → plan_from version number (line ∷ lines) d ≡ (at_line number told >>= λ next. plan_from version (number + 1) lines next)
 unfolding plan_from

@@ -41,7 +41,7 @@ wait_number_reader version = number_reader (last_wait version) (few_waits versio
 or_letter : (byte : ℕ) → is_letter byte ≡ true → is_name_byte byte ≡ true
 or_letter byte h = rw h refl
 
--- each byte of a name may stand in a name
+-- each byte of a name is allowed in a name
 name_bytes : (name : List ℕ) → is_name name ≡ true → list_all is_name_byte name ≡ true
 name_bytes [] h = absurd (cc)
 name_bytes (first ∷ bytes) h =
@@ -124,7 +124,7 @@ number_named_reader kind names order = record {
   some = λ n h. some_form (name_of_number kind names n) (number_form kind names order n h);
 }
 
--- a name is cut off at the full stop behind it
+-- a name is cut off at the full stop after it
 cut_stop : (name rest : List ℕ) → list_all is_name_byte name ≡ true → pieces 46 (name ++ 46 ∷ rest) ≡ name ∷ pieces 46 rest
 cut_stop [] rest h = slice_split-cons_yes (λ b. eqb b 46) 46 rest refl
 cut_stop (c ∷ cs) rest h =

@@ -33,11 +33,11 @@ use Rattle.boot_script.proofs.BootScripts.Readers.{wait_number_reader, new_name_
 use Rattle.boot_script.proofs.Escaping.TextsRead.{plain_words, ends_ok}
 use Rattle.boot_script.proofs.BootScripts.WaysRead.{plain_later, switch_ok}
 
--- what is said is in its ranges, and the word and those behind it spell it
+-- the line is in its ranges, and the word and the words after it spell the line
 abbrev pub IsSaid : Version → List Named → Bool → BootWord → List (List ℕ) → Line → Type 0
 IsSaid version names going one words said = FitsLine version names going said × IsSpelling names said (join_with_byte 32 (boot_word one ∷ words))
 
--- a word, and those behind it, in a line
+-- a word and the words after it, joined as a line
 abbrev joined : BootWord → List (List ℕ) → List ℕ
 joined one words = join_with_byte 32 (boot_word one ∷ words)
 

@@ -13,7 +13,7 @@ use Rattle.boot_script.specs.Grammar.{at_most_of}
 use Rattle.boot_script.specs.BootLines.{AreSeen, is_key, way_of, ways_from, ways_of}
 use Rattle.boot_script.proofs.Basics.Gathered.{with_front, regroup}
 
--- The ways so far, as long as there is room for them, and those that are still read are all that is said; their keys are marked
+-- The kept ways, if there was room, and the ways that are still to be read are all that is said; their keys are marked
 pub record AreReadSoFar (fits : Bool) (ways : List Way) (seen : List Bool) (names : List Named) (words : List (List ℕ)) (said : Result (List Way) ScriptRefusal) : Type 0 where
   pub front : List Way
   pub keys : List ℕ
@@ -22,7 +22,7 @@ pub record AreReadSoFar (fits : Bool) (ways : List Way) (seen : List Bool) (name
   pub lost : fits ≡ false → 4 < length front
   pub all : with_front front (ways_from names keys words) ≡ said
 
--- the next way, and those behind it
+-- the next way, and the ways after it
 pub next_way : (names : List Named) (keys : List ℕ) (words : List (List ℕ)) → (words ≡ [] → ⊥)
     → ways_from names keys words ≡ (way_of names keys (word_at 0 words) (word_at 1 words) >>= λ way. ways_from names (way.key ∷ keys) (words_from 2 words) >>= λ ways. Ok (way ∷ ways))
 unfolding ways_from

@@ -26,7 +26,7 @@ use Rattle.boot_script.specs.Plans.{no_plan, typed_at, change_at, with_text, wit
 abbrev pub plan_with : List PlannedQueue → List PlannedTty → List PlannedMover → List (List ℕ) → List Alarm → List PlannedThread → Plan
 plan_with queues ttys movers gauges alarms threads = record { queues = queues; ttys = ttys; movers = movers; gauges = gauges; alarms = alarms; threads = threads }
 
--- what goes on behind an answer
+-- a function is applied to the value of an answer; a refusal stays
 pub goes_ok : {A B E : Type 0} (r : Result A E) (x : A) (f : A → Result B E) → r ≡ Ok x → (r >>= f) ≡ f x
 goes_ok r x f e = ap (λ s. s >>= f) e
 

@@ -24,7 +24,7 @@ not_pushed (x ∷ xs) named name h =
     let l = not_pushed xs named name k.1 in
     (rw k.0 l.0, l.1)
 
--- A name that is found behind earlier ones is none of them, and its number is one of those of its kind there
+-- A name that is found after earlier ones is none of them, and its number is one of the later names of its kind
 pub record IsFound (kind : Kind) (earlier names : List Named) (name : List ℕ) (n : ℕ) : Type 0 where
   pub apart : is_declared earlier name ≡ false
   pub from : count_of kind earlier ≤ n
@@ -107,7 +107,7 @@ number_found kind earlier (x ∷ names) n h from below =
           rw (p, (not_pushed earlier x (name_of_number kind names n) r.apart).1) again
     ]
 
--- the first name is new, and those behind it too
+-- names in order stay in order with a new name at their end
 pub push_in_order : (earlier names : List Named) (named : Named) → FollowInOrder earlier names → is_name named.name ≡ true → is_declared (earlier ++ names) named.name ≡ false → named.number ≡ count_of named.kind (earlier ++ names) → FollowInOrder earlier (names ++ named ∷ [])
 push_in_order earlier [] named h form new number =
     let e : earlier ++ [] ≡ earlier = append-nil earlier in

@@ -135,7 +135,7 @@ most_three One Thread = omega arith
 most_three Two Thread = omega arith
 most_three Three Thread = omega arith
 
--- what stands behind a full stop names a part of a tty
+-- the parts after a full stop name a part of a tty
 by_parts : (heard : Bool) (names : List Named) (name : List ℕ) (parts : List (List ℕ)) → (parts ≡ [] → ⊥) → queue_or_part heard names name parts ≡ tty_part heard names name (join_with_byte 46 parts)
 by_parts heard names name [] some = absurd (some refl)
 by_parts heard names name (part ∷ parts) some = refl

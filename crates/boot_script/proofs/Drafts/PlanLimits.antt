@@ -460,7 +460,7 @@ nothing_said = record {
 pub draft_within : (version : Version) (number : ℕ) (lines : List (List ℕ)) (d : Draft) → plan_from version number lines first_draft ≡ Ok d → IsPlan d.plan
 draft_within version number lines d h = (plan_from_kept version number lines first_draft d tt nothing_said h).1.plan
 
--- names are in order behind all lines
+-- names are in order after all lines
 pub draft_in_order : (version : Version) (number : ℕ) (lines : List (List ℕ)) (d : Draft) → plan_from version number lines first_draft ≡ Ok d → AreInOrder d.names
 draft_in_order version number lines d h = (plan_from_kept version number lines first_draft d tt nothing_said h).0
 

@@ -107,7 +107,7 @@ before_ok : (byte : ℕ) (said : Result (List ℕ) ScriptRefusal) (bytes : List 
 before_ok byte (Ok later) bytes h = (later, refl, cc)
 before_ok byte (Err refusal) bytes h = absurd (cc)
 
--- a byte that stands for itself
+-- a byte that is written as itself
 text_plain : (byte : ℕ) (text bytes : List ℕ) → eqb byte 92 ≡ false → is_printable byte ≡ true → ((later : List ℕ) → bytes_of text ≡ Ok later → IsText later text) → bytes_of (byte ∷ text) ≡ Ok bytes → IsText bytes (byte ∷ text)
 text_plain byte text bytes other printable more h =
     let a = before_ok byte (bytes_of text) bytes (sym (plain_byte byte text other) ∙ h) in

@@ -43,7 +43,7 @@ no_bytes : (bytes : List ℕ) → IsText bytes [] → bytes ≡ []
 unfolding bytes_of
 no_bytes bytes h = let e : Ok [] ≡ bytes_of [] = refl in let f : bytes_of [] ≡ Ok bytes = text_again [] bytes h in cc
 
--- the words behind two words are a text, or there are none
+-- the words after two words are a text, or there are none
 pub ends_ok : (most : ℕ) (first second : List ℕ) (words : List (List ℕ)) (bytes : List ℕ) → ArePlain words → text_of most words ≡ Ok bytes
     → (length bytes ≤ most) × EndsInText (first ∷ second ∷ []) bytes (join_with_byte 32 (first ∷ second ∷ words))
 ends_ok most first second [] bytes plain h =

@@ -10,7 +10,7 @@ use Rattle.boot_script.specs.declared.fault.ScriptRefusal.TheVariants.{BadNumber
 use Rattle.boot_script.specs.Words.{◌>>=◌}
 use Rattle.boot_script.specs.Texts.{escape_of, before, bytes_of, within_of}
 
--- all behind a place
+-- all bytes after a place
 pub behind : (n : ℕ) (text : List ℕ) → take (length text - n) (drop n text) ≡ drop n text
 behind n text = take_all (length text - n) (drop n text) (omega (arith, length-drop n text))
 
@@ -21,12 +21,12 @@ plain_byte byte [] h = rw h refl
 plain_byte byte (next ∷ []) h = rw h refl
 plain_byte byte (high ∷ low ∷ text) h = rw h refl
 
--- behind a `\` stand two digits
+-- two digits follow a `\`
 pub escaped_byte : (byte high low : ℕ) (text : List ℕ) → eqb byte 92 ≡ true → bytes_of (byte ∷ high ∷ low ∷ text) ≡ (escape_of high low >>= λ escaped. before escaped (bytes_of text))
 unfolding bytes_of
 escaped_byte byte high low text h = rw h refl
 
--- where there are fewer bytes behind it, the text is at fault
+-- if fewer than two bytes follow a `\`, the text is invalid
 pub wanting : (byte : ℕ) (text : List ℕ) → eqb byte 92 ≡ true → length text < 2 → bytes_of (byte ∷ text) ≡ Err BadNumber
 unfolding bytes_of
 wanting byte [] h few = rw h refl

@@ -16,7 +16,7 @@ pub silent_more : (version : Version) (number : ℕ) (front : List (ℕ × Event
 unfolding events_from
 silent_more version number front line lines said silent so_far = rw (← silent) at so_far
 
--- what the line and those behind it say, where the line says something
+-- the events of a line that says something and of the lines after it
 pub from_line : (version : Version) (number : ℕ) (line : List ℕ) (lines : List (List ℕ)) (told : Result Event ScriptRefusal) → false ≡ says_nothing line → line_event version line ≡ told
     → events_from version number (line ∷ lines) ≡ (at_line number told >>= λ event. events_from version (number + 1) lines >>= λ events. Ok ((number, event) ∷ events))
 unfolding events_from
@@ -26,7 +26,7 @@ pub told_more : (version : Version) (number : ℕ) (front : List (ℕ × Event))
     → with_front front (events_from version number (line ∷ lines)) ≡ said → with_front (front ++ (number, event) ∷ []) (events_from version (number + 1) lines) ≡ said
 told_more version number front line lines said event loud e so_far = sym (regroup front (number, event) (events_from version (number + 1) lines)) ∙ (ap (with_front front) (sym (from_line version number line lines (Ok event) loud e)) ∙ so_far)
 
--- a refusal other than want of memory is that of the words
+-- a refusal other than out of memory is the refusal of the words
 known : {Y : Type 0} (e : ScriptRefusal) (said : Result Y ScriptRefusal) → (e ≡ refusals.OutOfMemory → ⊥) → Fails e said → said ≡ Err e
 known refusals.NotVersion said other h = h
 known refusals.UnknownWord said other h = h

@@ -21,7 +21,7 @@ use Rattle.boot_script.proofs.LineWords.Readers.{call_reader, processor_reader, 
 use Rattle.boot_script.proofs.LineWords.Rows.{none_ok, one_ok, two_ok, three_ok, four_ok}
 use Rattle.boot_script.proofs.EventScripts.Claims.{claim_ok}
 
--- the command and the words behind it are the event's words, and the event is in its ranges
+-- the command and the words after it are the event's words, and the event is in its ranges
 abbrev pub IsSpelled : Version → Command → List (List ℕ) → Event → Type 0
 IsSpelled version command words event = Fits version event × (command_word command ∷ words ≡ event_words event)
 

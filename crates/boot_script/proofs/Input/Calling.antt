@@ -1,4 +1,4 @@
--- Calls of read, one behind the other.
+-- Calls of read, one after the other.
 use Rattle.std.proofs.Common.{◌≡◌, ◌≢◌, inl, inr, ℕ, ◌<◌, ◌≤◌, ◌+◌, List, [], ◌∷◌, length, arith, refl, ap, sym, ◌∙◌, Result, Ok, Err}
 use Rattle.std.proofs.lemmas.List.Elements.{All-cons}
 use Rattle.std.specs.Prelude.{All}

@@ -58,7 +58,7 @@ module _ {A : Type 0} (says : List ℕ → A) (both : (a b : List ℕ) → 65536
   said_of None new text taken end = tt
   said_of (Some bytes) new text taken end = same_text (Some bytes) new text bytes refl taken end
 
--- a part behind a front, of which the first bytes were read
+-- a part after a front, if the first bytes of the part were read
 pub filled_more : (front part post : List ℕ) (filled n : ℕ) → length front ≡ filled → n ≤ length part → take (filled + n) (front ++ (part ++ post)) ≡ front ++ take n part
 filled_more front part post filled n e le = ap (λ k. take (k + n) (front ++ (part ++ post))) (sym e) ∙ (take-append-add front (part ++ post) n ∙ ap (λ xs. front ++ xs) (take-append-le n part post le))
 

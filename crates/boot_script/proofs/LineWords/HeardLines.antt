@@ -30,7 +30,7 @@ bytes_more old new whole bytes i within added so_far =
 pub bytes_done : (new whole bytes : List ℕ) (i : ℕ) → length bytes ≤ i → new ++ heard_text (drop i bytes) ≡ whole → new ≡ whole
 bytes_done new whole bytes i past so_far = sym (append-nil new) ∙ (sym (ap (λ left. new ++ heard_text left) (drop_all i bytes past)) ∙ so_far)
 
--- the parts of a line, one behind the other
+-- the parts of a line, one after the other
 pub line_added : (line : NamedLine) (old word name step text new : List ℕ) → word ≡ old ++ codes "heard " → name ≡ word ++ line.thread → step ≡ name ++ (codes " " ++ decimal line.step ++ codes " ")
     → text ≡ step ++ heard_text line.bytes → new ≡ text ++ end_of_line → new ≡ old ++ heard_line line
 unfolding heard_line named

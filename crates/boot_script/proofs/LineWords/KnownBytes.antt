@@ -40,6 +40,6 @@ then_appends result a b c x y z first h e = on_ok_weaker result (λ k. subst (Ap
 pub appends_as : (a b : Option (List ℕ)) (x y : List ℕ) → Appends a b x → x ≡ y → Appends a b y
 appends_as a b x y h e = subst (Appends a b) e h
 
--- a word was appended, and then what stands behind it
+-- a word was appended, and then the text after it
 pub appends_word : (a b c : Option (List ℕ)) (x word y : List ℕ) → Appends a b x → Appends b c (word ++ y) → Appends a c (x ++ word ++ y)
 appends_word a b c x word y h k = subst (Appends a c) (sym (append_assoc x word y)) (appends_join a b c x (word ++ y) h k)

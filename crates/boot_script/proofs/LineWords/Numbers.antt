@@ -63,7 +63,7 @@ read most n ds small le e all some zeroless =
     let test : nat_le (digits_value 10 ds) most ≡ true = grind (arith, nat_tests) in
     ap Ok (sym e) ∙ all_true _ _ _ test ((bytes_eq-Decides (decimal (digits_value 10 ds)) ds).1 same)
 
--- the digit at i, and those behind it
+-- the digit at i, and the digits after it
 pub above_after : (v i : ℕ) (ds : List ℕ) → i < length ds → digits_value_after 10 v (drop i ds) ≡ digits_value 10 ds → v * 10 + digit_value (get_or ds i 0) ≤ digits_value 10 ds
 above_after v i ds within h =
     let e : digits_value_after 10 v (get_or ds i 0 ∷ drop (suc i) ds) ≡ digits_value 10 ds = ap (digits_value_after 10 v) (sym (drop-cons ds i 0 within)) ∙ h in

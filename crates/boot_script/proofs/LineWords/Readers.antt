@@ -237,7 +237,7 @@ queue_reader version = record {
   some = λ queue h. queue_some queue;
 }
 
--- who a version's notify tells
+-- the listeners that a notify can have in a version
 abbrev pub FitsListener : Version → Listener → Type 0
 FitsListener version (listeners.Chain n) = n ≤ 7
 FitsListener version (listeners.Wait n) = (is_later version ≡ true) × (n ≤ last_wait version)

@@ -11,7 +11,7 @@ taken : (words : List (List ℕ)) (word : List ℕ) → first_word words ≡ wor
 taken [] word e some = absurd (omega (arith, ap length e))
 taken (w ∷ words) word e some = ap (λ x. x ∷ words) e
 
--- the next word, and what the words behind it say
+-- the next word, and the value that the words after it give
 pub next_ok : {A B : Type 0} {read : Reader A} {Fits : A → Type 0} {spell : A → List ℕ} (a : IsReader A read Fits spell) (words : List (List ℕ)) (f : A → Result B ScriptRefusal) (y : B) → (read (first_word words) >>= f) ≡ Ok y
     → (x : A) × Fits x × (words ≡ spell x ∷ later_words words) × (f x ≡ Ok y)
 next_ok {read = read} {spell = spell} a words f y h =

@@ -1,8 +1,8 @@
-//! What a line of a boot script says.
+//! The reading of a line of a boot script.
 //!
-//! A line is a word and what stands behind it. Each word has a function, which reads the words behind it from left to
-//! right, so that the first one at fault decides. What can be told only behind all of them, that there is no room for one
-//! more, is told where the line is added to the plan.
+//! A line is a word and the words after it. Each word has a function, which reads the later words from left to right,
+//! so that the first invalid one decides the refusal. One fault can be found only after all words: there is no room for
+//! one more. It is returned when the line is added to the plan.
 
 ghost use Rattle.std.specs.Prelude.{◌≡◌, true};
 ghost use Rattle.std.specs.List.{list_all};
@@ -32,25 +32,25 @@ use boot_data::Name;
 use boot_data::plan::{PlannedMover, PlannedQueue, Step};
 use event_theory::{Alarm, Element};
 
-/// What a line declares, or a step.
+/// A declaration, or a step.
 #[derive(Drop)]
 pub(crate) enum Line<'a> {
     /// A queue or pipe.
     Queue(PlannedQueue),
     Tty(Name),
-    /// What the device of a tty types.
+    /// The text that the device of a tty types.
     Types { tty: TtyNumber, text: Typed<'a> },
     /// A pump or switch.
     Mover(PlannedMover),
     Gauge(Name),
     Alarm(Alarm),
     Thread(Name),
-    /// The program of this thread goes on.
+    /// This thread becomes the current one again: its program gets the next steps.
     More(Element),
     Step(Step),
 }
 
-/// What is said, where no word is left; else UnknownWord.
+/// The line, if no word is left; else UnknownWord.
 #[tactic(auto, unfolding(crate::specs::Grammar::no_words))]
 fn at_end<'a>(words: &Words<'a>, said: Line<'a>) -> Result<Line<'a>, ScriptRefusal>
     ensures { result ≡ no_words said.entry words.now }
@@ -59,7 +59,7 @@ fn at_end<'a>(words: &Words<'a>, said: Line<'a>) -> Result<Line<'a>, ScriptRefus
     Ok(said)
 }
 
-/// What a word and those behind it say.
+/// The line that a word and the words after it say.
 #[tactic(auto, unfolding(crate::specs::BootLines::line_of))]
 fn word_said<'a>(
     version: Version,
@@ -94,7 +94,7 @@ fn word_said<'a>(
     }
 }
 
-/// Whether each byte of a line is printable, which may have been seen.
+/// Whether each byte of a line is printable. `seen` is whether that is known already.
 fn is_all_ascii(seen: bool, line: &[u8]) -> bool
     requires { seen ≡ true → list_all is_printable line.now ≡ true }
     ensures { result ≡ list_all is_printable line.now }
@@ -105,8 +105,8 @@ fn is_all_ascii(seen: bool, line: &[u8]) -> bool
     is_ascii(line)
 }
 
-/// What a line says, where a thread's program goes on or none does, or why it is refused. `seen` tells that each byte
-/// was seen to be printable.
+/// The line that a text line says, or why it is refused. `going` is whether there is a current thread, whose program
+/// gets the next step. If `seen` is true, each byte is known to be printable.
 #[tactic(auto, unfolding(crate::specs::BootLines::boot_line))]
 pub(crate) fn line_said<'a>(
     version: Version,

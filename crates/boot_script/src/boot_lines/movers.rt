@@ -27,7 +27,7 @@ pub(super) fn pump_said<'a>(names: &Names, words: &mut Words<'a>) -> Result<Line
     at_end(words, Line::Mover(PlannedMover { name, mover }))
 }
 
-/// The key that a word is, where no way has it yet. Else BadName, NameTwice.
+/// The key that a word is, if no way has the key yet. Else BadName, NameTwice.
 fn key(seen: &[bool; 256], word: &[u8]) -> Result<u8, ScriptRefusal>
     ensures { (keys : List ℕ) → AreSeen seen.now keys → result ≡ key_of keys word.now }
 {
@@ -43,7 +43,7 @@ fn key(seen: &[bool; 256], word: &[u8]) -> Result<u8, ScriptRefusal>
     }
 }
 
-/// A way: its key, and where its lines go.
+/// A way: its key, and the queue to which its lines go.
 fn way(names: &Names, seen: &[bool; 256], words: &mut Words) -> Result<Way, ScriptRefusal>
     ensures said { (keys : List ℕ) → AreSeen seen.now keys
         → result ≡ way_of names.now keys (word_at 0 words.old) (word_at 1 words.old) }
@@ -56,7 +56,7 @@ fn way(names: &Names, seen: &[bool; 256], words: &mut Words) -> Result<Way, Scri
     Ok(Way { key, to })
 }
 
-/// The ways of a switch, one at least. They are all read before they are counted.
+/// The ways of a switch, at least one. All of them are read before they are counted.
 fn ways(names: &Names, words: &mut Words) -> Result<Ways, ScriptRefusal>
     ensures { result ≡ ways_of names.now words.old }
 {

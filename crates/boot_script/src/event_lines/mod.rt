@@ -1,7 +1,7 @@
-//! The event that a line of a list of events says.
+//! The reading of a line of a list of events.
 //!
 //! A line is a command and its words. Each command has a function, which reads its words from left to right, so that
-//! the first word at fault decides.
+//! the first invalid word decides the refusal.
 
 ghost use Rattle.std.specs.Prelude.{◌≡◌, IfErr};
 ghost use Rattle.std.specs.List.{list_all};
@@ -39,7 +39,7 @@ pub(crate) fn no_more(words: &Words) -> Result<(), ScriptRefusal>
     }
 }
 
-/// The event, where no word is left; else UnknownWord.
+/// The event, if no word is left; else UnknownWord.
 #[tactic(auto, unfolding(crate::specs::Grammar::no_words))]
 fn at_end(words: &Words, event: Event) -> Result<Event, ScriptRefusal>
     ensures { Gives (λ event. event) result (no_words event words.now) }
@@ -48,7 +48,7 @@ fn at_end(words: &Words, event: Event) -> Result<Event, ScriptRefusal>
     Ok(event)
 }
 
-/// The event that a command and the words behind it say.
+/// The event that a command and the words after it say.
 #[tactic(auto, unfolding(crate::specs::Grammar::event_of))]
 fn event_said(
     alloc: Global,

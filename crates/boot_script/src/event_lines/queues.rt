@@ -1,4 +1,4 @@
-//! Lines on queues: what makes and shuts a byte queue, and claims, raises and takings.
+//! Lines on queues: the commands that make and shut a byte queue, and claims, raises and takings.
 
 ghost use Rattle.std.specs.Prelude.{◌≡◌};
 ghost use Rattle.event_theory.specs.Numbers.{u32_max};
@@ -27,7 +27,7 @@ pub(super) fn queue_said(words: &mut Words) -> Result<Event, ScriptRefusal>
     at_end(words, Event::Queue { capacity })
 }
 
-/// All words that are left, as items. After a refused growth the words are still checked.
+/// All words that are left, as items. After a refused allocation the words are still checked.
 fn items(alloc: Global, words: &mut Words) -> Result<Items<u64>, ScriptRefusal>
     ensures { Gives (λ items. items) result (items_of words.old) }
 {

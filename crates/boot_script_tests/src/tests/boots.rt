@@ -1,4 +1,4 @@
-//! Boot scripts, what is read in them, and faults that move with the text. `examples` has tables of scripts and faults.
+//! Boot scripts, their steps, and faults that move with the text. `examples` has tables of scripts and faults.
 
 use super::shows;
 use boot_script::*;
@@ -11,7 +11,7 @@ fn plan_behind(alloc: Global, lines: &[u8]) -> Option<BootPlan> {
     parse_boot(alloc, &text).ok()
 }
 
-/// The line and the number of the first fault; (0, 0) where there is none.
+/// The line and the number of the first fault; (0, 0) if there is none.
 fn fault_of(alloc: Global, text: &[u8]) -> (u32, u8) {
     match parse_boot(alloc, text) {
         Ok(_) => (0, 0),
@@ -33,7 +33,7 @@ thread a
 thread b
 ";
 
-/// A step of each kind behind these names, and what is read.
+/// A step of each kind after these names, and the step that is read.
 const STEPS: &[(&[u8], &str)] = &[
     (b"say q hi", "Say { queue: Small(0), text: \"hi\" }"),
     (b"say p", "Say { queue: Small(1), text: \"\" }"),
@@ -124,7 +124,7 @@ poke s
 poke s
 ";
 
-/// How many ends of lines stand in a text, and 1 for a last line without one.
+/// How many ends of lines a text has, and 1 more for a last line without one.
 fn lines_in(text: &[u8]) -> u32 {
     let mut count: u32 = 0;
     let mut begun = false;
@@ -172,8 +172,8 @@ fn a_byte_that_is_not_ascii_is_told_in_its_line(rt: HostRuntime) {
     }
 }
 
-/// Where an allocation is refused, a sound script is refused for want of memory alone, and the fault of another is told
-/// all the same. `tools/refused-memory-tests` refuses an allocation of this test.
+/// If an allocation is refused, a valid script is refused only as out of memory, and the fault of an invalid one is
+/// still reported. `tools/refused-memory-tests` refuses an allocation of this test.
 #[test]
 fn boot_memory_may_be_wanting(rt: HostRuntime) {
     let sound = SWITCH;

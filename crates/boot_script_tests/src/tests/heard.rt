@@ -1,4 +1,4 @@
-//! What threads heard: lines of bytes, and the report that reads them at their places.
+//! Lines of bytes that threads heard, and the report that reads them at their places.
 
 ghost use Rattle.std.specs.Prelude.{◌≡◌, length, IfSome};
 ghost use Rattle.boot_data.specs.Hearing.{IsPlace};
@@ -7,7 +7,7 @@ use boot_data::{HeardLines, HeardPlace, HeardReport, Name};
 use event_theory::OutOfMemory;
 use std::alloc::Global;
 
-/// A line: who heard it, in which step, and its items.
+/// A line: its thread, its step, and its items.
 #[derive(Clone, Copy)]
 pub(super) struct Line<'a> {
     pub(super) thread: u8,
@@ -15,7 +15,7 @@ pub(super) struct Line<'a> {
     pub(super) items: &'a [u64],
 }
 
-/// What a processor heard that heard these lines; nothing where one is too long.
+/// The lines of a processor that heard these; nothing if one is too long.
 pub(super) fn heard_by(alloc: Global, lines: &[Line<'_>]) -> Option<HeardLines>
     ensures { IfSome result (λ heard. length heard.lines ≡ length lines.now) }
 {
@@ -49,7 +49,7 @@ fn place(processors: &[HeardLines], processor: usize, number: usize) -> Option<H
     })
 }
 
-/// A report of what the processors heard, in this order: of each line its processor and its number there.
+/// A report of the lines that the processors heard, in this order: each by its processor and its number there.
 pub(super) fn report_in(
     names: Vec<Name>,
     processors: Vec<HeardLines>,
@@ -86,7 +86,7 @@ fn a_line_is_kept_as_bytes(rt: HostRuntime) {
     assert!(rt; HeardLines::new(rt.alloc()).len() == 0);
 }
 
-/// What a report says of each line; a thread without a name has none.
+/// A report has the name, the step and the bytes of each line; a thread without a name has an empty name.
 #[test]
 fn a_report_reads_lines_at_their_places(rt: HostRuntime) {
     let Some(heard) = two_lines(rt.alloc()) else {
@@ -98,7 +98,7 @@ fn a_report_reads_lines_at_their_places(rt: HostRuntime) {
     assert!(rt; heard.bytes(0) == b"hi".as_slice() && heard.bytes(1) == b"x".as_slice());
 }
 
-/// The line that the second processor heard, and the one of a thread without a name.
+/// Two lines: one that the second processor heard, and one of a thread without a name.
 fn two_lines(alloc: Global) -> Option<HeardReport> {
     let other = Line {
         thread: 1,
@@ -115,8 +115,8 @@ fn two_lines(alloc: Global) -> Option<HeardReport> {
     report_in(names.ok()?, processors.ok()?, alloc, &[(1, 0), (0, 0)])
 }
 
-/// Where an allocation is refused there are no lines, and the next try has them. `tools/refused-memory-tests` refuses
-/// each one of this test.
+/// If an allocation is refused, there are no lines, and the next try has them. `tools/refused-memory-tests` refuses
+/// each allocation of this test.
 #[test]
 fn heard_memory_may_be_wanting(rt: HostRuntime) {
     let mut made = false;

@@ -1,5 +1,5 @@
-//! Tests of what no table of texts can say: what is read, readers and writers that fail, and statuses and reports that
-//! are made of parts. `examples` has the tables.
+//! Tests of cases that no table of texts can state: values that are read, readers and writers that fail, and statuses
+//! and reports that are made of parts. `examples` has the tables.
 
 use std::alloc::Global;
 use std::fmt::Debug;
@@ -47,7 +47,7 @@ impl Write for Counted {
     }
 }
 
-/// Whether `{:?}` writes a value so.
+/// Whether `{:?}` writes a value like this.
 fn shows<T: Debug>(alloc: Global, value: &T, wanted: &str) -> bool {
     format!(in alloc; "{value:?}").is_ok_and(|text| text.as_str() == wanted)
 }

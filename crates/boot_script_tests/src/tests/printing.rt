@@ -1,4 +1,4 @@
-//! What is printed of a core, and of faults.
+//! The printed text of a core, and of faults.
 
 use super::{Counted, lines_of};
 use boot_script::*;
@@ -11,7 +11,7 @@ use std::fmt::Display;
 use std::io;
 use std::io::{ErrorKind, Write};
 
-/// Whether `{}` writes a value so.
+/// Whether `{}` writes a value like this.
 fn reads<T: Copy + Display>(alloc: Global, value: T, wanted: &str) -> bool {
     format!(in alloc; "{value}").is_ok_and(|text| text.as_str() == wanted)
 }
@@ -61,7 +61,7 @@ impl Page {
     }
 }
 
-/// What is written of a status where one call fails, and whether none failed.
+/// The written text of a status if one call fails, and whether none failed.
 fn printed(status: &Status, fails_at: u32) -> (Page, bool) {
     let mut page = Page::new(fails_at);
     let all = print_status(status, &mut page).is_ok();
@@ -252,7 +252,7 @@ fn longest_front(alloc: Global, queues: usize) -> io::Result<Vec<u8>> {
     Ok(front)
 }
 
-/// A status that no core has may be longer than a page. It goes in pieces, and none is lost.
+/// A status longer than that of any core may be longer than a page. The status goes out in pieces, and none is lost.
 #[test]
 fn a_longer_status_is_written_whole(rt: HostRuntime) {
     let Some(out) = longest_printed(rt.alloc(), 100) else {

@@ -4,7 +4,7 @@ use super::shows;
 use boot_script::*;
 use std::alloc::Global;
 
-/// The line and the number of the first fault; (0, 0) where there is none.
+/// The line and the number of the first fault; (0, 0) if there is none.
 fn fault_of(alloc: Global, text: &[u8]) -> (u32, u8) {
     match parse_events(alloc, text) {
         Ok(_) => (0, 0),
@@ -137,8 +137,8 @@ fn each_word_says_its_event(rt: HostRuntime) {
     }
 }
 
-/// Where an allocation is refused, the next try is as if it had not been. A fault of the text is told whether there is
-/// memory or not.
+/// If an allocation is refused, the next try is not affected. A fault of the text is reported whether there is memory
+/// or not.
 ///
 /// `tools/refused-memory-tests` refuses an allocation of this test, and `tools/refused-memory` each one of the
 /// built program, in lists with and without a fault.

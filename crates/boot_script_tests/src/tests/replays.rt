@@ -91,8 +91,8 @@ impl Page {
     }
 }
 
-/// How a replay ends, and what it wrote, where both forms answer the same, write the same bytes, and leave the reader at
-/// the same place. The streams are lent to each, so that all bytes are seen.
+/// How a replay ends, and the bytes that it wrote, if both forms answer the same, write the same bytes, and leave the
+/// reader at the same place. The streams are lent to each, so that all bytes are seen.
 fn replayed(
     alloc: Global,
     reader: OneByOne<'_>,
@@ -179,7 +179,7 @@ const NOT_RAISED: Replayed = Replayed::Refused {
     refusal: Refusal::NotRaised,
 };
 
-/// How the replay of this list ends where this call of the writer fails, if a front of what is printed is written.
+/// How the replay of this list ends if this call of the writer fails, if a prefix of the printed text is written.
 fn refused_at(alloc: Global, fails_at: u32) -> Option<(Result<Replayed, ReplayFault>, u32)> {
     let (answer, page) = replayed(alloc, one_by_one(REFUSED, 0, 0), Page::new(fails_at))?;
     let whole = answer.is_err() || page.text() == REFUSED_PRINTED;

@@ -44,14 +44,14 @@ impl Parts {
     }
 }
 
-/// What is written of a report by calls of at most so many bytes of which one fails, and whether none failed.
+/// The written text of a report by calls of at most so many bytes, one of which fails, and whether none failed.
 fn printed(alloc: Global, report: &Report, most: usize, fails_at: usize) -> (Parts, bool) {
     let mut out = Parts::new(alloc, most, fails_at);
     let all = print_report(report, &mut out).is_ok();
     (out, all)
 }
 
-/// A name of these bytes, of as many as there is room for.
+/// A name of as many of these bytes as there is room for.
 fn name(bytes: &[u8]) -> Name {
     let mut name = Name::new();
     for byte in bytes {
@@ -111,7 +111,7 @@ fn line(thread: u8, step: u8, items: &[u64]) -> Line<'_> {
     }
 }
 
-/// A report that has nothing to tell.
+/// An empty report.
 fn empty_report(alloc: Global) -> Report {
     Report {
         queues: Items::new(Vec::new(alloc)),
@@ -182,7 +182,7 @@ fn full_movers(alloc: Global) -> Option<Items<MoverLine>> {
     Some(Items::new(vec![in alloc; switch, pump, idle].ok()?))
 }
 
-/// Two processors heard these, and not in the order of the report.
+/// Lines of two processors, which are not in the order of the report.
 fn full_heard(alloc: Global) -> Option<HeardReport> {
     let wide = line(1, 255, &[321, u64::MAX, 256, 544, 127]);
     let nothing = line(0, 63, &[]);
@@ -299,7 +299,7 @@ fn items_from(first: u64) -> [u64; 64] {
     items
 }
 
-/// A report of these lines and of nothing else, of what one processor heard.
+/// A report of only these lines, which one processor heard.
 fn report_of(
     alloc: Global,
     name: Name,
@@ -342,7 +342,7 @@ fn longest_lines(alloc: Global) -> Option<Report> {
     report_of(alloc, name(b"longname"), &[longest], &[(0, 0); 25])
 }
 
-/// The call that fails, and how many bytes are written then.
+/// The call that fails, and how many bytes are written if it does.
 const PAGES: &[(usize, usize)] = &[(1, 0), (2, 7880), (3, 15_760), (4, 19_710), (0, 19_710)];
 
 /// Each write is of whole lines.

@@ -9,7 +9,7 @@ mapped f zero xs = xs
 mapped f (suc i) [] = []
 mapped f (suc i) (x ∷ xs) = f x ∷ mapped f i xs
 
--- what stands next is as it was
+-- the next item is not changed yet
 pub get_or-mapped : {A : Type 0} (f : A → A) (i : ℕ) (xs : List A) (d : A) → get_or (mapped f i xs) i d ≡ get_or xs i d
 get_or-mapped f zero xs d = refl
 get_or-mapped f (suc i) [] d = refl

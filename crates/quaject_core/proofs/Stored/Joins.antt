@@ -40,7 +40,7 @@ length-changed f [] (suc i) = refl
 length-changed f (x ∷ xs) zero = refl
 length-changed f (x ∷ xs) (suc i) = ap suc (length-changed f xs i)
 
--- what stands in a vector after a loop over all of it
+-- the items of a vector after a loop over all of it
 pub changed_whole : {X : Type 0} (f : X → X) (xs ys : List X) (i n : ℕ) → ys ≡ changed_up_to f i xs → length xs ≤ i → n ≡ length xs
     → take n (ys ++ drop (length ys) xs) ≡ map f xs
 changed_whole f xs ys i n so_far past size =

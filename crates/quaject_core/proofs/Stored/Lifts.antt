@@ -9,7 +9,7 @@ use Rattle.event_theory.specs.declared.refusal.Refusal.{Refusal}
 use Rattle.event_theory.specs.declared.refusal.Refusal.TheVariants.{OutOfMemory}
 use Rattle.quaject_core.proofs.Stored.Elements.{found_at, shown_at, shown_set}
 
--- the reason of a part is that of the whole
+-- the reason of a refused part is the reason of the refused whole
 pub why_given : {A B : Type 0} (e : Refusal) (said : Result A Refusal) (whole : Result B Refusal) → (said ≡ Err e → whole ≡ Err e) → (IsOk said → IsOk whole) → IsWhy e said → IsWhy e whole
 why_given OutOfMemory said whole refused fine why = fine why
 why_given e said whole refused fine why = refused why
@@ -18,7 +18,7 @@ fine_then : {A B : Type 0} (said : Result A Refusal) (f : A → B) → IsOk said
 fine_then (Ok x) f fine = fine
 fine_then (Err e) f fine = fine
 
--- and of what comes of it
+-- the reason of a refused result is the reason of a function of the result
 pub why_then : {A B : Type 0} (e : Refusal) (said : Result A Refusal) (f : A → B) → IsWhy e said → IsWhy e (said >>= λ x. Ok (f x))
 why_then e said f why = why_given e said (said >>= λ x. Ok (f x)) (λ is. ap (λ s. s >>= λ x. Ok (f x)) is) (fine_then said f) why
 

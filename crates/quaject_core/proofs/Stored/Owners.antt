@@ -67,7 +67,7 @@ starts_from start [] end laid i d within = absurd (omega arith)
 starts_from start (s ∷ spans) end laid zero d within = omega (arith, laid.0)
 starts_from start (s ∷ spans) end laid (suc i) d within = omega (arith, starts_from (start + s.count) spans end laid.1 i d (omega arith))
 
--- the runs stand in the order of their starts
+-- the runs are in the order of their starts
 starts_rise : (start : ℕ) (spans : List Span) (end : ℕ) → Laid start spans end → IsNonDecreasingBy (λ s. s.start) spans
 starts_rise start [] end laid i j d order within = absurd (omega arith)
 starts_rise start (s ∷ spans) end laid zero zero d order within = omega arith

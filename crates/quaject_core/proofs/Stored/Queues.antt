@@ -25,7 +25,7 @@ claim_goes longest call items q some short is_open room =
     let d : ltb q.capacity (length (left q) + length items) ≡ false = grind (arith, nat_tests) in
     rw (a, b, is_open, d) refl
 
--- a queue as it stands after a claim
+-- the runs and places of a queue after a claim
 pub record Claimed (old : StoredQueue) (call : ℕ) (items : List ℕ) (spans : List Span) (places : List StoredItem) : Type 0 where
   pub some : 0 < length items
   pub is_open : old.shut ≡ false

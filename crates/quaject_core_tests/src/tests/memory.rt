@@ -1,11 +1,11 @@
-//! Cores where an allocation is refused, as `tools/refused-memory-tests` refuses each in turn: one in a run of a test. So
-//! what is tried twice is there.
+//! Cores when an allocation is refused. `tools/refused-memory-tests` refuses each allocation in turn, one in a run of a
+//! test, so a second try always has memory.
 ghost use Rattle.std.specs.Prelude.{◌≤◌};
 
 use super::*;
 use std::panic::Expect;
 
-/// What was made, which has to be there or to want memory.
+/// The value that was made. If there is none, the error has to be OutOfMemory.
 fn if_given<T: Drop, R: Abort>(rt: &R, made: Result<T, OutOfMemory>) -> Option<T> {
     match made {
         Ok(made) => Some(made),
@@ -16,7 +16,7 @@ fn if_given<T: Drop, R: Abort>(rt: &R, made: Result<T, OutOfMemory>) -> Option<T
     }
 }
 
-/// The status of a core, which may want memory once.
+/// The status of a core. The first try may be out of memory.
 fn status_of<R: Abort>(rt: &R, core: &Core) -> Status {
     match if_given(rt, core.status()) {
         Some(status) => status,
@@ -24,7 +24,7 @@ fn status_of<R: Abort>(rt: &R, core: &Core) -> Status {
     }
 }
 
-/// A new core with so many elements. The first try may want memory.
+/// A new core with so many elements. The first try may be out of memory.
 fn new_core<R: Abort>(rt: &R, alloc: Global, elements: u8) -> Core
     requires { (1 ≤ elements) × (elements ≤ 64) }
 {
@@ -44,15 +44,15 @@ fn assert_same<R: Abort>(rt: &R, one: &Status, other: &Status) {
     assert!(rt; one.alarms == other.alarms);
 }
 
-/// Asserts that a core is where these events lead a new one.
+/// Asserts that a core is in the state that these events lead a new core to.
 fn assert_led<R: Abort>(rt: &R, alloc: Global, core: &Core, events: &[Event]) {
     let mut other = new_core(rt, alloc, 16);
     assert!(rt; other.run(events) == Ok(()));
     assert_same(rt, &status_of(rt, core), &status_of(rt, &other));
 }
 
-/// Runs all events. Where an allocation is refused the events before it stand, and no other; a run of the rest goes on from
-/// there.
+/// Runs all events. If an allocation is refused, exactly the events before it were applied; a run of the remaining
+/// events continues from there.
 fn run_all<R: Abort>(rt: &R, alloc: Global, core: &mut Core, events: &[Event]) {
     let Err((index, refusal)) = core.run(events) else {
         return;
@@ -62,7 +62,7 @@ fn run_all<R: Abort>(rt: &R, alloc: Global, core: &mut Core, events: &[Event]) {
     assert!(rt; core.run(events.get(index..).unwrap_or(&[])) == Ok(()));
 }
 
-/// The oldest item of a queue is taken.
+/// Takes the oldest item of a queue.
 fn take(call: Call, queue: QueueName) -> Event {
     Event::Take {
         call,
@@ -92,7 +92,7 @@ fn on(call: Call, processor: Processor, element: Element) -> Event {
     }
 }
 
-/// The element waits while its wait queue had no notify.
+/// The element waits if its wait queue had no notify.
 fn wait(call: Call, wait: WaitNumber, element: Element) -> Event {
     Event::WaitAt {
         call,
@@ -117,8 +117,8 @@ fn one_item(alloc: Global) -> Option<Items<u64>> {
     Some(Items::new([0].to_vec(alloc).ok()?))
 }
 
-/// An element is made ready, runs, waits with a ticket, is woken, is stopped while it runs, and is started. It is the list
-/// `element.events` of the examples. Behind it an alarm is set for it, and fires.
+/// An element is made ready, runs, waits with a ticket, is woken, is stopped while it runs, and is started. These are
+/// the events of `element.events` in the examples. After them an alarm is set for the element, and fires.
 fn on_its_way(alloc: Global) -> Option<Vec<Event>> {
     let (a, b, c, d) = (Call::new(1)?, Call::new(2)?, Call::new(3)?, Call::new(4)?);
     let (processor, element) = (Processor::new(0)?, Element::new(0)?);
@@ -153,7 +153,7 @@ fn on_its_way(alloc: Global) -> Option<Vec<Event>> {
     .ok()
 }
 
-/// A note is claimed, raised and told of, and the call that found the gate Idle takes it and leaves. Then an item goes
+/// A note is claimed, raised and notified, and the call that found the gate Idle takes it and leaves. Then an item goes
 /// through a queue, which is shut.
 fn a_note_and_an_item(alloc: Global) -> Option<Vec<Event>> {
     let (call, chain, queue) = (Call::new(1)?, ChainNumber::new(0)?, QueueNumber::new(0)?);
@@ -190,7 +190,7 @@ fn assert_new<R: Abort>(rt: &R, core: &Core, elements: usize) {
     assert!(rt; status.queues.as_slice().is_empty() && status.chains.as_slice().is_empty());
 }
 
-/// Where an allocation is refused there is no core, or no status, and the next try has it.
+/// If an allocation is refused, there is no core or no status, and the next try succeeds.
 #[test]
 fn new_memory_may_be_wanting(rt: HostRuntime) {
     let alloc = rt.alloc();
@@ -210,7 +210,7 @@ const ON_ITS_WAY: ElementStatus = ElementStatus {
     stop: false,
 };
 
-/// Where an allocation is refused, the events before it stand, and a run of the rest goes on from there.
+/// If an allocation is refused, the events before it were applied, and a run of the other events continues from there.
 #[test]
 fn element_memory_may_be_wanting(rt: HostRuntime) {
     let alloc = rt.alloc();

@@ -1,4 +1,4 @@
-//! Tests of what no list of events can reach. `examples` replays the lists of events.
+//! Tests of cases that no list of events can reach. `examples` replays the lists of events.
 
 mod elements;
 mod examples;

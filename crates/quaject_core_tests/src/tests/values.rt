@@ -37,7 +37,7 @@ fn names_stay_in_their_ranges(rt: HostRuntime) {
     assert!(rt; named([64, 8, 8, 16, 8, 64, 16, 8, 16]) == [None; 9]);
 }
 
-/// Whether a list of these items shows them, and gives them back.
+/// Whether a list of these items shows them, and returns them.
 fn gives_back<T: Copy + PartialEq>(alloc: Global, items: &[T]) -> bool {
     let Ok(list) = items.to_vec(alloc) else {
         return false;

@@ -5,7 +5,7 @@ use Rattle.boot_script.proofs.text.same_word.Given as goal
 abbrev pub decreases-loop-left : goal.decreases-loop-left
 decreases-loop-left l = l.left
 
--- What stands behind the bytes that are left is the same.
+-- The bytes after those that are left are the same in both words.
 abbrev pub invariant-loop-left : goal.invariant-loop-left
 invariant-loop-left l = record {
   same : drop l.left l.one ≡ drop l.left l.other;

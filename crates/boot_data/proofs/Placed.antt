@@ -21,12 +21,12 @@ line_there processors place p heard is same got =
     let equal : heard ≡ own = cc (same, got, read) in
     rw equal found.2
 
--- and its number is below that of their lines
+-- the number of a place is below the number of its processor's lines
 pub number_there : (processors : List Heard) (place : HeardPlace) (p : ℕ) (heard : Heard) → IsPlace processors place → p ≡ place.processor → heard ≡ get_or processors p heard → place.number < length heard.lines
 number_there processors place p heard is same got =
     slice_get_within heard.lines place.number is.line (line_there processors place p heard is same got)
 
--- a place of as many as a report has lines
+-- the place with a number below the number of the report's lines
 pub place_at : (names : List (List ℕ)) (processors : List Heard) (places : List HeardPlace) (shown : List NamedLine) (number : ℕ) (place : HeardPlace) → map (named_line names) (map (heard_at processors) places) ≡ shown → number < length shown → place ≡ get_or places number place → slice_get places number ≡ Some place
 place_at names processors places shown number place is low got =
     let once : length (map (heard_at processors) places) ≡ length places = length-map places (heard_at processors) in

@@ -1,4 +1,4 @@
--- The limits of a plan: how many of each kind it has, and the things that its numbers name, which have to exist.
+-- The limits of a plan: how many of each kind it may have, and that each thing that its numbers name exists.
 use Rattle.std.specs.Prelude.{◌≡◌, ◌≢◌, ℕ, ◌<◌, ◌≤◌, ◌*◌, ◌%◌, List, [], ◌∷◌, length}
 use Rattle.std.specs.List.{AllByRecursion}
 use Rattle.event_theory.specs.declared.alarm.Alarm.{Alarm}
@@ -24,7 +24,7 @@ many_of plan kind.Mover = length plan.movers
 many_of plan kind.Gauge = length plan.gauges
 many_of plan kind.Thread = length plan.threads
 
--- the queue exists: a small one is a queue or pipe of the plan, and a large one is one of the two of a tty
+-- the queue exists: a small one is a queue or pipe of the plan, a large one is one of the two of a tty
 abbrev pub IsQueueOf : (Kind → ℕ) → QueueIndex → Type 0
 IsQueueOf many (Small queue) = queue < many kind.Queue
 IsQueueOf many (Large queue) = queue < many kind.Tty * 2
@@ -34,7 +34,7 @@ abbrev pub IsSaidTo : (Kind → ℕ) → QueueIndex → Type 0
 IsSaidTo many (Small queue) = queue < many kind.Queue
 IsSaidTo many (Large queue) = (queue < many kind.Tty * 2) × (queue % 2 ≡ 1)
 
--- whatever a step names exists
+-- each queue, thread, gauge, pump or switch that a step names exists; a `say` names a queue that can be said to
 abbrev pub IsStepOf : (Kind → ℕ) → Step → Type 0
 IsStepOf many (Say queue text) = IsSaidTo many queue
 IsStepOf many (Hear queue) = IsQueueOf many queue

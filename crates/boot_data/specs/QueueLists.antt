@@ -2,7 +2,7 @@
 -- queue; the large ones are each tty's line queue and screen queue, one tty after the other.
 use Rattle.std.specs.Prelude.{ℕ, ◌+◌, ◌*◌}
 
--- the raw queue of a tty, which comes after so many queues and pipes
+-- the raw queue of a tty: it comes after the queues and pipes, `queues` in all
 abbrev pub raw_queue : ℕ → ℕ → ℕ
 raw_queue queues tty = queues + tty
 

@@ -7,7 +7,7 @@ use Rattle.boot_data.specs.Hearing.{Line}
 abbrev pub line_in : List ℕ → Mark → Line
 line_in bytes mark = ((mark.thread, mark.step), take (mark.end - mark.begin) (drop mark.begin bytes))
 
--- the line of the mark lies within the first so many bytes
+-- the line of the mark lies within the first `many` bytes
 pub record IsWithin (many : ℕ) (mark : Mark) : Type 0 where
   pub ordered : mark.begin ≤ mark.end
   pub within : mark.end ≤ many

@@ -8,8 +8,8 @@ use event_theory::{Alarm, Items};
 
 /// The content of a boot script, each list in the order of the script.
 ///
-/// There are at most 8 queues and pipes, 2 ttys, 4 pumps and switches, 8 gauges, 16 alarms and 64 threads, a program has
-/// at most 64 steps, and whatever is named by its number exists.
+/// There are at most 8 queues and pipes, 2 ttys, 4 pumps and switches, 8 gauges, 16 alarms and 64 threads. A program
+/// has at most 64 steps. Whatever is named by its number exists.
 #[derive(Debug, Drop)]
 pub struct BootPlan {
     pub queues: Items<PlannedQueue>,

@@ -1,7 +1,7 @@
 //! A list whose memory is allocated when it is made, and never grows.
 //!
-//! Items are stored in memory that the list has. No function here takes memory except the one that makes the list, and
-//! none hands out the allocator, the list inside or a way to make it longer.
+//! Items are stored in memory that the list has. No function here takes memory except the one that makes the list. None
+//! returns the allocator, the list inside or a way to make it longer.
 
 ghost use Rattle.std.specs.Prelude.{◌≡◌, ◌<◌, ◌++◌, ◌∷◌, [], length, vec_capacity, IfOk};
 
@@ -25,7 +25,7 @@ impl<T> FixedList<T> {
         }
     }
 
-    // No items, and room for so many. `OutOfMemory` is returned only if the allocation was refused.
+    // No items, and room for `room` items. `OutOfMemory` is returned only if the allocation was refused.
     pub(crate) fn with_room(alloc: Global, room: usize) -> Result<Self, OutOfMemory>
         ensures items { IfOk result (λ l. l.list.items ≡ []) }
         ensures room { IfOk result (λ l. vec_capacity l.list ≡ room) }

@@ -1,5 +1,5 @@
-//! Lines that threads heard: for each processor its lines, one after the other in one store of bytes, and for a report
-//! the order of all of them. Sorting or reporting lines moves their places, and no text.
+//! Lines that threads heard: for each processor its lines, one after the other in one store of bytes. A report has the
+//! order of all lines. Sorting or reporting lines moves their places, and no text.
 
 ghost use Rattle.std.specs.Prelude.{◌≡◌, ◌<◌, ◌≤◌, ◌*◌, ◌++◌, ◌∷◌, [], length, map, vec_capacity, IfOk, IfSome};
 ghost use Rattle.std.specs.List.{AllByRecursion, slice_get};
@@ -20,8 +20,8 @@ struct Mark {
     end: usize,
 }
 
-/// The lines that one processor heard, in the order in which it heard them, with room for so many, and for so many
-/// bytes of each. The room is allocated when the value is made, and never grows. Contracts see the lines, how many
+/// The lines that one processor heard, in the order in which it heard them. There is room for a number of lines, and of
+/// bytes for each. The room is allocated when the value is made, and never grows. Contracts see the lines, how many
 /// there is room for, and how long the longest may be.
 #[derive(Drop)]
 pub struct HeardLines {
@@ -76,8 +76,8 @@ impl HeardLines {
         }
     }
 
-    /// No lines, and room for so many, each of up to so many bytes as `longest` says. None of this room is written
-    /// before a line is. `OutOfMemory` is returned only if an allocation was refused.
+    /// No lines, and room for `lines` of them, each of up to `longest` bytes. None of this room is written before a
+    /// line is written. `OutOfMemory` is returned only if an allocation was refused.
     pub fn with_room(alloc: Global, lines: usize, longest: usize) -> Result<Self, OutOfMemory>
         requires lines { lines ≤ 65536 }
         requires longest { longest ≤ 256 }

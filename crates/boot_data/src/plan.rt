@@ -1,9 +1,9 @@
 //! The content of a boot script: the plan of a boot.
 //!
-//! Queues and pipes, ttys, pumps and switches, gauges, alarms and threads are in the order of the script, and are named
-//! by their place there, from 0. A kernel has two lists of queues. The small ones are the queues and pipes, in that
-//! order, and then the raw queue of each tty. The large ones are each tty's line queue and screen queue, one tty after
-//! the other.
+//! Queues and pipes, ttys, pumps and switches, gauges, alarms and threads are in the order of the script. They are
+//! named by their place there, from 0. A kernel has two lists of queues. The small ones are the queues and pipes, in
+//! that order, and then the raw queue of each tty. The large ones are each tty's line queue and screen queue, one tty
+//! after the other.
 
 ghost use Rattle.std.specs.Prelude.{◌≡◌, ◌≤◌, ◌<◌, ◌++◌, ◌∷◌, [], length, IsTrue, ◌↔◌, true, false};
 
@@ -30,7 +30,7 @@ pub struct PlannedQueue {
     pub waits: Option<PipeWaits>,
 }
 
-/// A tty, and what its device types.
+/// A tty, and the text that its device types.
 #[derive(Debug, Drop)]
 pub struct PlannedTty {
     pub name: Name,

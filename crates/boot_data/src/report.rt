@@ -47,7 +47,7 @@ pub struct TtyLines {
     pub notes: u64,
     /// Bytes of the cooked line that is held.
     pub held: u64,
-    /// The queue of what was typed.
+    /// The queue of the bytes that were typed.
     pub raw: ItemCounts,
     /// The queue of cooked lines, for threads that hear.
     pub line: ItemCounts,

@@ -38,7 +38,7 @@ abbrev pub key_of : List ℕ → List ℕ → Result ℕ ScriptRefusal
 key_of keys (key ∷ []) = if is_key keys key then Err NameTwice else Ok key
 key_of keys word = Err BadName
 
--- a way of a switch: a key, and where its lines go
+-- a way of a switch: its key, and the queue or pipe to which its lines go
 abbrev pub way_of : List Named → List ℕ → List ℕ → List ℕ → Result Way ScriptRefusal
 way_of names keys key to = do
   k ← key_of keys key

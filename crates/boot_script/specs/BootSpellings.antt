@@ -162,7 +162,7 @@ FitsMover names (mover.Switch from other ways) =
     (from < count_of kind.Queue names) × (other < count_of kind.Queue names)
     × FitWays names [] ways × (1 ≤ length ways) × (length ways ≤ 4)
 
--- each number and text of a step is in its range, and whatever the step names was declared
+-- numbers and texts of a step are in range, and whatever it names was declared; `close` needs a version after the first
 abbrev pub FitsStep : Version → List Named → steps.Step → Type 0
 FitsStep version names (step.Say queue text) = FitsQueue false names queue × (length text ≤ 63)
 FitsStep version names (step.Hear queue) = FitsQueue true names queue
@@ -177,7 +177,7 @@ FitsStep version names (step.Poke mover) = mover < count_of kind.Mover names
 FitsStep version names step.Pass = Unit {0}
 FitsStep version names (step.Close queue) = (is_later version ≡ true) × (queue < count_of kind.Queue names)
 
--- each part of a line is in its range, with these declared names; a step also needs a current thread (`going`)
+-- each part of a line is in its range, new names are new, and other names were declared; a step needs a current thread
 abbrev pub FitsLine : Version → List Named → Bool → Line → Type 0
 FitsLine version names going (Queue queue) = IsNew names queue.name × FitsWaits version queue.waits
 FitsLine version names going (Tty name) = IsNew names name

@@ -19,7 +19,7 @@ kept_plan kept = record {
   threads = kept.threads.items;
 }
 
--- The kept names and counts are those of the lines so far, and so is the kept plan, if no allocation was refused
+-- The kept names and counts are equal to those of the draft `d`; so is the kept plan, if no allocation was refused
 pub record Draws (kept : Draft) (d : plans.Draft) : Type 0 where
   pub names : kept.names ≡ d.names
   pub going : kept.going ≡ d.going
@@ -32,7 +32,7 @@ pub record Draws (kept : Draft) (d : plans.Draft) : Type 0 where
   pub sizes : (length kept.typed ≡ 2) × (length kept.step_counts ≡ 64)
   pub plan : kept.kept ≡ true → kept_plan kept ≡ d.plan
 
--- the answer is that of what was said: Ok, and the kept draft is its draft, or the same refusal
+-- the answer agrees with `said`: Ok, and the kept draft is the said one, or the same refusal
 abbrev pub Added : Result (Unit {0}) ScriptRefusal → Draft → Result plans.Draft ScriptRefusal → Type 0
 Added (Ok done) kept said = (d : plans.Draft) × (said ≡ Ok d) × Draws kept d
 Added (Err refusal) kept said = said ≡ Err refusal

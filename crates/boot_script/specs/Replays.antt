@@ -18,7 +18,7 @@ use Rattle.boot_script.specs.Printed.{status_text, refused_text}
 abbrev pub alone : List (ℕ × Event) → List Event
 alone events = map (λ numbered. numbered.1) events
 
--- from `old` to `new` all events are allowed, or the events before the first refused one, which is on this line
+-- from `old` to `new` all events are allowed, or all before the first refused one, which is on this line
 abbrev pub Replays : Replayed → List (ℕ × Event) → State → State → Type 0
 Replays AllAllowed events old new = Reaches old (alone events) new
 Replays (Refused line refusal) events old new =
@@ -35,21 +35,21 @@ abbrev pub replay_text : Replayed → Status → List ℕ
 replay_text AllAllowed status = status_text status
 replay_text (Refused line refusal) status = status_text status ++ refused_text line refusal
 
--- the text has no fault, the answer is the answer of its events on a fresh core, and exactly the printed text of that
--- answer and its status is appended
+-- the text has no fault, and its events on a fresh core have this answer; exactly the printed text of the answer and
+-- of their status is appended
 abbrev pub IsReplay :
     Result (ℕ × List (ℕ × Event)) ScriptFault → Replayed → Option (List ℕ) → Option (List ℕ) → Type 0
 IsReplay (Err fault) replayed old new = ⊥
 IsReplay (Ok said) replayed old new =
     (status : Status) × Ends replayed status said.1 (first_state said.0) × Appends old new (replay_text replayed status)
 
--- the text has no fault, and the answer is the answer of its events on a fresh core, whatever is printed
+-- the text has no fault, and its events on a fresh core have this answer, whatever is printed
 abbrev pub IsAnswer : Result (ℕ × List (ℕ × Event)) ScriptFault → Replayed → Type 0
 IsAnswer (Err fault) replayed = ⊥
 IsAnswer (Ok said) replayed = (status : Status) × Ends replayed status said.1 (first_state said.0)
 
--- `Script` has the first fault of the text; `Memory` and `Write` are answered only if the text has no fault; `Read` may
--- be answered for any text
+-- `Script` has the first fault of the text; `Memory` and `Write` are returned only if the text has no fault; `Read` may
+-- be returned for any text
 abbrev pub IsReplayFault : Result (ℕ × List (ℕ × Event)) ScriptFault → ReplayFault → Type 0
 IsReplayFault said (Script fault) = said ≡ Err fault
 IsReplayFault said Memory = IsOk said

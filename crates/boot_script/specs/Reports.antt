@@ -113,7 +113,7 @@ written_byte byte =
 abbrev pub heard_text : List ℕ → List ℕ
 heard_text bytes = flat_map written_byte bytes
 
--- the line of what a thread heard
+-- the line of a heard line: the name of its thread, the number of its step, and its bytes
 unfoldable pub heard_line : NamedLine → List ℕ
 heard_line heard =
     named (codes "heard") heard.thread ++ codes " " ++ decimal heard.step ++ codes " " ++ heard_text heard.bytes

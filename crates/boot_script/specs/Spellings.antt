@@ -142,7 +142,7 @@ Spells version number (line ∷ lines) events =
     ⊎ ((event : Event) × (later : List (ℕ × Event)) × (events ≡ (number, event) ∷ later)
     × Fits version event × (line ≡ spelling event) × Spells version (number + 1) lines later)
 
--- the text, of at most 65,536 bytes, is the first line of a version with so many elements, and then lines of the events
+-- the text, of at most 65,536 bytes, is the first line of a version with this many elements, and lines of the events
 abbrev pub SpellsText : List ℕ → ℕ → List (ℕ × Event) → Type 0
 SpellsText text elements events =
     (version : Version) × (lines : List (List ℕ)) × (elements ≡ elements_of version) × (length text ≤ 65536)

@@ -29,7 +29,7 @@ abbrev pub EndsWith :
     {R : Type 0} → (R → Result ℕ Error → R → Type 0) → Result ℕ Error → List (Result ℕ Error) → R → R → Type 0
 EndsWith answers last calls old new = Calls answers (last ∷ calls) old new × WentOn calls × (length calls < 131072)
 
--- the last call answered an error other than Interrupted
+-- the last call returned an error other than Interrupted
 abbrev pub HasFailed : {R : Type 0} → (R → Result ℕ Error → R → Type 0) → R → R → Type 0
 HasFailed answers old new =
     (calls : List (Result ℕ Error)) × (error : Error) × EndsWith answers (Err error) calls old new
@@ -44,21 +44,21 @@ WasCalledMost answers old new =
 abbrev pub IsReadFault : {R : Type 0} → (R → Result ℕ Error → R → Type 0) → R → R → Type 0
 IsReadFault answers old new = HasFailed answers old new ⊎ WasCalledMost answers old new
 
--- so many bytes were read, and the last call found the end
+-- `n` bytes were read, and the last call found the end
 abbrev pub HasEnded : {R : Type 0} → (R → Result ℕ Error → R → Type 0) → ℕ → R → R → Type 0
 HasEnded answers n old new =
     (calls : List (Result ℕ Error)) × EndsWith answers (Ok 0) calls old new × (n ≡ bytes_of calls)
 
--- so many bytes were read, which is more than a script may have, and the last call read the first that is too much
+-- `n` bytes were read, which is more than a script may have, and the last call read the first byte too many
 abbrev pub IsTooMuch : {R : Type 0} → (R → Result ℕ Error → R → Type 0) → ℕ → R → R → Type 0
 IsTooMuch answers n old new =
     (calls : List (Result ℕ Error)) × (more : ℕ) × EndsWith answers (Ok more) calls old new
     × (n ≡ bytes_of calls + more) × (65536 < n)
 
--- reading has ended without a read fault, with so many bytes
+-- reading has ended without a read fault, and `n` bytes were read
 abbrev pub HasRead : {R : Type 0} → (R → Result ℕ Error → R → Type 0) → ℕ → R → R → Type 0
 HasRead answers n old new = HasEnded answers n old new ⊎ IsTooMuch answers n old new
 
--- the cause of a write fault: the last call on the writer answered an error
+-- the cause of a write fault: the last call on the writer returned an error
 abbrev pub IsWriteFault : {W : Type 0} → (W → W → Type 0) → W → Type 0
 IsWriteFault {W} fails new = (before : W) × fails before new

@@ -22,7 +22,7 @@ pub(crate) struct TtyNumber {
     number: u8,
 }
 
-/// A declared name, and its number among those of its kind.
+/// A declared name, and its number among the names of its kind.
 #[derive(Drop)]
 pub(crate) struct Named {
     pub(crate) name: Name,

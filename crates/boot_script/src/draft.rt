@@ -156,7 +156,7 @@ impl Draft {
         Ok(())
     }
 
-    /// Adds a text, given as it is written in the script, to the bytes that a tty's device types. TextTooLong as above.
+    /// Adds a text, given as it is written in the script, to the bytes that a tty's device types. Else TextTooLong.
     fn add_typed(&mut self, tty: TtyNumber, text: &Typed) -> Result<(), ScriptRefusal>
         ensures { (version : Version)
             → AddsTo self.old result self.new (λ d. added version (Line.Types tty text.now) d) }

@@ -21,8 +21,8 @@ pub fn read_again()
         → line_event version (spelling event) ≡ Ok event }
 {}
 
-/// A text says these events exactly if it is the first line of a version, and then lines each of which is silent or the
-/// spelling of the next event.
+/// A text says these events exactly if it is the first line of a version and then lines of the events. Each of these
+/// lines is silent or the spelling of the next event.
 pub fn whole_text()
     ensures spelled { (text : List ℕ) (elements : ℕ) (events : List (ℕ × Event))
         → text_events text ≡ Ok (elements, events) → SpellsText text elements events }

@@ -15,7 +15,7 @@
 //!
 //! A list of events has one event a line. `parse_events` reads it, and `replay` runs it on a fresh core and prints the
 //! core's status. A boot script has one declaration or step a line. `parse_boot` reads it as a plan, and `print_report`
-//! prints what a boot reports. Each text has one reading or one first fault. `parse_number` reads a number as both do.
+//! prints the report of a boot. Each text has one reading or one first fault. `parse_number` reads a number as both do.
 #![tactic(auto)]
 
 mod boot;

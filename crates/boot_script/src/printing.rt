@@ -289,8 +289,8 @@ fn print_lines<W: Sink>(status: &Status, out: &mut W) -> io::Result<()>
     print_notifies(status.notified.as_slice(), out)
 }
 
-/// Prints the status of a core: how many events were allowed, a line for each queue and chain, one for each element,
-/// gauge, clock and wait queue not in its first state, and one for the alarms if one was set. Takes no memory.
+/// Prints the status of a core: the number of allowed events, and a line for each queue and chain. An element, gauge,
+/// clock or wait queue has a line if not in its first state, and the alarms if one was set. Takes no memory.
 ///
 /// The status is one text for the writer, up to 8,192 bytes; no core has a longer status. After a fault of the writer a
 /// prefix of the text may have been written. There is no other fault.

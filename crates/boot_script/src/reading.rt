@@ -30,8 +30,8 @@ impl fmt::Display for ReadFault {
 
 impl StdError for ReadFault {}
 
-/// Fills the front of the buffer up to the end of the reader, or just past the length limit of a script, and returns
-/// the length of that front. The front says what all bytes of the reader say, as a list of events and as a boot script.
+/// Fills the front of the buffer up to the end of the reader, or just past the length limit of a script. Returns the
+/// length of that front. The front says what all bytes of the reader say, as a list of events and as a boot script.
 ///
 /// Takes no memory, so that a fault of the text is returned even when memory is exhausted. After a call that reads a
 /// byte or is interrupted, reading goes on. Any other call is the last one, and so is the 131,072nd.

@@ -1,7 +1,7 @@
 //! The printed text of a report. Nothing here takes memory.
 //!
-//! Lines are gathered in a buffer, which is written out when the next lines don't fit, so that a report goes out in
-//! few writes, each of whole lines.
+//! Lines are gathered in a buffer. The buffer is written out when the next lines don't fit, so that a report goes out
+//! in few writes, each of whole lines.
 
 ghost use Rattle.std.specs.Prelude.{◌≡◌, ◌<◌, ◌++◌, [], OnOk, OnErr, length, Some, codes};
 ghost use Rattle.std.specs.Fmt.{decimal};
@@ -306,7 +306,7 @@ impl Lines for Chained {
     }
 }
 
-/// Writes out what is in the buffer, and empties it.
+/// Writes out the content of the buffer, and empties it.
 fn write_out<W: Sink>(buffer: &mut Buffer, out: &mut W) -> io::Result<()>
     ensures text { OnOk result (Appends (W.contents out.old) (W.contents out.new) buffer.old.items) }
     ensures error { OnErr result (IsWriteFault W.fails out.new) }
@@ -373,7 +373,7 @@ fn put_all<L: Lines, W: Sink>(
     Ok(())
 }
 
-/// Adds bytes to those in a buffer. Refused where there is no room for all.
+/// Adds bytes to the bytes in a buffer. Refused if there is no room for all of them.
 fn add(bytes: &[u8], room: &mut Buffer) -> Result<(), CapacityError>
     ensures { OnOk result (room.new.items ≡ room.old.items ++ bytes.now) }
 {
@@ -462,8 +462,8 @@ fn put_heard<W: Sink>(
     Ok(())
 }
 
-/// Prints a report: the lines of its lists, one list after the other, the line of the alarms if one was set, and at the
-/// end the line of the chains. Takes no memory.
+/// Prints a report: the lines of its lists, one list after the other. The alarms have a line if one was set, and the
+/// last line is the line of the chains. Takes no memory.
 ///
 /// The lines go out in writes of up to 8,192 bytes, each of whole lines. After a fault of the writer a prefix of the
 /// text may have been written. There is no other fault.

@@ -97,12 +97,12 @@ fn run_text<W: Sink>(alloc: Global, text: &[u8], writer: &mut W) -> Result<Repla
 
 /// Runs the list of events that is read on a fresh core, and prints the core's status.
 ///
-/// The text is the status after the events before the first that isn't allowed, and then the `refused` line of that
-/// event, if there is one. After a fault other than `Write` nothing was written. `Memory` is returned only if the text
-/// has no fault. After each call of read except the last, reading went on: it read a byte or more, or was interrupted.
-/// `Read` is returned only if the last call on the reader answered an error other than an interruption, or at 131,072
-/// calls. Any other answer comes only if the last call found the end, or read a byte too much. `Write` is returned only
-/// if the last call on the writer answered an error.
+/// The text is the status after the events before the first that isn't allowed, and then the `refused` line of this
+/// event, if any. After a fault other than `Write` nothing was written. `Memory` is returned only if the text has no
+/// fault. After each call of read except the last, reading went on: it read a byte or more, or was interrupted. `Read`
+/// is returned only if the last call on the reader returned an error other than an interruption, or at 131,072 calls.
+/// Any other answer comes only if the last call found the end, or read a byte too much. `Write` is returned only if the
+/// last call on the writer returned an error.
 pub fn replay_on<R: Source, W: Sink>(
     alloc: Global,
     reader: &mut R,

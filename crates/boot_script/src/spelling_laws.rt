@@ -1,5 +1,5 @@
-//! Laws of boot scripts: each line has one spelling except for the escapes of a text, each text has one reading, and
-//! each plan that is read is within the limits of a boot.
+//! Laws of boot scripts: each line has one spelling except for the escapes of a text, and each text has one reading.
+//! Each plan that is read is within the limits of a boot.
 
 ghost use Rattle.std.specs.Prelude.{◌≡◌, ◌≢◌, ◌<◌, ℕ, Bool, List, Ok, Err, true};
 ghost use Rattle.std.specs.List.{AllByRecursion, list_all};
@@ -52,8 +52,8 @@ pub fn names_in_order()
         → plan_from version number lines first_draft ≡ Ok d → AreInOrder d.names }
 {}
 
-/// A text says a plan exactly if it is the first line of a version, and then lines each of which is silent or spells
-/// the next declaration or step.
+/// A text says a plan exactly if it is the first line of a version and then lines of the plan. Each of these lines is
+/// silent or spells the next declaration or step.
 pub fn whole_text()
     ensures spelled { (text : List ℕ) (plan : Plan) → text_plan text ≡ Ok plan → SpellsPlan text plan }
     ensures read { (text : List ℕ) (plan : Plan) → SpellsPlan text plan → text_plan text ≡ Ok plan }

@@ -1,7 +1,7 @@
 //! The source of a script, and the sink of a text: every reader, and every writer.
 //!
 //! A fault of a stream has to have its cause. `answers` and `fails` carry the cause. Code that is generic over a stream
-//! knows of them only what a call ensured. So a contract that names one of them states that the call was made.
+//! knows of them only what a call ensured. A contract that names one of them therefore states that the call was made.
 
 ghost use Rattle.std.specs.Prelude.{◌≡◌, ℕ, List, Result, ⊤, OnOk, OnErr};
 ghost use Rattle.std.specs.declared.io.Error.{Error};
@@ -34,7 +34,7 @@ impl<R: Read> Source for R {
 
 /// The sink of a text. Every writer is one.
 pub trait Sink: Write {
-    /// One call on the first of these writers answered an error, and left the second.
+    /// One call on the first of these writers returned an error, and left the second.
     ghost fails: { Self → Self → Type 0 };
 
     /// Writes a whole text, by `write_all`.

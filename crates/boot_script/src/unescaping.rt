@@ -53,8 +53,8 @@ fn next_byte(text: &[u8]) -> Result<(u8, &[u8]), ScriptRefusal>
     }
 }
 
-/// The text of the words that are left. BadNumber if a `\` is not followed by two digits; after this fault TextTooLong,
-/// if there is no room for all bytes.
+/// The text of the words that are left. BadNumber if a `\` is not followed by two digits; else TextTooLong, if there is
+/// no room for all bytes.
 pub(crate) fn text_said<const N: usize>(words: &Words) -> Result<Text<N>, ScriptRefusal>
     ensures { result ≡ text_of N words.now }
 {

@@ -17,7 +17,7 @@ use Rattle.draw.specs.declared.shapes.Picture.{Picture}
 use Rattle.draw.specs.Histories.{IsHistory}
 use Rattle.draw.specs.Pictures.{picture_text}
 
--- the text has no fault, the answer is the answer of its events on a fresh core, and the page is the text of a picture
+-- the text has no fault, its events on a fresh core have this answer, and the page is the text of a picture
 abbrev pub IsDrawn : Result (ℕ × List (ℕ × Event)) ScriptFault → Replayed → List ℕ → Type 0
 IsDrawn (Err fault) replayed page = ⊥
 IsDrawn (Ok said) replayed page =

@@ -39,7 +39,7 @@ pub record TellsLast (rows : List Row) (events : List (ℕ × Event)) (old new :
   pub reached : Reaches old (alone earlier) middle
   pub told : TellsAll rows later middle new
 
--- the list of events ends with this event, which is refused
+-- the list of events ends with this event, on this line, which is refused
 abbrev pub IsRefused : Replayed → ℕ → Result State Refusal → Type 0
 IsRefused AllAllowed line said = ⊥
 IsRefused (Refused at refusal) line said = (at ≡ line) × (said ≡ Err refusal)

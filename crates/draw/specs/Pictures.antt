@@ -1,4 +1,4 @@
--- A picture as a tree, whose text is SVG.
+-- A picture as a tree. The text of the tree is SVG.
 use Rattle.std.specs.Prelude.{ℕ, List, [], ◌∷◌, codes}
 use Rattle.draw.specs.declared.shapes.Colour.{Colour}
 use Rattle.draw.specs.declared.shapes.Anchor.{Anchor}
@@ -8,7 +8,7 @@ use Rattle.draw.specs.declared.shapes.Picture.{Picture}
 use Rattle.draw.specs.Colours.{colour_code, anchor_code}
 use Rattle.draw.specs.Forests.{Word, Number, Attribute, Forest, Nothing, Text, Element, forest_text}
 
--- an attribute that is a number, and one that is a word
+-- an attribute that is a number, and (the next definition) one that is a word
 abbrev pub numeric : List ℕ → ℕ → Attribute
 numeric name n = record { name = name; value = Number n ∷ [] }
 

@@ -109,7 +109,7 @@ impl Canvas {
         self.text(x, y.saturating_add(LETTERS), anchor, Colour::Ink, text)
     }
 
-    /// Draws words as high as those of a box with its upper side here.
+    /// Draws words as high as the words of a box with its upper side here.
     pub(crate) fn words(&mut self, x: u32, y: u32, words: &[u8]) -> Result<(), OutOfMemory> {
         let text = text_of(self.alloc, words)?;
         self.label(x, y, Anchor::Start, text)

@@ -17,7 +17,7 @@ const CHAIN: u32 = 136;
 /// How wide an element's cell is.
 pub(crate) const ELEMENT: u32 = 32;
 
-/// Where the events' words begin, to the right of the line numbers, and how many letters they may have.
+/// The left side of the events' words, to the right of the line numbers, and how many letters they may have.
 pub(crate) const EVENT: u32 = 56;
 
 pub(crate) const MOST_LETTERS: usize = 36;
@@ -75,7 +75,7 @@ fn touched(elements: &[ElementStatus]) -> usize {
     count
 }
 
-/// The columns of the queues from a left side on, and where the next column begins.
+/// The columns of the queues from a left side on, and the left side of the next column.
 fn queue_columns(
     alloc: Global,
     queues: &[QueueStatus],
@@ -97,7 +97,7 @@ fn queue_columns(
     Ok((Items::new(columns), left))
 }
 
-/// The columns of so many chains from a left side on, and where the next column begins.
+/// The columns of `count` chains from a left side on, and the left side of the next column.
 fn chain_columns(alloc: Global, count: usize, from: u32) -> Result<(Items<u32>, u32), OutOfMemory> {
     let mut columns = Vec::new(alloc);
     let mut left = from;
@@ -108,14 +108,14 @@ fn chain_columns(alloc: Global, count: usize, from: u32) -> Result<(Items<u32>, 
     Ok((Items::new(columns), left))
 }
 
-/// How wide so many things are.
+/// The width of `count` things, each this wide.
 fn wide(count: usize, each: u32) -> u32 {
     u32::try_from(count)
         .unwrap_or(u32::MAX)
         .saturating_mul(each)
 }
 
-/// The right side of so many things of this width from here on, and a space.
+/// The right side of `count` things of this width from here on, and a space.
 fn behind(from: u32, count: usize, each: u32) -> u32 {
     from.saturating_add(wide(count, each)).saturating_add(GAP)
 }
@@ -145,7 +145,7 @@ fn chains_in(rows: &[Row]) -> usize {
     }
 }
 
-/// The columns of a picture with these rows, whose events have so many letters at most.
+/// The columns of a picture with these rows, whose events have at most this many letters.
 pub(crate) fn columns_of(
     alloc: Global,
     rows: &[Row],

@@ -15,7 +15,7 @@ use boot_script::Replayed;
 use event_theory::{ChainStatus, Items, OutOfMemory, QueueStatus, Refusal};
 use std::alloc::Global;
 
-/// How high a row is, and where its boxes begin in it.
+/// The height of a row, and the place of its boxes in it.
 const ROW: u32 = 36;
 
 const BOXES: u32 = 9;

@@ -63,7 +63,7 @@ fn add_element(
     }
 }
 
-/// Draws the first so many elements.
+/// Draws the first elements, as many as are shown.
 pub(crate) fn add_elements(
     canvas: &mut Canvas,
     elements: &[ElementStatus],

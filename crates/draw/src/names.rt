@@ -37,7 +37,7 @@ fn add_chain_names(canvas: &mut Canvas, chains: &[u32]) -> Result<(), OutOfMemor
     Ok(())
 }
 
-/// The names of so many elements.
+/// The names of the elements that are shown.
 fn add_element_names(canvas: &mut Canvas, shown: usize, left: u32) -> Result<(), OutOfMemory> {
     let mut x = left.saturating_add(ELEMENT / 2);
     for number in 0..shown {

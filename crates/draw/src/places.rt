@@ -29,7 +29,7 @@ impl Tape {
         }
     }
 
-    /// Appends a run of so many items.
+    /// Appends a run of `count` items.
     fn claim(&mut self, call: Call, count: usize) -> Result<(), OutOfMemory> {
         let run = self.calls.len();
         self.calls.push(call)?;
@@ -60,7 +60,7 @@ impl Tape {
         }
     }
 
-    /// The items without the first so many.
+    /// The items without the first `taken` ones.
     fn left(&self, alloc: Global, taken: u64) -> Result<Items<Seat>, OutOfMemory> {
         let taken = usize::try_from(taken).unwrap_or(usize::MAX);
         let left = self.seats.get(taken..).unwrap_or(&[]);
@@ -129,7 +129,7 @@ impl Tapes {
         }
     }
 
-    /// The places that are left in a queue of which so many items were taken, in claim order.
+    /// The places that are left in a queue after `taken` items were taken, in claim order.
     pub(crate) fn left(
         &self,
         alloc: Global,

@@ -46,7 +46,7 @@ impl fmt::Display for Colour {
     }
 }
 
-/// Where the point of a text lies: at its start, or in its middle.
+/// The point of a text: its start, or its middle.
 #[derive(Clone, Copy)]
 pub enum Anchor {
     Start,

@@ -31,7 +31,7 @@ fn add_once(text: &mut Vec<u8>, piece: &[u8], time: u64) -> io::Result<()> {
     Ok(())
 }
 
-/// Adds a piece as often as it says.
+/// Adds a piece as many times as the piece specifies.
 fn add_piece(text: &mut Vec<u8>, piece: &[u8]) -> io::Result<()> {
     let mut parts = piece.split(|byte| *byte == b'*');
     match (parts.next(), parts.next()) {
@@ -66,7 +66,7 @@ struct Table {
 }
 
 impl Table {
-    /// The first fault of a text, as it is printed, and `read` if there is none.
+    /// The first fault of a text as printed text, or `read` if there is none.
     fn fault_of(&self, alloc: Global, text: &[u8]) -> io::Result<String> {
         let fault = if self.is_boot {
             parse_boot(alloc, text).err()

@@ -1,5 +1,5 @@
-//! Replays each example and compares the printed text with the status that lies beside it, and each row of the table of
-//! events and refusals in the same way. Reads each text of the tables of faults, and compares the result with the
+//! Replays each example and each row of the table of events and refusals. Compares the printed text with the expected
+//! one: an example has its status beside it. Reads each text of the tables of faults, and compares the result with the
 //! expected one. Reads each boot script.
 #![tactic(auto)]
 

@@ -1,4 +1,4 @@
--- The result of an event whose checks were made before.
+-- The result of an event that was checked before.
 use Rattle.std.specs.Prelude.{Result, Ok, Err}
 use Rattle.event_theory.specs.declared.refusal.Refusal.{Refusal}
 

@@ -9,7 +9,7 @@ use crate::queueing::{StoredQueue, renamed};
 use event_theory::{Call, ChainStatus, Gate, Refusal};
 use std::alloc::Global;
 
-/// The notes, who runs them, and for each call whether it owes a notify.
+/// The notes, the call that runs them, and for each call whether it owes a notify.
 #[derive(Drop)]
 pub(crate) struct StoredChain {
     notes: StoredQueue,

@@ -13,7 +13,7 @@ use event_theory::{
 };
 use std::alloc::Global;
 
-/// Each element, and where it is.
+/// Each element, and its place.
 #[derive(Drop)]
 pub(crate) struct StoredElements {
     threads: Vec<StoredThread>,
@@ -40,7 +40,7 @@ impl StoredElements {
     ghost use Rattle.event_theory.specs.Results.{IsNotMemory};
     ghost use Rattle.event_theory.specs.Marks.{notify_wait, wait_at};
 
-    /// So many elements, all of them free.
+    /// `count` elements, all of them free.
     pub(crate) fn new(alloc: Global, count: u8) -> Result<StoredElements, OutOfMemory>
         requires { count ≤ 64 }
         ensures { IfOk result (λ stored. elements stored ≡ first_elements count) }

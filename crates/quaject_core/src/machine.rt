@@ -12,8 +12,8 @@ use std::alloc::Global;
 /// time.
 ///
 /// Whatever was done to a core, its state is lawful. Events led to the state from a first state, each allowed in its
-/// turn, and the state agrees with them: each signal became pending as often as it was delivered, and once more if it
-/// is pending. Steps done and alarms are those of the events.
+/// turn. The state agrees with them: each signal became pending as often as it was delivered, and once more if it is
+/// pending. Steps done and alarms are those of the events.
 #[derive(Drop)]
 pub struct Core {
     store: Store,

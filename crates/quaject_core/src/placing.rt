@@ -1,4 +1,4 @@
-//! Where each element is, and its numbers.
+//! The place of each element, and its numbers.
 
 ghost use Rattle.std.specs.Prelude.{◌≡◌, ◌==◌, ◌<◌, ◌≤◌, ℕ, List, position, length, map, IfOk};
 ghost use Rattle.std.specs.List.{list_any};
@@ -81,7 +81,7 @@ fn held_place(held: Option<Call>) -> Place
     }
 }
 
-/// Where the element is.
+/// The place of the element.
 #[tactic(auto, using(crate::proofs::Stored::Numbers::position_map))]
 pub(crate) fn place(
     processors: &[Option<Hold>; 8],

@@ -161,7 +161,7 @@ impl StoredQueue {
         Ok(())
     }
 
-    /// Whether the first `count` items that are left are there and raised.
+    /// Whether at least `count` items are left, and the first `count` of them are raised.
     #[tactic(auto, using(crate::proofs::Stored::Layout::first_stored))]
     pub(crate) fn first_are_raised(&self, count: usize) -> bool
         ensures { result ≡ first_are_raised count (queue self.now) }

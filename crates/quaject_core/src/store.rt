@@ -38,7 +38,7 @@ impl Store {
     ghost use Rattle.event_theory.specs.Lawful.{IsLawful};
     ghost use Rattle.event_theory.specs.Results.{IsNotMemory};
 
-    /// No queues, no chains, and so many free elements.
+    /// No queues, no chains, and `elements` free elements.
     pub(crate) fn new(alloc: Global, elements: u8) -> Result<Store, OutOfMemory>
         requires { elements ≤ 64 }
         ensures { IfOk result (λ store. stored_state store ≡ first_state elements) }

@@ -106,7 +106,7 @@ impl StoredThread {
     }
 }
 
-/// So many elements with nothing done.
+/// `count` new elements, with nothing done.
 pub(crate) fn new_threads(alloc: Global, count: u8) -> Result<Vec<StoredThread>, OutOfMemory>
     ensures { IfOk result (λ threads. map thread threads.items ≡ repeat count (new_thread ∷ [])) }
 {

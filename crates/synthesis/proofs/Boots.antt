@@ -13,7 +13,7 @@ use Rattle.synthesis.specs.Runs.{answer_in, BootAnswers, IsBootedBy, IsBootAnswe
 use Rattle.synth_kernel.specs.Boots.{RunsOf}
 use Rattle.boot_objects.specs.declared.closing.all.Unmade.{Unmade}
 
--- what a boot answered is in the exit
+-- what a boot returned is in the exit
 pub booted_by : (ran : RunsOf NoGate) (shown : Unmade → Type 0) (read : Option (List ℕ)) (processors turns : ℕ) (answer : Result (Booted NoGate) BootFault) (old new : Option (List ℕ))
     → IfOk answer (HasNumbers processors turns)
     → IfOk answer (λ booted. IsBoot (CameBackPlain ran shown processors turns booted.gates.items booted.closed) read booted.ended old new)

@@ -14,7 +14,7 @@ pub record AreNumbers (first second : List ℕ) (processors turns : ℕ) : Type 
   pub some_processor : 1 ≤ processors
   pub turns_said : number_of 100000000 second ≡ Ok turns
 
--- the words ask for a boot with so many processors and turns
+-- the words ask for a boot with this many processors and turns
 pub record IsBootCommand (words : List (List ℕ)) (processors turns : ℕ) : Type 0 where
   pub first : List ℕ
   pub second : List ℕ

@@ -101,8 +101,8 @@ abbrev pub answer_in : Result (Booted NoGate) BootFault → Result endings.Ended
 answer_in (Ok booted) = Ok booted.ended
 answer_in (Err fault) = Err fault
 
--- The answer of a boot on so many processors, with so many turns of each, is correct for what was read. If the report
--- was printed, exactly the report is appended, and `booted` has this answer and both numbers; else it is None
+-- The answer of a boot on this many processors, with this many turns each, is correct for what was read. If the report
+-- was printed, exactly the report is appended, and `booted` has this answer and both numbers; else `booted` is None
 abbrev pub BootAnswers : RunsOf NoGate → (Unmade → Type 0) → Option (List ℕ) → ℕ → ℕ
     → Result endings.Ended BootFault → Option (Booted NoGate) → Option (List ℕ) → Option (List ℕ) → Type 0
 BootAnswers ran shown read processors turns (Ok ended) (Some booted) old new = (booted.ended ≡ ended)
@@ -117,8 +117,8 @@ abbrev pub IsBootUnwritten : Result endings.Ended BootFault → Option (List ℕ
 IsBootUnwritten (Ok ended) old new = Unit {0}
 IsBootUnwritten (Err fault) old new = fault ≢ boot_faults.Write → Keeps old new
 
--- the answer of a boot and `booted` are correct for what was read, if that is known; after a fault other than `Write`
--- nothing was written
+-- the answer of a boot and `booted` are correct for what was read, if known; after a fault other than `Write` nothing
+-- was written
 abbrev pub IsBootedBy : RunsOf NoGate → (Unmade → Type 0) → Option (List ℕ) → ℕ → ℕ
     → Result endings.Ended BootFault → Option (Booted NoGate) → Option (List ℕ) → Option (List ℕ) → Type 0
 IsBootedBy ran shown read processors turns answer booted old new =
@@ -141,7 +141,7 @@ IsBootAnswerOf ran shown read processors turns (Ok ended) = (back : List NoGate)
     × IsBootAnswer (CameBackPlain ran shown processors turns back closed) read ended
 IsBootAnswerOf ran shown read processors turns (Err fault) = IfSome read (λ bytes. IsBootFault (text_plan bytes) fault)
 
--- the status is the exit status of a boot of what was read, on so many processors, with so many turns of each
+-- the status is the exit status of a boot of what was read, on this many processors, with this many turns of each
 abbrev pub IsBootStatus : RunsOf NoGate → (Unmade → Type 0) → Option (List ℕ) → ℕ → ℕ → ℕ
     → Type 0
 IsBootStatus ran shown read processors turns status = (answer : Result endings.Ended BootFault)

@@ -16,7 +16,7 @@ const MOST_TURNS: u64 = 100_000_000;
 pub enum Command {
     /// A list of events is replayed.
     Replay,
-    /// A script is booted on so many processors, 1 to 8, with so many turns on each.
+    /// A script is booted on this many processors, 1 to 8, with this many turns on each.
     Boot { processors: u8, turns: u32 },
 }
 

@@ -23,7 +23,7 @@ use Rattle.boot_data.specs.PlanLimits.{many_of, IsQueueOf, IsSaidTo, IsStepOf, I
 use Rattle.boot_script.proofs.Basics.Bools.{room_ok}
 use Rattle.boot_script.proofs.Drafts.NamesSoFar.{count_push, most_three}
 
--- there are no less of any kind
+-- there are no fewer of any kind
 abbrev pub Grows : (Kind → ℕ) → (Kind → ℕ) → Type 0
 Grows many more = (kind : Kind) → many kind ≤ more kind
 

@@ -33,7 +33,7 @@ wanting byte [] h few = rw h refl
 wanting byte (next ∷ []) h few = rw h refl
 wanting byte (high ∷ low ∷ text) h few = absurd (omega (arith, few))
 
--- the same of a text by its places
+-- the first byte of a text, and the bytes after it, by their places
 pub first_plain : (text : List ℕ) → 0 < length text → eqb (slice_index_or text 0 0) 92 ≡ false → bytes_of text ≡ before (slice_index_or text 0 0) (bytes_of (drop 1 text))
 first_plain [] some h = absurd (omega (arith, some))
 first_plain (byte ∷ text) some h = plain_byte byte text h

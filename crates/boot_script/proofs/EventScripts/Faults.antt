@@ -69,7 +69,7 @@ text_known text =
     bind_is_known (opening_of Events text) _ (opening_known Events text)
     (λ opening. bind_is_known (events_from opening.0 2 opening.1) _ (events_known opening.0 2 opening.1) (λ events. ok_is_known _))
 
--- out of memory is answered only if the text has no fault
+-- out of memory is returned only if the text has no fault
 pub memory_last : (text : List ℕ) (fault : ScriptFault) → fault.refusal ≡ OutOfMemory → IsFault fault (text_events text) → IsOk (text_events text)
 memory_last text fault e (inl p) = p.1
 memory_last text fault e (inr p) = absurd (text_known text fault p e)

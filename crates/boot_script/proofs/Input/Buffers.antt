@@ -13,7 +13,7 @@ written_out (Some xs) (Some ys) None empty buffer text all none h e k = absurd k
 written_out (Some xs) (Some ys) (Some zs) empty buffer text all none h e k =
     k ∙ (h ∙ (ap (λ ws. (xs ++ ws) ++ text) none ∙ (ap (λ ws. ws ++ text) (append-nil xs) ∙ ap (λ ws. xs ++ ws) e)))
 
--- the same, where the call that writes may fail
+-- an empty buffer that was filled is written out by a call that may fail
 pub then_written_out : {A E : Type 0} (result : Result A E) (a b c : Option (List ℕ)) (empty buffer text all : List ℕ) → empty ≡ [] → Appends (append_known a empty) (append_known b buffer) text
     → text ≡ all → OnOk result (Appends b c buffer) → OnOk result (Appends a c all)
 then_written_out result a b c empty buffer text all none h e k = on_ok_weaker result (λ last. written_out a b c empty buffer text all none h e last) k

@@ -32,7 +32,7 @@ texts_more text old new later i things x is h k =
     let e : drop i things ≡ x ∷ drop (i + 1) things = drop-cons things i x (slice_get_within things i x is) ∙ (ap (λ y. y ∷ drop (suc i) things) (get_or_from_slice_get things i x x is) ∙ ap (λ n. x ∷ drop n things) (sym (add-one i))) in
     rw e (appends_join old new later (text x) (flat_map text (drop (i + 1) things)) h k)
 
--- what was appended before, and what a call appends where it answers Ok
+-- the text that was appended before, and the text that a call appends if it returns Ok
 pub then_appends : {A E : Type 0} (result : Result A E) (a b c : Option (List ℕ)) (x y z : List ℕ) → Appends a b x → OnOk result (Appends b c y) → x ++ y ≡ z → OnOk result (Appends a c z)
 then_appends result a b c x y z first h e = on_ok_weaker result (λ k. subst (Appends a c) e (appends_join a b c x y first k)) h
 

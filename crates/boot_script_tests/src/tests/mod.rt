@@ -1,5 +1,5 @@
-//! Tests of cases that no table of texts can state: values that are read, readers and writers that fail, and statuses
-//! and reports that are made of parts. `examples` has the tables.
+//! Tests of cases that no table of texts can state: values that are read, and readers and writers that fail. Statuses
+//! and reports that are made of parts are also tested. `examples` has the tables.
 
 use std::alloc::Global;
 use std::fmt::Debug;

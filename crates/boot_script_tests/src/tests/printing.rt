@@ -220,7 +220,7 @@ fn longest_status(alloc: Global, queues: usize) -> Option<Status> {
     })
 }
 
-/// The writes of the longest status with so many queues.
+/// The writes of the longest status with this many queues.
 fn longest_printed(alloc: Global, queues: usize) -> Option<Counted> {
     let status = longest_status(alloc, queues)?;
     let mut out = Counted::new(alloc);
@@ -239,7 +239,7 @@ fn a_status_is_one_write(rt: HostRuntime) {
     assert!(rt; out.bytes.ends_with(b"notified w15 4294967295\n"));
 }
 
-/// The lines of the events and of so many queues.
+/// The lines of the events and of this many queues.
 fn longest_front(alloc: Global, queues: usize) -> io::Result<Vec<u8>> {
     let mut front = Vec::from_slice(alloc, b"events 18446744073709551615\n")?;
     let most = u64::MAX;
@@ -252,7 +252,7 @@ fn longest_front(alloc: Global, queues: usize) -> io::Result<Vec<u8>> {
     Ok(front)
 }
 
-/// A status longer than that of any core may be longer than a page. The status goes out in pieces, and none is lost.
+/// A status that no core has may be longer than a page. The status goes out in pieces, and none is lost.
 #[test]
 fn a_longer_status_is_written_whole(rt: HostRuntime) {
     let Some(out) = longest_printed(rt.alloc(), 100) else {

@@ -91,8 +91,8 @@ impl Page {
     }
 }
 
-/// How a replay ends, and the bytes that it wrote, if both forms answer the same, write the same bytes, and leave the
-/// reader at the same place. The streams are lent to each, so that all bytes are seen.
+/// How a replay ends, and the bytes that it wrote. Both forms have to answer the same, write the same bytes, and leave
+/// the reader at the same place. The streams are lent to each, so that all bytes are seen.
 fn replayed(
     alloc: Global,
     reader: OneByOne<'_>,

@@ -8,7 +8,7 @@ use std::alloc::Global;
 use std::io;
 use std::io::{ErrorKind, Write};
 
-/// Takes at most so many bytes a call, and fails at one call.
+/// Takes at most this many bytes a call, and fails at one call.
 #[derive(Drop)]
 struct Parts {
     bytes: Vec<u8>,
@@ -44,7 +44,7 @@ impl Parts {
     }
 }
 
-/// The written text of a report by calls of at most so many bytes, one of which fails, and whether none failed.
+/// The written text of a report by calls of at most this many bytes, one of which fails, and whether none failed.
 fn printed(alloc: Global, report: &Report, most: usize, fails_at: usize) -> (Parts, bool) {
     let mut out = Parts::new(alloc, most, fails_at);
     let all = print_report(report, &mut out).is_ok();

@@ -32,7 +32,7 @@ bits_next n bits byte marks some most so_far is =
     let t : 2 * bits_from (16 - (n - 1 + 1)) (n - 1 + 1) (set_of marks) ≡ 2 * bits_from (16 - n) n (set_of marks) = ap (λ k. 2 * bits_from (16 - k) k (set_of marks)) e in
     omega (arith, bits_more (n - 1) (set_of marks) (omega arith), one_byte (get_or marks (n - 1) false), t)
 
--- and they fit
+-- the bits from the one before on fit in 16 bits
 pub bits_fit : (n bits byte : ℕ) (marks : List Bool) → 0 < n → n ≤ 16 → bits ≡ bits_from (16 - n) n (set_of marks) → byte ≡ bool_byte (get_or marks (n - 1) false) → 2 * bits + byte < 65536
 bits_fit n bits byte marks some most so_far is =
     let wide : 2 ^ (16 - n) ≤ 2 ^ 15 = pow_mono {i = 16 - n} {j = 15} (omega arith) in

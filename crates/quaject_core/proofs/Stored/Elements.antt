@@ -111,7 +111,7 @@ known s e answer is there = omega (arith, ltb-true e (length (elements s).thread
 pub not_all : (n : ℕ) → n < 4294967296 → (n ≡ 4294967295 → ⊥) → n < 4294967295
 not_all n fits not = omega arith
 
--- the same of the stored elements
+-- an event of a stored element is refused if the call does not hold the element, or its stop bit is clear
 pub stored_not_held : (s : StoredElements) (call e item : ℕ) (first : StoredThread) → item ≡ e → slice_get s.threads.items e ≡ Some first → position (is_hold call item) s.held.holds.items ≡ None
     → park call e (elements s) ≡ Err NotHeld
 stored_not_held s call e item first own seen none =

@@ -115,7 +115,7 @@ one_more_place count item before places so_far at put =
     ∙ (ap (λ (n : ℕ). let p : StoredItem = record { item = n; raised = true } in map raised_place (range_with_len 0 count) ++ p ∷ []) at
     ∙ sym (map-range_with_len_more raised_place 0 count count (zero-add count))))
 
--- the same, where the count is known by another name
+-- a full queue, if its count is known by another name
 pub full_named : (capacity count number : ℕ) (spans : List Span) (places : List StoredItem) → capacity ≡ count → number ≡ count
     → spans ≡ map single_span (range_with_len 0 number) → places ≡ map raised_place (range_with_len 0 number)
     → (queue_at capacity spans places 0 false ≡ full_queue count) × IsLawfulQueue (queue_at capacity spans places 0 false) × Laid 0 spans (length places)

@@ -82,7 +82,7 @@ queue_changes store number at event old new said result same within is out h =
     (lift_changes result _ (with_queues store) _ _
     (change_stored queue store.queues.items at event old new result within is (subst (λ r. Changes result r (queue old) (queue new)) out h)))
 
--- the same, of an event that is always allowed
+-- a queue changes by an event that is always allowed, and the whole state with it
 pub queue_changed : (store : Store) (number at : ℕ) (event : Queue → Result Queue Refusal) (old new : StoredQueue) (unit : Unit {0})
     → at ≡ number → at < length store.queues.items → old ≡ get_or store.queues.items at old → event (queue old) ≡ Ok (queue new)
     → in_queue number event (stored_state store) ≡ Ok (with_queues store (map queue (set store.queues.items at new)))
@@ -114,7 +114,7 @@ over_more f g old now i x new within same before is =
     let here : y ≡ get_or (map f now) i y = sym (get_or-map f now i x y (omega arith)) in
     map-set f now i new ∙ (ap (set (map f now) i) is ∙ map_over_more g (map f old) (map f now) i y (omega (arith, length-map old f)) before here)
 
--- and after the last
+-- a loop that changes each stored part in its turn: after the last
 pub over_all : {X A : Type 0} (f : X → A) (g : A → A) (old now : List X) (i : ℕ) → length old ≤ i
     → map f now ≡ map g (take i (map f old)) ++ drop i (map f old) → map f now ≡ map g (map f old)
 over_all f g old now i past before =

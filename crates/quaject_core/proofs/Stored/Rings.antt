@@ -63,7 +63,7 @@ taken_there : (ring count : ℕ) (rings : List StoredQueue) (stored : StoredQueu
     → take_first 1 count (queue stored) ≡ said → taken ring count (map queue rings) ≡ (said >>= λ new. Ok (take count (left (queue stored))))
 taken_there ring count rings stored said within is takes = rw (at_there queue rings ring stored within is, takes) refl
 
--- it is the first that is left
+-- the item that is taken is the first that is left
 first_of : (count : ℕ) (items : List ℕ) → count ≡ 1 → leb count (length items) ≡ true → (x : ℕ) × (slice_get items 0 ≡ Some x) × (take count items ≡ x ∷ [])
 first_of count [] one enough = absurd (omega (arith, leb-true count 0 enough))
 first_of count (x ∷ items) one enough = (x, refl, ap (λ n. take n (x ∷ items)) one)
@@ -77,7 +77,7 @@ abbrev pub Takes : ℕ → ℕ → List StoredQueue → Result ℕ Refusal → T
 Takes ring count rings said =
     MatchResult said (λ element. taken ring count (map queue rings) ≡ Ok (element ∷ [])) (λ refusal. taken ring count (map queue rings) ≡ Err refusal)
 
--- a stored queue gives its first item that is left, or says why not
+-- a stored queue yields its first item that is left, or the refusal of the taking
 pub takes_first : (ring count : ℕ) (rings : List StoredQueue) (stored : StoredQueue) (new : Queue) (first : Option ℕ) (said : Result ℕ Refusal) → ring < length rings → stored ≡ get_or rings ring stored
     → take_first 1 count (queue stored) ≡ Ok new → first ≡ slice_get (left (queue stored)) 0 → said ≡ ok_or first NotRaised → Takes ring count rings said
 takes_first ring count rings stored new first said within is takes first_is said_is =
@@ -122,13 +122,13 @@ claimed_why ring call index items s e plain found why =
     why_given e (change_at ring (claim 1 call items) s.rings) (claim_element ring call items s) (refused_whole ring call items s e plain)
     (λ fine. let h = ok_of (change_at ring (claim 1 call items) s.rings) fine in subst IsOk (sym (claimed_whole ring call index items s h.0 plain found h.1)) refl) why
 
--- what a wait comes to when all else is allowed
+-- the result of a wait if all else is allowed
 pub waits : (call wait element ticket index count : ℕ) (thread : Thread) (s : Elements) → slice_get s.threads element ≡ Some thread → slice_get s.notified wait ≡ Some count
     → position (is_hold call element) s.held ≡ Some index → eqb count ticket ≡ true
     → wait_at call wait element ticket s ≡ (change_at (wait + 2) (claim 1 call (element ∷ [])) s.rings >>= λ rings. Ok (record s { rings = rings; held = remove s.held index }))
 waits call wait element ticket index count thread s known heard found same = rw (known, heard, found, same) refl
 
--- and why a wait is refused
+-- the refusals of a wait
 wait_not_held : (call wait element ticket count : ℕ) (thread : Thread) (s : Elements) → slice_get s.threads element ≡ Some thread → slice_get s.notified wait ≡ Some count
     → position (is_hold call element) s.held ≡ None → wait_at call wait element ticket s ≡ Err NotHeld
 wait_not_held call wait element ticket count thread s known heard found = rw (known, heard, found) refl

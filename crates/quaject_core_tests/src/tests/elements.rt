@@ -6,7 +6,7 @@ fn first_status(core: Result<Core, OutOfMemory>) -> Option<Status> {
     core.ok()?.status().ok()
 }
 
-/// Whether a core has so many free elements, and nothing else.
+/// Whether a core has this many free elements, and nothing else.
 fn is_new(core: Result<Core, OutOfMemory>, elements: usize) -> bool {
     first_status(core).is_some_and(|status| {
         status.events == 0

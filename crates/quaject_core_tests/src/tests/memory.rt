@@ -24,7 +24,7 @@ fn status_of<R: Abort>(rt: &R, core: &Core) -> Status {
     }
 }
 
-/// A new core with so many elements. The first try may be out of memory.
+/// A new core with this many elements. The first try may be out of memory.
 fn new_core<R: Abort>(rt: &R, alloc: Global, elements: u8) -> Core
     requires { (1 ≤ elements) × (elements ≤ 64) }
 {
@@ -176,7 +176,7 @@ fn a_note_and_an_item(alloc: Global) -> Option<Vec<Event>> {
     .ok()
 }
 
-/// Asserts that so many elements are free, and that a core has nothing else.
+/// Asserts that this many elements are free, and that a core has nothing else.
 fn assert_new<R: Abort>(rt: &R, core: &Core, elements: usize) {
     let status = status_of(rt, core);
     assert!(rt; (status.events, status.elements.as_slice().len()) == (0, elements));

@@ -3,8 +3,8 @@
 use super::*;
 use std::fmt::Display;
 
-/// These numbers as names of each kind: of a call, a queue, a chain, a wait queue, a processor, an element, a signal, a
-/// gauge and a slot.
+/// The nine numbers as names: a call, a queue, a chain, a wait queue, a processor, an element, a signal, a gauge and a
+/// slot.
 fn named(numbers: [u8; 9]) -> [Option<u8>; 9] {
     let [
         call,

@@ -13,7 +13,7 @@ module _ (p : ℕ) (places : List Cell) (log : List (Owned Batch)) (lists : List
   pub log_same : (j : ℕ) (l l' : List Batch) → get_elem? lists j ≡ some l → l' ≡ l → IsListed p places log (set lists j l')
   log_same j l l' at is = subst (IsListed p places log) (sym (ap (set lists j) is ∙ set_again lists j l at)) a
 
-  -- an entry more, behind the others
+  -- an entry more, after the others
   pub log_push : (j : ℕ) (l l' : List Batch) (e : Batch) → get_elem? lists j ≡ some l → l' ≡ l ++ e ∷ [] → 0 < length e.places → e.start ≡ p + length places → IsListed p (places ++ e.places) (log ++ (j, length l, e) ∷ []) (set lists j l')
   log_push j l l' e at is some_place start = let o : Owned Batch = (j, length l, e) in record {
     solid = λ k x has. ⊎_elim (λ old. a.solid k x old) (λ new. subst (λ (z : Owned Batch). 0 < length z.2.places) new.1 some_place) (at_push log o x k has);
@@ -45,7 +45,7 @@ module _ (p : ℕ) (places : List Cell) (log : List (Owned Batch)) (lists : List
     filed = filed;
   }
 
-  -- the list d goes behind the list c
+  -- the list d goes after the list c
   pub log_join : (c d : ℕ) (l r l' r' : List Batch) → get_elem? lists c ≡ some l → get_elem? lists d ≡ some r → d ≢ c → l' ≡ l ++ r → r' ≡ [] → IsListed p places (map (moved c d (length l)) log) (set (set lists c l') d r')
   log_join c d l r l' r' at_c at_d apart is none = log_kept (moved c d (length l)) (set (set lists c l') d r') (moved_entry c d (length l))
       (transport (λ i. ListedOnce (map (moved c d (length l)) log) (set (set lists c (sym is i)) d (sym none i))) (file_join log lists c d l r a.filed at_c at_d apart))
@@ -95,7 +95,7 @@ listed_claim q parts j v w xs l at behind is_open some_items runs takes grown = 
     (log_push q.first q.places l.lists.runs (map runs_of parts) l.lists.runs_are j v.runs w.runs e (at_map runs_of parts j v at) runs (omega arith) refl)
     (same_takes q parts j v w l at (take q.taken (q.places ++ map fresh xs)) (sym (take-append-le q.taken q.places (map fresh xs) behind)) takes)
 
--- a run of a view stands in the queue
+-- a run of a view is in the queue
 pub run_stands : (q : Positions) (parts : List QueueView) (j m : ℕ) (v : QueueView) (e : Batch) → PartsShow q parts → get_elem? parts j ≡ some v → get_elem? v.runs m ≡ some e → Stands q e
 run_stands q parts j m v e l at has = let r = l.runs_are.filed.listed j v.runs m e (at_map runs_of parts j v at) has in let s = lies q.first l.runs r.0 (j, m, e) l.runs_are.adjacent r.1 in record {
   at = s.at;
@@ -104,7 +104,7 @@ run_stands q parts j m v e l at has = let r = l.runs_are.filed.listed j v.runs m
   same = λ i h. subst (λ (z : List Cell). get_or z (s.at + i) blank ≡ get_or e.places i blank) l.runs_are.flat (s.same i h);
 }
 
--- a place of a run that is not raised yet stands within the window
+-- a place of a run that is not raised yet is within the window
 pub record Own (q : Positions) (e : Batch) (i : ℕ) : Type 0 where
   pub at : ℕ
   pub start : e.start + i ≡ q.first + at

@@ -1,5 +1,5 @@
--- Several ends' steps stay in one order, through each step, a split and a join, and each step tells its end what it
--- says.
+-- Several ends' steps stay in one order, through each step, a split and a join, and each step gives its end what the
+-- step states.
 use Rattle.table_theory.proofs.Common.{◌≡◌, ◌≢◌, ℕ, Bool, true, false, List, [], ◌∷◌, ◌++◌, map, length, set, sym, refl, ap, ◌∙◌, subst, if◌then◌else◌, nat_lt, append_assoc, append-nil, AllByRecursion, some, get_elem?, Moment, Part, Ledger, Continues, entry_of, Begins, IsWhole, Subject, Step, IsReal, IsHonest, Reaches, Adds, opened, first_of, both, emptied, AreOrdered}
 use Rattle.std.proofs.lemmas.List.{append_cancel_left}
 use Rattle.table_theory.proofs.Courses.{Runs, course_step, course_split, course_join, course_first}
@@ -96,7 +96,7 @@ module _ {K O : Type 0} (T : Subject O) where
       nothing_more : (a rest : List (Step O)) → a ++ rest ≡ a → rest ≡ []
       nothing_more a rest is = append_cancel_left a rest [] (is ∙ sym (append-nil a))
 
-  -- the end's list is true behind it
+  -- the end's list is true after the step
   pub order_after : (first : O) (now : Moment O) (vs : List (Ledger K O)) (j : ℕ) (v : Ledger K O) (own : K) (member : Part) (e : Step O) (t : AreOrdered T first now vs) → get_elem? vs j ≡ some v → e.then ≡ now → IsReal T e → IsHonest T (after v own member (order_to t) e)
   order_after first now vs j v own member e t at found real = record {
     leads = subst (λ (z : O). Continues (opened z) (order_to t ++ e ∷ []) e.next) (sym (t.first_is j v at)) (continues_on (opened first) now e.next (order_to t) (e ∷ []) t.course.continues (continues_one now e found));

@@ -1,4 +1,4 @@
--- What every step of every table keeps and tells, whatever its object is.
+-- What every step of every table keeps and reports, whatever its object is.
 use Rattle.table_theory.proofs.Common.{◌≡◌, ◌≢◌, ℕ, ◌+◌, ◌-◌, ◌%◌, ◌<◌, ◌≤◌, List, [], ◌∷◌, ◌++◌, length, get_or, set, sym, refl, ap, ◌∙◌, subst, arith, get_or-set_same, get_or-set_other, some, get_elem?, Moment, Part, Ledger, IsWhole, IsCount, Subject, Step, StepEffect, stays, event, more, fewer, IsReal, IsHonest, Reaches, Adds, Made, CountedUp, CountedDown, Tallied, EndsStand, IsIdle, Stands, opened, first_of, rest_of, newborn, both, emptied, AreOrdered}
 use Rattle.std.proofs.lemmas.List.{set-get_or}
 use Rattle.table_theory.specs.Ledgers.{count_down, Looked}

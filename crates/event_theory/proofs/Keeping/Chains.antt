@@ -69,7 +69,7 @@ claim_kept : (call : ℕ) (items : List ℕ) (c : Chain) (before : List (ℕ × 
 claim_kept call items c [] lawful h = fresh_kept items call c lawful
 claim_kept call items c (pair ∷ pairs) lawful h = first_kept call items c pair _ lawful refl ∙ h
 
--- the pairs of a claimed run stand behind those that are left
+-- the pairs of a claimed run come after those that are left
 pub left_claimed : (call : ℕ) (items : List ℕ) (q : Queue) → IsLawfulQueue q
     → left_pairs (after_claim call items q) ≡ left_pairs q ++ pairs_of (length q.history) 0 items
 left_claimed call items q lawful =

@@ -70,7 +70,7 @@ let_all_go_count call (item ∷ items) held rest ok element =
       sum_by-cons (λ x. cond (eqb x element) 1 0) item items,
     )
 
--- a claim leaves its items behind those that were left
+-- a claim leaves its items after those that were left
 pub claim_left : (longest call : ℕ) (items : List ℕ) (q r : Queue) → IsLawfulQueue q → claim longest call items q ≡ Ok r → left r ≡ left q ++ items
 claim_left longest call items q r lawful ok =
     let a = test_ok (eqb (length items) 0) NoItems _ r ok in

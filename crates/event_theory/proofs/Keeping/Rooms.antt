@@ -24,7 +24,7 @@ abbrev without : ℕ → List ℕ → List ℕ
 without n [] = []
 without n (x ∷ xs) = cond (eqb x n) (without n xs) (x ∷ without n xs)
 
--- how often a number stands in a longer list
+-- how often a number is in a longer list
 pub in_more : (k x : ℕ) (xs : List ℕ) → in_list k (x ∷ xs) ≡ one x k + in_list k xs
 in_more k x xs = sum_by-cons (λ y. one y k) x xs
 

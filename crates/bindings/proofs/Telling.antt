@@ -1,4 +1,4 @@
--- What is reported to C follows from the library's answer.
+-- The report to C follows from the library's answer.
 use Rattle.std.proofs.Common.{◌≡◌, ◌∙◌, ◌⊎◌, inl, inr, refl, sym, ap, subst, Bool, true, false, ℤ}
 use Rattle.std.specs.Option.{MatchOption}
 use Rattle.std.proofs.lemmas.Int.{to_z-of_z}

@@ -80,7 +80,7 @@ WasPulled pulled.Again x y = IsKept x y × (has_turn y ≡ true)
 WasPulled pulled.Done x y = IsKept x y × (has_turn y ≡ false)
     × KeptNow (me_of x.end) 1 (served.Done 0) (me_of y.end)
 
--- the end has all parts, all notes were run, and the chain is closed as the library's `close` states; or no change
+-- the end has all parts, all notes were run, and the chain is closed as `close` states; or the end is unchanged
 abbrev pub Ended : Result (ChainClosed Inbox) HeldChain → HeldChain → Type 0
 Ended (Ok c) x = (x.share.parts ≡ the_whole) × (c.taken ≡ c.put) × ((inbox : Inbox) × closings.ClosedNow
     (makes HasLast (chains.pact_of (arc_value x.chain))) (suits FitsAny (chains.pact_of (arc_value x.chain)))

@@ -9,7 +9,7 @@ use Rattle.proc_chain.specs.declared.chaining.ChainRefusal.{ChainRefusal}
 use Rattle.proc_chain.specs.declared.chaining.ChainRefusal.TheVariants as chain
 use Rattle.claim_queue.specs.declared.take.TakeRefusal.TheVariants as take
 
--- the call did what it is for
+-- the call succeeded
 abbrev pub Done : ℤ
 Done = pos 0
 

@@ -57,7 +57,7 @@ is_raised signalled.Merged = false
 abbrev pub IsStateCode : ℤ → SynthState → Type 0
 IsStateCode code told = (told.code ≡ code) × (told.word ≡ 0)
 
--- the report of a lost try: the code 6, and the state word that was found
+-- the report of `Lost`: the code 6, and the state word that was found
 abbrev pub IsToldLost : Lost → SynthState → Type 0
 IsToldLost lost told = (told.code ≡ pos 6) × (told.word ≡ lost.seen)
 
@@ -76,7 +76,7 @@ abbrev pub IsToldPark : Result Bool Lost → Bool → Bool → SynthState → Ty
 IsToldPark answer old new told = MatchResult answer (λ b. (new ≡ b) × IsStateCode Done told)
     (λ lost. (new ≡ old) × IsToldLost lost told)
 
--- the report of a delivery: the signals, as bits s below 16, which are written, or the state word that was found
+-- the report of a delivery: the signals as bits 0 to 15, which are written, or the state word that was found
 abbrev pub IsToldDelivery : Result ℕ Lost → ℕ → ℕ → SynthState → Type 0
 IsToldDelivery answer old new told = MatchResult answer (λ mask. (mask < 65536) × (new ≡ mask) × IsStateCode Done told)
     (λ lost. (new ≡ old) × IsToldLost lost told)

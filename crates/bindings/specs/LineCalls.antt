@@ -46,7 +46,7 @@ SameHeldIn x y = SameIn x.line y.line × (y.mark ≡ x.mark)
 abbrev pub SameHeldOut : HeldOut → HeldOut → Type 0
 SameHeldOut x y = SameOut x.line y.line × (y.mark ≡ x.mark)
 
--- The effect of `push`, by its code. No push is refused while fewer bytes were pushed than the line has room for
+-- The effect of `push`, by its code. A push is refused only if no room is known and at least the capacity was pushed
 abbrev pub PushTold : HeldIn → ℕ → Option HeldIn → ℤ → Type 0
 PushTold x byte new code = (y : HeldIn) × (new ≡ Some y) × SameHeldIn x y
     × (((code ≡ pos 5) × SendsNothing x.line y.line × (known_room x.line ≡ 0)

@@ -1,4 +1,4 @@
-// The answers of the calls to C.
+//! The answers of the calls to C.
 ghost use Rattle.std.specs.Prelude.{◌≡◌};
 ghost use Rattle.bindings.specs.Codes.{code_of_claim, head_of_claim, tail_of_claim, code_of_take, tail_of_take};
 ghost use Rattle.bindings.specs.Codes.{code_of_some, tail_of_some};

@@ -1,4 +1,4 @@
-// A box as a pointer whose type says nothing of the value there, so that it can cross to C.
+//! A box as a pointer whose type says nothing of the value there, so that it can cross to C.
 ghost use Rattle.std.specs.Prelude.{◌≡◌, true};
 ghost use Rattle.std.specs.declared.option.Option.{Option as Maybe};
 ghost use Rattle.std.specs.declared.option.Option.TheVariants.{None, Some};

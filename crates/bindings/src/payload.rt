@@ -1,4 +1,4 @@
-// The contents of a handle, of any kind.
+//! The contents of a handle, of any kind.
 use crate::batch::held::HeldBatch;
 use crate::chain::held::HeldChain;
 use crate::hand::held::HeldHand;

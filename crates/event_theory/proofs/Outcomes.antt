@@ -1,4 +1,4 @@
--- What comes of each event of the thread elements: where it is allowed, and where it is refused.
+-- The outcome of each event of the thread elements, if it is allowed and if it is refused.
 use Rattle.std.proofs.Common.{◌≡◌, ℕ, ◌+◌, ◌<◌, Bool, true, false, ◌||◌, not, cond, List, [], ◌∷◌, ◌++◌, remove, position, set, refl, arith, Option, Some, None, slice_get, eqb, Result, Ok, Err}
 use Rattle.std.proofs.lemmas.Bool.Decides.{nat_tests}
 use Rattle.std.specs.List.{list_any}

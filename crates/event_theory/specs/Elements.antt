@@ -57,7 +57,7 @@ abbrev pub let_all_go : ℕ → List ℕ → List Hold → Result (List Hold) Re
 let_all_go call [] held = Ok held
 let_all_go call (element ∷ elements) held = let_go call element held >>= let_all_go call elements
 
--- a claim of a run of one element, which the call held and lets go
+-- a claim of a run of one element, which the call held and then holds no more
 abbrev pub claim_element : ℕ → ℕ → List ℕ → Elements → Result Elements Refusal
 claim_element ring call items s =
     refused_if (list_any (nat_le (length s.threads)) items) UnknownName

@@ -18,7 +18,7 @@ HadToGrow (Ok done) events = Unit {0}
 HadToGrow (Err stop) events =
     stop.1 ≡ OutOfMemory → IsSomeAnd (slice_get events stop.0) (λ event. may_grow event ≡ true)
 
--- all events were applied; or those before the first that was refused, which has this index, with this reason
+-- all events were applied; or only those before the first refused one, which has this index, for this reason
 abbrev pub AppliesAll : Result (Unit {0}) (ℕ × Refusal) → List Event → State → State → Type 0
 AppliesAll (Ok done) events old new = Reaches old events new
 AppliesAll (Err stop) events old new =

@@ -1,4 +1,4 @@
-// Each event keeps what is lawful. These are statements over plain data, without a width or a table.
+//! Each event keeps what is lawful. These are statements over plain data, without a width or a table.
 
 ghost use Rattle.std.specs.Prelude.{◌≡◌, ◌==◌, ◌+◌, ◌<◌, ◌≤◌, ℕ, List, [], ◌∷◌, ◌++◌, map, length, false, Ok};
 ghost use Rattle.event_theory.specs.Queues.{Queue, empty_queue, full_queue, claim, raise, take_first};

@@ -1,4 +1,4 @@
-// The numbers of a core's state.
+//! The numbers of a core's state.
 
 use crate::items::Items;
 use crate::names::{Call, Processor, WaitNumber};

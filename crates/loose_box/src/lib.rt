@@ -1,8 +1,8 @@
-// A box on the heap as a pointer and an allocator, and back. A handle of a static library needs this: a pointer can
+//! A box on the heap as a pointer and an allocator, and back. A handle of a static library needs this: a pointer can
 //! cross to C, and a box can't.
 //!
-// The value of the box can be moved out, and another moved in, without an allocation. `Vacant` is a block for a value.
-// Other crates can't take the block apart or let it go: they fill it or free it.
+//! The value of the box can be moved out, and another moved in, without an allocation. `Vacant` is a block for a value.
+//! Other crates can't take the block apart or let it go: they fill it or free it.
 //!
 //! ```rust
 //! let Ok(boxed) = Box::new(rt.alloc(), 7u64) else {

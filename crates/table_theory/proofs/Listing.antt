@@ -50,7 +50,7 @@ module _ (p : ℕ) (places : List Cell) (log : List (Owned Batch)) (lists : List
   log_join c d l r l' r' at_c at_d apart is none = log_kept (moved c d (length l)) (set (set lists c l') d r') (moved_entry c d (length l))
       (transport (λ i. ListedOnce (map (moved c d (length l)) log) (set (set lists c (sym is i)) d (sym none i))) (file_join log lists c d l r a.filed at_c at_d apart))
 
-  -- where all other lists are empty, one has all
+  -- if all other lists are empty, one has all
   pub log_sole : (j : ℕ) (l : List Batch) → get_elem? lists j ≡ some l → ((i : ℕ) (r : List Batch) → get_elem? lists i ≡ some r → i ≢ j → r ≡ []) → IsListed p places (map sole log) (l ∷ [])
   log_sole j l at others = log_kept sole (l ∷ []) (λ o. refl) (file_sole log lists j l a.filed at others)
 
@@ -203,7 +203,7 @@ found_by_start (x ∷ xs) zero e d has = let h : x.start ≡ e.start = ap (λ (z
 found_by_start (x ∷ xs) (suc m) e d has = let apart : x.start ≢ e.start = λ h. (let z : 0 ≡ suc m = d 0 (suc m) x e refl has h in omega arith) in
     ap (λ (b : Bool). if b then 0 else suc (number_of e.start xs)) (ne_eqb x.start e.start apart) ∙ ap suc (found_by_start xs m e (λ i k f g a b s. (let z : suc i ≡ suc k = d (suc i) (suc k) f g a b s in omega arith)) has)
 
--- where all other views have nothing, one part lists the queue
+-- if all other views have nothing, one part lists the queue
 pub listed_sole : (q : Positions) (parts : List QueueView) (j : ℕ) (v : QueueView) → PartsShow q parts → get_elem? parts j ≡ some v → ((i : ℕ) (u : QueueView) → get_elem? parts i ≡ some u → i ≢ j → (u.runs ≡ []) × (u.takes ≡ [])) → PartsShow q (v ∷ [])
 listed_sole q parts j v l at others = record {
   runs = map sole l.runs;
@@ -212,7 +212,7 @@ listed_sole q parts j v l at others = record {
   takes_are = log_sole q.first (take q.taken q.places) l.takes (map takes_of parts) l.takes_are j v.takes (at_map takes_of parts j v at) (λ d k has ne. let b = at_map_back takes_of parts d k has in sym b.2 ∙ (others d b.0 b.1 ne).1);
 }
 
--- the same lemmas where a table's views have the queue's views in them
+-- these lemmas for a table's views that have the queue's views in them
 module _ {V : Type 0} (part : V → QueueView) (q : Positions) (vs : List V) where
   pub look_in : (j : ℕ) (v w : V) → ViewsShow q (map part vs) → get_elem? vs j ≡ some v → (part w).runs ≡ (part v).runs → (part w).takes ≡ (part v).takes → Grows (part w).queue q → ViewsShow q (map part (set vs j w))
   look_in j v w l at runs takes grown = subst (ViewsShow q) (sym (map-set part vs j w)) (listed_look q (map part vs) j (part v) (part w) l (at_map part vs j v at) runs takes grown)

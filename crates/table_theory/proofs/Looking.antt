@@ -1,4 +1,4 @@
--- What an end did by its steps, and looks one after the other, whatever the object is.
+-- The record of an end by its steps, and looks one after the other, for any object.
 use Rattle.table_theory.proofs.Common.{◌≡◌, List, [], ◌∷◌, ◌++◌, refl, sym, subst}
 use Rattle.std.proofs.lemmas.List.{append-nil}
 use Rattle.table_theory.specs.declared.views.Ledger.{Ledger}

@@ -31,7 +31,7 @@ abbrev pub order_to : {K O : Type 0} {T : Subject O} {first : O} {now : Moment O
 order_to t = map entry_of t.course.course
 
 module _ {K O : Type 0} (T : Subject O) where
-  -- the same order, where the moment is known by another name
+  -- the same order, for a moment that is known by another name
   pub order_at : (first : O) (vs : List (Ledger K O)) (m n : Moment O) → m ≡ n → (t : AreOrdered T first m vs) → (same : AreOrdered T first n vs) × (order_to same ≡ order_to t)
   order_at first vs m n is t = subst (λ (z : Moment O). (same : AreOrdered T first z vs) × (order_to same ≡ order_to t)) is (t, refl)
 
@@ -82,7 +82,7 @@ module _ {K O : Type 0} (T : Subject O) where
     real = all_behind (IsReal T) v.course b.0 (subst (AllByRecursion (IsReal T)) (sym b.1) t.real);
   }
 
-  -- a step adds its entry, where an end that has the whole had seen all steps
+  -- a step adds its entry, if an end that has the whole had seen all steps
   pub order_adds : (first : O) (now : Moment O) (vs : List (Ledger K O)) (j : ℕ) (v : Ledger K O) (own : K) (member : Part) (e : Step O) (t : AreOrdered T first now vs) → get_elem? vs j ≡ some v → (IsWhole v.member.share → order_to t ≡ v.course) → Adds v (e ∷ []) (after v own member (order_to t) e)
   order_adds first now vs j v own member e t at newest = let b : Begins v.course (order_to t) = t.course.seen j v at in record {
     first = refl;

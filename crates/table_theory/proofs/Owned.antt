@@ -140,7 +140,7 @@ module _ {E : Type 0} where
     once = f.once;
   }
 
--- A log of what becomes of each entry: where the lists then have what becomes of theirs, and nothing else, and no two at
+-- A log of what becomes of each entry, if the lists then have what becomes of theirs, and nothing else, and no two at
 -- one place
 pub file_by : {E F : Type 0} (g : Owned E → Owned F) (log : List (Owned E)) (lists : List (List E)) (new : List (List F)) → ListedOnce log lists → ((o : Owned E) → Stands lists o → Stands new (g o)) → ((o : Owned F) → Stands new o → (p : Owned E) × Stands lists p × (g p ≡ o))
     → ((o p : Owned E) → Stands lists o → Stands lists p → (g o).0 ≡ (g p).0 → (g o).1 ≡ (g p).1 → (o.0 ≡ p.0) × (o.1 ≡ p.1)) → ListedOnce (map g log) new

@@ -1,4 +1,4 @@
--- What the calls that split, join and close report, by the steps that they are made of.
+-- The reports of the calls that split, join and close, by the steps that they are made of.
 use Rattle.table_theory.proofs.Common.{◌≡◌, ◌≢◌, ℕ, ◌+◌, ◌-◌, ◌≤◌, Bool, true, false, List, [], ◌++◌, sym, refl, ap, ◌∙◌, subst, arith, if◌then◌else◌, nat_lt, Ledger, Begins, kept, given, Step, Made, CountedUp, CountedDown, TookIn, Tallied, rest_of, newborn, both, Part}
 use Rattle.std.specs.Prelude.{length}
 use Rattle.table_theory.specs.Ledgers.{Divided, IsNewborn, WereOpen}

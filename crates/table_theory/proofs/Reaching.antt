@@ -90,7 +90,7 @@ module _ {K O : Type 0} where
   }
 
 module _ {K O : Type 0} (T : Subject O) where
-  -- the steps since then are real, and lead from what was seen, where the course led to that, to what is seen
+  -- the steps since then are real, and lead from what was seen, if the course led to it, to what is seen
   led_since : (v w : Ledger K O) (es : List (Step O)) → Continues (opened v.first) v.course v.seen → IsHonest T w → (a : Adds v es w) → Continues v.seen a.since w.seen × AllByRecursion (IsReal T) a.since
   led_since v w es x y a = (
     continues_behind (opened v.first) v.seen w.seen v.course a.since x (subst (λ (z : List (Step O)). Continues (opened v.first) z w.seen) a.course_is (subst (λ (z : O). Continues (opened z) w.course w.seen) a.first y.leads)),

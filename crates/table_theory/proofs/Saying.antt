@@ -1,4 +1,4 @@
--- What a real step states of its object, and real steps one after the other.
+-- The facts that a real step states of its object, and real steps one after the other.
 use Rattle.table_theory.proofs.Common.{◌≡◌, ◌⊎◌, inl, inr, ℕ, List, [], ◌∷◌, ◌++◌, get_or, sym, refl, ap, ◌∙◌, subst, AllByRecursion, Moment, Continues, Subject, Step, StepEffect, stays, event, more, fewer, IsReal, Reaches, Passes}
 use Rattle.table_theory.specs.Ledgers.{load}
 use Rattle.table_theory.proofs.Reaching.{continues_one, reaches_on}

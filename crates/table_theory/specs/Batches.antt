@@ -10,7 +10,7 @@ use Rattle.table_theory.specs.Positioned.{fresh, item_of, tail_of}
 abbrev pub run : ℕ → List ℕ → Batch
 run head items = record { start = head; places = map fresh items }
 
--- the entry of a taking of n places
+-- the entry of a taking of n places at the tail
 abbrev pub taking : Positions → ℕ → Batch
 taking q n = record { start = tail_of q; places = take n (drop q.taken q.places) }
 

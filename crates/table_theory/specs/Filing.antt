@@ -23,6 +23,6 @@ pub record ListedOnce {E : Type 0} (log : List (Owned E)) (lists : List (List E)
 abbrev pub moved : {E : Type 0} → ℕ → ℕ → ℕ → Owned E → Owned E
 moved c d n o = if o.0 == d then (c, n + o.1, o.2) else o
 
--- the entry, with the owner 0
+-- the entry, with its owner changed to 0
 abbrev pub sole : {E : Type 0} → Owned E → Owned E
 sole o = (0, o.1, o.2)

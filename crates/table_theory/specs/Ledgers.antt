@@ -64,7 +64,7 @@ pub data StepEffect {O : Type 0} (subject : Subject O) (m n : Moment O) : Type 0
   more : n ≡ record m { ends = m.ends + 1 } → StepEffect subject m n
   fewer : n ≡ record m { ends = m.ends - 1 } → 0 < m.ends → StepEffect subject m n
 
--- The step found a lawful object and the number of ends, both in the words, and its number in its word; it had one effect
+-- The step found a lawful object; words that show it have the number of ends and the step's number; it had one effect
 pub record IsReal {O : Type 0} (subject : Subject O) (e : Step O) : Type 0 where
   pub lawful : subject.IsLawful e.then.object
   pub words : List ℕ
@@ -158,7 +158,7 @@ emptied nothing v = record v {
   steps = [];
 }
 
--- the end added these entries, it has now done `own`, and what it is among the ends is unchanged
+-- the end added these entries, its record is now `own`, and its part among the ends is unchanged
 pub record Made {K O : Type 0} (v : Ledger K O) (entries : List (Step O)) (own : K) (w : Ledger K O) : Type 0 where
   pub adds : Adds v entries w
   pub did : w.own ≡ own
@@ -228,7 +228,7 @@ pub record Tallied {K O : Type 0} (word : ℕ) (v : Ledger K O) (number : ℕ) (
   pub count : IsCount v.member.share number
   pub still : IsWhole v.member.share → w.seen ≡ v.seen
 
--- other ends exist: the end found their number and its own as one number, and it doesn't have the whole
+-- the end found the number of ends, itself and `others`; other ends exist, and this end doesn't have the whole
 pub record WereOpen {K O : Type 0} (word : ℕ) (v : Ledger K O) (others : ℕ) (w : Ledger K O) : Type 0 where
   pub tallied : Tallied word v (others + 1) w
   pub some_other : 0 < others

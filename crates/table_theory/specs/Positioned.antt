@@ -59,7 +59,7 @@ with_write q i n = record q { places = slice_set q.places i (record { item = ite
 abbrev pub with_take : Positions → ℕ → Positions
 with_take q n = record q { taken = q.taken + n }
 
--- the queue that was shut
+-- the queue after a shut
 abbrev pub with_shut : Positions → Positions
 with_shut q = record q { shut = true }
 

@@ -1,9 +1,9 @@
 //! The look at the number of ends before a close, whatever the table is.
 //!
-// An end that found no other is a `Last`, which can only close the table: it can't be let go, copied or made
-// elsewhere. So a close that succeeds makes one look at the table, and none after it. No look comes before it: an
-// end that isn't alone is returned with this one look in its list, and no other load of the number of ends could show
-// sooner that the end is alone.
+//! An end that found no other is a `Last`, which can only close the table: it can't be let go, copied or made
+//! elsewhere. So a close that succeeds makes one look at the table, and none after it. No look comes before it: an
+//! end that isn't alone is returned with this one look in its list, and no other load of the number of ends could show
+//! sooner that the end is alone.
 ghost use Rattle.std.specs.Prelude.{◌≡◌, ◌≢◌, ◌<◌, ℕ, IfOk, IfErr};
 ghost use Rattle.std.specs.Mem.Slots.{slots_items, slots_len, IsFull};
 ghost use mathlib.Core.Option.{none};
@@ -21,7 +21,7 @@ const ALONE: u64 = 1;
 /// The rule of a table that counts its ends in one of its words. S is what a slot holds, V what an end knows, and Key
 /// what the table is made with.
 pub trait CountRule<S, V, Key>: TableRule<S, V, Key> {
-    // The views of the end whose seat has this number, by its look: the view before, the number of ends, the view after.
+    // The views of the end whose seat has this number, by its look: the one before, the number of ends, the one after.
     ghost tallied: { ℕ → V → ℕ → V → Type 0 };
 }
 

@@ -1,4 +1,4 @@
-// A queue of a table by its positions, and the knowledge of one end of it. Only proofs use these types.
+//! A queue of a table by its positions, and the knowledge of one end of it. Only proofs use these types.
 //!
 //! A position is a place of the queue from its beginning on, so no position is ever used twice. The words of a table
 //! have positions modulo their number of places; `laws` says how both fit together.

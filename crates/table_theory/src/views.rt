@@ -1,4 +1,4 @@
-// The data that every end of any object has: the steps that it made, and its place among the other ends.
+//! The data that every end of any object has: the steps that it made, and its place among the other ends.
 use std::collections::LinkedList;
 use thiserror::Error;
 

@@ -1,4 +1,4 @@
-// The end that a handle of a chain holds.
+//! The end that a handle of a chain holds.
 ghost use Rattle.std.specs.Prelude.{◌≡◌, true};
 ghost use Rattle.std.specs.Option.{MatchOption};
 ghost use Rattle.std.specs.Arc.{arc_value};

@@ -1,4 +1,4 @@
-// The hand that a handle holds.
+//! The hand that a handle holds.
 ghost use Rattle.std.specs.Prelude.{◌≡◌, ◌≢◌, ◌≤◌, None, Some, true};
 ghost use Rattle.std.specs.Option.{MatchOption};
 ghost use Rattle.std.specs.Arc.{arc_value};

@@ -1,4 +1,4 @@
-// The state of a table when it was closed, as C has it.
+//! The state of a table when it was closed, as C has it.
 ghost use Rattle.std.specs.Prelude.{◌≡◌, map};
 ghost use Rattle.bindings.specs.HandClosing.{place_told, IsToldPlaces};
 

@@ -1,4 +1,4 @@
-// The ends of a line that handles hold.
+//! The ends of a line that handles hold.
 use spsc_line::{LineIn, LineOut};
 
 /// The end of a line that pushes. `mark` is the number that the line was given.

@@ -1,4 +1,4 @@
-// The end that a handle of a queue holds.
+//! The end that a handle of a queue holds.
 ghost use Rattle.std.specs.Prelude.{◌≡◌, ◌≤◌, length, MatchBool};
 ghost use Rattle.std.specs.Option.{MatchOption};
 ghost use Rattle.bindings.specs.QueueHeld.{AtSize, AtSizes, IsSize, HaveOneMark, AreOfOneQueue, IsNewHeld};

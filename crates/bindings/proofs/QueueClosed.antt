@@ -1,4 +1,4 @@
--- The items left are the items put after those taken.
+-- The places left are those put after the places taken, each with its item.
 use Rattle.std.proofs.Common.{◌≡◌, ℕ, List, [], ◌∷◌, map, take, refl, sym, ap, subst, ◌∙◌}
 use Rattle.std.specs.Prelude.{Option, Some}
 use Rattle.table_theory.specs.Listing.{AllRaised}

@@ -30,7 +30,7 @@ of_kind kind (Some p) = kind p
 abbrev pub end_in : {X : Type 0} → (Payload → Option X) → Handle → Option X
 end_in kind h = of_kind kind (held_by h)
 
--- the end of a batch queue, of a claim queue, of a chain, of a table of thread elements and of meters that is held
+-- the end of a batch queue that is held; below, of a claim queue, of a chain, of a table of thread elements, of meters
 abbrev pub batch_of : Handle → Option HeldBatch
 batch_of = end_in batch_in
 
@@ -46,7 +46,7 @@ hand_of = end_in hand_in
 abbrev pub seat_of : Handle → Option HeldSeat
 seat_of = end_in seat_in
 
--- the end of a line that pushes, and the one that pops
+-- the end of a line that pushes and is held; below, the one that pops
 abbrev pub line_in_of : Handle → Option HeldIn
 line_in_of = end_in line_in_in
 

@@ -25,8 +25,8 @@ FitsAny world inbox = Unit {0}
 abbrev pub no_note : Inbox
 no_note = record { note = 0 }
 
--- The end is one of this chain, which began without a note. If the end runs notes, it holds the inbox, with the last
--- of the notes taken, or 0 if none was; else the end holds nothing
+-- The end is one of this chain, which began without a note. If the end runs notes, it holds the inbox with the last of
+-- the notes taken, or 0 if none was. Else the end holds nothing
 abbrev pub IsHeldEnd : {g : Ghosts Inbox (Unit {0})} → ProcChain Inbox (Unit {0}) → ChainEnd Inbox (Unit {0}) g → Type 0
 IsHeldEnd chain end = (end.seat.table_id ≡ chain.table.shared.table_id) × (opening_of chain ≡ no_note)
     × (turn_of end ≡ true

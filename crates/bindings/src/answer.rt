@@ -6,7 +6,7 @@ ghost use Rattle.bindings.specs.Told.{IsCodeAlone};
 
 use claim_queue::{ClaimRefusal, TakeRefusal};
 
-/// The call did what it is for.
+/// The call succeeded.
 pub const DONE: i32 = 0;
 
 pub const NO_ITEMS: i32 = 1;

@@ -42,7 +42,7 @@ pub trait End: Kind {
         requires { MaySplit wish self.old }
         ensures { MatchOption result (self.new ≡ self.old) (Divided wish self.old self.new) };
 
-    /// Whether the marks and the parts say that both are ends of one object.
+    /// Whether, by their marks and parts, both can be ends of one object.
     fn may_join(&self, other: &Self) -> bool
         ensures { MatchBool result (MayJoin share HaveOneMark self.now other.now)
             (MayNotJoin share HaveOneMark self.now other.now) };

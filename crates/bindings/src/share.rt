@@ -5,7 +5,7 @@ ghost use Rattle.std.specs.Option.{MatchOption};
 use crate::answer::NO_SHARE;
 use table_theory::shares::MOST_GIVEN;
 
-/// So many parts of an object, of u64::MAX. `mark` is the number that the object was given.
+/// `parts` of the u64::MAX parts of an object. `mark` is the number that the object was given.
 #[derive(Clone, Copy, Drop)]
 pub struct Share {
     pub parts: u64,

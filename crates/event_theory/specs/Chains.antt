@@ -81,7 +81,7 @@ abbrev pub is_more : Gate → Bool
 is_more More = true
 is_more gate = false
 
--- the runner leaves, and the gate becomes Idle; refused if there is a notify that the runner hasn't seen, or if the
+-- The runner leaves, and the gate becomes Idle. Refused if there is a notify that the runner hasn't seen, or if the
 -- first note left is raised and the call of its run owes no notify
 abbrev pub leave : ℕ → Chain → Result Chain Refusal
 leave call c =

@@ -1,4 +1,4 @@
--- The thread elements, where each of them is, and their events.
+-- The thread elements, the place of each of them, and their events.
 use Rattle.std.specs.Prelude.{ℕ, ◌+◌, ◌==◌, nat_le, Bool, true, false, not, ◌&&◌, ◌||◌, if◌then◌else◌, List, []}
 use Rattle.std.specs.Prelude.{◌∷◌, ◌++◌, length, map, take, remove, slice_set, position, Option, Some, None}
 use Rattle.std.specs.Prelude.{option_map, Result, Ok, Err}

@@ -27,14 +27,14 @@ abbrev pub is_idle : Gate → Bool
 is_idle Idle = true
 is_idle gate = false
 
--- the chain's notes are a lawful queue; there is a runner exactly if the gate isn't Idle; and if the gate is Idle and
--- the first note left is raised, the call of its run owes a notify
+-- The chain's notes are a lawful queue. There is a runner exactly if the gate isn't Idle. If the gate is Idle and the
+-- first note left is raised, the call of its run owes a notify
 pub record IsLawfulChain (c : Chain) : Type 0 where
   pub notes : IsLawfulQueue c.notes
   pub run : is_some c.runner ≡ not (is_idle c.gate)
   pub promised : (is_idle c.gate && is_forgotten c) ≡ false
 
--- the element queues are lawful; each element appears exactly once, and nothing else does; an element in its stop cell
+-- The element queues are lawful. Each element appears exactly once, and nothing else does. An element in its stop cell
 -- has its stop bit set
 pub record IsLawfulElements (s : Elements) : Type 0 where
   pub rings : All IsLawfulQueue s.rings

@@ -128,7 +128,7 @@ pub enum Event {
         call: Call,
         queue: QueueNumber,
     },
-    /// Claims a place in a wait queue for an element that the call holds, if its number of notifies is the ticket.
+    /// Claims a place in a wait queue for an element that the call holds, if the ticket is the queue's notify count.
     WaitAt {
         call: Call,
         wait: WaitNumber,

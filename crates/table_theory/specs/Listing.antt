@@ -38,7 +38,7 @@ pub record IsListed (first : ℕ) (places : List Cell) (log : List (Owned Batch)
   pub adjacent : Adjacent first log
   pub filed : ListedOnce log lists
 
--- there is a log of all runs and one of all takings, each side by side from the first position; each entry is listed
+-- There is a log of all runs and one of all takings, each side by side from the first position. Each entry is listed
 -- once, by its end
 pub record PartsShow (q : Positions) (parts : List QueueView) : Type 0 where
   pub runs : List (Owned Batch)

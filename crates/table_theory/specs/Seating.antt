@@ -1,4 +1,4 @@
--- Which end a seat is, and what a caller asks of it.
+-- The end that a seat is, and the conditions on it.
 use Rattle.std.specs.Prelude.{◌≡◌, ◌≤◌}
 use Rattle.atomic_table.specs.Seated.{TableId}
 use Rattle.atomic_table.specs.declared.shared.Seat.{Seat}

@@ -2,7 +2,7 @@
 //!
 //! An end that found no other is a `Last`, which can only close the table: it can't be let go, copied or made
 //! elsewhere. So a close that succeeds makes one look at the table, and none after it. No look comes before it: an
-//! end that isn't alone is returned with this one look in its list, and no other load of the number of ends could show
+//! end that isn't alone is returned with this one look in its list. No other load of the number of ends could show
 //! sooner that the end is alone.
 ghost use Rattle.std.specs.Prelude.{◌≡◌, ◌≢◌, ◌<◌, ℕ, IfOk, IfErr};
 ghost use Rattle.std.specs.Mem.Slots.{slots_items, slots_len, IsFull};

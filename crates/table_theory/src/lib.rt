@@ -2,7 +2,7 @@
 //! object lists of them, and the ends themselves.
 //!
 //! A table is words that change in single atomic steps. The knowledge of its ends is in views, which exist only in
-//! proofs: each end lists the runs that it claimed, what it took, and every step that it made with what it found there.
+//! proofs. Each end lists the runs that it claimed, what it took, and every step that it made with what it found there.
 //! Byte queues, chains and element queues are queues by their positions; each of the tables has ends that are made,
 //! split, joined and counted.
 #![tactic(auto)]

@@ -24,9 +24,9 @@ pub struct Moment<O> {
     pub object: O,
 }
 
-/// An end among the ends of its object: how many of the ends counted it is, its share, and how often it was split and
-/// took in another end. Each time that an end is split off or taken in, the first word is loaded once, and no list has
-/// this load: `unlisted` counts these loads. Only proofs use it.
+/// An end among the ends of its object: how many of the counted ends it is, its share, and how often it was split and
+/// took in another end. Each time that an end is split off or taken in, the first word is loaded once. No list has this
+/// load: `unlisted` counts these loads. Only proofs use it.
 pub struct Part {
     pub ends: u64,
     pub share: u64,
@@ -36,8 +36,8 @@ pub struct Part {
 }
 
 /// The knowledge of an end: the object as it was made, what the end did, the object as its last step left it, its part
-/// among the ends, every step that it made, and every step that any end had made up to its own last one. Between taking
-/// in another end and its next step, it also has the steps seen by the one of both that saw less, and the object as it
+/// among the ends, its own steps, and all ends' steps up to its last one. Between taking in another end and the next
+/// step, `joined` has the steps that were seen by the one of both that saw less, and `joined_first` is the object as it
 /// was made, as the other end had it. Only proofs use it.
 pub struct Ledger<K, O> {
     pub first: O,

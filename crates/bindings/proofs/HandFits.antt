@@ -1,4 +1,4 @@
--- A hand keeps its share, and the numbers that a refusal tells have 32 bits.
+-- A hand keeps its share, and the numbers in a refusal have 32 bits.
 use Rattle.std.proofs.Common.{◌≡◌, ◌<◌, ◌+◌, ◌∙◌, ℕ, Bool, Option, Result, Ok, Err, get_or, sym, ap, arith}
 use Rattle.std.proofs.Math.Bridge.{le_prop}
 use Rattle.std.proofs.Math.Logic.{∥∥₁_elim}

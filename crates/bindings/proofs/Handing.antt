@@ -10,12 +10,12 @@ pub last_on : (first : ℕ) (notes : List ℕ) (note : ℕ) → last_or first (n
 last_on first [] note = refl
 last_on first (x ∷ xs) note = last_on x xs note
 
--- where none of the limit was used, no note was run
+-- if none of the limit was used, no note was run
 pub none_run : (uses : List Use) → length uses < 1 → length (notes_run (uses ++ [])) ≡ 0
 none_run [] h = refl
 none_run (u ∷ us) h = absurd (suc-ne-zero (length us) (lt-one h))
 
--- where one of the limit was used and a note was run, that one was it
+-- if one of the limit was used and a note was run, that note was the only one
 pub one_run : (uses : List Use) → length uses ≡ 1 → (length (notes_run (uses ++ [])) ≡ 0 → ⊥) → (note : ℕ) × (notes_run (uses ++ []) ≡ note ∷ [])
 one_run [] h ran = absurd (suc-ne-zero 0 (sym h))
 one_run (took note tail m n o ∷ []) h ran = (note, refl)

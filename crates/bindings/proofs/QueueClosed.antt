@@ -1,4 +1,4 @@
--- What was left is what was put behind what was taken, each with its item.
+-- The places left are those put after the places taken, each with its item.
 use Rattle.std.proofs.Common.{◌≡◌, ℕ, List, [], ◌∷◌, map, take, refl, sym, ap, subst, ◌∙◌}
 use Rattle.std.specs.Prelude.{Option, Some}
 use Rattle.table_theory.specs.Listing.{AllRaised}

@@ -1,4 +1,4 @@
--- The slot that a refused setting tells.
+-- The slot in a refused setting.
 use Rattle.std.proofs.Common.{◌<◌, arith}
 use Rattle.meters.specs.Own.{SeatView}
 use Rattle.meters.specs.declared.alarms.SetRefusal.{SetRefusal}

@@ -1,4 +1,4 @@
--- What C is told follows from what the library answered.
+-- The report to C follows from the library's answer.
 use Rattle.std.proofs.Common.{◌≡◌, ◌∙◌, ◌⊎◌, inl, inr, refl, sym, ap, subst, Bool, true, false, ℤ}
 use Rattle.std.specs.Option.{MatchOption}
 use Rattle.std.proofs.lemmas.Int.{to_z-of_z}
@@ -33,7 +33,7 @@ some_is e = ap is_some e
 pub no_answer : false ≡ true → ⊥
 no_answer e = subst IsTrueSome (sym e) tt
 
--- a code is told as it is
+-- a code is reported as it is
 pub as_told : (F : ℤ → Type 0) (z : ℤ) → SFits w32 z → F z → F (to_z w32 (of_z w32 z))
 as_told F z fits h = subst F (sym (to_z-of_z w32 z fits)) h
 
@@ -41,7 +41,7 @@ as_told F z fits h = subst F (sym (to_z-of_z w32 z fits)) h
 pub unboxed : {X : Type 0} (of : Payload → Option X) (h : Payload) {z r : X} {p q : Payload} → of h ≡ Some z → Some h ≡ Some p → q ≡ p → of q ≡ Some r → r ≡ z
 unboxed of h {r = r} is b e d = ap (the r) (sym d ∙ ap of e ∙ ap of (sym (ap (the h) b)) ∙ is)
 
--- the library's answer, and what C is told of it
+-- the library's answer, and its report to C
 pub answered : {A X : Type 0} {Did : A → X → X → Type 0} {Tells : A → Type 0} {x : X} (y : X) (answer : A) → Did answer x y → Tells answer
     → Answered Did Tells x (Some y)
 answered y answer did tells = record { y = y; full = refl; answer = answer; answered = did; tells = tells }

@@ -1,4 +1,4 @@
--- What the calls for C do to the handles of batch queues.
+-- The effects of the calls for C on the handles of batch queues.
 use Rattle.std.specs.Prelude.{◌≡◌, ◌⊎◌, ◌≤◌, ◌<◌, ℕ, ℤ, pos, List, length, Result, Ok, Err}
 use Rattle.std.specs.declared.option.Option.TheVariants.{Some}
 use Rattle.std.specs.declared.option.Option.{Option}
@@ -16,7 +16,7 @@ use Rattle.bindings.specs.Codes.{Done, ShortBuffer}
 use Rattle.bindings.specs.BatchHeld.{places_of}
 use Rattle.bindings.specs.BatchClosing.{Ended}
 
--- the code of why nothing was put
+-- the code of a refused put
 abbrev pub code_of_put : PutRefusal → ℤ
 code_of_put not_put.NoItems = pos 1
 code_of_put not_put.TooLong = pos 2
@@ -25,48 +25,48 @@ code_of_put not_put.Spent = pos 4
 code_of_put (not_put.Full head free) = pos 5
 code_of_put (not_put.Lost head) = pos 6
 
--- the positions that a refused put tells; where it tells none, those there stay
+-- the positions that a refused put reports; if the refusal has none, the old positions remain
 abbrev pub positions_of_put : PutRefusal → SynthPositions → SynthPositions
 positions_of_put (not_put.Full head free) old = record { head = head; tail = free }
 positions_of_put (not_put.Lost head) old = record { head = head; tail = 0 }
 positions_of_put _ old = old
 
--- what C is told of a put: the position of its first item, or what the refusal tells
+-- the report of a put: Done and the position of its first item, or the code and the positions of the refusal
 abbrev pub IsToldPut : Result ℕ PutRefusal → SynthPositions → SynthPositions → ℤ → Type 0
 IsToldPut (Ok start) old new code = (code ≡ Done) × (new ≡ record { head = start; tail = 0 })
 IsToldPut (Err r) old new code = (code ≡ code_of_put r) × (new ≡ positions_of_put r old)
 
--- what C is told of a put of the longest front: the same, and how many items it has
+-- the report of `try_put_some`: as for a put, and the number of items put, which a refusal leaves unchanged
 abbrev pub IsToldPutSome : Result (ℕ × ℕ) PutRefusal → ℕ → ℕ → SynthPositions → SynthPositions → ℤ → Type 0
 IsToldPutSome (Ok r) old_count count old new code = IsToldPut (Ok r.0) old new code × (count ≡ r.1)
 IsToldPutSome (Err r) old_count count old new code = IsToldPut (Err r) old new code × (count ≡ old_count)
 
--- the code of why nothing was taken
+-- the code of a refused taking
 abbrev pub code_of_batch : TakeRefusal → ℤ
 code_of_batch not_taken.Closed = pos 3
 code_of_batch (not_taken.Lost tail) = pos 6
 code_of_batch (not_taken.Empty at) = pos 7
 code_of_batch (not_taken.ShortBuffer at count) = ShortBuffer
 
--- the position that a refused taking tells; where it tells none, those there stay
+-- the position that a refused taking reports, as the tail; if the refusal has none, the old positions remain
 abbrev pub positions_of_take : TakeRefusal → SynthPositions → SynthPositions
 positions_of_take not_taken.Closed old = old
 positions_of_take (not_taken.Lost tail) old = record { head = 0; tail = tail }
 positions_of_take (not_taken.Empty at) old = record { head = 0; tail = at }
 positions_of_take (not_taken.ShortBuffer at count) old = record { head = 0; tail = at }
 
--- how many items the batch at the tail has, where the buffer is too short for it
+-- the number of items of the batch at the tail, if the buffer is too short for it; else the old count
 abbrev pub count_of_take : TakeRefusal → ℕ → ℕ
 count_of_take (not_taken.ShortBuffer at count) old = count
 count_of_take _ old = old
 
--- what C is told of a taking: the number of its items, or what the refusal tells
+-- the report of a taking: Done and the number of its items, or the code, the count and the positions of the refusal
 abbrev pub IsToldTake : Result ℕ TakeRefusal → ℕ → ℕ → SynthPositions → SynthPositions → ℤ → Type 0
 IsToldTake (Ok n) old_count count old new code = (code ≡ Done) × (count ≡ n) × (new ≡ old)
 IsToldTake (Err r) old_count count old new code =
     (code ≡ code_of_batch r) × (count ≡ count_of_take r old_count) × (new ≡ positions_of_take r old)
 
--- the buffer was too short, and nothing happened; or the queue was closed, or was not
+-- the buffer has fewer places than the queue, and nothing happened; or the outcome of the close is reported
 abbrev pub WasClosed : HeldBatch → List ℕ → List ℕ → Option Payload → SynthBatchClosed → SynthBatchClosed → ℤ → Type 0
 WasClosed x old_items items new old told code =
     ((code ≡ ShortBuffer) × (length old_items < places_of x) × (new ≡ Some (Batch x)) × (items ≡ old_items)

@@ -1,4 +1,4 @@
--- What the calls of a batch queue do to an end of it. Each says what the library's call says.
+-- The effects of the calls of a batch queue on an end of it. Each definition states what the library's call states.
 use Rattle.std.specs.Prelude.{◌≡◌, ◌⊎◌, ◌≤◌, ◌<◌, ◌+◌, ◌++◌, ℕ}
 use Rattle.std.specs.Prelude.{Bool, true, take, List, length, Result, MatchResult, IfErr}
 use Rattle.std.specs.Arc.{arc_value}
@@ -21,7 +21,7 @@ use Rattle.batch_queue.specs.Takings.{FilledBuffer, TookBatches, RefusedTake}
 use Rattle.bindings.specs.Shares.{AllOf, WasDivided, WasJoined}
 use Rattle.bindings.specs.declared.batch.held.HeldBatch.{HeldBatch}
 
--- a number of places that a batch queue can have
+-- a number of places that a batch queue can have: 1 to MOST_PLACES, and a power of two
 abbrev pub IsCapacity : ℕ → Type 0
 IsCapacity places = (0 < places) × (places ≤ MOST_PLACES) × IsPowerOfTwo places
 
@@ -33,7 +33,7 @@ places_of x = room_of (arc_value x.queue)
 abbrev pub IsSameHeld : HeldBatch → HeldBatch → Type 0
 IsSameHeld x y = (arc_value y.queue ≡ arc_value x.queue) × IsSameEnd x.end y.end
 
--- the same, with its share as before
+-- the same end of the same queue, with an unchanged share
 abbrev pub IsKept : HeldBatch → HeldBatch → Type 0
 IsKept x y = IsSameHeld x y × (y.share ≡ x.share)
 
@@ -41,16 +41,16 @@ IsKept x y = IsSameHeld x y × (y.share ≡ x.share)
 abbrev pub AreOfOneQueue : HeldBatch → HeldBatch → Type 0
 AreOfOneQueue x y = batches.AreOfOneQueue x.end y.end
 
--- the only end of an empty queue of so many places
+-- the only end of an empty queue with this number of places and this mark
 abbrev pub IsNewBatch : ℕ → ℕ → HeldBatch → Type 0
 IsNewBatch places mark x = (places_of x ≡ places) × (view_of x.end ≡ newcomer (record { room = places }))
     × AllOf mark x.share
 
--- what an end put and took, and how often it parted a batch, is as it was
+-- the end put and took nothing, parted no batch and kept its share
 abbrev pub DidNothing : HeldBatch → HeldBatch → Type 0
 DidNothing x y = SameLines (view_of x.end) (view_of y.end)
 
--- `split` gave this end, of the same queue and with its parts of the share
+-- `split` made `born`, an end of the same queue, with a part of the share of x
 pub record Divided (x y born : HeldBatch) : Type 0 where
   pub same : IsSameHeld x y
   pub one : arc_value born.queue ≡ arc_value x.queue
@@ -61,7 +61,7 @@ pub record Divided (x y born : HeldBatch) : Type 0 where
   pub result : endings.IsNewborn (view_of x.end) (view_of y.end) (view_of born.end)
   pub trace : endings.Divided (view_of x.end) (view_of y.end)
 
--- `join` took the other end in, with its parts
+-- `join` took in the end `other`, with its parts of the share
 pub record Joined (x y other : HeldBatch) : Type 0 where
   pub same : IsSameHeld x y
   pub share : WasJoined x.share y.share other.share
@@ -70,11 +70,11 @@ pub record Joined (x y other : HeldBatch) : Type 0 where
       × (times_parted (view_of y.end) ≡ times_parted (view_of x.end) + times_parted (view_of other.end))
   pub trace : endings.TookIn (view_of x.end) (view_of other.end) (view_of y.end)
 
--- the end had seen the queue shut
+-- the end has seen that the queue is shut
 abbrev pub SawShut : HeldBatch → Type 0
 SawShut x = (view_of x.end).seen.object.shut ≡ true
 
--- the queue was shut, says the answer
+-- the answer is the refusal `Closed`
 abbrev pub SaysShut : {X : Type 0} → Result X PutRefusal → Type 0
 SaysShut answer = MatchResult answer (λ start. ⊥) (λ r. r ≡ not_put.Closed)
 

@@ -1,4 +1,4 @@
--- A look at a batch queue, as C has it.
+-- A look at a batch queue, as reported to C.
 use Rattle.std.specs.Prelude.{◌≤◌}
 use Rattle.batch_queue.specs.declared.look.QueueLook.{QueueLook}
 use Rattle.batch_queue.specs.Handles.{view_of}
@@ -7,7 +7,7 @@ use Rattle.bindings.specs.declared.batch.held.HeldBatch.{HeldBatch}
 use Rattle.bindings.specs.declared.batch.looking.SynthBatchLook.{SynthBatchLook}
 use Rattle.bindings.specs.BatchHeld.{IsKept, DidNothing, places_of}
 
--- what the library's call found
+-- the library's own record of the look
 abbrev pub found_by : SynthBatchLook → QueueLook
 found_by a = record { tail = a.tail; published = a.published; head = a.head; shut = a.shut }
 

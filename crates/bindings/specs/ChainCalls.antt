@@ -1,4 +1,4 @@
--- What the calls for C do to the handles of a chain. A handle has None where it is empty.
+-- The effects of the calls for C on the handles of chains. An empty handle holds None.
 use Rattle.std.specs.Prelude.{◌≡◌, ◌⊎◌, ℕ, ℤ, true, false, Result, Ok, Err}
 use Rattle.std.specs.declared.option.Option.{Option}
 use Rattle.std.specs.declared.option.Option.TheVariants.{None, Some}
@@ -20,34 +20,34 @@ use Rattle.bindings.specs.declared.chain.held.Pulled.TheVariants as pulled
 use Rattle.bindings.specs.declared.payload.Payload.{Payload}
 use Rattle.bindings.specs.declared.payload.Payload.TheVariants.{Chain}
 
--- what C is told of a try to chain a note
+-- the report of a try to chain a note: Run, Left, or the code and the positions of the refusal
 abbrev pub IsToldNoted : Result Noted ChainRefusal → SynthAnswer → Type 0
 IsToldNoted (Ok noted.Run) told = IsCodeAlone Run told
 IsToldNoted (Ok noted.Left) told = IsCodeAlone Left told
 IsToldNoted (Err r) told = (told.code ≡ code_of_chain r) × (told.head ≡ head_of_chain r) × (told.tail ≡ tail_of_chain r)
 
--- C is told what the library's `try_chain` answered
+-- the library's `try_chain` was called, and its answer is reported
 abbrev pub ChainTold : HeldChain → ℕ → Option HeldChain → SynthAnswer → Type 0
 ChainTold x note new told = Answered (WasChained note) (λ answer. IsToldNoted answer told) x new
 
--- what C is told of a note that was pulled, and where it finds the note
+-- the report of a pull: Note and the note, or Again or Done and the old note
 abbrev pub IsToldPulled : Pulled → ℕ → ℕ → ℤ → Type 0
 IsToldPulled (pulled.Note note) old new code = (code ≡ Note) × (new ≡ note)
 IsToldPulled pulled.Again old new code = (code ≡ Again) × (new ≡ old)
 IsToldPulled pulled.Done old new code = (code ≡ Done) × (new ≡ old)
 
--- C is told what an end that runs notes got; one that runs none is as it was
+-- an end that runs notes pulled one, and the answer is reported; an end that runs none is unchanged
 pub data PullTold (x : HeldChain) (old_note note : ℕ) (new : Option HeldChain) (code : ℤ) : Type 0 where
   runs_none : has_turn x ≡ false → code ≡ NotRunning → note ≡ old_note → new ≡ Some x
       → PullTold x old_note note new code
   runs_notes : has_turn x ≡ true → (y : HeldChain) (answer : Pulled) → new ≡ Some y → WasPulled answer x y
       → IsToldPulled answer old_note note code → PullTold x old_note note new code
 
--- what C is told of a chain that was closed
+-- the report of a closed chain: how many notes were put, and how many were run
 abbrev pub IsToldClosed : ChainClosed Inbox → SynthChained → Type 0
 IsToldClosed c told = (told.put ≡ c.put) × (told.run ≡ c.taken)
 
--- C is told what became of the chain; one whose end runs notes is as it was
+-- if the end runs notes, the chain stays open and the end is unchanged; else the outcome of the close is reported
 pub data WasClosed (x : HeldChain) (new : Option Payload) (old told : SynthChained) (code : ℤ) : Type 0 where
   runs_notes : has_turn x ≡ true → code ≡ Running → told ≡ old → new ≡ Some (Chain x) → WasClosed x new old told code
   runs_none : has_turn x ≡ false → WasEnded Chain (λ outcome. Ended outcome x) IsToldClosed new old told code

@@ -1,4 +1,4 @@
--- What the calls of a chain do to an end of it. Each says what the library's call says.
+-- The effects of the calls of a chain on an end of it. Each definition states what the library's call states.
 use Rattle.std.specs.Prelude.{◌≡◌, ◌⊎◌, ◌≤◌, ◌<◌, ◌+◌, ℕ, Bool, true, false, [], ◌∷◌, Result, Ok, Err}
 use Rattle.std.specs.Arc.{arc_value}
 use Rattle.table_theory.specs.Sharing.{the_whole}
@@ -33,7 +33,7 @@ has_turn x = chains.turn_of x.end
 abbrev pub IsSameHeld : HeldChain → HeldChain → Type 0
 IsSameHeld x y = (arc_value y.chain ≡ arc_value x.chain) × IsSameEnd x.end y.end
 
--- the same, with its share as before
+-- the same end of the same chain, with an unchanged share
 abbrev pub IsKept : HeldChain → HeldChain → Type 0
 IsKept x y = IsSameHeld x y × (y.share ≡ x.share)
 
@@ -41,12 +41,12 @@ IsKept x y = IsSameHeld x y × (y.share ≡ x.share)
 abbrev pub AreOfOneChain : HeldChain → HeldChain → Type 0
 AreOfOneChain x y = y.end.seat.table_id ≡ x.end.seat.table_id
 
--- the only end of a new chain with this first position, which runs no notes
+-- the only end of a new chain with this first position and this mark; the end runs no notes
 abbrev pub IsNewChain : ℕ → ℕ → HeldChain → Type 0
 IsNewChain first mark x = (chains.first_of (arc_value x.chain) ≡ first) × (view_of x.end ≡ view_from first)
     × (has_turn x ≡ false) × AllOf mark x.share
 
--- `split` gave this end, of the same chain and with its parts of the share, which runs no notes
+-- `split` made `born`, an end of the same chain, with a part of the share of x; `born` runs no notes
 abbrev pub Divided : HeldChain → HeldChain → HeldChain → Type 0
 Divided x y born = IsSameHeld x y × (has_turn y ≡ has_turn x) × (has_turn born ≡ false)
     × (arc_value born.chain ≡ arc_value x.chain)
@@ -54,13 +54,13 @@ Divided x y born = IsSameHeld x y × (has_turn y ≡ has_turn x) × (has_turn bo
     × endings.Divided (view_of x.end) (view_of y.end)
     × endings.IsNewborn (view_of x.end) (view_of y.end) (view_of born.end)
 
--- `join` took the other end in, with its parts, and what it had to run
+-- `join` joined the two ends: `other` took x in if it ran notes, else x took `other` in; y has the parts of both
 abbrev pub Joined : HeldChain → HeldChain → HeldChain → Type 0
 Joined x y other = (arc_value y.chain ≡ arc_value x.chain)
     × endings.Joined (has_turn other) (me_of x.end) (me_of other.end) (me_of y.end)
     × WasJoined x.share y.share other.share
 
--- `try_chain` gave this answer: the end runs notes from now on, or the note was left to the one that does
+-- `try_chain` gave this answer: this end now runs notes, or the note was left to the end that does, or it was refused
 abbrev pub WasChained : ℕ → Result Noted ChainRefusal → HeldChain → HeldChain → Type 0
 WasChained note (Ok noted.Run) x y = IsKept x y × (has_turn x ≡ false) × (has_turn y ≡ true)
     × PutNote note (view_of x.end) (view_of y.end)
@@ -70,8 +70,8 @@ WasChained note (Ok noted.Left) x y = IsKept x y × (has_turn y ≡ has_turn x)
 WasChained note (Err refusal) x y = IsKept x y × (has_turn y ≡ has_turn x)
     × SameNotes (view_of x.end) (view_of y.end) × NotChained (view_of x.end) refusal (view_of y.end)
 
--- An end that runs notes was given the next one, which it took alone; or none was found, and it goes on; or none was
--- left, and it runs none from now on
+-- An end that runs notes pulled the next note, and only that one. Or no note was found, and the end still runs notes.
+-- Or no note was left, and the end runs none from now on
 abbrev pub WasPulled : Pulled → HeldChain → HeldChain → Type 0
 WasPulled (pulled.Note note) x y = IsKept x y × (has_turn y ≡ true)
     × HasServed (view_of x.end) (note ∷ []) (view_of y.end) × KeptNow (me_of x.end) 1 (served.More 1) (me_of y.end)
@@ -80,7 +80,7 @@ WasPulled pulled.Again x y = IsKept x y × (has_turn y ≡ true)
 WasPulled pulled.Done x y = IsKept x y × (has_turn y ≡ false)
     × KeptNow (me_of x.end) 1 (served.Done 0) (me_of y.end)
 
--- the chain is closed, as the library's `close` says, by the end that has all parts; or nothing happens
+-- the end has all parts, all notes were run, and the chain is closed as `close` states; or the end is unchanged
 abbrev pub Ended : Result (ChainClosed Inbox) HeldChain → HeldChain → Type 0
 Ended (Ok c) x = (x.share.parts ≡ the_whole) × (c.taken ≡ c.put) × ((inbox : Inbox) × closings.ClosedNow
     (makes HasLast (chains.pact_of (arc_value x.chain))) (suits FitsAny (chains.pact_of (arc_value x.chain)))

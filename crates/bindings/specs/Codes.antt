@@ -1,4 +1,4 @@
--- The numbers by which an answer is told to C.
+-- The numbers that report an answer to C.
 use Rattle.std.specs.Prelude.{ℕ, zero, suc, ℤ, pos, negsuc, Result, Ok, Err}
 use Rattle.std.specs.declared.option.Option.{Option}
 use Rattle.std.specs.declared.option.Option.TheVariants.{None, Some}
@@ -9,11 +9,11 @@ use Rattle.proc_chain.specs.declared.chaining.ChainRefusal.{ChainRefusal}
 use Rattle.proc_chain.specs.declared.chaining.ChainRefusal.TheVariants as chain
 use Rattle.claim_queue.specs.declared.take.TakeRefusal.TheVariants as take
 
--- the call did what it is for
+-- the call succeeded
 abbrev pub Done : ℤ
 Done = pos 0
 
--- what only a caller that isn't checked can do
+-- negative codes: no memory, and errors that only an unchecked caller can make
 abbrev pub NoMemory : ℤ
 NoMemory = negsuc 0
 
@@ -35,7 +35,7 @@ ShortBuffer = negsuc 5
 abbrev pub BadNumber : ℤ
 BadNumber = negsuc 6
 
--- the handle has not the whole object
+-- the handle doesn't have the whole object
 abbrev pub Open : ℤ
 Open = pos 12
 
@@ -43,11 +43,11 @@ Open = pos 12
 abbrev pub Spent : ℤ
 Spent = pos 4
 
--- an element of the hand stands on the processor
+-- an element of the hand is on the processor
 abbrev pub Busy : ℤ
 Busy = pos 9
 
--- none of the hand's elements stands on the processor
+-- no element of the hand is on the processor
 abbrev pub Vacant : ℤ
 Vacant = pos 10
 
@@ -59,7 +59,7 @@ NotHeld = pos 13
 abbrev pub NotServed : ℤ
 NotServed = pos 14
 
--- each place that was claimed before the position is taken
+-- every place that was claimed before the position is taken
 abbrev pub AllWoken : ℤ
 AllWoken = pos 15
 
@@ -130,13 +130,13 @@ tail_of_take take.Closed = 0
 tail_of_take (take.Lost tail) = tail
 tail_of_take (take.Empty at) = at
 
--- done where anything was taken, and else why the first taking was refused
+-- Done if anything was taken or nothing was refused; else the code of the refusal
 abbrev pub code_of_some : ℕ → Option TakeRefusal → ℤ
 code_of_some (suc n) _ = pos 0
 code_of_some zero None = pos 0
 code_of_some zero (Some r) = code_of_take r
 
--- the position that the last refusal tells
+-- the position in the last refusal, or 0 if there was none
 abbrev pub tail_of_some : Option TakeRefusal → ℕ
 tail_of_some None = 0
 tail_of_some (Some r) = tail_of_take r

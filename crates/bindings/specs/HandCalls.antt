@@ -1,4 +1,4 @@
--- What the calls for C do to the handles of hands. A handle has None where it is empty.
+-- The effects of the calls for C on the handles of hands. An empty handle holds None.
 use Rattle.std.specs.Prelude.{◌≡◌, ◌≢◌, ◌⊎◌, ◌≤◌, ◌<◌, ℕ, ℤ, Bool, true, false, Ok, Err}
 use Rattle.std.specs.declared.option.Option.TheVariants.{None, Some}
 use Rattle.thread_table.specs.declared.programs.Spent as programs
@@ -13,26 +13,26 @@ use Rattle.bindings.specs.Codes.{Done, NoMemory, EmptyHandle, FullHandle, NoShar
 use Rattle.bindings.specs.Codes.{Spent, Busy, Vacant, NotHeld, NotServed}
 use Rattle.bindings.specs.HandHeld.{HasNot, WasPutOn, WasTakenOff, WasCounted, WasDone}
 
--- what `holds` told of the hand x, by its code
+-- the report of `holds` on the hand x, by its code
 abbrev pub HoldsTold : ℕ → HeldHand → Bool → Bool → ℤ → Type 0
 HoldsTold element x old held code =
     ((code ≡ BadNumber) × (64 ≤ element) × (held ≡ old))
     ⊎ ((code ≡ Done) × (element < 64) × (held ≡ has (view_of x.hand) element))
 
--- what `serves` told of the hand x, by its code
+-- the report of `serves` on the hand x, by its code
 abbrev pub ServesTold : ℕ → HeldHand → Bool → Bool → ℤ → Type 0
 ServesTold p x old served code =
     ((code ≡ BadNumber) × (8 ≤ p) × (served ≡ old))
     ⊎ ((code ≡ Done) × (p < 8) × (served ≡ serves (view_of x.hand) p))
 
--- what `on_processor` told of the hand x, by its code
+-- the report of `on_processor` on the hand x, by its code
 abbrev pub OnProcessorTold : ℕ → HeldHand → ℕ → ℕ → ℤ → Type 0
 OnProcessorTold p x old element code =
     ((code ≡ BadNumber) × (8 ≤ p) × (element ≡ old))
     ⊎ ((code ≡ Vacant) × (p < 8) × (running (view_of x.hand) p ≡ None) × (element ≡ old))
     ⊎ ((code ≡ Done) × (p < 8) × (running (view_of x.hand) p ≡ Some element))
 
--- what `on` did, by its code
+-- the effect of `on`, by its code
 abbrev pub OnTold : ℕ → ℕ → HeldHand → HeldHand → ℤ → Type 0
 OnTold p element x y code =
     ((code ≡ BadNumber) × ((8 ≤ p) ⊎ (64 ≤ element)) × (y ≡ x))
@@ -44,7 +44,7 @@ OnTold p element x y code =
     ⊎ ((code ≡ Done) × (p < 8) × (element < 64) × (has (view_of x.hand) element ≡ true)
     × (serves (view_of x.hand) p ≡ true) × (running (view_of x.hand) p ≡ None) × WasPutOn p element x y)
 
--- what `off` did, by its code
+-- the effect of `off`, by its code
 abbrev pub OffTold : ℕ → HeldHand → HeldHand → ℕ → ℕ → ℤ → Type 0
 OffTold p x y old element code =
     ((code ≡ BadNumber) × (8 ≤ p) × (y ≡ x) × (element ≡ old))
@@ -54,19 +54,19 @@ OffTold p x y old element code =
     ⊎ ((code ≡ Done) × (p < 8) × (serves (view_of x.hand) p ≡ true) × (running (view_of x.hand) p ≡ Some element)
     × WasTakenOff p element x y)
 
--- why no step of the element can be told or counted, by the code
+-- the reason why the steps of the element can't be read or counted, by the code
 abbrev pub MayNotStep : ℕ → HeldHand → ℤ → Type 0
 MayNotStep element x code =
     ((code ≡ BadNumber) × (64 ≤ element))
     ⊎ ((code ≡ NotHeld) × (element < 64) × HasNot element x)
 
--- what `pc` did, by its code
+-- the effect of `pc`, by its code
 abbrev pub PcTold : ℕ → HeldHand → HeldHand → ℕ → ℕ → ℤ → Type 0
 PcTold element x y old steps code =
     (MayNotStep element x code × (y ≡ x) × (steps ≡ old))
     ⊎ ((code ≡ Done) × (element < 64) × MayStep (view_of x.hand) element × WasCounted element steps x y)
 
--- what `step_done` did, by its code
+-- the effect of `step_done`, by its code
 abbrev pub StepTold : ℕ → HeldHand → HeldHand → ℕ → ℕ → ℤ → Type 0
 StepTold element x y old steps code =
     (MayNotStep element x code × (y ≡ x) × (steps ≡ old))

@@ -1,4 +1,4 @@
--- What becomes of a table of thread elements that is to be closed.
+-- The outcome of a close of a table of thread elements.
 use Rattle.std.specs.Prelude.{◌≡◌, map, Result, Ok, Err}
 use Rattle.thread_table.specs.declared.places.Place.{Place}
 use Rattle.thread_table.specs.declared.places.Place.TheVariants as places
@@ -10,13 +10,13 @@ use Rattle.bindings.specs.declared.hand.held.HeldHand.{HeldHand}
 use Rattle.bindings.specs.declared.hand.places.SynthPlace.{SynthPlace}
 use Rattle.bindings.specs.declared.hand.places.SynthPlaces.{SynthPlaces}
 
--- it is closed, as the library's `close` tells, by the hand that has all parts; or nothing happens
+-- the hand has all parts, and closed the table as the library's `close` states; or the hand is unchanged
 abbrev pub Ended : Result Places HeldHand → HeldHand → Type 0
 Ended (Ok c) x = (x.share.parts ≡ the_whole)
     × ClosedNow (call_of x.hand) (view_of x.hand) c.places c.pcs c.pending c.stops
 Ended (Err y) x = y ≡ x
 
--- how a place is told
+-- a place as it is reported to C
 abbrev pub place_told : Place → SynthPlace
 place_told (places.Processor p) = record { kind = 0; number = p }
 place_told places.Ready = record { kind = 1; number = 0 }
@@ -25,7 +25,7 @@ place_told (places.Wait wait) = record { kind = 3; number = wait }
 place_told places.Stopped = record { kind = 4; number = 0 }
 place_told places.Held = record { kind = 5; number = 0 }
 
--- what C is told of a table that was closed
+-- the report of a closed table: the place, the steps and the pending signals of each element, and the stop bits
 abbrev pub IsToldPlaces : Places → SynthPlaces → Type 0
 IsToldPlaces c told = (told.place ≡ map place_told c.places) × (told.pc ≡ c.pcs) × (told.pending ≡ c.pending)
     × (told.stops ≡ c.stops)

@@ -1,4 +1,4 @@
--- What the calls of a table of thread elements do to a hand. Each says what the library's call says.
+-- The effects of the calls of a thread table on a hand. Each definition states what the library's call states.
 use Rattle.std.specs.Prelude.{◌≡◌, ◌≢◌, ◌⊎◌, ◌≤◌, ◌<◌, ℕ, ℤ, true, false, Some, None, Result}
 use Rattle.std.specs.Arc.{arc_value}
 use Rattle.thread_table.specs.declared.programs.Spent.{Spent}
@@ -15,7 +15,7 @@ use Rattle.bindings.specs.declared.hand.held.HeldHand.{HeldHand}
 abbrev pub IsSameHeld : HeldHand → HeldHand → Type 0
 IsSameHeld x y = (arc_value y.table ≡ arc_value x.table) × IsSameHand x.hand y.hand
 
--- the same, with its share as before
+-- the same hand of the same table, with an unchanged share
 abbrev pub IsKept : HeldHand → HeldHand → Type 0
 IsKept x y = IsSameHeld x y × (y.share ≡ x.share)
 
@@ -23,7 +23,7 @@ IsKept x y = IsSameHeld x y × (y.share ≡ x.share)
 abbrev pub AreOfOneTable : HeldHand → HeldHand → Type 0
 AreOfOneTable x y = hands.AreOfOneTable x.hand y.hand
 
--- the only hand of a new table, whose element queues have this first position
+-- the only hand of a new table with this mark, whose element queues have this first position
 abbrev pub IsNewHand : ℕ → ℕ → HeldHand → Type 0
 IsNewHand first mark x = (first_of (arc_value x.table) ≡ first)
     × (view_of x.hand ≡ newcomer (record { first = first })) × AllOf mark x.share
@@ -32,28 +32,28 @@ IsNewHand first mark x = (first_of (arc_value x.table) ≡ first)
 abbrev pub ServesAll : ℕ → HeldHand → Type 0
 ServesAll mask x = (p : ℕ) → p < 8 → is_in mask p ≡ true → serves (view_of x.hand) p ≡ true
 
--- a processor of the mask isn't the hand's
+-- the hand doesn't serve some processor of the mask
 abbrev pub LacksOne : ℕ → HeldHand → Type 0
 LacksOne mask x = (p : ℕ) × (p < 8) × (is_in mask p ≡ true) × (serves (view_of x.hand) p ≡ false)
 
--- no element of the hand stands on a processor of the mask
+-- no element of the hand is on a processor of the mask
 abbrev pub HasNoneOn : ℕ → HeldHand → Type 0
 HasNoneOn mask x = (p : ℕ) → p < 8 → is_in mask p ≡ true → running (view_of x.hand) p ≡ None
 
--- an element of the hand stands on a processor of the mask
+-- an element of the hand is on a processor of the mask
 abbrev pub HasOneOn : ℕ → HeldHand → Type 0
 HasOneOn mask x = (p : ℕ) × (p < 8) × (is_in mask p ≡ true) × (running (view_of x.hand) p ≢ None)
 
--- the hand doesn't hold the element, and has it on no processor: there are eight
+-- the hand doesn't hold the element, and has it on no processor (0 to 7) that the hand serves
 abbrev pub HasNot : ℕ → HeldHand → Type 0
 HasNot element x = (has (view_of x.hand) element ≡ false)
     × ((p : ℕ) → p < 8 → serves (view_of x.hand) p ≡ true → running (view_of x.hand) p ≢ Some element)
 
--- the hand can give the processors of the mask away, and a part of its share
+-- the hand can give away a part of its share and the processors of the mask, on which it has no element
 abbrev pub MaySplit : ℕ → HeldHand → Type 0
 MaySplit mask x = (mask < 256) × ServesAll mask x × HasNoneOn mask x × HasTwo x.share
 
--- why the hand can't be split so, by the code: the first of these that holds is told
+-- the reason why the hand can't be split so, by the code: the first of these reasons that holds
 abbrev pub MayNotSplit : ℕ → HeldHand → ℤ → Type 0
 MayNotSplit mask x code =
     ((code ≡ BadNumber) × (256 ≤ mask))
@@ -61,14 +61,14 @@ MayNotSplit mask x code =
     ⊎ ((code ≡ Busy) × (mask < 256) × ServesAll mask x × HasOneOn mask x)
     ⊎ ((mask < 256) × ServesAll mask x × HasNoneOn mask x × HasNoTwo x.share code)
 
--- `split` gave this hand, of the same table, with the processors of the mask and its parts of the share
+-- `split` made `born`, a hand of the same table, with the processors of the mask and a part of the share of x
 abbrev pub Divided : ℕ → HeldHand → HeldHand → HeldHand → Type 0
 Divided mask x y born = IsSameHeld x y × (arc_value born.table ≡ arc_value x.table)
     × WasDivided x.share y.share born.share
     × endings.Divided mask (view_of x.hand) (view_of y.hand)
     × endings.IsNewborn mask (view_of x.hand) (view_of y.hand) (view_of born.hand)
 
--- `join` took the other hand in, with its parts
+-- `join` took in the hand `other`, with its parts of the share
 abbrev pub Joined : HeldHand → HeldHand → HeldHand → Type 0
 Joined x y other = IsSameHeld x y × WasJoined x.share y.share other.share
     × endings.TookIn (view_of x.hand) (view_of other.hand) (view_of y.hand)

@@ -1,4 +1,4 @@
--- The moves of a hand, and what C is told of them.
+-- The moves of a hand, and their reports to C.
 use Rattle.std.specs.Prelude.{◌≡◌, ◌⊎◌, ◌≤◌, ◌<◌, ℕ, ℤ, pos, true, false, Result, Ok, Err}
 use Rattle.std.specs.declared.option.Option.{Option}
 use Rattle.std.specs.declared.option.Option.TheVariants.{Some}
@@ -28,59 +28,59 @@ WasWaited wait element ticket answer x y =
 abbrev pub WasTicket : ℕ → ℕ → HeldHand → HeldHand → Type 0
 WasTicket wait ticket x y = IsKept x y × IsTicket (view_of x.hand) wait ticket (view_of y.hand)
 
--- the code of what a move answered
+-- the code of a move's answer
 abbrev pub code_of_move : Result (Unit {0}) MoveRefusal → ℤ
 code_of_move (Ok done) = pos 0
 code_of_move (Err moves.Spent) = pos 4
 code_of_move (Err (moves.Lost seen)) = pos 6
 code_of_move (Err (moves.Moved mark)) = pos 8
 
--- the position in the head word that was found, where another hand moved first
+-- the position in the head word that was found, if another hand moved first; else 0
 abbrev pub head_of_move : Result (Unit {0}) MoveRefusal → ℕ
 head_of_move (Err (moves.Lost seen)) = head_in seen
 head_of_move _ = 0
 
--- the number of notifies that was found, in such a head word or in place of the ticket
+-- the number of notifies in the head word that was found, or the number found instead of the ticket; else 0
 abbrev pub notifies_of_move : Result (Unit {0}) MoveRefusal → ℕ
 notifies_of_move (Err (moves.Lost seen)) = mark_in seen
 notifies_of_move (Err (moves.Moved mark)) = mark
 notifies_of_move _ = 0
 
--- this code, and no number
+-- this code, with both numbers 0
 abbrev pub IsMoveCode : ℤ → SynthMoved → Type 0
 IsMoveCode code told = (told.code ≡ code) × (told.head ≡ 0) × (told.notifies ≡ 0)
 
--- what C is told of what a move answered
+-- the report of a move's answer
 abbrev pub IsToldMove : Result (Unit {0}) MoveRefusal → SynthMoved → Type 0
 IsToldMove answer told = (told.code ≡ code_of_move answer) × (told.head ≡ head_of_move answer)
     × (told.notifies ≡ notifies_of_move answer)
 
--- the hand doesn't hold the element, which is told; or it does, and C is told of the move
+-- if the hand doesn't hold the element, NotHeld is reported; if it does, the answer of the move is reported
 abbrev pub HeldOrNot : (Result (Unit {0}) MoveRefusal → HeldHand → HeldHand → Type 0) → ℕ → HeldHand → Option HeldHand
     → SynthMoved → Type 0
 HeldOrNot Answers element x new told =
     (IsMoveCode NotHeld told × (has (view_of x.hand) element ≡ false) × (new ≡ Some x))
     ⊎ ((has (view_of x.hand) element ≡ true) × Answered Answers (λ answer. IsToldMove answer told) x new)
 
--- what `try_ready` and `try_retire` did, by the number of the element queue
+-- the effect of `try_ready` and `try_retire`, which move the element into the element queue `line`
 abbrev pub MovingTold : ℕ → ℕ → HeldHand → Option HeldHand → SynthMoved → Type 0
 MovingTold line element x new told =
     (IsMoveCode BadNumber told × (64 ≤ element) × (new ≡ Some x))
     ⊎ ((element < 64) × HeldOrNot (WasMoved line element) element x new told)
 
--- what `try_wait` did
+-- the effect of `try_wait`
 abbrev pub WaitingTold : ℕ → ℕ → HeldHand → Option HeldHand → SynthMoved → Type 0
 WaitingTold element wait x new told =
     (IsMoveCode BadNumber told × ((64 ≤ element) ⊎ (16 ≤ wait)) × (new ≡ Some x))
     ⊎ ((element < 64) × (wait < 16) × HeldOrNot (WasMoved (wait_ring wait) element) element x new told)
 
--- what `ticket` did, by its code
+-- the effect of `ticket`, by its code
 abbrev pub TicketTold : ℕ → HeldHand → ℕ → ℕ → Option HeldHand → ℤ → Type 0
 TicketTold wait x old_ticket ticket new code =
     ((code ≡ BadNumber) × (16 ≤ wait) × (new ≡ Some x) × (ticket ≡ old_ticket))
     ⊎ ((code ≡ Done) × (wait < 16) × (y : HeldHand) × (new ≡ Some y) × WasTicket wait ticket x y)
 
--- what `try_wait_at` did
+-- the effect of `try_wait_at`
 abbrev pub WaitingAtTold : ℕ → ℕ → ℕ → HeldHand → Option HeldHand → SynthMoved → Type 0
 WaitingAtTold element wait ticket x new told =
     (IsMoveCode BadNumber told × ((64 ≤ element) ⊎ (16 ≤ wait)) × (new ≡ Some x))

@@ -12,7 +12,7 @@ use Rattle.bindings.specs.HandHeld.{IsKept}
 abbrev pub HasPending : ℕ → ℕ → HeldHand → HeldHand → Type 0
 HasPending element signals x y = IsKept x y × IsPending (view_of x.hand) element signals (view_of y.hand)
 
--- what a read of the pending signals did, by its code
+-- the effect of a read of the pending signals, by its code
 abbrev pub ReadPending : ℕ → ℕ → ℕ → HeldHand → Option HeldHand → ℤ → Type 0
 ReadPending element old_signals signals x new code =
     ((code ≡ BadNumber) × (64 ≤ element) × (new ≡ Some x) × (signals ≡ old_signals))

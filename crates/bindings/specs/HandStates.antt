@@ -1,4 +1,4 @@
--- Stops, starts, parks, signals and deliveries of a hand, and what C is told of them.
+-- Stops, starts, parks, signals and deliveries of a hand, and their reports to C.
 use Rattle.std.specs.Prelude.{◌≡◌, ◌⊎◌, ◌≤◌, ◌<◌, ℕ, ℤ, pos, Bool, true, false, Result, Ok, Err, MatchResult}
 use Rattle.std.specs.declared.option.Option.{Option}
 use Rattle.std.specs.declared.option.Option.TheVariants.{Some}
@@ -42,7 +42,7 @@ abbrev pub WereDelivered : ℕ → Result ℕ Lost → HeldHand → HeldHand →
 WereDelivered element answer x y =
     IsKept x y × DeliverAnswer (call_of x.hand) (view_of x.hand) element answer (view_of y.hand)
 
--- how C is told what a start did
+-- the number that reports the effect of a start to C
 abbrev pub number_of_start : Started → ℕ
 number_of_start started.NotStopped = 0
 number_of_start started.Cleared = 1
@@ -53,48 +53,48 @@ abbrev pub is_raised : Signalled → Bool
 is_raised signalled.Raised = true
 is_raised signalled.Merged = false
 
--- this code, and no word
+-- this code, with word 0
 abbrev pub IsStateCode : ℤ → SynthState → Type 0
 IsStateCode code told = (told.code ≡ code) × (told.word ≡ 0)
 
--- C is told the state word that was found
+-- the report of `Lost`: the code 6, and the state word that was found
 abbrev pub IsToldLost : Lost → SynthState → Type 0
 IsToldLost lost told = (told.code ≡ pos 6) × (told.word ≡ lost.seen)
 
--- the state word that a refusal tells has 32 bits
+-- the state word in a refusal has 32 bits
 abbrev pub IsFitState : {X : Type 0} → Result X Lost → Type 0
 IsFitState (Ok x) = Unit {0}
 IsFitState (Err lost) = lost.seen < u32_values
 
--- what C is told of a start: what it did, which is written, or else the state word
+-- the report of a start: its effect, which is written, or the state word that was found
 abbrev pub IsToldStart : Result Started Lost → ℕ → ℕ → SynthState → Type 0
 IsToldStart answer old new told = MatchResult answer (λ s. (new ≡ number_of_start s) × IsStateCode Done told)
     (λ lost. (new ≡ old) × IsToldLost lost told)
 
--- what C is told of a park: whether the element is parked, which is written, or else the state word
+-- the report of a park: whether the element is parked, which is written, or the state word that was found
 abbrev pub IsToldPark : Result Bool Lost → Bool → Bool → SynthState → Type 0
 IsToldPark answer old new told = MatchResult answer (λ b. (new ≡ b) × IsStateCode Done told)
     (λ lost. (new ≡ old) × IsToldLost lost told)
 
--- what C is told of a delivery: the signals, bit s for signal s and no other bit, are written, or else the state word
+-- the report of a delivery: the signals as bits 0 to 15, which are written, or the state word that was found
 abbrev pub IsToldDelivery : Result ℕ Lost → ℕ → ℕ → SynthState → Type 0
 IsToldDelivery answer old new told = MatchResult answer (λ mask. (mask < 65536) × (new ≡ mask) × IsStateCode Done told)
     (λ lost. (new ≡ old) × IsToldLost lost told)
 
--- what `stop` did, by its code
+-- the effect of `stop`, by its code
 abbrev pub StopTold : ℕ → HeldHand → Bool → Bool → Option HeldHand → ℤ → Type 0
 StopTold element x old_answer answer new code =
     ((code ≡ BadNumber) × (64 ≤ element) × (new ≡ Some x) × (answer ≡ old_answer))
     ⊎ ((code ≡ Done) × (element < 64) × (y : HeldHand) × (new ≡ Some y) × WasStopped element answer x y)
 
--- what `try_start` did
+-- the effect of `try_start`
 abbrev pub StartTold : ℕ → HeldHand → ℕ → ℕ → Option HeldHand → SynthState → Type 0
 StartTold element x old_number number new told =
     (IsStateCode BadNumber told × (64 ≤ element) × (new ≡ Some x) × (number ≡ old_number))
     ⊎ ((element < 64)
     × Answered (WasStarted element) (λ answer. IsToldStart answer old_number number told) x new)
 
--- what `try_park` did
+-- the effect of `try_park`
 abbrev pub ParkTold : ℕ → HeldHand → Bool → Bool → Option HeldHand → SynthState → Type 0
 ParkTold element x old_answer is new told =
     (IsStateCode BadNumber told × (64 ≤ element) × (new ≡ Some x) × (is ≡ old_answer))
@@ -103,14 +103,14 @@ ParkTold element x old_answer is new told =
     ⊎ ((element < 64) × (has (view_of x.hand) element ≡ true)
     × Answered (WasParked element) (λ answer. IsToldPark answer old_answer is told) x new)
 
--- what `signal` did, by its code
+-- the effect of `signal`, by its code
 abbrev pub SignalTold : ℕ → ℕ → HeldHand → Bool → Bool → Option HeldHand → ℤ → Type 0
 SignalTold element signal x old_answer is new code =
     ((code ≡ BadNumber) × ((64 ≤ element) ⊎ (16 ≤ signal)) × (new ≡ Some x) × (is ≡ old_answer))
     ⊎ ((code ≡ Done) × (element < 64) × (signal < 16) × (y : HeldHand) × (new ≡ Some y) × (answer : Signalled)
     × (is ≡ is_raised answer) × WasSignalled element signal answer x y)
 
--- what `try_deliver` did
+-- the effect of `try_deliver`
 abbrev pub DeliverTold : ℕ → HeldHand → ℕ → ℕ → Option HeldHand → SynthState → Type 0
 DeliverTold element x old_signals signals new told =
     (IsStateCode BadNumber told × (64 ≤ element) × (new ≡ Some x) × (signals ≡ old_signals))

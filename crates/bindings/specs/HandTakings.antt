@@ -1,4 +1,4 @@
--- The takings of a hand, and what C is told of them.
+-- The takings of a hand, and their reports to C.
 use Rattle.std.specs.Prelude.{◌≡◌, ◌⊎◌, ◌≤◌, ◌<◌, ℕ, ℤ, pos, Result, Ok, Err, MatchResult}
 use Rattle.std.specs.declared.option.Option.{Option}
 use Rattle.std.specs.declared.option.Option.TheVariants.{Some}
@@ -19,33 +19,33 @@ use Rattle.bindings.specs.Told.{IsCodeAlone}
 abbrev pub WasTaken : ℕ → Result ℕ NextRefusal → HeldHand → HeldHand → Type 0
 WasTaken line answer x y = IsKept x y × TakeAnswer (call_of x.hand) (view_of x.hand) line answer (view_of y.hand)
 
--- the code that says why no element was taken
+-- the code of a refused taking
 abbrev pub code_of_next : NextRefusal → ℤ
 code_of_next nexts.NoneReady = pos 7
 code_of_next (nexts.Lost seen) = pos 6
 
--- the tail that was found, where another hand took first
+-- the tail that was found, if another hand took first; else 0
 abbrev pub tail_of_next : NextRefusal → ℕ
 tail_of_next nexts.NoneReady = 0
 tail_of_next (nexts.Lost seen) = seen
 
--- the tail that a refused taking tells has 32 bits
+-- the tail in a refused taking has 32 bits
 abbrev pub IsFit : Result ℕ NextRefusal → Type 0
 IsFit (Ok element) = Unit {0}
 IsFit (Err r) = tail_of_next r < u32_values
 
--- what C is told of a taking: the element, which is written, or else the code and the tail
+-- the report of a taking: the element, which is written, or the code and the tail
 abbrev pub IsToldTaking : Result ℕ NextRefusal → ℕ → ℕ → SynthAnswer → Type 0
 IsToldTaking answer old new told = MatchResult answer
     (λ element. (new ≡ element) × IsCodeAlone Done told)
     (λ r. (new ≡ old) × (told.code ≡ code_of_next r) × (told.head ≡ 0) × (told.tail ≡ tail_of_next r))
 
--- C is told what the library answered to a taking from this element queue
+-- the library's answer to a taking from this element queue is reported
 abbrev pub TakingTold : ℕ → HeldHand → ℕ → ℕ → Option HeldHand → SynthAnswer → Type 0
 TakingTold line x old_element element new told =
     Answered (WasTaken line) (λ answer. IsToldTaking answer old_element element told) x new
 
--- What `try_wake` did. No such wait queue is told as a number out of its range
+-- the effect of `try_wake`; a wait queue out of range is reported as BadNumber
 abbrev pub WakingTold : ℕ → HeldHand → ℕ → ℕ → Option HeldHand → SynthAnswer → Type 0
 WakingTold wait x old_element element new told =
     (IsCodeAlone BadNumber told × (16 ≤ wait) × (new ≡ Some x) × (element ≡ old_element))

@@ -1,4 +1,4 @@
--- A notify, and takings of what is before a position, and what C is told of them.
+-- A notify, and takings of what is before a position, and their reports to C.
 use Rattle.std.specs.Prelude.{◌≡◌, ◌⊎◌, ◌≤◌, ◌<◌, ℕ, ℤ, Result, Ok, Err}
 use Rattle.std.specs.declared.option.Option.{Option}
 use Rattle.std.specs.declared.option.Option.TheVariants.{None, Some}
@@ -24,25 +24,25 @@ abbrev pub WasTriedBefore : ℕ → ℕ → Result (Option ℕ) NextRefusal → 
 WasTriedBefore wait head answer x y =
     IsKept x y × BeforeAnswer (call_of x.hand) (view_of x.hand) (wait_ring wait) head answer (view_of y.hand)
 
--- the tail that a refused try to take before a position tells has 32 bits
+-- the tail in a refused taking before a position has 32 bits
 abbrev pub IsFitBefore : Result (Option ℕ) NextRefusal → Type 0
 IsFitBefore (Ok taken) = Unit {0}
 IsFitBefore (Err r) = tail_of_next r < u32_values
 
--- what C is told of a try to take before a position: the element, which is written, or else the code and the tail
+-- the report of a taking before a position: the element, which is written, or AllWoken, or the code and the tail
 abbrev pub IsToldBefore : Result (Option ℕ) NextRefusal → ℕ → ℕ → SynthAnswer → Type 0
 IsToldBefore (Ok None) old new told = (new ≡ old) × IsCodeAlone AllWoken told
 IsToldBefore (Ok (Some element)) old new told = (new ≡ element) × IsCodeAlone Done told
 IsToldBefore (Err r) old new told =
     (new ≡ old) × (told.code ≡ code_of_next r) × (told.head ≡ 0) × (told.tail ≡ tail_of_next r)
 
--- what `notify` did, by its code
+-- the effect of `notify`, by its code
 abbrev pub NotifyTold : ℕ → HeldHand → ℕ → ℕ → Option HeldHand → ℤ → Type 0
 NotifyTold wait x old_head head new code =
     ((code ≡ BadNumber) × (16 ≤ wait) × (new ≡ Some x) × (head ≡ old_head))
     ⊎ ((code ≡ Done) × (wait < 16) × (y : HeldHand) × (new ≡ Some y) × WasNotified wait head x y)
 
--- what `try_wake_before` did
+-- the effect of `try_wake_before`
 abbrev pub BeforeTold : ℕ → ℕ → HeldHand → ℕ → ℕ → Option HeldHand → SynthAnswer → Type 0
 BeforeTold wait head x old_element element new told =
     (IsCodeAlone BadNumber told × (16 ≤ wait) × (new ≡ Some x) × (element ≡ old_element))

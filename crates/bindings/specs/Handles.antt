@@ -1,4 +1,4 @@
--- What a handle holds, and what every call says of it.
+-- The contents of a handle, and the effects that all kinds of calls have on it.
 use Rattle.std.specs.Prelude.{◌≡◌, ◌⊎◌, ℤ, true, Result, Ok, Err}
 use Rattle.std.specs.declared.option.Option.{Option}
 use Rattle.std.specs.declared.option.Option.TheVariants.{None, Some}
@@ -17,20 +17,20 @@ use Rattle.bindings.specs.Hiding.{is_some}
 use Rattle.bindings.specs.Kinds.{batch_in, queue_in, chain_in, hand_in, seat_in, line_in_in, line_out_in}
 use Rattle.bindings.specs.Shares.{Fit, Exceed}
 
--- what it holds, None where it is empty
+-- the contents of the handle, None if it is empty
 abbrev pub held_by : Handle → Option Payload
 held_by h = h.hidden.value
 
--- what is held, if it is of this kind
+-- the contents, if they are of this kind
 abbrev pub of_kind : {X : Type 0} → (Payload → Option X) → Option Payload → Option X
 of_kind kind None = None
 of_kind kind (Some p) = kind p
 
--- the end of this kind that is held, None where the handle is empty or holds another kind
+-- the end of this kind that is held, None if the handle is empty or holds another kind
 abbrev pub end_in : {X : Type 0} → (Payload → Option X) → Handle → Option X
 end_in kind h = of_kind kind (held_by h)
 
--- the end of a batch queue, of a claim queue, of a chain, of a table of thread elements and of meters that is held
+-- the end of a batch queue that is held; below, of a claim queue, of a chain, of a table of thread elements, of meters
 abbrev pub batch_of : Handle → Option HeldBatch
 batch_of = end_in batch_in
 
@@ -46,7 +46,7 @@ hand_of = end_in hand_in
 abbrev pub seat_of : Handle → Option HeldSeat
 seat_of = end_in seat_in
 
--- the end of a line that pushes, and the one that pops
+-- the end of a line that pushes and is held; below, the one that pops
 abbrev pub line_in_of : Handle → Option HeldIn
 line_in_of = end_in line_in_in
 
@@ -57,40 +57,40 @@ line_out_of = end_in line_out_in
 abbrev pub AsItWas : Handle → Handle → Type 0
 AsItWas old new = held_by new ≡ held_by old
 
--- A handle that holds no end of the call's kind, as one that is empty: the call says so, and the handle is as it was
+-- If a handle holds no end of the call's kind (an empty one holds none), the call is refused and the handle unchanged
 abbrev pub NoneIn : {X : Type 0} → (Handle → Option X) → Handle → Handle → Type 0 → Type 0
 NoneIn of old new refused = of old ≡ None → refused × AsItWas old new
 
--- this holds of what the handle held
+-- P holds of the end that the handle held, if it held one
 abbrev pub HoldsThen : {X : Type 0} → Option X → (X → Type 0) → Type 0
 HoldsThen {X} old P = (x : X) → old ≡ Some x → P x
 
--- there is something, of which this holds
+-- the handle holds an end, and P holds of it
 abbrev pub HoldsSome : {X : Type 0} → Option X → (X → Type 0) → Type 0
 HoldsSome {X} now P = (y : X) × (now ≡ Some y) × P y
 
--- this holds of what the handle held and of what it holds then
+-- if the handle held an end, the handle holds an end now, and P relates the two
 abbrev pub TurnsThen : {X : Type 0} → Option X → Option X → (X → X → Type 0) → Type 0
 TurnsThen old new P = HoldsThen old (λ x. HoldsSome new (P x))
 
--- what `free` did, by its code
+-- the effect of `free`, by its code
 abbrev pub FreedHandle : {X : Type 0} → (Handle → Option X) → Handle → Handle → ℤ → Type 0
 FreedHandle of old new code =
     ((code ≡ EmptyHandle) × (of old ≡ None) × AsItWas old new)
     ⊎ ((code ≡ Done) × (is_some (of old) ≡ true) × (held_by new ≡ None))
 
--- the two ends have one mark, and the marks tell the objects apart: each object has a mark of its own
+-- if both handles hold an end and the ends have one mark, they are ends of one object
 abbrev pub MarksTell : {X Z : Type 0} → (X → Z → Type 0) → (X → Z → Type 0) → Option X → Option Z → Type 0
 MarksTell HaveOneMark AreOfOne (Some x) (Some z) = HaveOneMark x z → AreOfOne x z
 MarksTell HaveOneMark AreOfOne _ _ = Unit {0}
 
--- what became of a new end that was put into a handle, by the code: there was none, or no memory for its box
+-- the effect of putting a new end into a handle, by the code: no memory, or the handle holds the end
 abbrev pub Filled : {X : Type 0} → (X → Payload) → Option X → Handle → Handle → ℤ → Type 0
 Filled {X} wrap made old new code =
     ((code ≡ NoMemory) × AsItWas old new)
     ⊎ ((code ≡ Done) × (y : X) × (made ≡ Some y) × (held_by new ≡ Some (wrap y)))
 
--- What `new` did, by its code: `Valid` says that the numbers of the call are in range
+-- The effect of `new`, by its code: `Valid` states that the numbers of the call are in range
 abbrev pub MadeHandle : {X : Type 0} → (X → Payload) → Type 0 → (X → Type 0) → Handle → Handle → ℤ → Type 0
 MadeHandle {X} wrap Valid IsNew old new code =
     ((code ≡ FullHandle) × (is_some (held_by old) ≡ true) × AsItWas old new)
@@ -98,7 +98,7 @@ MadeHandle {X} wrap Valid IsNew old new code =
     ⊎ ((code ≡ NoMemory) × (held_by old ≡ None) × AsItWas old new × Valid)
     ⊎ ((code ≡ Done) × (held_by old ≡ None) × Valid × (y : X) × (held_by new ≡ Some (wrap y)) × IsNew y)
 
--- What `split` did to the end x, by its code. Only an end that can be split finds no memory
+-- The effect of `split` on the end x, by its code. NoMemory is reported only if the end can be split
 abbrev pub SplitTold : {X : Type 0} → (Handle → Option X) → (X → Type 0) → (X → ℤ → Type 0) → (X → X → X → Type 0)
     → X → Handle → Handle → Handle → ℤ → Type 0
 SplitTold {X} of MaySplit MayNotSplit Divided x old new made code =
@@ -106,7 +106,7 @@ SplitTold {X} of MaySplit MayNotSplit Divided x old new made code =
     ⊎ ((code ≡ NoMemory) × MaySplit x × AsItWas old new × (held_by made ≡ None))
     ⊎ ((code ≡ Done) × MaySplit x × (y z : X) × (of new ≡ Some y) × (of made ≡ Some z) × Divided x y z)
 
--- what `split` did, by its code
+-- the effect of `split`, by its code
 abbrev pub SplitHandle : {X : Type 0} → (Handle → Option X) → (X → Type 0) → (X → ℤ → Type 0) → (X → X → X → Type 0)
     → Handle → Handle → Handle → Handle → ℤ → Type 0
 SplitHandle {X} of MaySplit MayNotSplit Divided old new other made code =
@@ -116,15 +116,15 @@ SplitHandle {X} of MaySplit MayNotSplit Divided old new other made code =
     ⊎ ((held_by other ≡ None) × (x : X) × (of old ≡ Some x)
     × SplitTold of MaySplit MayNotSplit Divided x old new made code)
 
--- as far as the marks and the parts say, both are ends of one object
+-- by their marks and parts, both can be ends of one object
 abbrev pub MayJoin : {X : Type 0} → (X → Share) → (X → X → Type 0) → X → X → Type 0
 MayJoin share HaveOneMark x z = HaveOneMark x z × Fit (share x) (share z)
 
--- the marks or the parts say that they aren't
+-- the marks differ, or the ends together have more parts than one object has
 abbrev pub MayNotJoin : {X : Type 0} → (X → Share) → (X → X → Type 0) → X → X → Type 0
 MayNotJoin share HaveOneMark x z = (HaveOneMark x z → ⊥) ⊎ Exceed (share x) (share z)
 
--- what `join` did, by its code
+-- the effect of `join`, by its code
 abbrev pub JoinedHandle : {X : Type 0} → (Handle → Option X) → (X → Share) → (X → X → Type 0)
     → (X → X → X → Type 0) → Handle → Handle → Handle → Handle → ℤ → Type 0
 JoinedHandle {X} of share HaveOneMark Joined old new other left code =
@@ -134,20 +134,20 @@ JoinedHandle {X} of share HaveOneMark Joined old new other left code =
     ⊎ ((code ≡ Done) × (x y z : X) × (of old ≡ Some x) × (of other ≡ Some z) × (of new ≡ Some y) × (held_by left ≡ None)
     × MayJoin share HaveOneMark x z × Joined x y z)
 
--- what C is told of an object that was to be closed: it is, and the handle is empty; or the handle holds what it held
+-- the report of a close: Done, and the handle is empty; or Open, and the handle holds the end that was returned
 abbrev pub IsToldEnding : {C T X : Type 0} → (X → Payload) → (C → T → Type 0) → Result C X → Option Payload → T → T → ℤ
     → Type 0
 IsToldEnding wrap Tells (Ok closed) new old told code = (code ≡ Done) × (new ≡ None) × Tells closed told
 IsToldEnding wrap Tells (Err y) new old told code = (code ≡ Open) × (new ≡ Some (wrap y)) × (told ≡ old)
 
--- C is told what became of an object that was to be closed
+-- an object was to be closed, and the outcome is reported
 pub record WasEnded {C T X : Type 0} (wrap : X → Payload) (Ended : Result C X → Type 0) (Tells : C → T → Type 0)
     (new : Option Payload) (old told : T) (code : ℤ) : Type 0 where
   pub outcome : Result C X
   pub ended : Ended outcome
   pub tells : IsToldEnding wrap Tells outcome new old told code
 
--- the library's call gave an answer, which C is told, and the handle is for the same end
+-- the library's call gave an answer, which is reported, and the handle holds the end y that `Did` relates to x
 pub record Answered {A X : Type 0} (Did : A → X → X → Type 0) (Tells : A → Type 0) (x : X) (new : Option X)
     : Type 0 where
   pub y : X

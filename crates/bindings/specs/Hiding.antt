@@ -10,7 +10,7 @@ use Rattle.std.specs.Box.Ownership.{box_owns}
 use Rattle.std.specs.declared.option.Option.{Option}
 use Rattle.std.specs.declared.option.Option.TheVariants.{None, Some}
 
--- the C library's heap, of which there is one
+-- the C library's heap; there is only one
 abbrev pub the_heap : Global
 the_heap = record { memory = record { seal = tt } }
 
@@ -18,12 +18,12 @@ the_heap = record { memory = record { seal = tt } }
 abbrev pub may_free : Ty → Ptr → Fml
 may_free = ghosts.dealloc_token the_heap
 
--- where there is a value, its box stands at the pointer, and the C library's heap can have it back
+-- if there is a value, its box is at the pointer, and it can be freed to the C library's heap
 abbrev pub hides : (R : RattleType) → Ptr → Option R.Denot → Fml
 hides R p None = ftrue
 hides R p (Some x) = box_owns may_free R p x
 
--- something is held
+-- the option has a value
 abbrev pub is_some : {X : Type 0} → Option X → Bool
 is_some None = false
 is_some (Some x) = true

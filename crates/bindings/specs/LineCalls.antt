@@ -1,4 +1,4 @@
--- What the calls for C do to the handles of device lines. A handle has None where it is empty.
+-- The effects of the calls for C on the handles of device lines. An empty handle holds None.
 use Rattle.std.specs.Prelude.{◌≡◌, ◌⊎◌, ◌≤◌, ◌<◌, ◌%◌, ◌^◌, ◌++◌, ℕ, ℤ, true, pos, length}
 use Rattle.std.specs.declared.option.Option.{Option}
 use Rattle.std.specs.declared.option.Option.TheVariants.{None, Some}
@@ -14,7 +14,7 @@ use Rattle.bindings.specs.Handles.{held_by, line_in_of, line_out_of, AsItWas}
 use Rattle.bindings.specs.Hiding.{is_some}
 use Rattle.bindings.specs.Codes.{Done, NoMemory, EmptyHandle, FullHandle, OtherObject, BadNumber}
 
--- the ends' lines have one mark
+-- the two ends have one mark
 abbrev pub HaveOneMark : HeldIn → HeldOut → Type 0
 HaveOneMark x z = z.mark ≡ x.mark
 
@@ -22,11 +22,11 @@ HaveOneMark x z = z.mark ≡ x.mark
 abbrev pub AreOfOneLine : HeldIn → HeldOut → Type 0
 AreOfOneLine x z = IsLine x.line z.line
 
--- as many bytes as a line can have room for
+-- a number of bytes that a line can have room for: 1 to 65,536
 abbrev pub IsRoom : ℕ → Type 0
 IsRoom room = (0 < room) × (room ≤ 65536)
 
--- what `new` did, by its code
+-- the effect of `new`, by its code
 abbrev pub MadeLine : ℕ → ℕ → Handle → Handle → Handle → Handle → ℤ → Type 0
 MadeLine room mark old new other made code =
     ((code ≡ FullHandle) × ((is_some (held_by old) ≡ true) ⊎ (is_some (held_by other) ≡ true)) × AsItWas old new
@@ -39,27 +39,27 @@ MadeLine room mark old new other made code =
     × (held_by new ≡ Some (LineIn x)) × (held_by made ≡ Some (LineOut z))
     × IsLine x.line z.line × IsNewIn room x.line × IsNewOut room z.line × (x.mark ≡ mark) × (z.mark ≡ mark))
 
--- the same end of the same line
+-- the same end of the same line, with an unchanged mark
 abbrev pub SameHeldIn : HeldIn → HeldIn → Type 0
 SameHeldIn x y = SameIn x.line y.line × (y.mark ≡ x.mark)
 
 abbrev pub SameHeldOut : HeldOut → HeldOut → Type 0
 SameHeldOut x y = SameOut x.line y.line × (y.mark ≡ x.mark)
 
--- What `push` did, by its code. None is refused before as many bytes were pushed as the line has room for
+-- The effect of `push`, by its code. A push is refused only if no room is known and at least the capacity was pushed
 abbrev pub PushTold : HeldIn → ℕ → Option HeldIn → ℤ → Type 0
 PushTold x byte new code = (y : HeldIn) × (new ≡ Some y) × SameHeldIn x y
     × (((code ≡ pos 5) × SendsNothing x.line y.line × (known_room x.line ≡ 0)
     × (length (bytes_sent x.line) < capacity_in x.line → ⊥))
     ⊎ ((code ≡ Done) × Sends byte x.line y.line))
 
--- what `pop` did, by its code
+-- the effect of `pop`, by its code
 abbrev pub PopTold : HeldOut → ℕ → ℕ → Option HeldOut → ℤ → Type 0
 PopTold x old_byte byte new code = (y : HeldOut) × (new ≡ Some y) × SameHeldOut x y
     × (((code ≡ pos 7) × ReceivesNothing x.line y.line × (length (known_bytes x.line) ≡ 0) × (byte ≡ old_byte))
     ⊎ ((code ≡ Done) × Receives byte x.line y.line))
 
--- What was received, followed by what is left, is what was sent; the totals are the numbers of each
+-- The bytes received, then those left, are the bytes sent; the totals count them, sent and received modulo 2^64
 pub record IsTold (x : HeldIn) (z : HeldOut) (told : SynthLineTotals) : Type 0 where
   pub whole : bytes_received z.line ++ bytes_left x.line z.line ≡ bytes_sent x.line
   pub sent : told.sent ≡ length (bytes_sent x.line) % 2 ^ 64
@@ -67,7 +67,7 @@ pub record IsTold (x : HeldIn) (z : HeldOut) (told : SynthLineTotals) : Type 0 w
   pub left : told.left ≡ length (bytes_left x.line z.line)
   pub within : told.left ≤ capacity_in x.line
 
--- what `finish` did, by its code
+-- the effect of `finish`, by its code
 abbrev pub FinishedLine : Handle → Handle → Handle → Handle → SynthLineTotals → SynthLineTotals → ℤ → Type 0
 FinishedLine old new other made old_told told code =
     ((code ≡ EmptyHandle) × ((line_in_of old ≡ None) ⊎ (line_out_of other ≡ None)) × AsItWas old new

@@ -1,4 +1,4 @@
--- What a handle of a queue holds: an end of a queue of 64 places, or of one of 256.
+-- A handle of a queue holds an end of a queue of 64 places, or of one of 256.
 use Rattle.std.specs.Prelude.{◌≡◌, ◌⊎◌, ℕ}
 use Rattle.bindings.specs.Shares.{IsOneMark}
 use Rattle.bindings.specs.declared.share.Share.{Share}
@@ -21,13 +21,13 @@ abbrev pub share_of : HeldQueue → Share
 share_of (Small x) = x.share
 share_of (Large x) = x.share
 
--- the queues have one size, and this holds of the ends
+-- the queues have one size, and R holds of the ends
 abbrev pub AtSize : ((n : ℕ) → Part n → Part n → Type 0) → HeldQueue → HeldQueue → Type 0
 AtSize R (Small x) (Small y) = R 64 x y
 AtSize R (Large x) (Large y) = R 256 x y
 AtSize R x y = ⊥
 
--- the same, of three
+-- the three queues have one size, and R holds of the ends
 abbrev pub AtSizes : ((n : ℕ) → Part n → Part n → Part n → Type 0) → HeldQueue → HeldQueue → HeldQueue → Type 0
 AtSizes R (Small x) (Small y) (Small z) = R 64 x y z
 AtSizes R (Large x) (Large y) (Large z) = R 256 x y z
@@ -41,7 +41,7 @@ HaveOneMark = AtSize (λ n x y. IsOneMark x.share y.share)
 abbrev pub AreOfOneQueue : HeldQueue → HeldQueue → Type 0
 AreOfOneQueue = AtSize IsOneQueue
 
--- the only end of an empty queue of so many places
+-- the only end of an empty queue with this number of places, this first position and this mark
 abbrev pub IsNewHeld : ℕ → ℕ → ℕ → HeldQueue → Type 0
 IsNewHeld places first mark (Small x) = (places ≡ 64) × IsNewPart first mark 64 x
 IsNewHeld places first mark (Large x) = (places ≡ 256) × IsNewPart first mark 256 x

@@ -1,4 +1,4 @@
--- A look at a claim queue, as C has it.
+-- A look at a claim queue, as reported to C.
 use Rattle.std.specs.Prelude.{ℕ}
 use Rattle.claim_queue.specs.declared.look.QueueLook.{QueueLook}
 use Rattle.claim_queue.specs.Handles.{view_of}
@@ -9,7 +9,7 @@ use Rattle.bindings.specs.declared.queue.part.Part.{Part}
 use Rattle.bindings.specs.declared.queue.looking.SynthQueueLook.{SynthQueueLook}
 use Rattle.bindings.specs.QueueParts.{IsKept}
 
--- what the library's call found
+-- the library's own record of the look
 abbrev pub found_by : SynthQueueLook → QueueLook
 found_by a = record { tail = a.tail; head = a.head; shut = a.shut; raised = a.raised }
 

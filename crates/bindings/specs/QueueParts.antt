@@ -1,4 +1,4 @@
--- What the calls of a queue do to an end of it. Each says what the library's call says.
+-- The effects of the calls of a queue on an end of it. Each definition states what the library's call states.
 use Rattle.std.specs.Prelude.{◌≡◌, ◌≤◌, ℕ, Bool, take, List, [], ◌∷◌, length, Result, MatchResult}
 use Rattle.std.specs.Arc.{arc_value}
 use Rattle.std.specs.declared.option.Option.{Option}
@@ -19,7 +19,7 @@ use Rattle.bindings.specs.declared.queue.part.Part.{Part}
 abbrev pub IsSamePart : (n : ℕ) → Part n → Part n → Type 0
 IsSamePart n x y = (arc_value y.queue ≡ arc_value x.queue) × IsSameEnd x.end y.end
 
--- the same, with its share as before
+-- the same end of the same queue, with an unchanged share
 abbrev pub IsKept : (n : ℕ) → Part n → Part n → Type 0
 IsKept n x y = IsSamePart n x y × (y.share ≡ x.share)
 
@@ -27,7 +27,7 @@ IsKept n x y = IsSamePart n x y × (y.share ≡ x.share)
 abbrev pub IsOneQueue : (n : ℕ) → Part n → Part n → Type 0
 IsOneQueue n x y = AreOfOneQueue x.end y.end
 
--- the only end of a queue in which nothing was claimed
+-- the only end of a queue with this first position and this mark, in which nothing was claimed
 abbrev pub IsNewPart : ℕ → ℕ → (n : ℕ) → Part n → Type 0
 IsNewPart first mark n x = (first_of (arc_value x.queue) ≡ first)
     × (view_of x.end ≡ newcomer (record { first = first; room = n }))
@@ -45,14 +45,14 @@ TookPart answer n x y = IsKept n x y × MatchResult answer
     (λ item. TookItems n (view_of x.end) (item ∷ []) (view_of y.end))
     (λ r. RefusedTake IsNone IsOne n (view_of x.end) r (view_of y.end))
 
--- `try_take_line` gave this answer: the line lies at the beginning of the buffer, and the rest is as it was
+-- `try_take_line` gave this answer: the line is at the beginning of the buffer, and the rest is unchanged
 abbrev pub TookLinePart : List ℕ → List ℕ → Result ℕ TakeRefusal → (n : ℕ) → Part n → Part n → Type 0
 TookLinePart old new answer n x y = IsKept n x y × MatchResult answer
     (λ k. (k ≤ n) × IsLine n (take k new) × IsKeptFrom k old new
     × TookItems n (view_of x.end) (take k new) (view_of y.end))
     (λ r. (new ≡ old) × RefusedTake (IsBegun n) (IsLine n) n (view_of x.end) r (view_of y.end))
 
--- so many items were taken one by one, into the beginning of the buffer, and then it was full or a taking was refused
+-- so many items were taken one by one into the beginning of the buffer, until it was full or a taking was refused
 abbrev pub TookSomePart : List ℕ → List ℕ → ℕ × Option TakeRefusal → (n : ℕ) → Part n → Part n → Type 0
 TookSomePart old new answer n x y = IsKept n x y × (answer.0 ≤ length old) × IsKeptFrom answer.0 old new
     × TookSome n (view_of x.end) (take answer.0 new) (length old) answer.1 (view_of y.end)
@@ -61,13 +61,13 @@ TookSomePart old new answer n x y = IsKept n x y × (answer.0 ≤ length old) ×
 abbrev pub ShutPart : Bool → (n : ℕ) → Part n → Part n → Type 0
 ShutPart was_open n x y = IsKept n x y × ShutNow (view_of x.end) was_open (view_of y.end)
 
--- `split` gave this end, of the same queue and with its parts of the share
+-- `split` made `born`, an end of the same queue, with a part of the share of x
 abbrev pub DividedPart : (n : ℕ) → Part n → Part n → Part n → Type 0
 DividedPart n x y born = IsSamePart n x y × (arc_value born.queue ≡ arc_value x.queue)
     × WasDivided x.share y.share born.share
     × Divided (view_of x.end) (view_of y.end) × IsNewborn (view_of x.end) (view_of y.end) (view_of born.end)
 
--- `join` took the other end in, with its parts
+-- `join` took in the end `other`, with its parts of the share
 abbrev pub JoinedPart : (n : ℕ) → Part n → Part n → Part n → Type 0
 JoinedPart n x y other = IsSamePart n x y × TookIn (view_of x.end) (view_of other.end) (view_of y.end)
     × WasJoined x.share y.share other.share

@@ -6,7 +6,7 @@ use Rattle.claim_queue.specs.Own.{View}
 use Rattle.claim_queue.specs.declared.take.TakeRefusal.{TakeRefusal}
 use Rattle.claim_queue.specs.Takings.{TookItems, RefusedTake, IsNone, IsOne}
 
--- behind its first n places the buffer has what it had
+-- after its first n places the buffer is unchanged, and its length is unchanged
 abbrev pub IsKeptFrom : ℕ → List ℕ → List ℕ → Type 0
 IsKeptFrom n old new = (drop n new ≡ drop n old) × (length new ≡ length old)
 
@@ -14,12 +14,12 @@ abbrev pub or_zero : Option ℕ → ℕ
 or_zero None = 0
 or_zero (Some x) = x
 
--- these items were taken, one by one, each by a taking of its own
+-- these items were taken one by one, each by a taking of its own
 abbrev pub TookEach : ℕ → View → List ℕ → View → Type 0
 TookEach room v [] w = w ≡ v
 TookEach room v (x ∷ xs) w = (u : View) × TookItems room v (x ∷ []) u × TookEach room u xs w
 
--- these items were taken one by one, and then the buffer was full, or a taking was refused
+-- these items were taken one by one, until the buffer was full or a taking was refused
 abbrev pub TookSome : ℕ → View → List ℕ → ℕ → Option TakeRefusal → View → Type 0
 TookSome room v items buffer None w = (length items ≡ buffer) × TookEach room v items w
 TookSome room v items buffer (Some r) w =

@@ -1,4 +1,4 @@
--- What the calls of meters do to an end of them. Each says what the library's call says.
+-- The effects of the calls of meters on an end of them. Each definition states what the library's call states.
 use Rattle.std.specs.Prelude.{◌≡◌, ◌⊎◌, ◌≤◌, ◌<◌, ◌+◌, ℕ, Bool, List, Result, MatchResult}
 use Rattle.std.specs.Arc.{arc_value}
 use Rattle.event_theory.specs.declared.alarm.Alarm.{Alarm}
@@ -17,7 +17,7 @@ use Rattle.bindings.specs.declared.seat.held.HeldSeat.{HeldSeat}
 abbrev pub IsSameHeld : HeldSeat → HeldSeat → Type 0
 IsSameHeld x y = (arc_value y.meters ≡ arc_value x.meters) × IsSameSeat x.seat y.seat
 
--- the same, with its share as before
+-- the same end of the same meters, with an unchanged share
 abbrev pub IsKept : HeldSeat → HeldSeat → Type 0
 IsKept x y = IsSameHeld x y × (y.share ≡ x.share)
 
@@ -25,25 +25,25 @@ IsKept x y = IsSameHeld x y × (y.share ≡ x.share)
 abbrev pub AreOfOneTable : HeldSeat → HeldSeat → Type 0
 AreOfOneTable x y = meters.AreOfOneTable x.seat y.seat
 
--- the only end of new meters with this clock
+-- the only end of new meters with this clock and this mark
 abbrev pub IsNewSeat : ℕ → ℕ → HeldSeat → Type 0
 IsNewSeat clock mark x = (first_of (arc_value x.meters) ≡ clock)
     × (view_of x.seat ≡ newcomer (record { clock = clock }))
     × AllOf mark x.share
 
--- `split` gave this end, of the same meters and with its parts of the share
+-- `split` made `born`, an end of the same meters, with a part of the share of x
 abbrev pub Divided : HeldSeat → HeldSeat → HeldSeat → Type 0
 Divided x y born = IsSameHeld x y × (arc_value born.meters ≡ arc_value x.meters)
     × WasDivided x.share y.share born.share
     × endings.Divided (view_of x.seat) (view_of y.seat)
     × endings.IsNewborn (view_of x.seat) (view_of y.seat) (view_of born.seat)
 
--- `join` took the other end in, with its parts
+-- `join` took in the end `other`, with its parts of the share
 abbrev pub Joined : HeldSeat → HeldSeat → HeldSeat → Type 0
 Joined x y other = IsSameHeld x y × endings.TookIn (view_of x.seat) (view_of other.seat) (view_of y.seat)
     × WasJoined x.share y.share other.share
 
--- `tick` gave this value of the gauge, the one before
+-- `tick` gave the value that the gauge had before
 abbrev pub WasTicked : ℕ → ℕ → ℕ → HeldSeat → HeldSeat → Type 0
 WasTicked gauge amount before x y = IsKept x y × Ticked (view_of x.seat) gauge amount before (view_of y.seat)
 

@@ -22,7 +22,7 @@ pub record WasClock (clock : ℕ) (x y : HeldSeat) : Type 0 where
   pub effect : DidNothing (view_of x.seat) (view_of y.seat)
   pub trace : Loaded (view_of x.seat) clock_word clock (view_of y.seat)
 
--- what a read of a gauge did, by its code
+-- the effect of a read of a gauge, by its code
 abbrev pub ReadGauge : ℕ → ℕ → ℕ → HeldSeat → Option HeldSeat → ℤ → Type 0
 ReadGauge gauge old_value value x new code =
     ((code ≡ BadNumber) × (8 ≤ gauge) × (new ≡ Some x) × (value ≡ old_value))

@@ -1,4 +1,4 @@
--- How much of its object an end has, and which object that is.
+-- The share that an end has of its object, and the mark of the object.
 use Rattle.std.specs.Prelude.{◌≡◌, ◌⊎◌, ◌≤◌, ◌<◌, ◌+◌, ℕ, ℤ}
 use Rattle.table_theory.specs.Sharing.{given, kept, the_whole}
 use Rattle.bindings.specs.Codes.{NoShare}
@@ -20,18 +20,18 @@ Fit s t = s.parts + t.parts ≤ the_whole
 abbrev pub Exceed : Share → Share → Type 0
 Exceed s t = the_whole < s.parts + t.parts
 
--- a part can be given away
+-- a part can be given away: there are two or more
 abbrev pub HasTwo : Share → Type 0
 HasTwo s = 2 ≤ s.parts
 
--- no part can be given away, and this is the code for it
+-- no part can be given away, and the code is NoShare
 abbrev pub HasNoTwo : Share → ℤ → Type 0
 HasNoTwo s code = (code ≡ NoShare) × (s.parts < 2)
 
--- a split left t of s and gave `born` to the new end
+-- a split left the `kept` parts of s in t, and gave its `given` parts to `born`; the mark is unchanged
 abbrev pub WasDivided : Share → Share → Share → Type 0
 WasDivided s t born = (t.mark ≡ s.mark) × (born.mark ≡ s.mark) × (born.parts ≡ given s.parts) × (t.parts ≡ kept s.parts)
 
--- s took the parts of another in, and is then t
+-- t has the mark of s, and the parts of s and of `other` together
 abbrev pub WasJoined : Share → Share → Share → Type 0
 WasJoined s t other = (t.mark ≡ s.mark) × (t.parts ≡ s.parts + other.parts)

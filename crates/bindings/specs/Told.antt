@@ -1,7 +1,7 @@
--- What C is told where a call has nothing more to tell than its code.
+-- The report to C of a call that has only a code.
 use Rattle.std.specs.Prelude.{◌≡◌, ℤ}
 use Rattle.bindings.specs.declared.answer.SynthAnswer.{SynthAnswer}
 
--- the code, and no position
+-- the code, with both positions 0
 abbrev pub IsCodeAlone : ℤ → SynthAnswer → Type 0
 IsCodeAlone code told = (told.code ≡ code) × (told.head ≡ 0) × (told.tail ≡ 0)

@@ -1,4 +1,4 @@
-//! What the calls answer to C.
+//! The answers of the calls to C.
 ghost use Rattle.std.specs.Prelude.{◌≡◌};
 ghost use Rattle.bindings.specs.Codes.{code_of_claim, head_of_claim, tail_of_claim, code_of_take, tail_of_take};
 ghost use Rattle.bindings.specs.Codes.{code_of_some, tail_of_some};
@@ -6,7 +6,7 @@ ghost use Rattle.bindings.specs.Told.{IsCodeAlone};
 
 use claim_queue::{ClaimRefusal, TakeRefusal};
 
-/// The call did what it is for.
+/// The call succeeded.
 pub const DONE: i32 = 0;
 
 pub const NO_ITEMS: i32 = 1;
@@ -65,7 +65,7 @@ pub const SHORT_BUFFER: i32 = -6;
 
 pub const BAD_NUMBER: i32 = -7;
 
-/// What a call answered, with the numbers that its refusal tells.
+/// The answer of a call: its code, and the positions in the answer or the refusal.
 #[repr(C)]
 #[derive(Drop)]
 pub struct SynthAnswer {
@@ -74,7 +74,7 @@ pub struct SynthAnswer {
     pub tail: u32,
 }
 
-/// What a queue had at its end: its first position, how many items were put and taken, and how many were left.
+/// The totals of a closed queue: its first position, and how many items were put, were taken and were left.
 #[repr(C)]
 #[derive(Drop)]
 pub struct SynthClosed {
@@ -84,7 +84,7 @@ pub struct SynthClosed {
     pub left: usize,
 }
 
-/// The code alone.
+/// This code, with both positions 0.
 pub fn told(code: i32) -> SynthAnswer
     ensures { IsCodeAlone code result }
 {
@@ -95,7 +95,7 @@ pub fn told(code: i32) -> SynthAnswer
     }
 }
 
-/// The code, and the number that it tells.
+/// This code, with this head.
 pub fn told_with(code: i32, head: u32) -> SynthAnswer
     ensures { (result.code ≡ code) × (result.head ≡ head) × (result.tail ≡ 0) }
 {
@@ -106,7 +106,7 @@ pub fn told_with(code: i32, head: u32) -> SynthAnswer
     }
 }
 
-/// The code of the answer, and the positions that it tells: of a put its first, of a refusal its own.
+/// The code of the answer, and its positions: the first position of a put, or the positions in the refusal.
 pub fn told_of_claim(answer: Result<u32, ClaimRefusal>) -> SynthAnswer
     ensures { (result.code ≡ code_of_claim answer) × (result.head ≡ head_of_claim answer)
         × (result.tail ≡ tail_of_claim answer) }
@@ -134,7 +134,7 @@ pub fn told_of_claim(answer: Result<u32, ClaimRefusal>) -> SynthAnswer
     }
 }
 
-/// The code of the refusal, and the position that it tells.
+/// The code of the refusal, and the position in it.
 pub fn told_of_take(refusal: TakeRefusal) -> SynthAnswer
     ensures { (result.code ≡ code_of_take refusal) × (result.head ≡ 0) × (result.tail ≡ tail_of_take refusal) }
 {
@@ -153,7 +153,7 @@ pub fn told_of_take(refusal: TakeRefusal) -> SynthAnswer
     }
 }
 
-/// Done where anything was taken, and else why the first taking was refused. The position is the last refusal's.
+/// Done if anything was taken or nothing was refused, else the refusal's code. The position is the refusal's, or 0.
 pub fn told_of_some(count: usize, refusal: Option<TakeRefusal>) -> SynthAnswer
     ensures { (result.code ≡ code_of_some count refusal) × (result.head ≡ 0) × (result.tail ≡ tail_of_some refusal) }
 {

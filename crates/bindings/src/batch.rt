@@ -28,7 +28,7 @@ use held::HeldBatch;
 use loose_box::Loose;
 use std::alloc::Global;
 
-/// The positions that a call tells. Where it tells only one of them, the other is 0.
+/// The positions that a call reports. If it reports only one of them, the other is 0.
 #[repr(C)]
 #[derive(Drop)]
 pub struct SynthPositions {
@@ -36,7 +36,7 @@ pub struct SynthPositions {
     pub tail: u64,
 }
 
-// The code of the refusal. The positions that it tells are written, if it tells any.
+// The code of the refusal. The positions in the refusal are written, if it has any.
 fn tell_refused_put(refusal: PutRefusal, positions: &mut SynthPositions) -> i32
     ensures { (result ≡ code_of_put refusal) × (positions.new ≡ positions_of_put refusal positions.old) }
 {
@@ -56,7 +56,7 @@ fn tell_refused_put(refusal: PutRefusal, positions: &mut SynthPositions) -> i32
     }
 }
 
-// The code of the answer. The position of the first item is written, or those that the refusal tells.
+// The code of the answer. The position of the first item is written, or the positions in the refusal.
 fn tell_put(answer: Result<u64, PutRefusal>, positions: &mut SynthPositions) -> i32
     ensures { IsToldPut answer positions.old positions.new result }
 {
@@ -69,7 +69,7 @@ fn tell_put(answer: Result<u64, PutRefusal>, positions: &mut SynthPositions) -> 
     }
 }
 
-// The same, and how many items were put.
+// The code of the answer. The first item's position and the number of items are written, or the refusal's positions.
 fn tell_put_some(
     answer: Result<(u64, usize), PutRefusal>,
     count: &mut usize,
@@ -87,7 +87,7 @@ fn tell_put_some(
     }
 }
 
-// The code of the answer. The number of the items is written, or what the refusal tells.
+// The code of the answer. The number of the items is written, or the numbers in the refusal.
 fn tell_take(
     answer: Result<usize, TakeRefusal>,
     count: &mut usize,
@@ -158,7 +158,7 @@ pub extern "C" fn synth_raw_batch_split(
     split::<HeldBatch>(alloc, batch, (), other)
 }
 
-/// The first end then has all that both had, and the second handle is empty.
+/// Joins two ends: the first then has all that both had, and the second handle is empty.
 #[unsafe(no_mangle)]
 pub extern "C" fn synth_raw_batch_join(alloc: Global, batch: &mut Handle, other: &mut Handle) -> i32
     requires { MarksTell (λ x z. IsOneMark x.share z.share) AreOfOneQueue (batch_of batch.old) (batch_of other.old) }
@@ -288,8 +288,8 @@ pub extern "C" fn synth_raw_batch_shut(batch: &mut Handle, was_open: &mut bool) 
     DONE
 }
 
-/// `BatchQueue::close`, where the end has all parts of the queue. Else the handle keeps its end. The items left are in
-/// the buffer, which has room for as many as the queue has places, or more.
+/// `BatchQueue::close`, if the end has all parts of the queue. Else the handle keeps its end. The items left are in
+/// the buffer, which must have room for at least as many items as the queue has places.
 #[unsafe(no_mangle)]
 pub extern "C" fn synth_raw_batch_close(
     alloc: Global,

@@ -27,7 +27,7 @@ use loose_box::Loose;
 use proc_chain::ChainRefusal;
 use std::alloc::Global;
 
-/// What a chain had at its end: how many notes were put, and how many were run.
+/// The totals of a closed chain: how many notes were put, and how many were run.
 #[repr(C)]
 #[derive(Drop)]
 pub struct SynthChained {
@@ -35,7 +35,7 @@ pub struct SynthChained {
     pub run: u32,
 }
 
-// The code of the answer, and the positions that it tells.
+// The code of the answer, and the positions in it.
 fn told_of_noted(answer: Result<Noted, ChainRefusal>) -> SynthAnswer
     ensures { IsToldNoted answer result }
 {
@@ -90,7 +90,7 @@ pub extern "C" fn synth_raw_chain_split(
     split::<HeldChain>(alloc, chain, (), other)
 }
 
-/// The first end then has all that both had, and the second handle is empty.
+/// Joins two ends: the first then has all that both had, and the second handle is empty.
 #[unsafe(no_mangle)]
 pub extern "C" fn synth_raw_chain_join(alloc: Global, chain: &mut Handle, other: &mut Handle) -> i32
     requires { MarksTell (λ x z. IsOneMark x.share z.share) AreOfOneChain (chain_of chain.old) (chain_of other.old) }
@@ -134,7 +134,7 @@ pub extern "C" fn synth_raw_chain_next(chain: &mut Handle, note: &mut u16) -> i3
     }
 }
 
-/// Closes the chain, where the handle has all parts, and empties it.
+/// Closes the chain if the handle has all parts, and empties the handle.
 #[unsafe(no_mangle)]
 pub extern "C" fn synth_raw_chain_close(
     alloc: Global,

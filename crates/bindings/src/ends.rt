@@ -16,7 +16,7 @@ use std::alloc::Global;
 
 /// An end of an object that other handles share. It can be split, and joined with another end of its object.
 pub trait End: Kind {
-    /// What a new end is to have beside its parts.
+    /// The data that a new end gets besides its parts.
     type Wish: Copy + Drop;
 
     ghost share: { Self → ShareValue };
@@ -33,7 +33,7 @@ pub trait End: Kind {
 
     ghost Joined: { Self → Self → Self → Type 0 };
 
-    /// Why there can be no such new end, as a code.
+    /// The reason why there can be no such new end, as a code.
     fn why_not_split(&self, wish: Self::Wish) -> Option<i32>
         ensures { MatchOption result (MaySplit wish self.now) (λ code. MayNotSplit wish self.now code) };
 
@@ -42,19 +42,19 @@ pub trait End: Kind {
         requires { MaySplit wish self.old }
         ensures { MatchOption result (self.new ≡ self.old) (Divided wish self.old self.new) };
 
-    /// Whether the marks and the parts say that both are ends of one object.
+    /// Whether, by their marks and parts, both can be ends of one object.
     fn may_join(&self, other: &Self) -> bool
         ensures { MatchBool result (MayJoin share HaveOneMark self.now other.now)
             (MayNotJoin share HaveOneMark self.now other.now) };
 
-    /// Takes another end of the object in.
+    /// Takes in another end of the object.
     fn join(&mut self, other: Self)
         requires one { AreOfOne self.old other }
         requires parts { Fit (share self.old) (share other) }
         ensures { Joined self.old self.new other };
 }
 
-/// Puts a new end into an empty handle. There is none when memory is out.
+/// Puts a new end into an empty handle. If there is no end, or no memory for its box, the code is `NO_MEMORY`.
 pub fn fill<K: Kind>(alloc: Global, made: Option<K>, handle: &mut Handle) -> i32
     requires { held_by handle.old ≡ None }
     ensures { Filled K.wrap made handle.old handle.new result }
@@ -80,7 +80,7 @@ pub fn free<K: Kind>(alloc: Global, handle: &mut Handle) -> i32
     DONE
 }
 
-// A new end in a box of its own. Nothing changes when memory is out, or no more handles can be counted.
+// A new end in a box of its own. Nothing changes if out of memory, or if no more handles can be counted.
 fn split_boxed<E: End>(alloc: Global, held: &mut E, wish: E::Wish) -> Option<Box<Payload, Global>>
     requires { E.MaySplit wish held.old }
     ensures { MatchOption result (held.new ≡ held.old)
@@ -121,7 +121,7 @@ pub fn split<E: End>(alloc: Global, handle: &mut Handle, wish: E::Wish, other: &
     }
 }
 
-/// The first end then has all that both had, and the second handle is empty.
+/// Joins two ends: the first then has all that both had, and the second handle is empty.
 pub fn join<E: End>(alloc: Global, handle: &mut Handle, other: &mut Handle) -> i32
     requires { MarksTell E.HaveOneMark E.AreOfOne (end_in E.found handle.old) (end_in E.found other.old) }
     ensures { JoinedHandle (end_in E.found) E.share E.HaveOneMark E.Joined

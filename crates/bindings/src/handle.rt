@@ -11,8 +11,8 @@ use loose_box::Loose;
 use std::alloc::Global;
 use std::mem;
 
-/// C makes it of zeros, and it is then empty. It holds an end of any kind. A call that wants one of another kind finds
-/// none, and leaves it as it is.
+/// C makes a handle of zeros, which is empty. A handle holds an end of any kind. A call for another kind of end finds
+/// none, and leaves the handle as it is.
 #[repr(C)]
 pub struct Handle {
     hidden: Hidden,
@@ -26,16 +26,16 @@ impl Handle {
     ghost use Rattle.bindings.specs.Handles.{held_by, end_in};
     ghost use Rattle.bindings.specs.Lending.{LendsHandle, LendsEnd};
 
-    /// Whether it holds an end.
+    /// Whether the handle holds an end.
     pub fn is_full(&self) -> bool
         ensures { result ≡ is_some (held_by self.now) }
     {
         self.full
     }
 
-    /// What it holds, which it then holds no more.
+    /// Takes out what the handle holds, and leaves it empty.
     ///
-    /// Condition: it is full.
+    /// Condition: the handle is full.
     pub fn take(&mut self, alloc: Global) -> Box<Payload, Global>
         requires { is_some (held_by self.old) ≡ true }
         ensures taken { held_by self.old ≡ Some result.value }
@@ -46,7 +46,7 @@ impl Handle {
         hidden.into_loose(alloc).into_box()
     }
 
-    /// Condition: it is empty.
+    /// Condition: the handle is empty.
     pub fn put(&mut self, held: Box<Payload, Global>)
         requires { held_by self.old ≡ None }
         ensures { held_by self.new ≡ Some held.value }
@@ -56,7 +56,7 @@ impl Handle {
         self.full = true;
     }
 
-    // What it holds, where it is.
+    // The contents, in place.
     fn as_mut(&mut self) -> &mut Payload
         requires { is_some (held_by self.old) ≡ true }
         ensures* writes_back { sem 𝓛 (LendsHandle self.entry result) }
@@ -65,7 +65,7 @@ impl Handle {
         self.hidden.as_mut()
     }
 
-    /// The end of this kind that it holds, where it is.
+    /// The end of this kind that the handle holds, in place.
     pub fn find<K: Kind>(&mut self) -> Option<&mut K>
         ensures* writes_back { sem 𝓛 (LendsEnd K.row K.wrap self.entry result) }
         ensures value { MatchOption result (end_in K.found self.old ≡ None)

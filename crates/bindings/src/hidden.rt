@@ -1,4 +1,4 @@
-//! A box as a pointer that says nothing of what lies there, so that it can cross to C.
+//! A box as a pointer whose type says nothing of the value there, so that it can cross to C.
 ghost use Rattle.std.specs.Prelude.{◌≡◌, true};
 ghost use Rattle.std.specs.declared.option.Option.{Option as Maybe};
 ghost use Rattle.std.specs.declared.option.Option.TheVariants.{None, Some};
@@ -11,8 +11,8 @@ use std::alloc::Global;
 use std::marker::Model;
 use std::ptr::null_mut;
 
-/// It owns the box that it leads to, or it leads nowhere. It can't be let go but where it leads nowhere, so no box is
-/// forgotten.
+/// The pointer owns the box that it leads to, or leads nowhere. Only a pointer that leads nowhere can be let go, so no
+/// box is forgotten.
 #[repr(C)]
 pub struct Hidden {
     at: *mut u8,
@@ -32,7 +32,7 @@ impl Hidden {
     ghost use Rattle.std.specs.Borrow.{sem};
     ghost use Rattle.bindings.specs.Lending.{LendsHidden};
 
-    /// What it leads to, where it stands.
+    /// The value that the pointer leads to, in place.
     pub fn as_mut(&mut self) -> &mut Payload
         requires { is_some self.old.value ≡ true }
         ensures* writes_back { sem 𝓛 (LendsHidden self.entry result) }
@@ -41,7 +41,7 @@ impl Hidden {
         unsafe { &mut *(self.at as *mut Payload) }
     }
 
-    /// It leads nowhere.
+    /// A pointer that leads nowhere.
     pub fn none() -> Hidden
         ensures { result.value ≡ None }
     {
@@ -56,7 +56,7 @@ impl Hidden {
         Hidden { at: at as *mut u8 }
     }
 
-    /// Gives the box back.
+    /// Returns the box.
     pub fn into_loose(self, alloc: Global) -> Loose<Payload, Global>
         requires { is_some self.value ≡ true }
         ensures { self.value ≡ Some result.value }
@@ -68,7 +68,7 @@ impl Hidden {
         }
     }
 
-    /// Lets go of what leads nowhere.
+    /// Lets go of a pointer that leads nowhere.
     pub fn let_go(self)
         requires { self.value ≡ None }
     {

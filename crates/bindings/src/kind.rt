@@ -23,20 +23,20 @@ pub trait Kind: Drop {
     // the end, if it is one of this kind
     ghost found: { PayloadValue → Maybe Self };
 
-    // what a handle with this end holds
+    // the contents of a handle with this end
     ghost wrap: { Self → PayloadValue };
 
-    /// The end, if it is one of this kind, where it is.
+    /// The end, in place, if it is one of this kind.
     fn find(payload: &mut Payload) -> Option<&mut Self>
         ensures* writes_back { sem 𝓛 (LendsPayload Self.row wrap payload.entry result) }
         ensures value { MatchOption result (found payload.old ≡ None) (λ r. payload.old ≡ wrap r.now) };
 
-    /// Condition: it is an end of this kind.
+    /// Condition: the contents are an end of this kind.
     fn unwrap(payload: Payload) -> Self
         requires { is_some (found payload) ≡ true }
         ensures { found payload ≡ Some result };
 
-    /// What a handle with this end holds.
+    /// The contents of a handle with this end.
     fn wrap(self) -> Payload
         ensures { result ≡ wrap self };
 

@@ -1,4 +1,4 @@
-//! What a handle holds, whatever its kind.
+//! The contents of a handle, of any kind.
 use crate::batch::held::HeldBatch;
 use crate::chain::held::HeldChain;
 use crate::hand::held::HeldHand;

@@ -70,7 +70,7 @@ pub extern "C" fn synth_raw_queue_split(
     split::<HeldQueue>(alloc, queue, (), other)
 }
 
-/// The first end then has all that both had, and the second handle is empty.
+/// Joins two ends: the first then has all that both had, and the second handle is empty.
 #[unsafe(no_mangle)]
 pub extern "C" fn synth_raw_queue_join(alloc: Global, queue: &mut Handle, other: &mut Handle) -> i32
     requires { MarksTell HaveOneMark AreOfOneQueue (queue_of queue.old) (queue_of other.old) }
@@ -113,7 +113,7 @@ pub extern "C" fn synth_raw_queue_try_take(queue: &mut Handle, item: &mut u64) -
     }
 }
 
-/// Takings of one item each, until one is refused or the buffer is full. A refusal is told where nothing was taken.
+/// Takes items one by one, until a taking is refused or the buffer is full. Reports a refusal only if none was taken.
 #[unsafe(no_mangle)]
 pub extern "C" fn synth_raw_queue_take_up_to(
     queue: &mut Handle,
@@ -178,8 +178,8 @@ pub extern "C" fn synth_raw_queue_shut(queue: &mut Handle, was_open: &mut bool) 
     DONE
 }
 
-/// `ClaimQueue::close`, where the end has all parts of the queue. Else the handle keeps its end. The items left lie in
-/// the buffer, which has room for as many as the queue has places, or more.
+/// `ClaimQueue::close`, if the end has all parts of the queue. Else the handle keeps its end. The items left are in
+/// the buffer, which must have room for at least as many items as the queue has places.
 #[unsafe(no_mangle)]
 pub extern "C" fn synth_raw_queue_close(
     alloc: Global,

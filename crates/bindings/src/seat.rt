@@ -30,7 +30,7 @@ use loose_box::Loose;
 use meters::{AdvanceRefusal, Metered, SetRefusal};
 use std::alloc::Global;
 
-/// What meters had at their end. Alarms stand in the order of their slots, as many as `alarms` says.
+/// The state of meters when they were closed. The alarms are in the order of their slots; `alarms` is their number.
 #[repr(C)]
 #[derive(Drop)]
 pub struct SynthMetered {
@@ -40,7 +40,7 @@ pub struct SynthMetered {
     pub alarm: [SynthAlarm; 16],
 }
 
-// The code of the refusal, and the clock that it tells.
+// The code of the refusal, and the clock in it.
 fn told_of_advance(refusal: AdvanceRefusal) -> SynthAnswer
     ensures { (result.code ≡ code_of_advance refusal) × (result.head ≡ head_of_advance refusal) × (result.tail ≡ 0) }
 {
@@ -50,7 +50,7 @@ fn told_of_advance(refusal: AdvanceRefusal) -> SynthAnswer
     }
 }
 
-// The code of the refusal, and the slot that it tells.
+// The code of the refusal, and the slot in it.
 fn told_of_set(refusal: SetRefusal) -> SynthAnswer
     requires { head_of_set refusal < 16 }
     ensures { (result.code ≡ code_of_set refusal) × (result.head ≡ head_of_set refusal) × (result.tail ≡ 0) }
@@ -61,7 +61,7 @@ fn told_of_set(refusal: SetRefusal) -> SynthAnswer
     }
 }
 
-// What the library's `close` told.
+// The report of the library's `close`.
 fn told_of_metered(metered: &Metered) -> SynthMetered
     ensures { IsToldMetered metered.now result }
 {
@@ -80,7 +80,7 @@ fn told_of_metered(metered: &Metered) -> SynthMetered
     }
 }
 
-/// Gauges at 0, the clock as told, and no alarm. All meters have a mark of their own.
+/// Gauges at 0, this clock, and no alarm. All meters have a mark of their own.
 #[unsafe(no_mangle)]
 pub extern "C" fn synth_raw_seat_new_marked(
     alloc: Global,
@@ -114,7 +114,7 @@ pub extern "C" fn synth_raw_seat_split(alloc: Global, seat: &mut Handle, other: 
     split::<HeldSeat>(alloc, seat, (), other)
 }
 
-/// The first end then has all that both had, and the second handle is empty.
+/// Joins two ends: the first then has all that both had, and the second handle is empty.
 #[unsafe(no_mangle)]
 pub extern "C" fn synth_raw_seat_join(alloc: Global, seat: &mut Handle, other: &mut Handle) -> i32
     requires { MarksTell (λ x z. IsOneMark x.share z.share) AreOfOneTable (seat_of seat.old) (seat_of other.old) }
@@ -241,7 +241,7 @@ pub extern "C" fn synth_raw_seat_due(
     DONE
 }
 
-/// `Meters::close`, where the end has all parts of the meters. Else the handle keeps its end.
+/// `Meters::close`, if the end has all parts of the meters. Else the handle keeps its end.
 #[unsafe(no_mangle)]
 pub extern "C" fn synth_raw_seat_close(
     alloc: Global,

@@ -5,7 +5,7 @@ ghost use Rattle.std.specs.Option.{MatchOption};
 use crate::answer::NO_SHARE;
 use table_theory::shares::MOST_GIVEN;
 
-/// So many parts of an object, of u64::MAX. `mark` is the number that the object was given.
+/// `parts` of the u64::MAX parts of an object. `mark` is the number that the object was given.
 #[derive(Clone, Copy, Drop)]
 pub struct Share {
     pub parts: u64,
@@ -25,7 +25,7 @@ impl Share {
         }
     }
 
-    /// Why no part can be given away, as a code.
+    /// The reason why no part can be given away, as a code.
     pub fn why_not_split(&self) -> Option<i32>
         ensures { MatchOption result (HasTwo self.now) (λ code. HasNoTwo self.now code) }
     {
@@ -57,7 +57,7 @@ impl Share {
         }
     }
 
-    /// Takes the parts of another in.
+    /// Takes in the parts of another share.
     pub fn join(&mut self, other: Share)
         requires { Fit self.old other }
         ensures { WasJoined self.old self.new other }

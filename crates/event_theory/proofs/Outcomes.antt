@@ -1,4 +1,4 @@
--- What comes of each event of the thread elements: where it is allowed, and where it is refused.
+-- The outcome of each event of the thread elements, if it is allowed and if it is refused.
 use Rattle.std.proofs.Common.{◌≡◌, ℕ, ◌+◌, ◌<◌, Bool, true, false, ◌||◌, not, cond, List, [], ◌∷◌, ◌++◌, remove, position, set, refl, arith, Option, Some, None, slice_get, eqb, Result, Ok, Err}
 use Rattle.std.proofs.lemmas.Bool.Decides.{nat_tests}
 use Rattle.std.specs.List.{list_any}
@@ -31,7 +31,7 @@ park_not_stopped call e index s old found held running = rw (found, held, runnin
 pub start_not_stopped : (call e : ℕ) (s : Elements) (old : Thread) → slice_get s.threads e ≡ Some old → old.stop ≡ false → start call e s ≡ Err NotStopped
 start_not_stopped call e s old found running = rw (found, running) refl
 
--- an element is put on a processor by a call that holds it, where none stands there
+-- an element is put on a processor by a call that holds it, if no element is on the processor
 pub put_not_held : (call processor e : ℕ) (s : Elements) (old : Thread) (seat : Option Hold) → slice_get s.threads e ≡ Some old → slice_get s.processors processor ≡ Some seat
     → position (is_hold call e) s.held ≡ None → put_on call processor e s ≡ Err NotHeld
 put_not_held call processor e s old seat found there none = rw (found, there, none) refl

@@ -1,4 +1,4 @@
--- What the events of a schedule did, counted by the events and the states that they found.
+-- The effects of the events of a schedule, counted by the events and the states that they found.
 use Rattle.std.specs.Prelude.{◌≡◌, ℕ, ◌+◌, ◌==◌, Bool, false, not, ◌&&◌, if◌then◌else◌, List, [], ◌∷◌, map, filter}
 use Rattle.std.specs.Prelude.{flat_map, count_by, Option, Some, None, Result, Ok, Err}
 use Rattle.std.specs.List.{slice_get, range_with_len}
@@ -70,8 +70,8 @@ abbrev pub cancelled_by : Event → State → List Alarm
 cancelled_by (events.Cancel call slot) s = one_alarm (standing slot s.meters)
 cancelled_by event s = []
 
--- by the schedule: each signal of each element became pending as often as it was delivered, and once more where it is
--- pending; an element's done events gave 1, 2, .. up to its steps done; the alarms are those of the events, in order
+-- By the schedule, each signal of each element became pending as often as it was delivered, and once more if it is
+-- pending. An element's done events gave 1, 2, .. up to its steps done. The alarms are those of the events, in order
 pub record IsAccounted (s : State) (events : List Event) (t : State) : Type 0 where
   pub pending : (element number : ℕ) → count_by (made_pending element number) (moves s events)
       ≡ count_by (delivered element number) (moves s events) + (if is_pending element number t then 1 else 0)

@@ -1,4 +1,4 @@
--- How often an element stands anywhere.
+-- How often an element appears anywhere.
 use Rattle.std.specs.Prelude.{ℕ, ◌+◌, ◌==◌, Bool, false, if◌then◌else◌, List, count_by, sum_by, Option, Some, None}
 use Rattle.std.specs.List.{slice_get}
 use Rattle.event_theory.specs.Queues.{left}

@@ -1,5 +1,5 @@
--- A chain: a queue of notes with a gate, at most one runner, and the calls that owe a notify. What procedure chaining
--- defers (Massalin and Pu, 1991).
+-- A chain: a queue of notes with a gate, at most one runner, and the calls that owe a notify. The notes are the
+-- procedures that procedure chaining defers (Massalin and Pu, 1991).
 use Rattle.std.specs.Prelude.{ℕ, ◌==◌, nat_lt, Bool, true, false, not, ◌&&◌, ◌||◌, if◌then◌else◌, List, Option, Some}
 use Rattle.std.specs.Prelude.{None, Result, Ok, option_map}
 use Rattle.std.specs.List.{list_any, slice_get}
@@ -21,7 +21,7 @@ pub record Chain : Type 0 where
 abbrev pub empty_chain : Chain
 empty_chain = record { notes = empty_queue 32; gate = Idle; runner = None; owing = λ call. false }
 
--- the set with this number in it, or without it
+-- the set with this number in it if `is_in` holds, else without the number
 abbrev pub with_number : Bool → ℕ → (ℕ → Bool) → ℕ → Bool
 with_number is_in number set = λ n. if n == number then is_in else set n
 
@@ -43,13 +43,13 @@ forgotten c (Some pair) = is_raised c.notes pair && not (owes c (slice_get c.not
 abbrev pub is_forgotten : Chain → Bool
 is_forgotten c = forgotten c (slice_get (left_pairs c.notes) 0)
 
--- a run of one note, a number of 16 bits
+-- a claim of a run of one note, a number of 16 bits
 abbrev pub claim_note : ℕ → List ℕ → Chain → Result Chain Refusal
 claim_note call items c =
     refused_if (list_any (nat_lt 65535) items) UnknownName
     (claim 1 call items c.notes >>= λ notes. Ok (record c { notes = notes }))
 
--- the call then owes a notify
+-- a raise in a chain, after which the call owes a notify
 abbrev pub raise_note : ℕ → ℕ → ℕ → Chain → Result Chain Refusal
 raise_note call run index c =
     raise call run index c.notes >>= λ notes. Ok (record c { notes = notes; owing = with_number true call c.owing })
@@ -60,12 +60,12 @@ take_note call count c =
     take_first 1 count c.notes
     >>= λ notes. refused_if (not (is_call call c.runner)) NotRunner (Ok (record c { notes = notes }))
 
--- who runs the chain after a notify by the call
+-- the runner of the chain after a notify by the call
 abbrev pub runner_after : ℕ → Gate → Option ℕ → Option ℕ
 runner_after call Idle runner = Some call
 runner_after call gate runner = runner
 
--- the gate becomes More; where it was Idle, the call is the runner; it owes nothing more
+-- a call that owes a notify makes the gate More, becomes the runner if the gate was Idle, and owes nothing more
 abbrev pub notify : ℕ → Chain → Result Chain Refusal
 notify call c = refused_if (not (c.owing call)) NotOwner (Ok (record c {
   gate = More;
@@ -73,7 +73,7 @@ notify call c = refused_if (not (c.owing call)) NotOwner (Ok (record c {
   owing = with_number false call c.owing;
 }))
 
--- the runner sees what was notified
+-- the runner has seen all notifies, and the gate becomes Running
 abbrev pub round : ℕ → Chain → Result Chain Refusal
 round call c = refused_if (not (is_call call c.runner)) NotRunner (Ok (record c { gate = Running }))
 
@@ -81,14 +81,14 @@ abbrev pub is_more : Gate → Bool
 is_more More = true
 is_more gate = false
 
--- the gate becomes Idle and has no runner; not over a notify that the runner hasn't seen, nor a raised note that
--- nobody will tell of
+-- The runner leaves, and the gate becomes Idle. Refused if there is a notify that the runner hasn't seen, or if the
+-- first note left is raised and the call of its run owes no notify
 abbrev pub leave : ℕ → Chain → Result Chain Refusal
 leave call c =
     refused_if (is_more c.gate || is_forgotten c) GateBusy
     (refused_if (not (is_call call c.runner)) NotRunner (Ok (record c { gate = Idle; runner = None })))
 
--- the set after the join of another call to the first
+-- the set after the call `other` was joined to the first call
 abbrev pub join_set : ℕ → ℕ → (ℕ → Bool) → ℕ → Bool
 join_set call other set = λ n. not (n == other) && (set n || (n == call && set other))
 

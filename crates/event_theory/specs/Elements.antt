@@ -1,4 +1,4 @@
--- The thread elements, where each of them is, and their events.
+-- The thread elements, the place of each of them, and their events.
 use Rattle.std.specs.Prelude.{ℕ, ◌+◌, ◌==◌, nat_le, Bool, true, false, not, ◌&&◌, ◌||◌, if◌then◌else◌, List, []}
 use Rattle.std.specs.Prelude.{◌∷◌, ◌++◌, length, map, take, remove, slice_set, position, Option, Some, None}
 use Rattle.std.specs.Prelude.{option_map, Result, Ok, Err}
@@ -14,7 +14,7 @@ use Rattle.event_theory.specs.declared.refusal.Refusal.TheVariants.{UnknownName,
 use Rattle.event_theory.specs.declared.refusal.Refusal.TheVariants.{ProcessorBusy, ProcessorEmpty, NotStopped}
 use Rattle.event_theory.specs.Numbers.{u32_max}
 
--- an element's pending signals, its steps done, its stop bit, and whether it stands in its stop cell
+-- an element's pending signals, its steps done, its stop bit, and whether the element is in its stop cell
 pub record Thread : Type 0 where
   pub pending : ℕ → Bool
   pub done : ℕ
@@ -49,7 +49,7 @@ hold call element = record { call = call; element = element }
 abbrev pub is_hold : ℕ → ℕ → Hold → Bool
 is_hold call element h = h.call == call && h.element == element
 
--- the call lets an element go
+-- the call lets go of an element that it holds
 abbrev pub let_go : ℕ → ℕ → List Hold → Result (List Hold) Refusal
 let_go call element held = ok_or (position (is_hold call element) held) NotHeld >>= λ index. Ok (remove held index)
 
@@ -57,7 +57,7 @@ abbrev pub let_all_go : ℕ → List ℕ → List Hold → Result (List Hold) Re
 let_all_go call [] held = Ok held
 let_all_go call (element ∷ elements) held = let_go call element held >>= let_all_go call elements
 
--- a run of one element, which the call held
+-- a claim of a run of one element, which the call held and then holds no more
 abbrev pub claim_element : ℕ → ℕ → List ℕ → Elements → Result Elements Refusal
 claim_element ring call items s =
     refused_if (list_any (nat_le (length s.threads)) items) UnknownName
@@ -69,7 +69,7 @@ abbrev pub raise_element : ℕ → ℕ → ℕ → ℕ → Elements → Result E
 raise_element ring call run index s =
     change_at ring (raise call run index) s.rings >>= λ rings. Ok (record s { rings = rings })
 
--- the call holds what it takes
+-- a taking, after which the call holds what it took
 abbrev pub take_element : ℕ → ℕ → ℕ → Elements → Result Elements Refusal
 take_element ring call count s =
     at ring s.rings
@@ -91,7 +91,7 @@ put_on call processor element s =
     >>= λ held. refused_if (is_busy seat) ProcessorBusy
     (Ok (record s { processors = slice_set s.processors processor (Some (hold call element)); held = held }))
 
--- the hold of the call that put an element there
+-- the hold of the element on a processor, if the call put the element there
 abbrev pub put_by : ℕ → Option Hold → Result Hold Refusal
 put_by call None = Err ProcessorEmpty
 put_by call (Some h) = refused_if (not (h.call == call)) NotOwner (Ok h)
@@ -115,7 +115,7 @@ park call element s =
     >>= λ held. refused_if (not thread.stop) NotStopped
     (Ok (record s { threads = slice_set s.threads element (record thread { parked = true }); held = held }))
 
--- an element in its stop cell is then held by the call
+-- the stop bit is cleared; an element that was in its stop cell is then held by the call
 abbrev pub start : ℕ → ℕ → Elements → Result Elements Refusal
 start call element s =
     at element s.threads
@@ -136,12 +136,12 @@ abbrev pub deliver : ℕ → ℕ → Elements → Result Elements Refusal
 deliver call element s = change_thread element
     (λ thread. refused_if (not (holds call element s)) NotHeld (Ok (record thread { pending = λ signal. false }))) s
 
--- the call put the element there
+-- the call put the element on the processor
 abbrev pub is_put : ℕ → ℕ → Option Hold → Bool
 is_put call element None = false
 is_put call element (Some h) = is_hold call element h
 
--- one step more
+-- one more step of an element that the call holds or put on a processor
 abbrev pub done : ℕ → ℕ → Elements → Result Elements Refusal
 done call element s = change_thread element (λ thread.
     refused_if (thread.done == u32_max) Full

@@ -1,4 +1,4 @@
--- What holds of every state that a schedule reaches.
+-- The conditions on every state that a schedule reaches.
 use Rattle.std.specs.Prelude.{◌≡◌, ℕ, ◌+◌, ◌==◌, ◌<◌, ◌≤◌, Bool, true, false, not, ◌&&◌, ◌||◌}
 use Rattle.std.specs.Prelude.{length, take, All, count_by, Option, Some, None}
 use Rattle.std.specs.List.{list_all}
@@ -14,7 +14,7 @@ use Rattle.event_theory.specs.declared.status.Gate.{Gate}
 use Rattle.event_theory.specs.declared.status.Gate.TheVariants.{Idle}
 use Rattle.event_theory.specs.declared.alarm.Alarm.{Alarm}
 
--- each run has an item, the raised pairs lie in the history, what was taken was raised, and what is left is within
+-- each run has an item, the raised pairs are in the history, what was taken was raised, and what is left is within
 -- the capacity
 pub record IsLawfulQueue (q : Queue) : Type 0 where
   pub solid : (run : ℕ) → run < length q.history → 0 < run_length q.history run
@@ -27,14 +27,14 @@ abbrev pub is_idle : Gate → Bool
 is_idle Idle = true
 is_idle gate = false
 
--- its notes are a lawful queue; there is a runner exactly where the gate isn't Idle; and where it is Idle and the first
--- note left is raised, the call that owns its run owes a notify
+-- The chain's notes are a lawful queue. There is a runner exactly if the gate isn't Idle. If the gate is Idle and the
+-- first note left is raised, the call of its run owes a notify
 pub record IsLawfulChain (c : Chain) : Type 0 where
   pub notes : IsLawfulQueue c.notes
   pub run : is_some c.runner ≡ not (is_idle c.gate)
   pub promised : (is_idle c.gate && is_forgotten c) ≡ false
 
--- the element queues are lawful; each element appears exactly once, and nothing else does; an element in its stop cell
+-- The element queues are lawful. Each element appears exactly once, and nothing else does. An element in its stop cell
 -- has its stop bit set
 pub record IsLawfulElements (s : Elements) : Type 0 where
   pub rings : All IsLawfulQueue s.rings
@@ -49,7 +49,7 @@ abbrev pub stands : Alarm → Option Alarm → Bool
 stands alarm None = false
 stands alarm (Some other) = is_alarm alarm other
 
--- the alarms set are those fired, those cancelled and those standing, each once
+-- the alarms set are those fired, those cancelled and those in the slots, each once
 abbrev pub IsLawfulMeters : Meters → Type 0
 IsLawfulMeters m = (alarm : Alarm) →
     count_by (is_alarm alarm) m.set

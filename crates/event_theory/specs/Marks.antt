@@ -1,4 +1,4 @@
--- Marks: a byte queue that is shut, and the number of notifies of a wait queue, against which a ticket is held.
+-- Marks: a byte queue that is shut, and the number of notifies of a wait queue, which a ticket is compared with.
 use Rattle.std.specs.Prelude.{ℕ, ◌+◌, ◌==◌, ◌%◌, true, not, [], ◌∷◌, Result, Ok}
 use Rattle.event_theory.specs.Results.{◌>>=◌, refused_if, at, change_at}
 use Rattle.event_theory.specs.Queues.{Queue, claim}
@@ -19,7 +19,7 @@ notify_wait wait s =
 abbrev pub wait_ring : ℕ → ℕ
 wait_ring wait = wait + 2
 
--- a claim in a wait queue whose number of notifies is the ticket
+-- a claim in a wait queue, refused unless its number of notifies is the ticket
 abbrev pub wait_at : ℕ → ℕ → ℕ → ℕ → Elements → Result Elements Refusal
 wait_at call wait element ticket s =
     at element s.threads

@@ -9,7 +9,7 @@ use Rattle.event_theory.specs.declared.refusal.Refusal.{Refusal}
 use Rattle.event_theory.specs.declared.refusal.Refusal.TheVariants.{UnknownName, Full, NotRaised}
 use Rattle.event_theory.specs.Numbers.{u32_max, u64_values}
 
--- the gauges, each modulo 2^64; the clock; the slots, each with its standing alarm; the alarms that were set, fired
+-- the gauges, each modulo 2^64; the clock; the slots, each with its alarm, if any; the alarms that were set, fired
 -- and cancelled, in their order
 pub record Meters : Type 0 where
   pub gauges : List ℕ
@@ -41,17 +41,17 @@ abbrev pub is_empty : Option Alarm → Bool
 is_empty None = true
 is_empty (Some alarm) = false
 
--- an alarm in the first empty slot
+-- an alarm is set in the first empty slot
 abbrev pub set_alarm : Alarm → Meters → Result Meters Refusal
 set_alarm alarm m =
     ok_or (position is_empty m.slots) Full
     >>= λ slot. Ok (record m { slots = slice_set m.slots slot (Some alarm); set = m.set ++ alarm ∷ [] })
 
--- the alarm that stands in a slot
+-- the alarm in a slot
 abbrev pub standing : ℕ → Meters → Result Alarm Refusal
 standing slot m = at slot m.slots >>= λ found. ok_or found UnknownName
 
--- an alarm that is due is taken out
+-- an alarm that is due is taken out of its slot
 abbrev pub fire : ℕ → Meters → Result Meters Refusal
 fire slot m =
     standing slot m

@@ -1,4 +1,4 @@
--- How far the numbers of the machine go, which have 32 bits or 64.
+-- The range of the machine's numbers, which have 32 or 64 bits.
 use Rattle.std.specs.Prelude.{ℕ}
 
 -- the last number of 32 bits

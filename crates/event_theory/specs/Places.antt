@@ -1,4 +1,4 @@
--- Where an element is: on a processor, in an element queue, held, or in its stop cell.
+-- The place of an element: on a processor, in an element queue, held, or in its stop cell.
 use Rattle.std.specs.Prelude.{ℕ, zero, suc, ◌==◌, if◌then◌else◌, List, [], ◌∷◌, position, Option, Some, None}
 use Rattle.std.specs.List.{list_any}
 use Rattle.event_theory.specs.Queues.{left}
@@ -8,13 +8,13 @@ use Rattle.event_theory.specs.declared.hold.Hold.{Hold}
 use Rattle.event_theory.specs.declared.status.Place.{Place}
 use Rattle.event_theory.specs.declared.status.Place.TheVariants as places
 
--- the place that an element queue stands for
+-- the place of the elements in an element queue
 abbrev pub ring_place : ℕ → Place
 ring_place zero = places.Ready
 ring_place (suc zero) = places.Free
 ring_place (suc (suc wait)) = places.Wait wait
 
--- the call that holds an element
+-- the call that holds an element, if any
 abbrev pub holder : ℕ → List Hold → Option ℕ
 holder element [] = None
 holder element (h ∷ held) = if h.element == element then Some h.call else holder element held
@@ -31,7 +31,7 @@ abbrev pub place_by : Option ℕ → Option ℕ → Option ℕ → Place
 place_by (Some processor) ring held = places.Processor processor
 place_by None ring held = ring_or_held ring held
 
--- where an element is: in a lawful state it is in one of these, so the order of the looks doesn't matter
+-- the place of an element: in a lawful state it is in exactly one, so the order of the looks doesn't matter
 abbrev pub place_of : ℕ → Elements → Place
 place_of element s = place_by
     (position (is_on element) s.processors)

@@ -25,7 +25,7 @@ empty_queue capacity = record {
   shut = false;
 }
 
--- as many items as it may have, 0, 1, .. in their order, each a raised run of call 0
+-- a queue with as many items as it may have, 0, 1, .. in their order, each a raised run of call 0
 abbrev pub full_queue : ℕ → Queue
 full_queue capacity = record {
   history = map (λ item. record { call = 0; items = item ∷ [] }) (range_with_len 0 capacity);
@@ -39,18 +39,18 @@ full_queue capacity = record {
 abbrev pub left : Queue → List ℕ
 left q = drop q.taken (flat q.history)
 
--- the pair of each item that is left
+-- the pair (run, index) of each item that is left
 abbrev pub left_pairs : Queue → List (ℕ × ℕ)
 left_pairs q = drop q.taken (pairs q.history)
 
 abbrev pub is_raised : Queue → ℕ × ℕ → Bool
 is_raised q pair = q.raised pair.0 pair.1
 
--- the first items that are left, so many, are there and raised
+-- at least `count` items are left, and the first `count` of them are raised
 abbrev pub first_are_raised : ℕ → Queue → Bool
 first_are_raised count q = nat_le count (length (left q)) && list_all (is_raised q) (take count (left_pairs q))
 
--- the set with one pair more
+-- the set with this pair added
 abbrev pub with_pair : ℕ → ℕ → (ℕ → ℕ → Bool) → ℕ → ℕ → Bool
 with_pair run index set = λ r i. (r == run && i == index) || set r i
 
@@ -63,7 +63,7 @@ after_raise run index q = record q { raised = with_pair run index q.raised }
 abbrev pub after_take : ℕ → Queue → Queue
 after_take count q = record q { taken = q.taken + count }
 
--- a run of the call is appended; `longest` is the most that a run may have
+-- a run of the call is appended; `longest` is the most items that a run may have
 abbrev pub claim : ℕ → ℕ → List ℕ → Queue → Result Queue Refusal
 claim longest call items q =
     if length items == 0 then Err NoItems
@@ -84,7 +84,7 @@ raise_of call run index q (Some claimed) =
 abbrev pub raise : ℕ → ℕ → ℕ → Queue → Result Queue Refusal
 raise call run index q = raise_of call run index q (slice_get q.history run)
 
--- the first items that are left are taken; `longest` is the most that one taking may have
+-- the first items that are left are taken; `longest` is the most items that one taking may have
 abbrev pub take_first : ℕ → ℕ → Queue → Result Queue Refusal
 take_first longest count q =
     if count == 0 then Err NoItems
@@ -92,13 +92,13 @@ take_first longest count q =
     else if not (first_are_raised count q) then Err NotRaised
     else Ok (after_take count q)
 
--- a call's name after the join of another to the first
+-- a call's name after the call `other` was joined to the first call
 abbrev pub renamed : ℕ → ℕ → ℕ → ℕ
 renamed call other name = if name == other then call else name
 
 abbrev pub join_run : ℕ → ℕ → Run → Run
 join_run call other run = record run { call = renamed call other run.call }
 
--- the runs of the other call are the call's
+-- the runs of the call `other` become runs of the first call
 abbrev pub join_queue : ℕ → ℕ → Queue → Queue
 join_queue call other q = record q { history = map (join_run call other) q.history }

@@ -1,4 +1,4 @@
--- The state of the core, and what each event makes of it.
+-- The state of the core, and the effect of each event on it.
 use Rattle.std.specs.Prelude.{ℕ, Bool, true, false, ◌+◌, ◌%◌, nat_le, nat_lt, ◌==◌, ◌||◌, List, [], ◌∷◌, ◌++◌, length}
 use Rattle.std.specs.Prelude.{map, Result, Ok}
 use Rattle.event_theory.specs.Results.{◌>>=◌, refused_if, at, change_at}
@@ -36,14 +36,14 @@ first_state count = record {
   events = 0;
 }
 
--- a queue with the next number
+-- a new queue, with the next number
 abbrev pub make_queue : ℕ → State → Result State Refusal
 make_queue capacity s =
     refused_if (capacity == 0 || nat_lt 256 capacity) TooLong
     (refused_if (nat_le 8 (length s.queues)) Full
     (Ok (record s { queues = s.queues ++ empty_queue capacity ∷ [] })))
 
--- a chain with the next number
+-- a new chain, with the next number
 abbrev pub make_chain : State → Result State Refusal
 make_chain s = refused_if (nat_le 8 (length s.chains)) Full (Ok (record s { chains = s.chains ++ empty_chain ∷ [] }))
 
@@ -60,11 +60,11 @@ in_elements change s = change s.elements >>= λ elements. Ok (record s { element
 abbrev pub in_meters : (Meters → Result Meters Refusal) → State → Result State Refusal
 in_meters change s = change s.meters >>= λ meters. Ok (record s { meters = meters })
 
--- an alarm for an element that is there
+-- an alarm is set for an element that exists
 abbrev pub set_for : Alarm → State → Result State Refusal
 set_for alarm s = at alarm.element s.elements.threads >>= λ thread. in_meters (set_alarm alarm) s
 
--- all that the other call owns, holds, runs, owes or put on a processor is the call's
+-- all that the other call owns, holds, runs, owes or put on a processor becomes the call's
 abbrev pub join : ℕ → ℕ → State → Result State Refusal
 join call other s = refused_if (call == other) UnknownName (Ok (record s {
   queues = map (join_queue call other) s.queues;
@@ -72,7 +72,7 @@ join call other s = refused_if (call == other) UnknownName (Ok (record s {
   elements = join_elements call other s.elements;
 }))
 
--- an event, but for its counting
+-- the effect of an event, except for the count of events
 abbrev pub effect : Event → State → Result State Refusal
 effect (events.Queue capacity) = make_queue capacity
 effect events.Chain = make_chain
@@ -112,7 +112,7 @@ effect (events.Shut call queue) = in_queue queue (λ q. Ok (shut q))
 effect (events.WaitAt call wait element ticket) = in_elements (wait_at call wait element ticket)
 effect (events.Join call other) = join call other
 
--- what is stored may have to grow for the event
+-- storage may have to grow for the event
 abbrev pub may_grow : Event → Bool
 may_grow (events.Queue capacity) = true
 may_grow events.Chain = true
@@ -129,6 +129,6 @@ may_grow event = false
 abbrev pub counted : State → State
 counted s = record s { events = (s.events + 1) % u64_values }
 
--- the state after an event, or why it isn't allowed
+-- the state after an event, or the reason why the event isn't allowed
 abbrev pub step : Event → State → Result State Refusal
 step event s = effect event s >>= λ next. Ok (counted next)

@@ -31,7 +31,7 @@ chain_status c = record {
   gate = c.gate;
 }
 
--- the number whose bits from 0 on are these
+-- the number of `count` bits whose bit i is set if `bit + i` is in the set
 abbrev pub bits_from : ℕ → ℕ → (ℕ → Bool) → ℕ
 bits_from zero bit set = 0
 bits_from (suc count) bit set = (if set bit then 1 else 0) + 2 * bits_from count (bit + 1) set

@@ -2,7 +2,7 @@
 
 use crate::names::{Element, Signal};
 
-/// At which tick it is due, and the signal that it is for.
+/// The tick at which the alarm is due, and the signal that the alarm is for.
 #[derive(Clone, Copy, Debug, Default, PartialEq, Eq)]
 pub struct Alarm {
     pub due: u32,

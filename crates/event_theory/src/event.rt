@@ -55,7 +55,7 @@ pub enum Event {
         call: Call,
         element: Element,
     },
-    /// Clears the stop bit of an element; where it stands in its stop cell, the call then holds it.
+    /// Clears the stop bit of an element. If the element is in its stop cell, the call then holds it.
     Start {
         call: Call,
         element: Element,
@@ -76,7 +76,7 @@ pub enum Event {
         call: Call,
         element: Element,
     },
-    /// Tells a chain that something was raised in it; where its gate was Idle, the call is its runner.
+    /// Notifies a chain that something was raised in it. If the chain's gate was Idle, the call becomes the runner.
     Notify {
         call: Call,
         chain: ChainNumber,
@@ -128,14 +128,14 @@ pub enum Event {
         call: Call,
         queue: QueueNumber,
     },
-    /// Claims a place in a wait queue for an element that the call holds, while its number of notifies is the ticket.
+    /// Claims a place in a wait queue for an element that the call holds, if the ticket is the queue's notify count.
     WaitAt {
         call: Call,
         wait: WaitNumber,
         element: Element,
         ticket: u32,
     },
-    /// All that the other call owns, holds, runs, owes or put on a processor is the call's.
+    /// All that the other call owns, holds, runs, owes or put on a processor becomes the call's.
     Join {
         call: Call,
         other: Call,

@@ -26,7 +26,7 @@ impl<T> Items<T> {
         Items { items }
     }
 
-    /// Appends an item. Where a growth is refused the item comes back, and the list stays as it is.
+    /// Appends an item. If a growth is refused, the item is returned, and the list is unchanged.
     pub fn push(&mut self, item: T) -> Result<(), AllocFailed<T>>
         ensures pushed { OnOk result (self.new ≡ self.old ++ item ∷ []) }
         ensures same { OnErr result (self.new ≡ self.old) }
@@ -42,7 +42,7 @@ impl<T> Items<T> {
         self.items.as_slice()
     }
 
-    /// Gives the list back. Takes no memory.
+    /// Returns the list. Takes no memory.
     pub fn into_vec(self) -> Vec<T>
         ensures { result.items ≡ self }
     {

@@ -1,4 +1,4 @@
-//! Each event keeps what is lawful, as statements over plain data: no width and no table stands in them.
+//! Each event keeps what is lawful. These are statements over plain data, without a width or a table.
 
 ghost use Rattle.std.specs.Prelude.{◌≡◌, ◌==◌, ◌+◌, ◌<◌, ◌≤◌, ℕ, List, [], ◌∷◌, ◌++◌, map, length, false, Ok};
 ghost use Rattle.event_theory.specs.Queues.{Queue, empty_queue, full_queue, claim, raise, take_first};
@@ -18,7 +18,7 @@ ghost use Rattle.event_theory.specs.Accounts.{IsAccounted};
 ghost use Rattle.event_theory.specs.Marks.{shut, notify_wait, wait_at};
 ghost use Rattle.event_theory.specs.declared.event.Event.{Event};
 
-/// What a state begins with is lawful.
+/// The empty and full queues, the empty chain and the meters that a state begins with are lawful.
 pub fn first_are_lawful()
     ensures empty { (capacity : ℕ) → IsLawfulQueue (empty_queue capacity) }
     ensures full { (count : ℕ) → IsLawfulQueue (full_queue count) }
@@ -112,7 +112,7 @@ pub fn step_keeps_lawful()
     ensures { (event : Event) (s t : State) → IsLawful s → step event s ≡ Ok t → IsLawful t }
 {}
 
-/// Whatever a schedule reaches is lawful, and agrees with what the schedule's events did.
+/// Every state that a schedule reaches is lawful, and agrees with the effects of the schedule's events.
 pub fn every_schedule()
     ensures lawful { (elements : ℕ) (events : List Event) (s : State)
         → Reaches (first_state elements) events s → IsLawful s }

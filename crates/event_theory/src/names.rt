@@ -21,7 +21,7 @@ impl Model for Call {
 }
 
 impl Call {
-    /// The call of this number, where there is one.
+    /// The call of this number, if there is one.
     pub fn new(number: u8) -> Option<Self>
         ensures known { IsSome result ↔ (number < 64) }
         ensures value { IfSome result (λ call. call ≡ number) }
@@ -59,7 +59,7 @@ impl Model for QueueNumber {
 }
 
 impl QueueNumber {
-    /// The queue of this number, where there can be one.
+    /// The queue of this number, if there can be one.
     pub fn new(number: u8) -> Option<Self>
         ensures known { IsSome result ↔ (number < 8) }
         ensures value { IfSome result (λ queue. queue ≡ number) }
@@ -97,7 +97,7 @@ impl Model for ChainNumber {
 }
 
 impl ChainNumber {
-    /// The chain of this number, where there can be one.
+    /// The chain of this number, if there can be one.
     pub fn new(number: u8) -> Option<Self>
         ensures known { IsSome result ↔ (number < 8) }
         ensures value { IfSome result (λ chain. chain ≡ number) }
@@ -135,7 +135,7 @@ impl Model for WaitNumber {
 }
 
 impl WaitNumber {
-    /// The wait queue of this number, where there is one.
+    /// The wait queue of this number, if there is one.
     pub fn new(number: u8) -> Option<Self>
         ensures known { IsSome result ↔ (number < 16) }
         ensures value { IfSome result (λ wait. wait ≡ number) }
@@ -173,7 +173,7 @@ impl Model for Processor {
 }
 
 impl Processor {
-    /// The processor of this number, where there is one.
+    /// The processor of this number, if there is one.
     pub fn new(number: u8) -> Option<Self>
         ensures known { IsSome result ↔ (number < 8) }
         ensures value { IfSome result (λ processor. processor ≡ number) }
@@ -211,7 +211,7 @@ impl Model for Element {
 }
 
 impl Element {
-    /// The element of this number, where there can be one.
+    /// The element of this number, if there can be one.
     pub fn new(number: u8) -> Option<Self>
         ensures known { IsSome result ↔ (number < 64) }
         ensures value { IfSome result (λ element. element ≡ number) }
@@ -249,7 +249,7 @@ impl Model for Signal {
 }
 
 impl Signal {
-    /// The signal of this number, where there is one.
+    /// The signal of this number, if there is one.
     pub fn new(number: u8) -> Option<Self>
         ensures known { IsSome result ↔ (number < 16) }
         ensures value { IfSome result (λ signal. signal ≡ number) }
@@ -287,7 +287,7 @@ impl Model for Gauge {
 }
 
 impl Gauge {
-    /// The gauge of this number, where there is one.
+    /// The gauge of this number, if there is one.
     pub fn new(number: u8) -> Option<Self>
         ensures known { IsSome result ↔ (number < 8) }
         ensures value { IfSome result (λ gauge. gauge ≡ number) }
@@ -325,7 +325,7 @@ impl Model for Slot {
 }
 
 impl Slot {
-    /// The slot of this number, where there is one.
+    /// The slot of this number, if there is one.
     pub fn new(number: u8) -> Option<Self>
         ensures known { IsSome result ↔ (number < 16) }
         ensures value { IfSome result (λ slot. slot ≡ number) }

@@ -10,8 +10,8 @@ use thiserror::Error;
 
 /// Why an event is refused, with the number that a replay prints.
 ///
-/// Refusals are checked in the order of their numbers, but for `Closed`, which stands behind `TooLong`.
-/// `OutOfMemory` is the last of all.
+/// Refusals are checked in the order of their numbers, except for `Closed`, which is checked after `TooLong`.
+/// `OutOfMemory` is checked last.
 #[derive(Clone, Copy, Debug, PartialEq, Eq)]
 pub enum Refusal {
     /// There is no such queue, chain, run, item, element or slot with an alarm, a note is past 65,535, or a call would
@@ -23,7 +23,7 @@ pub enum Refusal {
     TooLong = 3,
     /// There is no room, or the clock, or the steps of an element, are at 4,294,967,295.
     Full = 4,
-    /// It is another call's.
+    /// The run or the element on the processor is another call's, or the call owes no notify.
     NotOwner = 5,
     /// The item was raised before.
     AlreadyRaised = 6,
@@ -31,9 +31,9 @@ pub enum Refusal {
     NotRaised = 7,
     /// The call doesn't hold the element.
     NotHeld = 8,
-    /// An element stands on the processor.
+    /// An element is on the processor.
     ProcessorBusy = 9,
-    /// No element stands on the processor.
+    /// No element is on the processor.
     ProcessorEmpty = 10,
     /// The element's stop bit is clear.
     NotStopped = 11,
@@ -41,8 +41,8 @@ pub enum Refusal {
     GateBusy = 12,
     /// The call isn't the chain's runner.
     NotRunner = 13,
-    /// What is stored had to grow, and there was no memory. Of `Queue`, `Chain`, `Claim`, `Raise`, `Take`, `Set`,
-    /// `Fire`, `Cancel`, `WaitAt` and `Join` alone.
+    /// Storage had to grow, and there was no memory. Only `Queue`, `Chain`, `Claim`, `Raise`, `Take`, `Set`,
+    /// `Fire`, `Cancel`, `WaitAt` and `Join` can be refused so.
     OutOfMemory = 14,
     /// The queue is shut.
     Closed = 15,
@@ -95,7 +95,7 @@ impl<T: Drop> From<AllocFailed<T>> for Refusal {
     }
 }
 
-/// A growth was refused. A call that answers so has changed nothing.
+/// A growth was refused. A call with this answer has changed nothing.
 #[derive(Clone, Copy, Debug, PartialEq, Eq, Error)]
 #[error("no memory")]
 pub struct OutOfMemory;

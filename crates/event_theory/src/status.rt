@@ -1,9 +1,9 @@
-//! The numbers that tell of a core's state.
+//! The numbers of a core's state.
 
 use crate::items::Items;
 use crate::names::{Call, Processor, WaitNumber};
 
-/// The numbers of one byte queue, in items but for `runs`.
+/// The numbers of one byte queue, in items except for `runs`.
 #[derive(Clone, Copy, Debug, PartialEq, Eq)]
 pub struct QueueStatus {
     /// How many items may be left at once.
@@ -45,7 +45,7 @@ pub struct ChainStatus {
     pub gate: Gate,
 }
 
-/// Where an element is.
+/// The place of an element.
 #[derive(Clone, Copy, Debug, PartialEq, Eq)]
 pub enum Place {
     /// On a processor.
@@ -68,7 +68,7 @@ pub struct ElementStatus {
     pub place: Place,
     /// How many steps are done.
     pub done: u32,
-    /// Bit s is set where signal s is pending.
+    /// Bit s is set if signal s is pending.
     pub pending: u16,
     /// Whether its stop bit is set.
     pub stop: bool,

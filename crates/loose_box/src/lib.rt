@@ -1,8 +1,8 @@
-//! A box on the heap as a pointer and an allocator, and back. It is for a handle of a static library: a pointer can
+//! A box on the heap as a pointer and an allocator, and back. A handle of a static library needs this: a pointer can
 //! cross to C, and a box can't.
 //!
-//! Its value can be moved out, and another moved in: no memory is taken then. `Vacant` is a block that has room for a
-//! value; other crates can't take it apart or let it go: it is filled or freed.
+//! The value of the box can be moved out, and another moved in, without an allocation. `Vacant` is a block for a value.
+//! Other crates can't take the block apart or let it go: they fill it or free it.
 //!
 //! ```rust
 //! let Ok(boxed) = Box::new(rt.alloc(), 7u64) else {

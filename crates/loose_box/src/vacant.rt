@@ -5,14 +5,14 @@ use crate::loose::Loose;
 use std::alloc::Allocator;
 use std_alloc::room::Vacant as Block;
 
-/// A block that has room for a value, with the allocator to which it goes back. Other crates can't take it apart, and
-/// no code can let it go: it is filled or freed.
+/// A block that has room for a value, with the allocator that it is freed to. Other crates can't take it apart, and no
+/// code can let it go: it is filled or freed.
 pub struct Vacant<T, A: Allocator> {
     pub(crate) block: Block<T, A>,
 }
 
 impl<T: Drop, A: Allocator> Vacant<T, A> {
-    /// A block that has room for a value. Where there is no memory, the allocator comes back.
+    /// A block that has room for a value. If out of memory, the allocator is returned.
     pub fn take(alloc: A) -> Result<Vacant<T, A>, A>
         ensures { MatchResult result (λ v. v.block.alloc ≡ alloc) (λ h. h ≡ alloc) }
     {

@@ -1,2 +1,2 @@
--- What the contracts of this crate cite.
+-- The definitions that this crate's contracts use.
 pub mod Lines

@@ -1,4 +1,4 @@
--- What a contract sees of the two ends of a line.
+-- The ends of a line, as contracts see them.
 use Rattle.std.specs.Prelude.{◌≡◌, ℕ, ◌+◌, ◌≤◌, List, [], ◌∷◌, ◌++◌, length, drop}
 use mathlib.Core.List.{IsPrefix}
 use Rattle.rtrb.specs.Ring.{sent, known_free, producer_capacity, received, known_items, consumer_capacity}
@@ -14,15 +14,15 @@ bytes_sent i = sent i.producer
 abbrev pub bytes_received : LineOut → List ℕ
 bytes_received o = received o.consumer
 
--- the bytes that were sent and aren't received, oldest first
+-- the bytes that were sent and not yet received, oldest first
 abbrev pub bytes_left : LineIn → LineOut → List ℕ
 bytes_left i o = drop (length (bytes_received o)) (bytes_sent i)
 
--- how many places of the line this end knows to be free: so many pushes succeed
+-- how many places of the line this end knows to be free: as many pushes are sure to succeed
 abbrev pub known_room : LineIn → ℕ
 known_room i = known_free i.producer
 
--- the bytes that this end has seen in the line: the next pops give them
+-- the bytes that this end has seen in the line: the next pops return them
 abbrev pub known_bytes : LineOut → List ℕ
 known_bytes o = known_items o.consumer
 
@@ -42,7 +42,7 @@ IsLine i o = IsPair i.producer o.consumer
 abbrev pub IsNewIn : ℕ → LineIn → Type 0
 IsNewIn cap i = (capacity_in i ≡ cap) × (bytes_sent i ≡ []) × (known_room i ≡ cap)
 
--- nothing was received, and no byte was seen
+-- no byte was received or seen, and the line has `cap` places
 abbrev pub IsNewOut : ℕ → LineOut → Type 0
 IsNewOut cap o = (capacity_out o ≡ cap) × (bytes_received o ≡ []) × (known_bytes o ≡ [])
 
@@ -58,11 +58,11 @@ SameOut a b = SameConsumer a.consumer b.consumer
 abbrev pub Sends : ℕ → LineIn → LineIn → Type 0
 Sends byte a b = (bytes_sent b ≡ bytes_sent a ++ byte ∷ []) × (known_room a ≤ known_room b + 1)
 
--- nothing was sent, and as much room is known
+-- nothing was sent, and as many places are known to be free
 abbrev pub SendsNothing : LineIn → LineIn → Type 0
 SendsNothing a b = (bytes_sent b ≡ bytes_sent a) × (known_room b ≡ known_room a)
 
--- one byte more was received: the first that was seen, where one was; the others seen still come next
+-- one byte more was received, the first that was seen, if any; the other bytes seen still come next
 abbrev pub Receives : ℕ → LineOut → LineOut → Type 0
 Receives byte a b =
     (bytes_received b ≡ bytes_received a ++ byte ∷ []) × IsPrefix (known_bytes a) (byte ∷ known_bytes b)

@@ -51,7 +51,7 @@ pub struct LineTotals {
 
 /// Makes a line with room for `cap` bytes, 1 to 65,536, and gives its two ends.
 ///
-/// `OutOfMemory` comes only where an allocation was refused.
+/// `OutOfMemory` is returned only if an allocation was refused.
 pub fn line(alloc: Global, cap: usize) -> Result<(LineIn, LineOut), OutOfMemory>
     requires some { 0 < cap }
     requires most { cap ≤ MOST_BYTES }
@@ -63,9 +63,9 @@ pub fn line(alloc: Global, cap: usize) -> Result<(LineIn, LineOut), OutOfMemory>
     Ok((LineIn::new(producer), LineOut::new(consumer)))
 }
 
-/// Ends a line whose ends are in one thread again, and tells how many bytes were sent, received and left.
+/// Ends a line whose ends are in one thread again, and returns how many bytes were sent, received and left.
 ///
-/// What was received, followed by what is left, is what was sent. The bytes left go with the line.
+/// The bytes received, followed by the bytes left, are the bytes sent. The bytes left are freed with the line.
 pub fn finish(input: LineIn, output: LineOut) -> LineTotals
     requires { IsLine input output }
     ensures whole { bytes_received output ++ bytes_left input output ≡ bytes_sent input }

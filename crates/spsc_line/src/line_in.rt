@@ -30,9 +30,9 @@ impl LineIn {
         }
     }
 
-    /// Pushes one byte behind all others, or hands it back where no place of the line is free.
+    /// Pushes one byte after all others, or returns it if no place of the line is free.
     ///
-    /// A refused push changes nothing. None is refused before as many bytes were pushed as the line has room for.
+    /// A refused push changes nothing. No push is refused while fewer bytes were pushed than the line has room for.
     pub fn push(&mut self, byte: u8) -> Result<(), u8>
         ensures line { SameIn self.old self.new }
         ensures ok { OnOk result (Sends byte self.old self.new) }

@@ -28,7 +28,7 @@ impl LineOut {
         }
     }
 
-    /// Pops the oldest byte, or gives `None` where the line is empty.
+    /// Pops the oldest byte, or returns `None` if the line is empty.
     ///
     /// A refused pop changes nothing. The bytes that this end has seen come first, in their order.
     pub fn pop(&mut self) -> Option<u8>

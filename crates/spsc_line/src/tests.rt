@@ -25,7 +25,7 @@ fn a_line_of_two(rt: HostRuntime) -> Result<(), Fail> {
     Ok(())
 }
 
-/// A place that was popped takes a byte again, and an end that finds nothing finds what is pushed later.
+/// A place whose byte was popped takes a byte again, and an end that finds nothing finds what is pushed later.
 #[test]
 fn places_come_back(rt: HostRuntime) -> Result<(), Fail> {
     let (mut input, mut output) = line(rt.alloc(), 1)?;
@@ -61,7 +61,7 @@ fn the_longest_line(rt: HostRuntime) -> Result<(), Fail> {
     Ok(())
 }
 
-/// Where an allocation is refused there is no line, and a later try makes one.
+/// If an allocation is refused, there is no line, and a later try makes one.
 #[test]
 fn memory_may_be_wanting(rt: HostRuntime) {
     let mut made = false;
@@ -93,7 +93,7 @@ fn byte_at(index: u32) -> u8 {
     (index % 251) as u8
 }
 
-/// Pushes so many bytes, and waits where there is no room.
+/// Pushes so many bytes, and waits while there is no room.
 fn push_all(rt: &impl Wait, input: LineIn, count: u32) -> LineIn
     ensures { SameIn input result }
 {
@@ -111,7 +111,7 @@ fn push_all(rt: &impl Wait, input: LineIn, count: u32) -> LineIn
     input
 }
 
-/// Pops so many bytes, waits where there is none, and says whether all were in order.
+/// Pops so many bytes, waits while there is none, and returns whether all were in order.
 fn pop_all(rt: &impl Wait, output: LineOut, count: u32) -> (LineOut, bool)
     ensures { SameOut output result.0 }
 {
@@ -133,7 +133,7 @@ fn pop_all(rt: &impl Wait, output: LineOut, count: u32) -> (LineOut, bool)
     (output, ordered)
 }
 
-/// Passes so many bytes from a thread to another.
+/// Passes so many bytes from one thread to another.
 fn pass_all<R: Threads + Wait + Sync>(
     rt: &R,
     alloc: Global,

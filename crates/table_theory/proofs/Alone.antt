@@ -24,7 +24,7 @@ module _ {A : Type 0} where
   no_longer list later (x ∷ xs, is) short = absurd (let a = length-append list (x ∷ xs) in let b : length (list ++ x ∷ xs) ≡ length later = ap length is in omega arith)
 
 module _ {V O : Type 0} (f p : V → List (Entry O)) where
-  -- where the lists of all others are empty, the end has seen all steps
+  -- if the lists of all others are empty, the end has seen all steps
   pub sole_course : (first now : O) (vs : List V) (j : ℕ) (v : V) (c : IsCourse f p first now vs) → get_elem? vs j ≡ some v → ((i : ℕ) (u : V) → get_elem? vs i ≡ some u → i ≢ j → f u ≡ []) → map entry_of c.course ≡ p v
   sole_course first now vs j v c at idle = no_longer (p v) (map entry_of c.course) (c.seen j v at) (let n = length-map c.course entry_of in let s = upto (length c.course) refl in omega arith)
     where

@@ -12,7 +12,7 @@ log_apart p (x ∷ xs) zero (suc j) o r c at to low = let past = starts_past (p 
 log_apart p (x ∷ xs) (suc k) zero o r c at to low = absurd (omega arith)
 log_apart p (x ∷ xs) (suc k) (suc j) o r c at to low = log_apart (p + length x.2.places) xs k j o r c.1 at to (omega arith)
 
--- where one list of a log has the entries of two, these have nothing in common
+-- if one list of a log has the entries of two lists, these two have nothing in common
 pub lists_apart : (first : ℕ) (places : List Cell) (log : List (Owned Batch)) (lists : List (List Batch)) (c : ℕ) (l r both : List Batch) → IsListed first places log lists → get_elem? lists c ≡ some both → both ≡ l ++ r → AreApart l r
 lists_apart first places log lists c l r both a has is m n position e f at to mine yours =
     let there : get_elem? both m ≡ some e = subst (λ (z : List Batch). get_elem? z m ≡ some e) (sym is) (at_longer l r m e at) in

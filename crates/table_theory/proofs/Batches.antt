@@ -3,7 +3,7 @@ use Rattle.table_theory.proofs.Common.{◌≡◌, ℕ, ◌<◌, List, map, lengt
 use Rattle.std.proofs.lemmas.List.{get_or-map}
 use Rattle.table_theory.proofs.QueueOf.{items_are}
 
--- where the runs have these places, in order
+-- the runs have these places, in order
 module _ (q : Positions) (runs : List (Owned Batch)) (same : all_places runs ≡ q.places) where
   pub item_is : (i : ℕ) → i < length q.places → get_or (flat (map run_in runs)) i 0 ≡ item_at q i
   item_is i below = ap (λ (z : List ℕ). get_or z i 0) (items_are q runs same) ∙ get_or-map item_of q.places i blank 0 below

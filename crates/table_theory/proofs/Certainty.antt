@@ -1,4 +1,4 @@
--- What is certain where the ends' lists are true: the proof of it is cut off, and what is cut off or can be decided needs none.
+-- Facts that are certain if the ends' lists are true. The proof is cut off; what is cut off or decidable needs none.
 use Rattle.table_theory.proofs.Common.{ℕ, List, [], ◌∷◌, AllByRecursion, Ledger, Step, Subject, Adds, IsHonest, IsReal, Passes, Reaches, TookIn, both}
 use Rattle.std.proofs.Math.Logic.{∥∥₁_elim, ∥∥₁_map}
 use Rattle.table_theory.specs.Ledgers.{count_down}

@@ -73,7 +73,7 @@ module _ {V : Type 0} (f share : V → ℕ) (P : V → Type 0) where
     spent = all_one Spent w (λ h. absurd (omega arith));
   }
 
-  -- beside an end with the whole, no end stands
+  -- beside an end with the whole, no other end exists
   no_end : (n : ℕ) (vs : List V) (j : ℕ) (v : V) → EndsCounted f share P n vs → get_elem? vs j ≡ some v → IsWhole (share v) → (i : ℕ) (u : V) → get_elem? vs i ≡ some u → i ≢ j → f u ≡ 0
   no_end n vs j v c at whole i u has ne = let t = two_of share vs i j u v has at ne in let s = c.shared in let w = c.within i u has in omega arith
 

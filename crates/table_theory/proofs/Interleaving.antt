@@ -16,7 +16,7 @@ module _ {A : Type 0} where
   abbrev In : List A → A → Type 0
   In log e = (i : ℕ) × (get_elem? log i ≡ some e)
 
-  -- where the entry m of the list j stands in the joined lists
+  -- where the entry m of the list j is in the joined lists
   abbrev spot : List (List A) → ℕ → ℕ → ℕ
   spot [] j m = m
   spot (l ∷ lists) zero m = m

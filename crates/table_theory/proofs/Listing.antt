@@ -13,7 +13,7 @@ module _ (p : ℕ) (places : List Cell) (log : List (Owned Batch)) (lists : List
   pub log_same : (j : ℕ) (l l' : List Batch) → get_elem? lists j ≡ some l → l' ≡ l → IsListed p places log (set lists j l')
   log_same j l l' at is = subst (IsListed p places log) (sym (ap (set lists j) is ∙ set_again lists j l at)) a
 
-  -- an entry more, behind the others
+  -- an entry more, after the others
   pub log_push : (j : ℕ) (l l' : List Batch) (e : Batch) → get_elem? lists j ≡ some l → l' ≡ l ++ e ∷ [] → 0 < length e.places → e.start ≡ p + length places → IsListed p (places ++ e.places) (log ++ (j, length l, e) ∷ []) (set lists j l')
   log_push j l l' e at is some_place start = let o : Owned Batch = (j, length l, e) in record {
     solid = λ k x has. ⊎_elim (λ old. a.solid k x old) (λ new. subst (λ (z : Owned Batch). 0 < length z.2.places) new.1 some_place) (at_push log o x k has);
@@ -45,12 +45,12 @@ module _ (p : ℕ) (places : List Cell) (log : List (Owned Batch)) (lists : List
     filed = filed;
   }
 
-  -- the list d goes behind the list c
+  -- the list d goes after the list c
   pub log_join : (c d : ℕ) (l r l' r' : List Batch) → get_elem? lists c ≡ some l → get_elem? lists d ≡ some r → d ≢ c → l' ≡ l ++ r → r' ≡ [] → IsListed p places (map (moved c d (length l)) log) (set (set lists c l') d r')
   log_join c d l r l' r' at_c at_d apart is none = log_kept (moved c d (length l)) (set (set lists c l') d r') (moved_entry c d (length l))
       (transport (λ i. ListedOnce (map (moved c d (length l)) log) (set (set lists c (sym is i)) d (sym none i))) (file_join log lists c d l r a.filed at_c at_d apart))
 
-  -- where all other lists are empty, one has all
+  -- if all other lists are empty, one has all
   pub log_sole : (j : ℕ) (l : List Batch) → get_elem? lists j ≡ some l → ((i : ℕ) (r : List Batch) → get_elem? lists i ≡ some r → i ≢ j → r ≡ []) → IsListed p places (map sole log) (l ∷ [])
   log_sole j l at others = log_kept sole (l ∷ []) (λ o. refl) (file_sole log lists j l a.filed at others)
 
@@ -95,7 +95,7 @@ listed_claim q parts j v w xs l at behind is_open some_items runs takes grown = 
     (log_push q.first q.places l.lists.runs (map runs_of parts) l.lists.runs_are j v.runs w.runs e (at_map runs_of parts j v at) runs (omega arith) refl)
     (same_takes q parts j v w l at (take q.taken (q.places ++ map fresh xs)) (sym (take-append-le q.taken q.places (map fresh xs) behind)) takes)
 
--- a run of a view stands in the queue
+-- a run of a view is in the queue
 pub run_stands : (q : Positions) (parts : List QueueView) (j m : ℕ) (v : QueueView) (e : Batch) → PartsShow q parts → get_elem? parts j ≡ some v → get_elem? v.runs m ≡ some e → Stands q e
 run_stands q parts j m v e l at has = let r = l.runs_are.filed.listed j v.runs m e (at_map runs_of parts j v at) has in let s = lies q.first l.runs r.0 (j, m, e) l.runs_are.adjacent r.1 in record {
   at = s.at;
@@ -104,7 +104,7 @@ run_stands q parts j m v e l at has = let r = l.runs_are.filed.listed j v.runs m
   same = λ i h. subst (λ (z : List Cell). get_or z (s.at + i) blank ≡ get_or e.places i blank) l.runs_are.flat (s.same i h);
 }
 
--- a place of a run that is not raised yet stands within the window
+-- a place of a run that is not raised yet is within the window
 pub record Own (q : Positions) (e : Batch) (i : ℕ) : Type 0 where
   pub at : ℕ
   pub start : e.start + i ≡ q.first + at
@@ -203,7 +203,7 @@ found_by_start (x ∷ xs) zero e d has = let h : x.start ≡ e.start = ap (λ (z
 found_by_start (x ∷ xs) (suc m) e d has = let apart : x.start ≢ e.start = λ h. (let z : 0 ≡ suc m = d 0 (suc m) x e refl has h in omega arith) in
     ap (λ (b : Bool). if b then 0 else suc (number_of e.start xs)) (ne_eqb x.start e.start apart) ∙ ap suc (found_by_start xs m e (λ i k f g a b s. (let z : suc i ≡ suc k = d (suc i) (suc k) f g a b s in omega arith)) has)
 
--- where all other views have nothing, one part lists the queue
+-- if all other views have nothing, one part lists the queue
 pub listed_sole : (q : Positions) (parts : List QueueView) (j : ℕ) (v : QueueView) → PartsShow q parts → get_elem? parts j ≡ some v → ((i : ℕ) (u : QueueView) → get_elem? parts i ≡ some u → i ≢ j → (u.runs ≡ []) × (u.takes ≡ [])) → PartsShow q (v ∷ [])
 listed_sole q parts j v l at others = record {
   runs = map sole l.runs;
@@ -212,7 +212,7 @@ listed_sole q parts j v l at others = record {
   takes_are = log_sole q.first (take q.taken q.places) l.takes (map takes_of parts) l.takes_are j v.takes (at_map takes_of parts j v at) (λ d k has ne. let b = at_map_back takes_of parts d k has in sym b.2 ∙ (others d b.0 b.1 ne).1);
 }
 
--- the same lemmas where a table's views have the queue's views in them
+-- these lemmas for a table's views that have the queue's views in them
 module _ {V : Type 0} (part : V → QueueView) (q : Positions) (vs : List V) where
   pub look_in : (j : ℕ) (v w : V) → ViewsShow q (map part vs) → get_elem? vs j ≡ some v → (part w).runs ≡ (part v).runs → (part w).takes ≡ (part v).takes → Grows (part w).queue q → ViewsShow q (map part (set vs j w))
   look_in j v w l at runs takes grown = subst (ViewsShow q) (sym (map-set part vs j w)) (listed_look q (map part vs) j (part v) (part w) l (at_map part vs j v at) runs takes grown)

@@ -62,7 +62,7 @@ module _ (g : Owned Batch → Owned Batch) (same : (o : Owned Batch) → (g o).2
   adjacent_kept p [] h = tt
   adjacent_kept p (o ∷ os) h = subst (λ (z : Batch). (z.start ≡ p) × Adjacent (p + length z.places) (map g os)) (sym (same o)) (h.0, adjacent_kept (p + length o.2.places) os h.1)
 
--- a stretch behind others starts no earlier than they end
+-- a stretch after others starts no earlier than they end
 pub starts_past : (p : ℕ) (log : Log) (k : ℕ) (o : Owned Batch) → Adjacent p log → get_elem? log k ≡ some o → p ≤ o.2.start
 starts_past p log k o c e = let s = lies p log k o c e in let st = s.start in omega arith
 

@@ -1,4 +1,4 @@
--- What an end did by its steps, and looks one behind the other, whatever the object is.
+-- The record of an end by its steps, and looks one after the other, for any object.
 use Rattle.table_theory.proofs.Common.{◌≡◌, List, [], ◌∷◌, ◌++◌, refl, sym, subst}
 use Rattle.std.proofs.lemmas.List.{append-nil}
 use Rattle.table_theory.specs.declared.views.Ledger.{Ledger}
@@ -6,7 +6,7 @@ use Rattle.table_theory.specs.Ledgers.{Step, Adds, Made, Looks}
 use Rattle.table_theory.proofs.Parting.{made_then}
 use Rattle.table_theory.proofs.Reaching.{adds_none}
 
--- the end did this, and stands among the ends as it stood; these are its steps
+-- the end did this, and its part among the ends is unchanged; these are its steps
 pub record Does {K O : Type 0} (v : Ledger K O) (own : K) (w : Ledger K O) : Type 0 where
   pub steps : List (Step O)
   pub adds : Adds v steps w

@@ -1,4 +1,4 @@
--- A word that has a number below 2 ^ bits, and that bit where something is marked.
+-- A word that has a number below 2 ^ bits, and this bit if something is marked.
 use Rattle.table_theory.proofs.Common.{◌≡◌, ℕ, ◌+◌, ◌<◌, Bool, true, false, ◌∙◌, refl, ap, arith, if◌then◌else◌, nat_lt}
 use Rattle.std.proofs.Common.{◌^◌, ◌*◌}
 use Rattle.std.proofs.lemmas.Bool.{le-ltb, lt-ltb}

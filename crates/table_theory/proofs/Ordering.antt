@@ -1,4 +1,4 @@
--- Stretches in order stay so where another comes behind them.
+-- Stretches in order stay in order if another one comes after them.
 use Rattle.table_theory.proofs.Common.{◌≡◌, ℕ, ◌+◌, ◌<◌, ◌≤◌, ⊎_elim, List, [], ◌∷◌, ◌++◌, length, sym, ap, arith, some, some-ne-none, get_elem?, Batch}
 use Rattle.table_theory.specs.Interleaving.{InOrder}
 use Rattle.table_theory.proofs.Owned.{at_below, at_push}

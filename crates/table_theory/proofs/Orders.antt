@@ -1,5 +1,5 @@
--- Several ends' steps stay in one order, through each step, a split and a join, and each step tells its end what it
--- says.
+-- Several ends' steps stay in one order, through each step, a split and a join, and each step gives its end what the
+-- step states.
 use Rattle.table_theory.proofs.Common.{◌≡◌, ◌≢◌, ℕ, Bool, true, false, List, [], ◌∷◌, ◌++◌, map, length, set, sym, refl, ap, ◌∙◌, subst, if◌then◌else◌, nat_lt, append_assoc, append-nil, AllByRecursion, some, get_elem?, Moment, Part, Ledger, Continues, entry_of, Begins, IsWhole, Subject, Step, IsReal, IsHonest, Reaches, Adds, opened, first_of, both, emptied, AreOrdered}
 use Rattle.std.proofs.lemmas.List.{append_cancel_left}
 use Rattle.table_theory.proofs.Courses.{Runs, course_step, course_split, course_join, course_first}
@@ -31,7 +31,7 @@ abbrev pub order_to : {K O : Type 0} {T : Subject O} {first : O} {now : Moment O
 order_to t = map entry_of t.course.course
 
 module _ {K O : Type 0} (T : Subject O) where
-  -- the same order, where the moment is known by another name
+  -- the same order, for a moment that is known by another name
   pub order_at : (first : O) (vs : List (Ledger K O)) (m n : Moment O) → m ≡ n → (t : AreOrdered T first m vs) → (same : AreOrdered T first n vs) × (order_to same ≡ order_to t)
   order_at first vs m n is t = subst (λ (z : Moment O). (same : AreOrdered T first z vs) × (order_to same ≡ order_to t)) is (t, refl)
 
@@ -82,7 +82,7 @@ module _ {K O : Type 0} (T : Subject O) where
     real = all_behind (IsReal T) v.course b.0 (subst (AllByRecursion (IsReal T)) (sym b.1) t.real);
   }
 
-  -- a step adds its entry, where an end that has the whole had seen all steps
+  -- a step adds its entry, if an end that has the whole had seen all steps
   pub order_adds : (first : O) (now : Moment O) (vs : List (Ledger K O)) (j : ℕ) (v : Ledger K O) (own : K) (member : Part) (e : Step O) (t : AreOrdered T first now vs) → get_elem? vs j ≡ some v → (IsWhole v.member.share → order_to t ≡ v.course) → Adds v (e ∷ []) (after v own member (order_to t) e)
   order_adds first now vs j v own member e t at newest = let b : Begins v.course (order_to t) = t.course.seen j v at in record {
     first = refl;
@@ -96,7 +96,7 @@ module _ {K O : Type 0} (T : Subject O) where
       nothing_more : (a rest : List (Step O)) → a ++ rest ≡ a → rest ≡ []
       nothing_more a rest is = append_cancel_left a rest [] (is ∙ sym (append-nil a))
 
-  -- the end's list is true behind it
+  -- the end's list is true after the step
   pub order_after : (first : O) (now : Moment O) (vs : List (Ledger K O)) (j : ℕ) (v : Ledger K O) (own : K) (member : Part) (e : Step O) (t : AreOrdered T first now vs) → get_elem? vs j ≡ some v → e.then ≡ now → IsReal T e → IsHonest T (after v own member (order_to t) e)
   order_after first now vs j v own member e t at found real = record {
     leads = subst (λ (z : O). Continues (opened z) (order_to t ++ e ∷ []) e.next) (sym (t.first_is j v at)) (continues_on (opened first) now e.next (order_to t) (e ∷ []) t.course.continues (continues_one now e found));

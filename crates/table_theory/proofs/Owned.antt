@@ -50,7 +50,7 @@ module _ {E : Type 0} where
   pub moved_miss : (c d n : ℕ) (o : Owned E) → o.0 ≢ d → ◌≡◌ {A = Owned E} (moved c d n o) o
   moved_miss c d n o e = let to : Owned E = (c, n + o.1, o.2) in ap (λ (b : Bool). if b then to else o) (ne_eqb o.0 d e)
 
-  -- the entry stands in the list of its owner
+  -- the entry is in the list of its owner
   abbrev pub Stands : List (List E) → Owned E → Type 0
   Stands lists o = (l : List E) × (get_elem? lists o.0 ≡ some l) × (get_elem? l o.1 ≡ some o.2)
 
@@ -140,7 +140,7 @@ module _ {E : Type 0} where
     once = f.once;
   }
 
--- A log of what becomes of each entry: where the lists then have what becomes of theirs, and nothing else, and no two at
+-- A log of what becomes of each entry, if the lists then have what becomes of theirs, and nothing else, and no two at
 -- one place
 pub file_by : {E F : Type 0} (g : Owned E → Owned F) (log : List (Owned E)) (lists : List (List E)) (new : List (List F)) → ListedOnce log lists → ((o : Owned E) → Stands lists o → Stands new (g o)) → ((o : Owned F) → Stands new o → (p : Owned E) × Stands lists p × (g p ≡ o))
     → ((o p : Owned E) → Stands lists o → Stands lists p → (g o).0 ≡ (g p).0 → (g o).1 ≡ (g p).1 → (o.0 ≡ p.0) × (o.1 ≡ p.1)) → ListedOnce (map g log) new
@@ -192,7 +192,7 @@ module _ {E : Type 0} where
       file_by sole log lists (l ∷ []) f (λ o s. (l, refl, its lists c l at o s (mine o s)))
       (λ o s. let e = only_at l s.0 o.0 s.1 in ((c, o.1, o.2), (l, at, subst (λ (z : List E). get_elem? z o.1 ≡ some o.2) e.1 s.2), λ i. (sym e.0 i, o.1, o.2))) (λ o p s r own num. (mine o s ∙ sym (mine p r), num))
 
--- a log of what is told of each entry
+-- a log of what is reported of each entry
 module _ {E F : Type 0} (f : E → F) where
   abbrev pub told : Owned E → Owned F
   told o = (o.0, o.1, f o.2)

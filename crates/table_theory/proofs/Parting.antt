@@ -1,4 +1,4 @@
--- What the calls that split, join and close tell, by the steps that they are made of.
+-- The reports of the calls that split, join and close, by the steps that they are made of.
 use Rattle.table_theory.proofs.Common.{◌≡◌, ◌≢◌, ℕ, ◌+◌, ◌-◌, ◌≤◌, Bool, true, false, List, [], ◌++◌, sym, refl, ap, ◌∙◌, subst, arith, if◌then◌else◌, nat_lt, Ledger, Begins, kept, given, Step, Made, CountedUp, CountedDown, TookIn, Tallied, rest_of, newborn, both, Part}
 use Rattle.std.specs.Prelude.{length}
 use Rattle.table_theory.specs.Ledgers.{Divided, IsNewborn, WereOpen}
@@ -10,14 +10,14 @@ one_seen true x y all p q = (q, p)
 one_seen false x y all p q = (p, q)
 
 module _ {K O : Type 0} where
-  -- no step yet, and steps behind others
+  -- no step yet, and steps after others
   pub made_none : (v : (Ledger K O)) → Made v [] v.own v
   made_none v = record { adds = adds_none v; did = refl; member = refl }
 
   pub made_on : (v u w : (Ledger K O)) (xs ys : List (Step O)) (one own : K) → Made v xs one u → Made u ys own w → Made v (xs ++ ys) own w
   made_on v u w xs ys one own a b = record { adds = adds_behind v u w xs ys (ap (λ (z : Part). z.share) a.member) a.adds b.adds; did = b.did; member = b.member ∙ a.member }
 
-  -- and what the end did behind those is made of what it had done
+  -- and what the end did after these steps is made of what it had done
   pub made_then : (v u w : (Ledger K O)) (xs ys : List (Step O)) (one : K) (f : K → K) → Made v xs one u → Made u ys (f u.own) w → Made v (xs ++ ys) (f one) w
   made_then v u w xs ys one f a b = record { adds = adds_behind v u w xs ys (ap (λ (z : Part). z.share) a.member) a.adds b.adds; did = b.did ∙ ap f a.did; member = b.member ∙ a.member }
 

@@ -23,7 +23,7 @@ fresh_written [] i = refl
 fresh_written (x ∷ xs) zero = refl
 fresh_written (x ∷ xs) (suc i) = fresh_written xs i
 
--- the places that were there before a claim, and those behind
+-- the places that were there before a claim, and those after it
 pub claim_old : (q : Positions) (xs : List ℕ) (i : ℕ) → i < length q.places → place_at (with_claim q xs) i ≡ place_at q i
 claim_old q xs i h = get_or_append_left q.places (map fresh xs) blank i h
 

@@ -196,7 +196,7 @@ up_moved c d n [] r i = refl
 up_moved c d n (o ∷ os) zero i = ap (λ (z : Batch). is_up (get_or z.places i blank)) (moved_entry c d n o)
 up_moved c d n (o ∷ os) (suc r) i = up_moved c d n os r i
 
--- where the runs of d go to c, the queue is the one after the join
+-- if the runs of d go to c, the queue is the one after the join
 pub joined_is : (q : Positions) (c d n : ℕ) (runs : Log) → queue_of q (map (moved c d n) runs) ≡ join_queue c d (queue_of q runs)
 joined_is q c d n runs = ap₂ (λ (x : List Run) (y : ℕ → ℕ → Bool). let z : Queue = record { history = x; raised = y; taken = q.taken; capacity = q.room; shut = q.shut } in z) (runs_moved c d n runs)
     (same_set (queue_of q (map (moved c d n) runs)).raised (queue_of q runs).raised (up_moved c d n runs))

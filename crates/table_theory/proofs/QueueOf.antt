@@ -36,7 +36,7 @@ up_from f number (o ∷ os) h =
 pub up_of : (q : Positions) (runs : Log) → map (is_raised (queue_of q runs)) (pairs (map run_in runs)) ≡ map is_up (all_places runs)
 up_of q runs = up_from (queue_of q runs).raised 0 runs (λ r i. ap (λ (n : ℕ). up_in (slice_get runs n) i) (zero-add r))
 
--- where the first n places are raised
+-- the first n places are raised
 pub all_up : (n : ℕ) (l : List Cell) → ((i : ℕ) → i < n → 2 ≤ (get_or l i blank).written) → list_all is_up (take n l) ≡ true
 all_up zero l h = refl
 all_up (suc n) [] h = refl
@@ -62,7 +62,7 @@ within_of [] run index h = absurd (cc)
 within_of (o ∷ os) zero index h = let n = length-map o.2.places item_of in let b = up_below o.2.places index h in omega arith
 within_of (o ∷ os) (suc run) index h = within_of os run index h
 
--- where the runs have these places, in order, the history has their items
+-- if the runs have these places, in order, the history has their items
 pub items_are : (q : Positions) (runs : Log) → all_places runs ≡ q.places → flat (map run_in runs) ≡ map item_of q.places
 items_are q runs e = flat_of runs ∙ ap (map item_of) e
 

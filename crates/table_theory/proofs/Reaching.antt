@@ -20,7 +20,7 @@ module _ {O : Type 0} where
   continues_on a b c [] ys h k = subst (λ (z : O). Continues z ys c) (sym h) k
   continues_on a b c (x ∷ xs) ys h k = (h.0, continues_on x.next b c xs ys h.1 k)
 
-  -- what is behind steps that led to b begins there
+  -- what comes after steps that led to b begins there
   pub continues_behind : (a b c : O) (xs ys : List (Entry O)) → Continues a xs b → Continues a (xs ++ ys) c → Continues b ys c
   continues_behind a b c [] ys h k = subst (λ (z : O). Continues z ys c) h k
   continues_behind a b c (x ∷ xs) ys h k = continues_behind x.next b c xs ys h.1 k.1
@@ -90,7 +90,7 @@ module _ {K O : Type 0} where
   }
 
 module _ {K O : Type 0} (T : Subject O) where
-  -- the steps since then are real, and lead from what was seen, where the course led to that, to what is seen
+  -- the steps since then are real, and lead from what was seen, if the course led to it, to what is seen
   led_since : (v w : Ledger K O) (es : List (Step O)) → Continues (opened v.first) v.course v.seen → IsHonest T w → (a : Adds v es w) → Continues v.seen a.since w.seen × AllByRecursion (IsReal T) a.since
   led_since v w es x y a = (
     continues_behind (opened v.first) v.seen w.seen v.course a.since x (subst (λ (z : List (Step O)). Continues (opened v.first) z w.seen) a.course_is (subst (λ (z : O). Continues (opened z) w.course w.seen) a.first y.leads)),
@@ -104,7 +104,7 @@ module _ {K O : Type 0} (T : Subject O) where
   pub passes_since : (v w : Ledger K O) (es : List (Step O)) → IsHonest T v → IsHonest T w → Adds v es w → Passes T v.seen es w.seen
   passes_since v w es x y a = passes_led v w es x.leads y a
 
-  -- the entries behind any other steps of the end pass one another in their order
+  -- the entries after any other steps of the end pass one another in their order
   pub passes_some : (v w : Ledger K O) (es : List (Step O)) → IsHonest T w → Adds v es w → (m : Moment O) × Passes T m es w.seen
   passes_some v w es y a = let c : Continues (opened w.first) (v.course ++ a.since) w.seen = subst (λ (z : List (Step O)). Continues (opened w.first) z w.seen) a.course_is y.leads in let m = continues_cut (opened w.first) w.seen v.course a.since c in
       (m.0, passes T m.0 w.seen es a.since a.own m.1 (all_behind (IsReal T) v.course a.since (subst (AllByRecursion (IsReal T)) a.course_is y.real)))

@@ -1,4 +1,4 @@
--- What is read of positions one behind the other, and of a word.
+-- Reads of positions one after the other, and of a word.
 use Rattle.table_theory.proofs.Common.{◌≡◌, ℕ, zero, suc, ◌+◌, ◌-◌, ◌≤◌, List, [], ◌∷◌, ◌++◌, length, get_or, refl, sym, ap, ◌∙◌, arith, get_elem?}
 use mathlib.Core.Option as maybe
 use Rattle.table_theory.specs.Reads.{read_from}

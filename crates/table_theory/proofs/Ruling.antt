@@ -1,4 +1,4 @@
--- Ends that stand under their table's rule: after a step, after a split, and what their lists say.
+-- Ends under their table's rule: after a step, after a split, and what their lists state.
 use Rattle.table_theory.proofs.Common.{◌≡◌, ℕ, List, [], ◌∷◌, ◌++◌, length, set, refl, ◌∙◌, some, get_elem?, Moment, Ledger, Subject, Step, Stands, IsHonest, IsReal, Made, rest_of, newborn, at_last, at_longer, set_here}
 use mathlib.Core.Option.{Option}
 use Rattle.atomic_table.specs.Table.{State, Splits}
@@ -11,12 +11,12 @@ module _ {Key S K O : Type 0} (Rule : Key → State S (Ledger K O) → Type 0) (
   abbrev Ruled : Ledger K O → Type 0
   Ruled v = IsRuled Rule now v
 
-  -- the end stands under the rule that is kept by its step
+  -- the end is under the rule that is kept by its step
   pub ruled_now : (key : Key) (words : List ℕ) (homes : List (Option S)) (s : State S (Ledger K O)) (id : ℕ) (v w : Ledger K O) → get_elem? s.views id ≡ some v
       → (r : Rule key record { words = words; homes = homes; views = set s.views id w }) × (w.seen ≡ now key record { words = words; homes = homes; views = set s.views id w } r) → Ruled w
   ruled_now key words homes s id v w at r = record { key = key; state = record { words = words; homes = homes; views = set s.views id w }; rule = r.0; number = id; here = set_here s.views id w (at_below s.views id v at); seen = r.1 }
 
-  -- both ends of a split stand under the rule, which leaves the object as it is
+  -- both ends of a split are under the rule, which leaves the object as it is
   module _ (nothing : K) (splits : (key : Key) (id : ℕ) (v : Ledger K O) → v.member.ends ≡ 2 → Splits (Rule key) id v (rest_of v) (newborn nothing v))
       (still : (key : Key) (id : ℕ) (v : Ledger K O) (two : v.member.ends ≡ 2) (s : State S (Ledger K O)) (k : Rule key s) (at : get_elem? s.views id ≡ some v) → now key s k ≡ now key record { words = s.words; homes = s.homes; views = set s.views id (rest_of v) ++ newborn nothing v ∷ [] } (splits key id v two s k at))
       (v : Ledger K O) (two : v.member.ends ≡ 2) (r : Ruled v) where

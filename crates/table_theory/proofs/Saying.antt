@@ -1,10 +1,10 @@
--- What a real step says of its object, and real steps one behind the other.
+-- The facts that a real step states of its object, and real steps one after the other.
 use Rattle.table_theory.proofs.Common.{◌≡◌, ◌⊎◌, inl, inr, ℕ, List, [], ◌∷◌, ◌++◌, get_or, sym, refl, ap, ◌∙◌, subst, AllByRecursion, Moment, Continues, Subject, Step, StepEffect, stays, event, more, fewer, IsReal, Reaches, Passes}
 use Rattle.table_theory.specs.Ledgers.{load}
 use Rattle.table_theory.proofs.Reaching.{continues_one, reaches_on}
 
 module _ {O : Type 0} (T : Subject O) where
-  -- what holds of the object, and of what one event makes of it, holds behind a step
+  -- what holds of the object, and of what one event makes of it, holds after a step
   pub effect_keeps : (P : O → Type 0) (m n : Moment O) → P m.object → ((o : O) → T.Happens m.object o → P o) → StepEffect T m n → P n.object
   effect_keeps P m n p f (stays e) = subst (λ (z : Moment O). P z.object) (sym e) p
   effect_keeps P m n p f (event o b e) = subst (λ (z : Moment O). P z.object) (sym e) (f o b)

@@ -1,4 +1,4 @@
--- The ends that stand, through each step, a split and a join.
+-- The ends that exist, through each step, a split and a join.
 use Rattle.table_theory.proofs.Common.{◌≡◌, ◌≢◌, ℕ, ◌+◌, ◌-◌, ◌%◌, ◌≤◌, List, [], ◌∷◌, ◌++◌, set, refl, ap, ◌∙◌, arith, some, get_elem?, Part, Ledger, IsWhole, IsCount, IsIdle, EndsStand, rest_of, newborn, both, emptied, first_of, set_else}
 use Rattle.table_theory.proofs.Counting.{changed, counted_up, counted_down, counted_split, counted_join, counted_first, others_idle, count_found}
 use Rattle.table_theory.proofs.Totals.{total_set, total_push, total_kept}

@@ -1,4 +1,4 @@
--- What every step of every table keeps and tells, whatever its object is.
+-- The facts that every step of every table keeps and reports, for any object.
 use Rattle.table_theory.proofs.Common.{◌≡◌, ◌≢◌, ℕ, ◌+◌, ◌-◌, ◌%◌, ◌<◌, ◌≤◌, List, [], ◌∷◌, ◌++◌, length, get_or, set, sym, refl, ap, ◌∙◌, subst, arith, get_or-set_same, get_or-set_other, some, get_elem?, Moment, Part, Ledger, IsWhole, IsCount, Subject, Step, StepEffect, stays, event, more, fewer, IsReal, IsHonest, Reaches, Adds, Made, CountedUp, CountedDown, Tallied, EndsStand, IsIdle, Stands, opened, first_of, rest_of, newborn, both, emptied, AreOrdered}
 use Rattle.std.proofs.lemmas.List.{set-get_or}
 use Rattle.table_theory.specs.Ledgers.{count_down, Looked}
@@ -169,7 +169,7 @@ module _ {K O : Type 0} {T : Subject O} {nothing : K} {first : O} {now : Moment 
 pub stands_first : {K O : Type 0} (T : Subject O) (nothing : K) (first : O) (words : List ℕ) → T.IsLawful first → T.Shows first words → get_or words T.ends_word 0 ≡ 1 → Stands T nothing first (opened first) words (first_of nothing first ∷ [])
 stands_first T nothing first words lawful shows number = record { lawful = lawful; shows = shows; number = number; true_ends = with_ends (order_first T nothing first) (stand_opened nothing (λ d e. d) nothing first) }
 
--- What is so where the only end, which knew v, closes its object: it has seen it as it is, and each other end is spent
+-- The facts when the only end, which knew v, closes its object: it has seen it as it is, and each other end is spent
 pub record Closes {K O : Type 0} (nothing : K) (now : Moment O) (vs : List (Ledger K O)) (id : ℕ) (v : Ledger K O) : Type 0 where
   pub whole : IsWhole v.member.share
   pub now_is : now ≡ v.seen

@@ -17,7 +17,7 @@ pub record IsTable {S K O : Type 0} (Holds : State S (Ledger K O) → Type 0) (T
   pub recounted : (o : O) (words : List ℕ) (y : ℕ) → T.Shows o words → T.Shows o (set words T.ends_word y)
 
 module _ {S K O : Type 0} {Holds : State S (Ledger K O) → Type 0} {T : Subject O} {nothing : K} {first : O} (t : IsTable Holds T nothing first) (n id : ℕ) (me : Me S (Ledger K O)) where
-  -- what a step owes, where the word becomes y
+  -- what a step owes if the word becomes y
   abbrev pub Goes : State S (Ledger K O) → ℕ → ℕ → (Me S (Ledger K O) → Type 0) → Type 0
   Goes s i y P = (w : Ledger K O) × (a : Act S) × Valid s.homes me.1 a × Holds (stepped s i y id me.1 w a) × P (w, carried_after me.1 a)
 

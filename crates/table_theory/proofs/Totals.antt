@@ -7,7 +7,7 @@ module _ {V : Type 0} (f : V → ℕ) where
   total_set (x ∷ xs) zero v w e = let h : f x ≡ f v = ap f (some-injective x v e) in omega arith
   total_set (x ∷ xs) (suc j) v w e = let h = total_set xs j v w e in omega arith
 
-  -- the total stays where one does
+  -- the total is unchanged if one entry's count is
   pub total_kept : (vs : List V) (j : ℕ) (v w : V) → get_elem? vs j ≡ some v → f w ≡ f v → total f (set vs j w) ≡ total f vs
   total_kept vs j v w at e = let t = total_set vs j v w at in omega arith
 

@@ -1,4 +1,4 @@
--- What a claim and a taking list, each as a line, and where runs lie.
+-- Claims and takings as list entries and as lines of items, and a bound of runs.
 use Rattle.std.specs.Prelude.{ℕ, ◌+◌, ◌≤◌, ◌≡◌, List, map, take, drop, length}
 use mathlib.Core.Option.{some}
 use lib.ListN.{get_elem?}
@@ -6,11 +6,11 @@ use Rattle.table_theory.specs.declared.queues.Batch.{Batch}
 use Rattle.table_theory.specs.declared.queues.Positions.{Positions}
 use Rattle.table_theory.specs.Positioned.{fresh, item_of, tail_of}
 
--- a run of which nothing is raised
+-- a run with these items from this position on, none of them raised
 abbrev pub run : ℕ → List ℕ → Batch
 run head items = record { start = head; places = map fresh items }
 
--- what a taking of n takes
+-- the entry of a taking of n places at the tail
 abbrev pub taking : Positions → ℕ → Batch
 taking q n = record { start = tail_of q; places = take n (drop q.taken q.places) }
 

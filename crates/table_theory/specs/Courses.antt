@@ -6,13 +6,13 @@ use Rattle.table_theory.specs.declared.views.Entry.{Entry}
 use Rattle.table_theory.specs.Ends.{Begins}
 use Rattle.table_theory.specs.Filing.{Owned, entry_of, ListedOnce}
 
--- each step finds the object as the one before it left it: they lead from the first object to the last
+-- each step finds the object as the step before it left it; the steps lead from the first object to the last
 abbrev pub Continues : {O : Type 0} → O → List (Entry O) → O → Type 0
 Continues first [] last = first ≡ last
 Continues first (e ∷ es) last = (first ≡ e.then) × Continues e.next es last
 
--- The steps of all ends, each of which is in one end's list, lead to the object as it is. What an end has seen are all
--- steps up to its own last one
+-- The steps of all ends, each in one end's list, lead from the first object to the object as it is now. Each end has
+-- seen a beginning of this order, which has all the end's own steps
 pub record IsCourse {V O : Type 0} (steps_of course_of : V → List (Entry O)) (first now : O) (views : List V)
     : Type 0 where
   pub course : List (Owned (Entry O))

@@ -1,4 +1,4 @@
--- One list of entries in order, each with its owner, and what each owner lists.
+-- One list of entries in order, each with its owner, and the owners' lists.
 use Rattle.std.specs.Prelude.{◌≡◌, ℕ, ◌+◌, List, ◌==◌, if◌then◌else◌}
 use mathlib.Core.Option.{some}
 use lib.ListN.{get_elem?}
@@ -19,10 +19,10 @@ pub record ListedOnce {E : Type 0} (log : List (Owned E)) (lists : List (List E)
   pub once : (k j : ℕ) (o p : Owned E) → get_elem? log k ≡ some o → get_elem? log j ≡ some p → o.0 ≡ p.0 → o.1 ≡ p.1
       → k ≡ j
 
--- where the entries of d go to c, behind the n that c has
+-- an entry of the owner d goes to the owner c, after the n entries of c; any other entry is unchanged
 abbrev pub moved : {E : Type 0} → ℕ → ℕ → ℕ → Owned E → Owned E
 moved c d n o = if o.0 == d then (c, n + o.1, o.2) else o
 
--- an entry, where there is one owner
+-- the entry, with its owner changed to 0
 abbrev pub sole : {E : Type 0} → Owned E → Owned E
 sole o = (0, o.1, o.2)

@@ -1,4 +1,4 @@
--- The views' parts list a queue: who claimed each run, and who took what.
+-- The views' parts list a queue: which end claimed each run, and which end took which places.
 use Rattle.std.specs.Prelude.{◌≡◌, ◌==◌, if◌then◌else◌, ℕ, suc, ◌+◌, ◌<◌, ◌≤◌, List, [], ◌∷◌, ◌++◌, map, length, take}
 use Rattle.std.specs.Prelude.{slice_index_or, slice_set}
 use mathlib.Core.Option.{some}
@@ -15,7 +15,7 @@ abbrev pub all_places : List (Owned Batch) → List Cell
 all_places [] = []
 all_places (o ∷ os) = o.2.places ++ all_places os
 
--- each stretch starts where the one before it ends
+-- the first stretch starts at p, and each other one where the one before it ends
 abbrev pub Adjacent : ℕ → List (Owned Batch) → Type 0
 Adjacent p [] = Unit {0}
 Adjacent p (o ∷ os) = (o.2.start ≡ p) × Adjacent (p + length o.2.places) os
@@ -30,7 +30,7 @@ takes_of v = v.takes
 abbrev pub IsSolid : List (Owned Batch) → Type 0
 IsSolid log = (k : ℕ) (o : Owned Batch) → get_elem? log k ≡ some o → 0 < length o.2.places
 
--- the log has these places, side by side from this position on, with each entry listed once by its end
+-- the log has these places, side by side from this position on, and each entry is listed once, by its end
 pub record IsListed (first : ℕ) (places : List Cell) (log : List (Owned Batch)) (lists : List (List Batch))
     : Type 0 where
   pub solid : IsSolid log
@@ -38,20 +38,20 @@ pub record IsListed (first : ℕ) (places : List Cell) (log : List (Owned Batch)
   pub adjacent : Adjacent first log
   pub filed : ListedOnce log lists
 
--- a log of all runs and one of all takings, each side by side from the first position, with each entry listed once by
--- its end
+-- There is a log of all runs and one of all takings, each side by side from the first position. Each entry is listed
+-- once, by its end
 pub record PartsShow (q : Positions) (parts : List QueueView) : Type 0 where
   pub runs : List (Owned Batch)
   pub takes : List (Owned Batch)
   pub runs_are : IsListed q.first q.places runs (map runs_of parts)
   pub takes_are : IsListed q.first (take q.taken q.places) takes (map takes_of parts)
 
--- the parts list the queue, which is no earlier than what each end has seen
+-- the parts list the queue, and each end has seen this queue or an earlier state of it
 pub record ViewsShow (q : Positions) (parts : List QueueView) : Type 0 where
   pub lists : PartsShow q parts
   pub seen : (j : ℕ) (v : QueueView) → get_elem? parts j ≡ some v → Grows v.queue q
 
--- n steps of writing are done at the place i of a stretch
+-- the stretch, with n steps of writing done at its place i
 abbrev pub written_to : Batch → ℕ → ℕ → Batch
 written_to e i n = record {
   start = e.start;
@@ -63,11 +63,11 @@ abbrev pub AllRaised : List Batch → Type 0
 AllRaised l = (m : ℕ) (e : Batch) → get_elem? l m ≡ some e → (i : ℕ) → i < length e.places
     → 2 ≤ (slice_index_or e.places i blank).written
 
--- no two runs of a list have one start
+-- no two runs of a list have the same start
 abbrev pub Distinct : List Batch → Type 0
 Distinct l = (m n : ℕ) (e f : Batch) → get_elem? l m ≡ some e → get_elem? l n ≡ some f → e.start ≡ f.start → m ≡ n
 
--- the number of the run with this start
+-- the index of the first run with this start, or the length of the list if there is none
 abbrev pub number_of : ℕ → List Batch → ℕ
 number_of start [] = 0
 number_of start (e ∷ es) = if e.start == start then 0 else suc (number_of start es)

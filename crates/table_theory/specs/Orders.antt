@@ -1,4 +1,4 @@
--- The steps of several ends in one order, whoever counts the ends.
+-- The steps of several ends in one order, however the ends are counted.
 use Rattle.std.specs.Prelude.{◌≡◌, ℕ, List, map}
 use Rattle.std.specs.List.{AllByRecursion}
 use mathlib.Core.Option.{some}
@@ -11,7 +11,7 @@ use Rattle.table_theory.specs.Filing.{entry_of}
 use Rattle.table_theory.specs.Ledgers.{Subject, IsReal, opened}
 
 -- The ends' steps, all real, lead in one order from the first object to this moment. Each end has seen a beginning of
--- the order, with all its own steps, and the object as that left it
+-- the order, with all its own steps, and the object as this beginning left it
 pub record AreOrdered {K O : Type 0} (subject : Subject O) (first : O) (now : Moment O) (views : List (Ledger K O))
     : Type 0 where
   pub course : IsCourse (λ v. v.steps) (λ v. v.course) (opened first) now views

@@ -16,7 +16,7 @@ use Rattle.table_theory.specs.Filing.{Owned}
 use Rattle.table_theory.specs.declared.queues.QueueView.{QueueView}
 use Rattle.table_theory.specs.Listing.{all_places, Adjacent, ViewsShow}
 
--- the run that a seat's batch is: the seat is its call
+-- the run for a seat's batch: the seat is its call
 abbrev pub run_in : Owned Batch → Run
 run_in o = record { call = o.0; items = map item_of o.2.places }
 
@@ -37,14 +37,14 @@ queue_of q runs = record {
   shut = q.shut;
 }
 
--- the runs, in their order, have each place once
+-- the runs, in their order, have each place once, side by side from the first position, and each run has a place
 pub record IsHistory (q : Positions) (runs : List (Owned Batch)) : Type 0 where
   pub solid : (k : ℕ) (o : Owned Batch) → get_elem? runs k ≡ some o → 0 < length o.2.places
   pub places : all_places runs ≡ q.places
   pub adjacent : Adjacent q.first runs
 
--- A step of the end `seat`, which knew v and then knows w, makes r of the positions q: it is this event of the queue
--- that some views show, of which v is the end's
+-- A step of the end `seat`, which knew v and then knows w, makes r of the positions q. The step is this event of the
+-- queue that some views show, with v as the view of `seat`
 pub record IsEvent (q r : Positions) (seat : ℕ) (v w : QueueView) (event : Queue → Result Queue Refusal) : Type 0 where
   pub views : List QueueView
   pub here : get_elem? views seat ≡ some v
@@ -53,11 +53,11 @@ pub record IsEvent (q r : Positions) (seat : ℕ) (v w : QueueView) (event : Que
   pub lawful : IsLawfulQueue (queue_of q shown.lists.runs)
   pub made : event (queue_of q shown.lists.runs) ≡ Ok (queue_of r new_shown.lists.runs)
 
--- no event: storing an item, and each load
+-- no event, as for the store of an item and for each load
 abbrev pub no_event : Queue → Result Queue Refusal
 no_event q = Ok q
 
--- a step makes r of the positions q: of the queue with this history it is this event, which leaves this history
+-- a step makes r of the positions q: it is this event of the queue with the history `runs`, and leaves `left`
 pub record IsEventOf (q : Positions) (runs : List (Owned Batch)) (event : Queue → Result Queue Refusal) (r : Positions)
     (left : List (Owned Batch)) : Type 0 where
   pub lawful : IsLawfulQueue (queue_of q runs)

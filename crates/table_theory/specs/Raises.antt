@@ -1,4 +1,4 @@
--- Several places that are raised at one step, one after the other: those of one run, or wherever they are.
+-- Several places that are raised in one step, one after the other: places of one run, or places of any runs.
 use Rattle.std.specs.Prelude.{◌≡◌, ℕ, zero, suc, ◌+◌, ◌<◌, List, [], ◌∷◌, length, Result, Ok}
 use mathlib.Core.Option.{some}
 use lib.ListN.{get_elem?}
@@ -11,17 +11,17 @@ use Rattle.table_theory.specs.Filing.{Owned}
 use Rattle.table_theory.specs.Listing.{written_to}
 use Rattle.table_theory.specs.Positioned.{with_write}
 
--- the items of the run from this index on are raised, so many, one after the other
+-- n items of the run, from this index on, are raised one after the other
 abbrev pub raise_all : ℕ → ℕ → ℕ → ℕ → Queue → Result Queue Refusal
 raise_all call run index zero q = Ok q
 raise_all call run index (suc n) q = raise call run index q >>= raise_all call run (suc index) n
 
--- the places from this one on are raised, so many
+-- n places, from this one on, are raised
 abbrev pub with_raises : Positions → ℕ → ℕ → Positions
 with_raises q at zero = q
 with_raises q at (suc n) = with_raises (with_write q at 2) (suc at) n
 
--- the places of the run from this index on are raised, so many
+-- n places of the run, from this index on, are raised
 abbrev pub raised_run : Batch → ℕ → ℕ → Batch
 raised_run run index zero = run
 raised_run run index (suc n) = raised_run (written_to run index 2) (suc index) n
@@ -32,17 +32,17 @@ pub record Spot : Type 0 where
   pub run : ℕ
   pub index : ℕ
 
--- the place has this position
+-- the place `spot` has this position
 abbrev pub IsAt : List (Owned Batch) → ℕ → Spot → Type 0
 IsAt runs position spot = (run : Owned Batch) × (get_elem? runs spot.run ≡ some run) × (run.0 ≡ spot.call)
     × (spot.index < length run.2.places) × (run.2.start + spot.index ≡ position)
 
--- they are the places from one position up to another, in their order
+-- the spots are the places from one position up to another, in their order
 abbrev pub AreAt : List (Owned Batch) → ℕ → List Spot → ℕ → Type 0
 AreAt runs from [] to = from ≡ to
 AreAt runs from (spot ∷ spots) to = IsAt runs from spot × AreAt runs (from + 1) spots to
 
--- their items are raised, one after the other
+-- the items at these spots are raised, one after the other
 abbrev pub raise_each : List Spot → Queue → Result Queue Refusal
 raise_each [] q = Ok q
 raise_each (spot ∷ spots) q = raise spot.call spot.run spot.index q >>= raise_each spots

@@ -6,8 +6,8 @@ use Rattle.atomic_table.specs.Table.{State}
 use Rattle.table_theory.specs.declared.views.Ledger.{Ledger}
 use Rattle.table_theory.specs.declared.views.Moment.{Moment}
 
--- At the end's last step the rule held, of a state in which the end has this view, and the end saw the object as the
--- rule has it
+-- The end's last step was made in a state in which the rule held and the end has this view. The end saw the object as
+-- the rule has it
 pub record IsRuled {Key S K O : Type 0} (Rule : Key → State S (Ledger K O) → Type 0)
     (now : (key : Key) (state : State S (Ledger K O)) → Rule key state → Moment O) (v : Ledger K O) : Type 0 where
   pub key : Key

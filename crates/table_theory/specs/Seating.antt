@@ -1,4 +1,4 @@
--- Which end a seat is, and what a caller asks of it.
+-- The end that a seat is, and the conditions on it.
 use Rattle.std.specs.Prelude.{◌≡◌, ◌≤◌}
 use Rattle.atomic_table.specs.Seated.{TableId}
 use Rattle.atomic_table.specs.declared.shared.Seat.{Seat}
@@ -9,11 +9,11 @@ use Rattle.table_theory.specs.Sharing.{IsWhole}
 abbrev pub IsSame : {S V : Type 0} → Seat S V → Seat S V → Type 0
 IsSame old new = (new.table_id ≡ old.table_id) × (new.id ≡ old.id)
 
--- it is an end of this table
+-- the seat is an end of this table
 abbrev pub IsOf : {S V : Type 0} → TableId → Seat S V → Type 0
 IsOf table seat = seat.table_id ≡ table
 
--- every other end was joined
+-- the end has the whole share: every other end was joined
 abbrev pub IsOnly : {S K O : Type 0} → Seat S (Ledger K O) → Type 0
 IsOnly seat = IsWhole seat.me.0.member.share
 

@@ -1,13 +1,13 @@
--- What the words of the places say of a queue. A table says how it reads the flag and the item of a place.
+-- The words of the places, and the queue that they show. A table states how it reads the flag and the item of a place.
 use Rattle.std.specs.Prelude.{◌≡◌, ℕ, ◌+◌, ◌%◌, ◌<◌, ◌≤◌}
 use Rattle.table_theory.specs.declared.queues.Positions.{Positions}
 use Rattle.table_theory.specs.Positioned.{item_at, written_at}
 
--- the place of the position i behind the first
+-- the place of the position i after the first
 abbrev pub spot : Positions → ℕ → ℕ
 spot q i = (q.first + i) % q.room
 
--- the flag is one more than the position exactly where it is raised, and no more than it before
+-- the flag is one more than the position if the place is raised, and smaller before; a datum once stored is the item
 pub record PlaceShows (q : Positions) (flag datum : ℕ → ℕ) (i : ℕ) : Type 0 where
   pub low : written_at q i < 2 → flag (spot q i) ≤ q.first + i
   pub up : 2 ≤ written_at q i → flag (spot q i) ≡ q.first + i + 1

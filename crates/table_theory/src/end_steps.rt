@@ -12,18 +12,18 @@ use atomic_table::{Join, Play, Seat, Shared, Split, TableRule};
 use std::marker::{Brand, PhantomData};
 
 /// The rule of a table whose ends are split and joined. S is what a slot holds, K what an end did, O the object, and
-/// Key what the table is told when it is made.
+/// Key what the table is made with.
 pub trait EndsRule<S, K, O, Key>: TableRule<S, Ledger<K, O>, Key> {
-    // What is so of an end when it has counted one more or one less.
+    // The condition on an end that has counted one more or one less.
     ghost suits: { Ledger K O → Type 0 };
 
-    // What an end did that did nothing.
+    // The record of an end that did nothing.
     ghost nothing: { K };
 
-    // What two ends did.
+    // The record of what two ends did.
     ghost plus: { K → K → K };
 
-    // What some end knows.
+    // The view of some end.
     ghost some_view: { Ledger K O };
 }
 
@@ -117,8 +117,8 @@ pub fn count_down<S, K, O, Key, P: EndsRule<S, K, O, Key>>(
     words.fetch_sub::<CountsDown<Key, P>>(seat, word, 1)
 }
 
-/// A new end gets a part of the end's share, and what the end has seen. The first word is loaded once, and what is
-/// found there is not used.
+/// A new end gets a part of the end's share, and has seen what the end has seen. The first word is loaded once, and the
+/// value found there is not used.
 pub fn split_off<S, K, O, Key, P: EndsRule<S, K, O, Key>>(
     words: &Shared<S, Ledger<K, O>, Key, P>,
     seat: &mut Seat<S, Ledger<K, O>>,
@@ -133,7 +133,7 @@ pub fn split_off<S, K, O, Key, P: EndsRule<S, K, O, Key>>(
     words.split_seat::<Gives<S, Key, P>>(seat)
 }
 
-/// The end gets all that the other has. The first word is loaded once, and what is found there is not used.
+/// The end gets all that the other end has. The first word is loaded once, and the value found there is not used.
 pub fn take_in<S, K, O, Key, P: EndsRule<S, K, O, Key>, J: Spent<Ledger<K, O>>>(
     words: &Shared<S, Ledger<K, O>, Key, P>,
     seat: &mut Seat<S, Ledger<K, O>>,

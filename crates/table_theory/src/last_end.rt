@@ -1,9 +1,9 @@
 //! The look at the number of ends before a close, whatever the table is.
 //!
-//! An end that found no other is a `Last`, which can do nothing but close the table: it can't be let go, copied or made
-//! elsewhere. So a close that succeeds makes one look at the table, and none after it. None comes before it either: an
-//! end that isn't alone comes back with this one look in its list, and no other load of the number of ends could say
-//! sooner that it is alone.
+//! An end that found no other is a `Last`, which can only close the table: it can't be let go, copied or made
+//! elsewhere. So a close that succeeds makes one look at the table, and none after it. No look comes before it: an
+//! end that isn't alone is returned with this one look in its list. No other load of the number of ends could show
+//! sooner that the end is alone.
 ghost use Rattle.std.specs.Prelude.{◌≡◌, ◌≢◌, ◌<◌, ℕ, IfOk, IfErr};
 ghost use Rattle.std.specs.Mem.Slots.{slots_items, slots_len, IsFull};
 ghost use mathlib.Core.Option.{none};
@@ -19,9 +19,9 @@ use std::marker::{Brand, PhantomData};
 const ALONE: u64 = 1;
 
 /// The rule of a table that counts its ends in one of its words. S is what a slot holds, V what an end knows, and Key
-/// what the table is told when it is made.
+/// what the table is made with.
 pub trait CountRule<S, V, Key>: TableRule<S, V, Key> {
-    // What the end whose seat has this number knows by its look: what it knew, the number of ends, and what it knows.
+    // The views of the end whose seat has this number, by its look: the one before, the number of ends, the one after.
     ghost tallied: { ℕ → V → ℕ → V → Type 0 };
 }
 
@@ -50,7 +50,7 @@ pub struct Last<S, V> {
     seat: Seat<S, V>,
 }
 
-/// Looks at the number of ends, as the rule allows it. If there are others, the end comes back with the number of all.
+/// Looks at the number of ends, as the rule allows it. If there are others, returns the end, with the number of all.
 pub fn count<S, V, Key, P: CountRule<S, V, Key>, J: Caller>(
     words: &Shared<S, V, Key, P>,
     seat: Seat<S, V>,

@@ -18,8 +18,8 @@ ghost use Rattle.table_theory.specs.Interleaving.{Ascending, joined, Interleaves
 ghost use Rattle.table_theory.specs.Listing.{Adjacent, ViewsShow, written_to};
 ghost use Rattle.table_theory.specs.QueueOf.{IsHistory, IsEvent, no_event, queue_of};
 
-/// The queue that a table's positions are is lawful, and each step of a table on its positions is one event of that
-/// queue, or none. Byte queues, chains and element queues all speak of their places so.
+/// A table's positions are a lawful queue, and each step of a table on its positions is one event of this queue, or
+/// none. Byte queues, chains and element queues all describe their places in this way.
 pub fn positions_are_queues()
     ensures lawful { (q : Positions) (runs : List (Owned Batch))
         → Lawful q → IsHistory q runs → IsLawfulQueue (queue_of q runs) }
@@ -60,8 +60,8 @@ pub fn positions_are_queues()
         → queue_of q (map (moved call other count) runs) ≡ join_queue call other (queue_of q runs) }
 {}
 
-/// Where each end lists its entries in their order, the log of all of them interleaves the ends' lists. The runs of a
-/// queue are such entries, and its takings are.
+/// If each end lists its entries in their order, the log of all entries interleaves the ends' lists. The runs of a
+/// queue are such entries, and so are its takings.
 pub fn logs_interleave()
     ensures { (first : ℕ) (log : List (Owned Batch)) (lists : List (List Batch))
         → Adjacent first log → ((k : ℕ) (o : Owned Batch) → get_elem? log k ≡ some o → 0 < length o.2.places)

@@ -1,8 +1,8 @@
 //! The theory of the tables that processors share, over plain lists: queues by their positions, what each end of an
 //! object lists of them, and the ends themselves.
 //!
-//! A table is words that change in single atomic steps. What its ends know stands in views, which exist in proofs
-//! alone: each end lists the runs that it claimed, what it took, and every step that it made with what it found there.
+//! A table is words that change in single atomic steps. The knowledge of its ends is in views, which exist only in
+//! proofs. Each end lists the runs that it claimed, what it took, and every step that it made with what it found there.
 //! Byte queues, chains and element queues are queues by their positions; each of the tables has ends that are made,
 //! split, joined and counted.
 #![tactic(auto)]

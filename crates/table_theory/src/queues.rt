@@ -1,4 +1,4 @@
-//! What a queue of a table is by its positions, and what one end of it knows. Proofs alone speak of these types.
+//! A queue of a table by its positions, and the knowledge of one end of it. Only proofs use these types.
 //!
 //! A position is a place of the queue from its beginning on, so no position is ever used twice. The words of a table
 //! have positions modulo their number of places; `laws` says how both fit together.
@@ -26,7 +26,7 @@ pub struct Positions {
     pub shut: bool,
 }
 
-/// What an end knows of one queue: the queue as it was at the end's last step, its own runs and what it took.
+/// The knowledge of an end about one queue: the queue as it was at the end's last step, its own runs and what it took.
 pub struct QueueView {
     pub queue: Positions,
     pub runs: LinkedList<Batch>,

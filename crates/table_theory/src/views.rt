@@ -1,9 +1,9 @@
-//! What every end has, of whatever object: the steps that it made, and its place among the other ends.
+//! The data that every end of any object has: the steps that it made, and its place among the other ends.
 use std::collections::LinkedList;
 use thiserror::Error;
 
-/// One step of an end: the number of the word, what was found there (at a store too), and the object as the step found
-/// it and as it left it. Proofs alone speak of it.
+/// One step of an end: the number of the word, the value found there (by a store too), and the object as the step found
+/// it and as it left it. Only proofs use it.
 pub struct Entry<O> {
     pub word: u64,
     pub found: u64,
@@ -18,15 +18,15 @@ pub struct OpenEnds {
     pub others: u64,
 }
 
-/// An object at one moment, and how many ends it has then. Proofs alone speak of it.
+/// An object at one moment, and how many ends it has then. Only proofs use it.
 pub struct Moment<O> {
     pub ends: u64,
     pub object: O,
 }
 
-/// An end among the ends of its object: how many of the ends counted it is, its share, and how often it was split and
-/// took in another end. Each time that an end is cut off or taken in, the first word is loaded once, and no list has
-/// that load: `unlisted` counts them. Proofs alone speak of it.
+/// An end among the ends of its object: how many of the counted ends it is, its share, and how often it was split and
+/// took in another end. Each time that an end is split off or taken in, the first word is loaded once. No list has this
+/// load: `unlisted` counts these loads. Only proofs use it.
 pub struct Part {
     pub ends: u64,
     pub share: u64,
@@ -35,10 +35,10 @@ pub struct Part {
     pub unlisted: u64,
 }
 
-/// What an end knows: the object as it was made, what the end did, the object as its last step left it, what the end is
-/// among the ends, every step that it made, and every step that any end had made up to its own last one. Between taking
-/// in another end and its next step it has those that the one of both had seen that saw less, and the object as it was
-/// made, as the other end had it. Proofs alone speak of it.
+/// The knowledge of an end: the object as it was made, what the end did, the object as its last step left it, its part
+/// among the ends, its own steps, and all ends' steps up to its last one. Between taking in another end and the next
+/// step, `joined` has the steps that were seen by the one of both that saw less, and `joined_first` is the object as it
+/// was made, as the other end had it. Only proofs use it.
 pub struct Ledger<K, O> {
     pub first: O,
     pub own: K,

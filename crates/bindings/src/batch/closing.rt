@@ -9,7 +9,7 @@ use super::held::HeldBatch;
 use batch_queue::{BatchEnd, BatchQueue, LeftItems};
 use std::sync::Arc;
 
-/// What a batch queue had at its end: how many items were put and taken, and how many were left.
+/// The totals of a closed batch queue: how many items were put, were taken and were left.
 #[repr(C)]
 #[derive(Drop)]
 pub struct SynthBatchClosed {
@@ -18,7 +18,7 @@ pub struct SynthBatchClosed {
     pub left: usize,
 }
 
-// Copies what was left to the beginning of a buffer. Gives its number.
+// Copies the items left to the beginning of a buffer. Returns their number.
 fn copy_left(left: &LeftItems, out: &mut [u64]) -> usize
     requires { length (items_left left.now) ≤ length out.old }
     ensures number { result ≡ length (items_left left.now) }

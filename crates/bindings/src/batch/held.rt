@@ -1,4 +1,4 @@
-//! What a handle of a batch queue stands for.
+//! The end that a handle of a batch queue holds.
 ghost use Rattle.std.specs.Prelude.{◌≡◌, MatchBool};
 ghost use Rattle.std.specs.Option.{MatchOption};
 ghost use Rattle.std.specs.Arc.{arc_value};

@@ -9,8 +9,8 @@ use crate::answer::{DONE, EMPTY_HANDLE};
 use crate::handle::Handle;
 use batch_queue::QueueLook;
 
-/// What a look at a batch queue found: the tail, the position up to which all is published from there on, the head, and
-/// whether the queue is shut.
+/// The result of a look at a batch queue: the tail, the position up to which all is published from the tail on, the
+/// head, and whether the queue is shut.
 #[repr(C)]
 #[derive(Drop)]
 pub struct SynthBatchLook {
@@ -29,7 +29,7 @@ impl HeldBatch {
     }
 }
 
-// What was found, as C has it.
+// The result of the look, as C has it.
 fn report(found: QueueLook) -> SynthBatchLook
     ensures { found ≡ found_by result }
 {

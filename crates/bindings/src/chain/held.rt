@@ -1,4 +1,4 @@
-//! What a handle of a chain stands for.
+//! The end that a handle of a chain holds.
 ghost use Rattle.std.specs.Prelude.{◌≡◌, true};
 ghost use Rattle.std.specs.Option.{MatchOption};
 ghost use Rattle.std.specs.Arc.{arc_value};
@@ -22,16 +22,16 @@ pub struct HeldChain {
     ghost known: { share.parts ≡ (view_of end).member.share },
 }
 
-/// What became of a note.
+/// The outcome of putting a note.
 #[derive(Clone, Copy, Drop)]
 pub enum Noted {
     /// This end runs notes from now on.
     Run,
-    /// The end that runs notes gets it.
+    /// The end that runs notes gets the note.
     Left,
 }
 
-/// What an end that runs notes got.
+/// The result of a pull by an end that runs notes.
 #[derive(Clone, Copy, Drop)]
 pub enum Pulled {
     /// The next note, which this end runs.

@@ -1,4 +1,4 @@
-//! What the chain for C runs: it keeps the note, and its caller does what the note is for.
+//! The quaject that the chain for C runs: it keeps the note, and its caller does what the note is for.
 use proc_chain::{Quaject, Ran};
 
 /// The note that was pulled last.

@@ -38,7 +38,7 @@ impl HeldHand {
     }
 }
 
-/// `ThreadTable::close`, where the hand has all parts of the table. Else the handle keeps its hand.
+/// `ThreadTable::close`, if the hand has all parts of the table. Else the handle keeps its hand.
 #[unsafe(no_mangle)]
 pub extern "C" fn synth_raw_hand_close(
     alloc: Global,

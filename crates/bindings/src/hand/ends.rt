@@ -53,7 +53,7 @@ pub extern "C" fn synth_raw_hand_split(
     split::<HeldHand>(alloc, hand, processors, other)
 }
 
-/// The first hand then has all that both had, and the second handle is empty.
+/// Joins two hands: the first then has all that both had, and the second handle is empty.
 #[unsafe(no_mangle)]
 pub extern "C" fn synth_raw_hand_join(alloc: Global, hand: &mut Handle, other: &mut Handle) -> i32
     requires { MarksTell (λ x z. IsOneMark x.share z.share) AreOfOneTable (hand_of hand.old) (hand_of other.old) }

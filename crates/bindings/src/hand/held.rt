@@ -1,4 +1,4 @@
-//! What a handle of a hand stands for.
+//! The hand that a handle holds.
 ghost use Rattle.std.specs.Prelude.{◌≡◌, ◌≢◌, ◌≤◌, None, Some, true};
 ghost use Rattle.std.specs.Option.{MatchOption};
 ghost use Rattle.std.specs.Arc.{arc_value};
@@ -61,7 +61,7 @@ impl HeldHand {
         self.hand.on_processor(processor)
     }
 
-    /// `ThreadTable::on`, where no element of the hand stands there.
+    /// `ThreadTable::on`, if no element of the hand is on the processor.
     pub fn on(&mut self, processor: Processor, element: Element)
         requires mine { (has (view_of self.old.hand) element ≡ true)
             × (serves (view_of self.old.hand) processor ≡ true) }
@@ -73,7 +73,7 @@ impl HeldHand {
         };
     }
 
-    /// `ThreadTable::off`, where an element of the hand stands there.
+    /// `ThreadTable::off`, if an element of the hand is on the processor.
     pub fn off(&mut self, processor: Processor) -> Element
         requires mine { serves (view_of self.old.hand) processor ≡ true }
         requires full { running (view_of self.old.hand) processor ≢ None }

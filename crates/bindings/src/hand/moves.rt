@@ -15,7 +15,7 @@ use crate::handle::Handle;
 use event_theory::{Element, WaitNumber};
 use thread_table::MoveRefusal;
 
-/// What a move answered. With `LOST`, `head` and `notifies` are those of the head word that was found. With `MOVED`,
+/// The answer of a move. With `LOST`, `head` and `notifies` are those of the head word that was found. With `MOVED`,
 /// `notifies` is the number that was found.
 #[repr(C)]
 #[derive(Drop)]
@@ -72,7 +72,7 @@ impl HeldHand {
     }
 }
 
-// The code alone.
+// This code, with both numbers 0.
 fn code_alone(code: i32) -> SynthMoved
     ensures { IsMoveCode code result }
 {
@@ -83,7 +83,7 @@ fn code_alone(code: i32) -> SynthMoved
     }
 }
 
-// The code of the answer, and the numbers that it tells.
+// The code of the answer, and the numbers in it.
 fn told_of_move(answer: Result<(), MoveRefusal>) -> SynthMoved
     ensures { IsToldMove answer result }
 {

@@ -4,7 +4,7 @@ ghost use Rattle.std.specs.Option.{MatchOption};
 
 use event_theory::{Element, Signal, WaitNumber};
 
-/// The element of this number. None where there is none.
+/// The element of this number, or None if there is none.
 pub fn element_of(number: u32) -> Option<Element>
     ensures { MatchOption result (64 ≤ number) (λ element. (element ≡ number) × (number < 64)) }
 {
@@ -14,7 +14,7 @@ pub fn element_of(number: u32) -> Option<Element>
     Element::new(number as u8)
 }
 
-/// The wait queue of this number. None where there is none.
+/// The wait queue of this number, or None if there is none.
 pub fn wait_of(number: u32) -> Option<WaitNumber>
     ensures { MatchOption result (16 ≤ number) (λ wait. (wait ≡ number) × (number < 16)) }
 {
@@ -24,7 +24,7 @@ pub fn wait_of(number: u32) -> Option<WaitNumber>
     WaitNumber::new(number as u8)
 }
 
-/// The signal of this number. None where there is none.
+/// The signal of this number, or None if there is none.
 pub fn signal_of(number: u32) -> Option<Signal>
     ensures { MatchOption result (16 ≤ number) (λ signal. (signal ≡ number) × (number < 16)) }
 {

@@ -1,11 +1,11 @@
-//! What a table had at its end, as C has it.
+//! The state of a table when it was closed, as C has it.
 ghost use Rattle.std.specs.Prelude.{◌≡◌, map};
 ghost use Rattle.bindings.specs.HandClosing.{place_told, IsToldPlaces};
 
 use thread_table::{Place, Places};
 
-/// Where an element is: on the processor `number` (0), in the ready ring (1), free (2), in the wait queue `number` (3),
-/// in its stop cell (4), or in the hand that closed the table (5). Where `kind` needs no number, it is 0.
+/// The place of an element: on the processor `number` (0), in the ready ring (1), free (2), in the wait queue `number`
+/// (3), in its stop cell (4), or in the hand that closed the table (5). If `kind` needs no number, `number` is 0.
 #[repr(C)]
 #[derive(Clone, Copy)]
 pub struct SynthPlace {
@@ -13,8 +13,8 @@ pub struct SynthPlace {
     pub number: u32,
 }
 
-/// What a table had at its end, each list by the number of the element: where it is, how many steps it has done, and
-/// its pending signals, bit s for signal s. `stops` has bit e where the stop bit of element e is set.
+/// The state of a table when it was closed, each list by the number of the element: its place, its steps done, and its
+/// pending signals, bit s for signal s. `stops` has bit e if the stop bit of element e is set.
 #[repr(C)]
 #[derive(Drop)]
 pub struct SynthPlaces {
@@ -51,7 +51,7 @@ fn told_of_all(places: &[Place; 64]) -> [SynthPlace; 64]
     told
 }
 
-/// What the library's `close` told.
+/// The report of the library's `close`.
 pub fn told_of_places(places: &Places) -> SynthPlaces
     ensures { IsToldPlaces places.now result }
 {

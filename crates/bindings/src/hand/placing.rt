@@ -1,4 +1,4 @@
-//! What a hand has, its processors, and the steps of its elements.
+//! The elements of a hand, its processors, and the steps of its elements.
 ghost use Rattle.std.specs.Prelude.{◌≡◌};
 ghost use Rattle.bindings.specs.Codes.{EmptyHandle};
 ghost use Rattle.bindings.specs.Handles.{hand_of, NoneIn, HoldsThen, TurnsThen};

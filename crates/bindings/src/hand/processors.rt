@@ -9,7 +9,7 @@ ghost use Rattle.bindings.specs.HandHeld.{ServesAll, LacksOne, HasNoneOn, HasOne
 use super::held::HeldHand;
 use event_theory::{Element, Processor};
 
-/// The processor of this number. None where there is none.
+/// The processor of this number, or None if there is none.
 pub fn processor_of(number: u32) -> Option<Processor>
     ensures { MatchOption result (8 ≤ number) (λ processor. (processor ≡ number) × (number < 8)) }
 {
@@ -19,7 +19,7 @@ pub fn processor_of(number: u32) -> Option<Processor>
     Processor::new(number as u8)
 }
 
-// Whether the mask has the processor, which the hand doesn't serve.
+// Whether the mask has the processor, and the hand doesn't serve it.
 fn lacks(held: &HeldHand, mask: u8, p: u32) -> bool
     requires { p < 8 }
     ensures { MatchBool result ((is_in mask p ≡ true) × (serves (view_of held.now.hand) p ≡ false))
@@ -31,7 +31,7 @@ fn lacks(held: &HeldHand, mask: u8, p: u32) -> bool
     mask >> p & 1 == 1 && !held.serves(processor)
 }
 
-// Whether the mask has the processor, and an element of the hand stands there.
+// Whether the mask has the processor, and an element of the hand is on it.
 fn runs(held: &HeldHand, mask: u8, p: u32) -> bool
     requires { p < 8 }
     ensures { MatchBool result ((is_in mask p ≡ true) × (running (view_of held.now.hand) p ≢ None))
@@ -43,7 +43,7 @@ fn runs(held: &HeldHand, mask: u8, p: u32) -> bool
     mask >> p & 1 == 1 && held.on_processor(processor).is_some()
 }
 
-// Whether the hand has the element on the processor, which it serves.
+// Whether the hand serves the processor, and has the element on it.
 fn has_on(held: &HeldHand, p: u32, element: Element) -> bool
     requires { p < 8 }
     ensures { MatchBool result
@@ -69,7 +69,7 @@ impl HeldHand {
         true
     }
 
-    /// Whether no element of the hand stands on a processor of the mask.
+    /// Whether no element of the hand is on a processor of the mask.
     pub fn has_none_on(&self, mask: u8) -> bool
         ensures { MatchBool result (HasNoneOn mask self.now) (HasOneOn mask self.now) }
     {

@@ -17,7 +17,7 @@ use crate::handle::Handle;
 use event_theory::{Element, Signal};
 use thread_table::{Lost, Signalled, Started};
 
-/// What a start, a park or a delivery answered. With `LOST`, `word` is the state word that was found: bits 0 to 15 are
+/// The answer of a start, a park or a delivery. With `LOST`, `word` is the state word that was found: bits 0 to 15 are
 /// the pending signals, bit 16 the stop bit, bit 17 the stop cell's.
 #[repr(C)]
 #[derive(Drop)]
@@ -65,14 +65,14 @@ impl HeldHand {
     }
 }
 
-// The code alone.
+// This code, with word 0.
 fn code_alone(code: i32) -> SynthState
     ensures { IsStateCode code result }
 {
     SynthState { code, word: 0 }
 }
 
-// The word that the refusal tells.
+// The state word in the refusal.
 fn told_of_lost(lost: Lost) -> SynthState
     requires { lost.seen < u32_values }
     ensures { IsToldLost lost result }
@@ -83,7 +83,7 @@ fn told_of_lost(lost: Lost) -> SynthState
     }
 }
 
-// How C is told what a start did.
+// The number that reports the effect of a start to C.
 fn number_of(started: Started) -> u32
     ensures { result ≡ number_of_start started }
 {
@@ -104,7 +104,7 @@ fn was_raised(signalled: Signalled) -> bool
     }
 }
 
-// Tells what a start did, or the state word that was found.
+// Reports the effect of a start, or the state word that was found.
 fn tell_start(answer: Result<Started, Lost>, started: &mut u32) -> SynthState
     requires { IsFitState answer }
     ensures { IsToldStart answer started.old started.new result }
@@ -118,7 +118,7 @@ fn tell_start(answer: Result<Started, Lost>, started: &mut u32) -> SynthState
     }
 }
 
-// Tells whether the element is parked, or the state word that was found.
+// Reports whether the element is parked, or the state word that was found.
 fn tell_park(answer: Result<bool, Lost>, parked: &mut bool) -> SynthState
     requires { IsFitState answer }
     ensures { IsToldPark answer parked.old parked.new result }
@@ -132,7 +132,7 @@ fn tell_park(answer: Result<bool, Lost>, parked: &mut bool) -> SynthState
     }
 }
 
-// Tells the signals that were delivered, or the state word that was found.
+// Reports the signals that were delivered, or the state word that was found.
 fn tell_delivery(answer: Result<u16, Lost>, signals: &mut u32) -> SynthState
     requires { IsFitState answer }
     ensures { IsToldDelivery answer signals.old signals.new result }
@@ -163,8 +163,8 @@ pub extern "C" fn synth_raw_hand_stop(hand: &mut Handle, element: u32, was_clear
     DONE
 }
 
-/// `ThreadTable::try_start`. The elements are 0 to 63. `started` is then 0 where the stop bit was clear, 1 where it was
-/// cleared, and 2 where it was cleared and the hand holds the element.
+/// `ThreadTable::try_start`. The elements are 0 to 63. `started` is then 0 if the stop bit was clear, 1 if it was
+/// cleared, and 2 if it was cleared and the hand holds the element.
 #[unsafe(no_mangle)]
 pub extern "C" fn synth_raw_hand_try_start(
     hand: &mut Handle,

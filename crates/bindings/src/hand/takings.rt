@@ -38,7 +38,7 @@ impl HeldHand {
     }
 }
 
-/// The code of the refusal, and the tail that it tells.
+/// The code of the refusal, and the tail in it.
 pub(super) fn told_of_next(refusal: NextRefusal) -> SynthAnswer
     requires { tail_of_next refusal < u32_values }
     ensures { (result.code ≡ code_of_next refusal) × (result.head ≡ 0) × (result.tail ≡ tail_of_next refusal) }
@@ -53,7 +53,7 @@ pub(super) fn told_of_next(refusal: NextRefusal) -> SynthAnswer
     }
 }
 
-// Tells the element that was taken, or why none was.
+// Reports the element that was taken, or the reason why none was.
 fn tell_taking(answer: Result<Element, NextRefusal>, element: &mut u32) -> SynthAnswer
     requires { IsFit answer }
     ensures { IsToldTaking answer element.old element.new result }

@@ -34,7 +34,7 @@ impl HeldHand {
     }
 }
 
-// Tells the element that was taken, that none is left before the position, or why none was taken.
+// Reports the element that was taken, that none is left before the position, or the reason why none was taken.
 fn tell_before(answer: Result<Option<Element>, NextRefusal>, element: &mut u32) -> SynthAnswer
     requires { IsFitBefore answer }
     ensures { IsToldBefore answer element.old element.new result }

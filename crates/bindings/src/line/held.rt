@@ -1,4 +1,4 @@
-//! What the handles of a line's ends stand for.
+//! The ends of a line that handles hold.
 use spsc_line::{LineIn, LineOut};
 
 /// The end of a line that pushes. `mark` is the number that the line was given.

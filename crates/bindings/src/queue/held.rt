@@ -1,4 +1,4 @@
-//! What a handle of a queue stands for.
+//! The end that a handle of a queue holds.
 ghost use Rattle.std.specs.Prelude.{◌≡◌, ◌≤◌, length, MatchBool};
 ghost use Rattle.std.specs.Option.{MatchOption};
 ghost use Rattle.bindings.specs.QueueHeld.{AtSize, AtSizes, IsSize, HaveOneMark, AreOfOneQueue, IsNewHeld};
@@ -78,7 +78,7 @@ impl HeldQueue {
         }
     }
 
-    /// `ClaimQueue::try_take_line`. The line lies at the beginning of the buffer, and its length is the answer.
+    /// `ClaimQueue::try_take_line`. The line is at the beginning of the buffer, and its length is the answer.
     pub fn try_take_line(&mut self, out: &mut [u64]) -> Result<usize, TakeRefusal>
         requires { places_of self.old ≤ length out.old }
         ensures { AtSize (TookLinePart out.old out.new result) self.old self.new }

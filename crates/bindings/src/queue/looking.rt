@@ -11,8 +11,8 @@ use crate::answer::{DONE, EMPTY_HANDLE};
 use crate::handle::Handle;
 use claim_queue::QueueLook;
 
-/// What a look at a claim queue found: the tail, the head, whether the queue is shut, and how many items are raised from
-/// the tail on.
+/// The result of a look at a claim queue: the tail, the head, whether the queue is shut, and how many items are raised
+/// from the tail on.
 #[repr(C)]
 #[derive(Drop)]
 pub struct SynthQueueLook {
@@ -43,7 +43,7 @@ impl HeldQueue {
     }
 }
 
-// What was found, as C has it.
+// The result of the look, as C has it.
 fn report(found: QueueLook) -> SynthQueueLook
     ensures { found ≡ found_by result }
 {

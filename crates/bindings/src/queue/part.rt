@@ -42,7 +42,7 @@ impl<const N: usize> Part<N> {
         })
     }
 
-    /// A new end of the queue. None where no more handles can be counted.
+    /// A new end of the queue, or None if no more handles can be counted.
     pub fn split(&mut self) -> Option<Part<N>>
         requires { HasTwo self.old.share }
         ensures { MatchOption result (self.new ≡ self.old) (λ born. DividedPart N self.old self.new born) }
@@ -56,7 +56,7 @@ impl<const N: usize> Part<N> {
         })
     }
 
-    /// Takes another end of the queue in.
+    /// Takes in another end of the queue.
     pub fn join(&mut self, other: Part<N>)
         requires one_queue { IsOneQueue N self.old other }
         requires parts { Fit self.old.share other.share }
@@ -85,14 +85,14 @@ impl<const N: usize> Part<N> {
         self.queue.try_take(&mut self.end)
     }
 
-    /// `ClaimQueue::try_take`, again and again, until it is refused or the buffer is full.
+    /// Repeats `ClaimQueue::try_take` until it is refused or the buffer is full.
     pub fn take_up_to(&mut self, out: &mut [u64]) -> (usize, Option<TakeRefusal>)
         ensures { TookSomePart out.old out.new result N self.old self.new }
     {
         take_up_to(&self.queue, &mut self.end, out)
     }
 
-    /// `ClaimQueue::try_take_line`. The line lies at the beginning of the buffer, and its length is the answer.
+    /// `ClaimQueue::try_take_line`. The line is at the beginning of the buffer, and its length is the answer.
     pub fn try_take_line(&mut self, out: &mut [u64]) -> Result<usize, TakeRefusal>
         requires { N ≤ length out.old }
         ensures { TookLinePart out.old out.new result N self.old self.new }

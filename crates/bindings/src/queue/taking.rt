@@ -14,7 +14,7 @@ pub fn copy_line(line: &[u64], out: &mut [u64])
     out[..line.len()].copy_from_slice(line);
 }
 
-/// Copies what was left to the beginning of a buffer. Gives its number.
+/// Copies the items left to the beginning of a buffer. Returns their number.
 pub fn copy_left<const N: usize>(left: &ArrayVec<Option<u64>, N>, out: &mut [u64]) -> usize
     requires { length left.now.items ≤ length out.old }
     ensures number { result ≡ length left.now.items }
@@ -28,8 +28,8 @@ pub fn copy_left<const N: usize>(left: &ArrayVec<Option<u64>, N>, out: &mut [u64
     left.len()
 }
 
-/// Takes items one by one, until a taking is refused or the buffer is full. Gives their number, and the refusal. They
-/// lie at the beginning of the buffer.
+/// Takes items one by one, until a taking is refused or the buffer is full. Returns their number, and the refusal. The
+/// items are at the beginning of the buffer.
 pub fn take_up_to<const N: usize>(
     queue: &ClaimQueue<N>,
     end: &mut QueueEnd<N>,

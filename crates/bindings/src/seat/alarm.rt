@@ -14,7 +14,7 @@ pub struct SynthAlarm {
     pub signal: u32,
 }
 
-/// The alarm that is told. None where its element or its signal is out of range.
+/// The alarm that C gave, or None if its element or its signal is out of range.
 pub fn alarm_of(told: &SynthAlarm) -> Option<Alarm>
     ensures { MatchOption result (IsNoAlarm told.now) (λ alarm. IsAlarm told.now × (alarm_told alarm ≡ told.now)) }
 {
@@ -28,7 +28,7 @@ pub fn alarm_of(told: &SynthAlarm) -> Option<Alarm>
     })
 }
 
-/// How an alarm is told.
+/// An alarm as it is reported to C.
 pub fn told_of(alarm: &Alarm) -> SynthAlarm
     ensures { result ≡ alarm_told alarm.now }
 {
@@ -39,7 +39,7 @@ pub fn told_of(alarm: &Alarm) -> SynthAlarm
     }
 }
 
-/// Tells alarms at the beginning of a buffer. Gives their number.
+/// Writes alarms to the beginning of a buffer. Returns their number.
 pub fn tell_alarms(alarms: &[Alarm], out: &mut [SynthAlarm]) -> usize
     requires { length alarms.now ≤ length out.old }
     ensures number { result ≡ length alarms.now }

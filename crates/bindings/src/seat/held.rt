@@ -1,4 +1,4 @@
-//! What a handle of meters stands for.
+//! The end that a handle of meters holds.
 ghost use Rattle.std.specs.Prelude.{◌≡◌, ◌<◌};
 ghost use Rattle.std.specs.Option.{MatchOption};
 ghost use Rattle.std.specs.Arc.{arc_value};

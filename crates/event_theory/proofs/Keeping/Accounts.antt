@@ -161,7 +161,7 @@ no_moves s = record {
   cancelled = sym (append-nil s.meters.cancelled);
 }
 
--- the numbers that follow a first one, where it is given
+-- the numbers that follow a first one, if it is given
 numbers_more : (given : Bool) (first next last : ℕ) (numbers : List ℕ) → next ≡ first + cond given 1 0
     → (count : ℕ) × (last ≡ next + count) × (numbers ≡ range_with_len (next + 1) count)
     → (count : ℕ) × (last ≡ first + count) × (cond given ((first + 1) ∷ numbers) numbers ≡ range_with_len (first + 1) count)

@@ -54,7 +54,7 @@ fresh_kept (item ∷ items) call c lawful =
     not_raised c.notes (length c.notes.history) 0 _ lawful refl (past_last c.notes.history) in
     rw past refl
 
--- a first note that was there is forgotten after a claim only where it was before
+-- a first note that was there is forgotten after a claim only if it was forgotten before
 first_kept : (call : ℕ) (items : List ℕ) (c : Chain) (pair : ℕ × ℕ) (raised : Bool) → IsLawfulQueue c.notes → c.notes.raised pair.0 pair.1 ≡ raised
     → forgotten (with_notes (after_claim call items c.notes) c) (Some pair) ≡ forgotten c (Some pair)
 first_kept call items c pair false lawful at = rw at refl
@@ -63,13 +63,13 @@ first_kept call items c pair true lawful at =
     let found = found_append c.notes.history (record { call = call; items = items } ∷ []) pair.0 (omega (arith, here)) in
     ap (λ run. c.notes.raised pair.0 pair.1 && not (owes c run)) found
 
--- nothing is forgotten after a claim where nothing was
+-- nothing is forgotten after a claim if nothing was forgotten before
 claim_kept : (call : ℕ) (items : List ℕ) (c : Chain) (before : List (ℕ × ℕ)) → IsLawfulQueue c.notes → forgotten c (slice_get before 0) ≡ false
     → forgotten (with_notes (after_claim call items c.notes) c) (slice_get (before ++ pairs_of (length c.notes.history) 0 items) 0) ≡ false
 claim_kept call items c [] lawful h = fresh_kept items call c lawful
 claim_kept call items c (pair ∷ pairs) lawful h = first_kept call items c pair _ lawful refl ∙ h
 
--- the pairs of a claimed run stand behind those that are left
+-- the pairs of a claimed run come after those that are left
 pub left_claimed : (call : ℕ) (items : List ℕ) (q : Queue) → IsLawfulQueue q
     → left_pairs (after_claim call items q) ≡ left_pairs q ++ pairs_of (length q.history) 0 items
 left_claimed call items q lawful =
@@ -158,7 +158,7 @@ and_true : (a b : Bool) → b ≡ true → (a && not b) ≡ false
 and_true true b h = ap not h
 and_true false b h = refl
 
--- a pair is forgotten after a raise only where it was before
+-- a pair is forgotten after a raise only if it was forgotten before
 raise_kept : (call run index : ℕ) (c : Chain) (claimed : Run) (pair : ℕ × ℕ) (same : Bool) → slice_get c.notes.history run ≡ Some claimed → claimed.call ≡ call
     → (eqb pair.0 run && eqb pair.1 index) ≡ same → forgotten c (Some pair) ≡ false
     → forgotten (raised_chain call (after_raise run index c.notes) c) (Some pair) ≡ false

@@ -100,14 +100,14 @@ thread_by Q threads index old new element there here apart (inl same) =
 thread_by Q threads index old new element there here apart (inr differ) =
     rw (differ.0, slice_get_set_other threads index element new differ.1) (apart (slice_get threads element))
 
--- what holds of a thread before and after, where one of the threads changed
+-- what holds of a thread before and after, if one of the threads changed
 thread_after : (Q : Bool → Option Thread → Option Thread → Type 0) (threads : List Thread) (index : ℕ) (old new : Thread) (element : ℕ) → slice_get threads index ≡ Some old
     → Q true (Some old) (Some new) → ((found : Option Thread) → Q false found found)
     → Q (eqb index element) (slice_get threads element) (slice_get (set threads index new) element)
 thread_after Q threads index old new element there here apart =
     thread_by Q threads index old new element there here apart (eqb_tells index element)
 
--- where one thread changed, and pending signals, deliveries and steps are those of that thread
+-- one thread changed, and pending signals, deliveries and steps are those of this thread
 thread_adds : (made delivered : Bool → ℕ → Option Thread → Bool) (stepped : Bool → Bool) (threads : List Thread) (index : ℕ) (old new : Thread) → slice_get threads index ≡ Some old
     → ((number : ℕ) → made false number ≡ λ found. false) → ((number : ℕ) → delivered false number ≡ λ found. false) → stepped false ≡ false
     → ((number : ℕ) → cond (made true number (Some old)) 1 0 + cond (old.pending number) 1 0 ≡ cond (delivered true number (Some old)) 1 0 + cond (new.pending number) 1 0)
@@ -121,7 +121,7 @@ thread_adds made delivered stepped threads index old new there no_made no_delive
       threads index old new element there done (λ found. rw no_step (omega arith));
 }
 
--- where an event changes one thread
+-- an event changes one thread
 change_adds : (made delivered : Bool → ℕ → Option Thread → Bool) (stepped : Bool → Bool) (index : ℕ) (change : Thread → Result Thread Refusal) (s t : Elements) → change_thread index change s ≡ Ok t
     → ((number : ℕ) → made false number ≡ λ found. false) → ((number : ℕ) → delivered false number ≡ λ found. false) → stepped false ≡ false
     → ((old new : Thread) → change old ≡ Ok new
@@ -173,7 +173,7 @@ start_adds call element s t ok =
     let is : set s.threads element (record a.0 { stop = false; parked = false }) ≡ t.threads = ap (λ (x : Elements). x.threads) (given_ok _ t c.1) in
     rw (sym is) (thread_stays s.threads element a.0 (record a.0 { stop = false; parked = false }) there refl refl)
 
--- a number joins a set, once more where it wasn't in it
+-- a number joins a set, once more if it wasn't in the set
 joins : (number other : ℕ) (is : Bool) → cond (eqb number other && not is) 1 0 + cond is 1 0 ≡ 0 + cond (cond (eqb other number) true is) 1 0
 joins number other true = grind (arith, nat_tests)
 joins number other false = grind (arith, nat_tests)

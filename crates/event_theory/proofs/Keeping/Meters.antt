@@ -23,7 +23,7 @@ advance_law m n lawful ok =
     let h = test_ok (eqb m.clock 4294967295) Full _ n ok in
     subst IsLawfulMeters (given_ok (record m { clock = m.clock + 1 }) n h.1) lawful
 
--- what stands in the slots after a change of one
+-- the alarms in the slots after a change of one slot
 slots_set : (alarm : Alarm) (slots : List (Option Alarm)) (slot : ℕ) (old new : Option Alarm) → slot < length slots → get_or slots slot None ≡ old
     → count_by (stands alarm) (set slots slot new) + cond (stands alarm old) 1 0 ≡ count_by (stands alarm) slots + cond (stands alarm new) 1 0
 slots_set alarm slots slot old new within was =
@@ -51,7 +51,7 @@ put_lawful : (alarm : Alarm) (slot : ℕ) (m : Meters) → IsLawfulMeters m → 
 put_lawful alarm slot m lawful within empty a =
     omega (arith, lawful a, one_more a alarm m.set, slots_set a m.slots slot _ (Some alarm) within refl, none_stands a (get_or m.slots slot None) empty)
 
--- what stood in a slot is counted once where it goes
+-- the alarm that was in a slot is counted once where it goes
 out_of : (alarm other : Alarm) (slots : List (Option Alarm)) (slot : ℕ) → slice_get slots slot ≡ Some (Some other)
     → count_by (stands alarm) (set slots slot None) + cond (is_alarm alarm other) 1 0 ≡ count_by (stands alarm) slots
 out_of alarm other slots slot found =
@@ -63,7 +63,7 @@ fired_lawful alarm slot m lawful found a = omega (arith, lawful a, one_more a al
 cancelled_lawful : (alarm : Alarm) (slot : ℕ) (m : Meters) → IsLawfulMeters m → slice_get m.slots slot ≡ Some (Some alarm) → IsLawfulMeters (cancelled_from alarm slot m)
 cancelled_lawful alarm slot m lawful found a = omega (arith, lawful a, one_more a alarm m.cancelled, out_of a alarm m.slots slot found)
 
--- the alarm that was found stands there
+-- the alarm that was found is in the slot
 pub standing_ok : (slot : ℕ) (m : Meters) (alarm : Alarm) → standing slot m ≡ Ok alarm → slice_get m.slots slot ≡ Some (Some alarm)
 standing_ok slot m alarm ok =
     let h = then_ok (at slot m.slots) (λ found. ok_or found UnknownName) alarm ok in

@@ -19,7 +19,7 @@ use Rattle.event_theory.proofs.Lists.Histories.{both, flat-append}
 use Rattle.event_theory.proofs.Lists.Inversions.{then_ok, test_ok, given_ok, some_ok}
 use Rattle.event_theory.proofs.Keeping.Queues.{take_ok}
 
--- once, where the one element is the other
+-- once, if the one element is the other
 abbrev pub one : ℕ → ℕ → ℕ
 one item element = cond (eqb item element) 1 0
 
@@ -34,7 +34,7 @@ sum_changed f xs index old new at =
     let same : get_or xs index old ≡ old = get_or_from_slice_get xs index old old at in
     ap (λ x. sum_by f (set xs index new) + f x) (sym same) ∙ sum_by-set f xs index new old (slice_get_within xs index old at)
 
--- a sum over mapped entries, where each counts as the entry that it came from
+-- a sum over mapped entries, each of which counts as the entry that it came from
 pub sum_mapped : {X Y : Type 0} (f : Y → ℕ) (g : X → Y) (h : X → ℕ) → ((x : X) → f (g x) ≡ h x) → (xs : List X) → sum_by f (map g xs) ≡ sum_by h xs
 sum_mapped f g h same [] = refl
 sum_mapped f g h same (x ∷ xs) =
@@ -70,7 +70,7 @@ let_all_go_count call (item ∷ items) held rest ok element =
       sum_by-cons (λ x. cond (eqb x element) 1 0) item items,
     )
 
--- a claim leaves its items behind those that were left
+-- a claim leaves its items after those that were left
 pub claim_left : (longest call : ℕ) (items : List ℕ) (q r : Queue) → IsLawfulQueue q → claim longest call items q ≡ Ok r → left r ≡ left q ++ items
 claim_left longest call items q r lawful ok =
     let a = test_ok (eqb (length items) 0) NoItems _ r ok in
@@ -152,7 +152,7 @@ passes_at p [] index x at all = absurd (cc)
 passes_at p (y ∷ xs) zero x at all = ap p (sym (some_same y x at)) ∙ (both (p y) (list_all p xs) all).0
 passes_at p (y ∷ xs) (suc index) x at all = passes_at p xs index x at (both (p y) (list_all p xs) all).1
 
--- and by all entries still, where one that passes it takes the place of another
+-- and by all entries still, if one that passes it takes the place of another
 pub passes_set : {X : Type 0} (p : X → Bool) (xs : List X) (index : ℕ) (x : X) → p x ≡ true → list_all p xs ≡ true → list_all p (set xs index x) ≡ true
 passes_set p [] index x passes all = refl
 passes_set p (y ∷ xs) zero x passes all = both_true passes (both (p y) (list_all p xs) all).1

@@ -24,7 +24,7 @@ abbrev without : ℕ → List ℕ → List ℕ
 without n [] = []
 without n (x ∷ xs) = cond (eqb x n) (without n xs) (x ∷ without n xs)
 
--- how often a number stands in a longer list
+-- how often a number is in a longer list
 pub in_more : (k x : ℕ) (xs : List ℕ) → in_list k (x ∷ xs) ≡ one x k + in_list k xs
 in_more k x xs = sum_by-cons (λ y. one y k) x xs
 
@@ -95,7 +95,7 @@ long (suc n) x = ap suc (long n x)
 pub so_many : {A B : Type 0} (f : A → B) (x : B) (n : ℕ) (xs : List A) → map f xs ≡ repeat n (x ∷ []) → length xs ≡ n
 so_many f x n xs is = sym (length-map xs f) ∙ (ap length is ∙ long n x)
 
--- where one more is held of as many elements, there was room
+-- if one more is held of as many elements, there was room
 one_more : (s t : Elements) (h : Hold) → IsLawfulElements t → t.held ≡ s.held ++ h ∷ [] → length t.threads ≡ length s.threads → length s.held < length s.threads
 one_more s t h lawful held same = omega (arith, held_few t lawful, ap length held, length-append s.held (h ∷ []))
 

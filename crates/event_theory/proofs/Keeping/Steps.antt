@@ -186,7 +186,7 @@ reached_law s (event ∷ events) t lawful there = reached_law there.0 events t (
 pub schedule_law : (count : ℕ) (events : List Event) (s : State) → Reaches (first_state count) events s → IsLawful s
 schedule_law count events s there = reached_law (first_state count) events s (first_law count) there
 
--- what an event makes of a lawful state is lawful, also where it is refused
+-- what an event makes of a lawful state is lawful, also if the event is refused
 pub changed_law : (event : Event) (result : Result (Unit {0}) Refusal) (old new : State) → IsLawful old → Changes result (step event old) old new → IsLawful new
 changed_law event (Ok done) old new lawful h = step_law event old new lawful h
 changed_law event (Err refusal) old new lawful h = subst IsLawful (sym h.0) lawful

@@ -52,7 +52,7 @@ list_all-weaker p q (x ∷ xs) weaker all =
     let h = both (p x) (list_all p xs) all in
     rw (weaker x h.0, list_all-weaker p q xs weaker h.1) refl
 
--- what stands in a list without its first items
+-- the entries of a list without its first items
 pub slice_get-drop : {X : Type 0} (xs : List X) (k i : ℕ) → slice_get (drop k xs) i ≡ slice_get xs (k + i)
 slice_get-drop xs zero i = ap (slice_get xs) (sym (zero-add i))
 slice_get-drop [] (suc k) i = refl

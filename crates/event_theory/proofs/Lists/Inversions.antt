@@ -22,7 +22,7 @@ pub some_ok : {A : Type 0} (found : Option A) (e : Refusal) (x : A) → ok_or fo
 some_ok None e x ok = absurd (cc)
 some_ok (Some y) e x ok = ap Some (given_ok y x ok)
 
--- a change in a list that was allowed: what stood there, and what stands there now
+-- a change in a list that was allowed: the old entry, and the new entry
 pub change_ok : {A : Type 0} (index : ℕ) (change : A → Result A Refusal) (list r : List A) → change_at index change list ≡ Ok r
     → (old : A) × (new : A) × (slice_get list index ≡ Some old) × (change old ≡ Ok new) × (r ≡ set list index new)
 change_ok index change list r ok =

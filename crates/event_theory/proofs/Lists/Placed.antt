@@ -2,7 +2,7 @@
 use Rattle.std.proofs.Common.{◌≡◌, ℕ, zero, suc, ◌<◌, List, [], ◌∷◌, ◌++◌, length, slice_get, Some, refl, subst, arith}
 use Rattle.std.specs.List.{AllByRecursion, AllZip}
 
--- below a list's length an item stands
+-- below a list's length there is an item
 pub there : {A : Type 0} (xs : List A) (i : ℕ) → i < length xs → (x : A) × (slice_get xs i ≡ Some x)
 there [] i low = absurd (omega arith)
 there (x ∷ xs) zero low = (x, refl)

@@ -1,4 +1,4 @@
--- The box behind the pointer may go to another thread, as its value may, and any thread may free it.
+-- The box at the pointer may go to another thread if its value may, and any thread may free it.
 use mir.Raw.{raw}
 use denote.Memory.{lone}
 use denote.Struct.Struct.{exits_of}

@@ -1,4 +1,4 @@
--- The value in the box is lent where it stands, and the handle follows it. Nothing is called.
+-- The value in the box is lent in place, and the handle follows it. Nothing is called.
 use Rattle.std.proofs.Common.{◌≡◌, ℕ, Bool, true, false, List, [], ◌∷◌, ◌++◌, refl, sym, ap, ◌∙◌, subst}
 use seplogic.Ra.Ura.{Ura}
 use base.Fraction.{full_share}

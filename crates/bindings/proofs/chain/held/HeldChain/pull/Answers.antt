@@ -9,7 +9,7 @@ use Rattle.bindings.specs.Inboxes.{last_or}
 use Rattle.bindings.proofs.Handing.{none_run, one_run, last_on}
 use Rattle.bindings.proofs.chain.held.HeldChain.pull.Goals as goal
 
--- the note that stands in a slot
+-- the note in the first slot, or 0
 abbrev note_of : List (ℕ × Inbox) → ℕ
 note_of [] = 0
 note_of (x ∷ xs) = x.1.note

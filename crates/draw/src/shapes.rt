@@ -8,7 +8,7 @@ ghost use Rattle.draw.specs.Colours.{colour_code, anchor_code};
 use event_theory::Items;
 use std::fmt;
 
-/// A colour. Readers who see fewer colours can also distinguish the colours of states.
+/// A colour. Readers who see fewer colours can also distinguish the colours of states (Okabe and Ito, 2008).
 #[derive(Clone, Copy)]
 pub enum Colour {
     Ink,

@@ -1,4 +1,4 @@
--- What a clause says of meters and of their ends.
+-- The terms in which a contract speaks of the meters and of their ends.
 use Rattle.std.specs.Prelude.{ℕ}
 use Rattle.meters.specs.declared.ends.Meters.{Meters}
 use Rattle.meters.specs.declared.ends.MeterSeat.{MeterSeat}

@@ -1,4 +1,4 @@
--- What a clause says of a table and of a hand.
+-- The terms in which a contract speaks of a table and of a hand.
 use Rattle.std.specs.Prelude.{ℕ}
 use Rattle.thread_table.specs.Own.{View}
 use Rattle.thread_table.specs.declared.hand.ThreadTable.{ThreadTable}

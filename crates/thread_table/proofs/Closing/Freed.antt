@@ -1,4 +1,4 @@
--- What was put behind the free elements is there at the end, where no more were taken than there were at first.
+-- Elements that were put after the free elements are there at the end, if no more were taken than there were at first.
 use Rattle.thread_table.proofs.Common.{◌≡◌, ◌≢◌, ℕ, zero, suc, ◌+◌, ◌<◌, ◌≤◌, Bool, true, false, List, [], ◌∷◌, ◌++◌, map, length, drop, get_or, refl, sym, ap, ◌∙◌, subst, arith, Option, None, slice_get, or-false, or_left, or_right, flat_map, if◌then◌else◌, list_any, AllByRecursion, result_unwrap_or, map-append, slice_get-get_or, get_or-eq_default, list_any-append, list_any-IsPermutation, sum_by-IsPermutation, sum_by-cons, dite, dec_lt, appearances, is_on, in_list, in_cell, Elements, Thread, new_thread, IsLawfulElements, IsLawfulQueue, Queue, empty_queue, left, Run, flat, run_length, State, step, Event, Hold, every_at, entry_of, ELEMENTS, PLACES, free_ring, wait_ring, Place, Made, View, ClosedNow, StandsAt, is_left, is_join, made_in, numbered, AreMade, items_of, retired_by, retired_in, taking_by, ring_at}
 use Rattle.std.proofs.Common.{sum_by}
 use Rattle.table_theory.proofs.Reaching.{all_behind}

@@ -45,7 +45,7 @@ is_in_or_not element words ring = ⊎_elim
     (λ no. inr (λ h. no h.0)))
     (word_at words (head_word ring) % NOTIFY))
 
--- the element stands in a queue or in none
+-- the element is in a queue or in none
 pub some_ring : (element : ℕ) (words : List ℕ) → (ring : Option ℕ) × RingOf element words ring
 some_ring element words = ⊎_elim
     (λ found. (Some found.0, (found.1, found.2)))

@@ -161,7 +161,7 @@ effect_adds event = else_adds _ _ (λ s x. refl)
 step_adds : (event : Event) → AddsTo (retired_by event) (length (taking_by event)) (step event)
 step_adds event s t ok = let a = then_ok (effect event s) _ t ok in ap (λ (z : State). told z.elements.rings) (sym (given_ok (counted a.0) t a.2)) ∙ effect_adds event s a.0 a.1
 
--- an event takes as many of the free elements as it tells
+-- an event takes as many of the free elements as its count says
 pub step_takes : (event : Event) (s t : State) → step event s ≡ Ok t
     → (get_or t.elements.rings 1 (empty_queue PLACES)).taken ≡ (get_or s.elements.rings 1 (empty_queue PLACES)).taken + length (taking_by event)
 step_takes event s t ok = ap (λ (p : List (List ℕ) × ℕ). p.1) (step_adds event s t ok)
@@ -191,7 +191,7 @@ are_told past allowed =
     let many : (ring_at (elements_after past) 1).taken ≡ 0 + takings_in past = ap (λ (p : List (List ℕ) × ℕ). p.1) all in
     (ap (λ (p : List (List ℕ) × ℕ). p.0) all, omega arith)
 
--- the runs of the queue, behind those with which it began
+-- the runs of the queue, after those with which it began
 pub are_retired : (past : List Event) → IsAllowed past → AreRetired past
 are_retired past allowed = ap (drop 64) (are_told past allowed).0 ∙ drop_all first_runs (retired_in past) 64 refl
   where

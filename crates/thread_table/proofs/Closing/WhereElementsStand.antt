@@ -1,4 +1,4 @@
--- Where an element of a closed table stands: the words show its one appearance, or the hand that closed holds it.
+-- The place of an element of a closed table: the words show its one appearance, or the hand that closed holds it.
 use Rattle.thread_table.proofs.Common.{◌≡◌, ◌≢◌, ℕ, zero, suc, ◌+◌, ◌-◌, ◌%◌, ◌<◌, ◌≤◌, Bool, true, false, cond, eqb, List, [], ◌∷◌, length, map, drop, get_or, Some, None, Option, slice_get, refl, sym, ap, subst, ◌∙◌, arith, length-drop, eq-eqb, ne_eqb, true≢false, or_left, or_right, and_from, list_any-append, list_any_at, sum_by-cons, get_or-le-sum_by, slice_get-get_or, bit_at, list_any, sum_by, dite, dec_lt, ℕ_discrete, appearances, is_on, in_list, in_cell, Elements, is_hold, holds, new_thread, IsLawfulElements, IsLawfulQueue, Queue, empty_queue, left, flat, Hold, every_at, ProcessorOf, IsIn, RingOf, PlaceOf, StandsAt, is_left, place_by, word_at, ring_at, thread_at, element_at, element_of, no_run, ELEMENTS, RINGS, PLACES, state_word, place_word, WordsShow, processor_shown, bit_of, Place}
 use Rattle.thread_table.proofs.Lists.Counts.{find_it}
 use Rattle.std.proofs.lemmas.List.{get_or-drop, get_or-map}

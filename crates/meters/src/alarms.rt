@@ -40,8 +40,8 @@ impl Meters {
         ensures same { IsSameSeat seat.old seat.new }
     {
         for slot in 0..SLOTS {
-            // one load of each slot: NoRoom means that each slot was taken when it was loaded, and is no single point
-            // in time
+            // one load of each slot: NoRoom means that each slot was taken when it was loaded, not that all were taken
+            // at once
             if load_alarm(&self.table.shared, &mut seat.seat, slot).is_none() {
                 // linearization point: the alarm is in the slot; the slot's word is 0, so no other alarm is overwritten
                 if exchange_in(&self.table.shared, &mut seat.seat, slot, alarm) {

@@ -12,6 +12,6 @@ Divided v w = ends.Divided ends_word v w
 abbrev pub IsNewborn : SeatView → SeatView → SeatView → Type 0
 IsNewborn old new born = ends.IsNewborn nothing_did old new born
 
--- the end has what both had, the number of ends was made one less, and no alarm is listed more often than it happened
+-- the end has what both had, the number of ends was made one less, and the end's lists are part of what happened
 abbrev pub TookIn : SeatView → SeatView → SeatView → Type 0
 TookIn v u w = ends.TookIn did_both ends_word v u w × IsPart w

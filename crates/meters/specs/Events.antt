@@ -17,7 +17,8 @@ pub record AreAlike (m n : Meters) : Type 0 where
   pub as_many : length n.slots ≡ length m.slots
   pub stand : (alarm : Alarm) → count_by (stands alarm) n.slots ≡ count_by (stands alarm) m.slots
 
--- The alarm is set in this slot, which was empty. The core's event sets it in the first empty slot, with like result.
+-- The alarm is set in this slot, which was empty. The core's event sets it in the first empty slot: the meters are
+-- alike.
 pub record IsSet (slot : ℕ) (alarm : Alarm) (m n : Reading) : Type 0 where
   pub within : slot < length m.slots
   pub empty : in_slot m slot ≡ None

@@ -5,7 +5,7 @@ use Rattle.meters.specs.declared.ends.MeterSeat.{MeterSeat}
 use Rattle.meters.specs.Own.{SeatView}
 use Rattle.table_theory.specs.Seating as seats
 
--- what the end knows
+-- the view of the end: what it knows
 abbrev pub view_of : MeterSeat → SeatView
 view_of end = end.seat.me.0
 

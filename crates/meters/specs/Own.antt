@@ -11,7 +11,7 @@ use Rattle.meters.specs.declared.rule.Tick.{Tick}
 use Rattle.meters.specs.Changes.{IsLawful, Becomes}
 use Rattle.meters.specs.Words.{WordsShow}
 
--- what an end of the meters knows
+-- the view of an end of the meters: what it knows
 abbrev pub SeatView : Type 0
 SeatView = Ledger Did Reading
 
@@ -29,7 +29,7 @@ did_both d e = record {
   cancelled = d.cancelled ++ e.cancelled;
 }
 
--- what the theory of tables takes from the table of the meters
+-- the parameters that the theory of tables takes from the table of the meters
 abbrev pub of_meters : Subject Reading
 of_meters = record { ends_word = ends_word; Shows = WordsShow; IsLawful = IsLawful; Happens = Becomes }
 

@@ -13,7 +13,7 @@ pub record Rule (key : Shape) (s : State Unit SeatView) : Type 0 where
   pub stands : Stands of_meters nothing_did (first_reading key.clock) now s.words s.views
   pub listed : ViewsShow key.clock now.object s.views
 
--- what the first end of the meters knows
+-- the view of the first end of the meters
 abbrev pub newcomer : Shape → SeatView
 newcomer key = first_of nothing_did (first_reading key.clock)
 

@@ -71,6 +71,7 @@ impl Meters {
     {
         // linearization point: the number of ends becomes one more, before the new end is made, so it is never too low
         count_up(&self.table.shared, &mut seat.seat, ENDS);
+        // the first word is loaded too, and its number is not used
         let new = split_off(&self.table.shared, &mut seat.seat);
         MeterSeat { seat: new }
     }
@@ -84,7 +85,8 @@ impl Meters {
         ensures same { IsSameSeat seat.old seat.new }
     {
         let MeterSeat { seat: spent } = other;
-        // linearization point: the first end then has what both had
+        // linearization point: the first end has what both had; the first word is loaded too, and its number is not
+        // used
         take_in::<_, _, _, _, _, Brand>(&self.table.shared, &mut seat.seat, spent);
         // the number of ends becomes one less after the join, so it is never too low
         count_down(&self.table.shared, &mut seat.seat, ENDS);

@@ -10,7 +10,7 @@ pub struct Shape {
     pub clock: u64,
 }
 
-/// What one tick added to one gauge.
+/// The amount that one tick added to one gauge.
 pub struct Tick {
     pub gauge: u64,
     pub amount: u64,

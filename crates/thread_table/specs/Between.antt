@@ -51,7 +51,7 @@ pub record ShowsElements (key : Shape) (s : tables.State Unit View) : Type 0 whe
       × (v.own.claimed ≡ Some (claim_of ring run (element_at (ring_at core.elements ring) run)))
   -- the first word has the number of the hands that exist
   pub ends : EndsStand (nothing_of key.first) (slice_index_or s.words ends_word 0) s.views
-  -- each hand that no longer exists was joined once, and no other hand was joined
+  -- the joins of the schedule are the hands': each hand that no longer exists was joined once, and no other hand ever
   pub joined : AreJoined events s.views
   -- the steps of the hands and the joins lead from no event to these events; the view `joiner`, of no hand, has the
   -- joins; and each hand has seen all of them up to its own last step

@@ -79,7 +79,8 @@ ArePending element schedule mask = (signal : ℕ) → signal < 16
 
 -- The table is closed by a hand that has the whole, so the hand has seen all events and lists each event except the
 -- joins once. One event of the list counts each step that an element has done. Each signal was made pending as often as
--- it was delivered, once more if it is pending. Each element is in the place that is reported.
+-- it was delivered, once more if it is pending. Each element's place, steps, pending signals and stop bit are those
+-- that are reported.
 pub record ClosedNow (call : ℕ) (v : View) (stands : List Place) (pcs pending : List ℕ) (stops : ℕ) : Type 0 where
   pub whole : IsWhole v.member.share
   pub allowed : IsAllowed v.seen.object

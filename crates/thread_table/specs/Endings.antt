@@ -24,7 +24,7 @@ with_split v w = record v {
 }
 
 -- The number of hands was found and made one more. The hand gave away a part of its share and the processors of the
--- mask. Nothing else changed.
+-- mask. Nothing else changed except the counts in `with_split`.
 pub record Divided (mask : ℕ) (v w : View) : Type 0 where
   pub serves : (p : ℕ) → p < PROCESSORS → serves w p ≡ (serves v p && not (is_in mask p))
   pub found : Past
@@ -35,8 +35,8 @@ pub record IsNewborn (mask : ℕ) (old new born : View) : Type 0 where
   pub serves : (p : ℕ) → p < PROCESSORS → serves born p ≡ is_in mask p
   pub same : ends.IsNewborn (serving new.own.first born.own.serves) old new born
 
--- what both hands have, before one of them has the share of both: the step of the join, which is on no word, comes
--- between this and the hand's next step
+-- the view of what both hands have, before one of them has the share of both: the step of the join, which is on no
+-- word, comes between this and the hand's next step
 abbrev pub together : View → View → View
 together v u = record (both v u) { member = record (both v u).member { share = 0 } }
 

@@ -20,12 +20,12 @@ Step = ends.Step (List Event)
 abbrev pub change : ℕ → ℕ → Past → Event → Step
 change word found past event = ends.change word found past (past.object ++ event ∷ [])
 
--- the state that these steps left, if the first one found `past`
+-- the state that the last of these steps left, or `past` if there is none
 abbrev pub left_by : Past → List Step → Past
 left_by past [] = past
 left_by past (e ∷ es) = left_by e.next es
 
--- each step found the events that the step before it left, or more, and the elements as they had grown
+-- each step found the events that the step before it left, or more, and the elements had only grown in between
 abbrev pub AreInOrder : Past → List Step → Type 0
 AreInOrder past [] = Unit {0}
 AreInOrder past (e ∷ es) = Begins past.object e.then.object
@@ -38,7 +38,7 @@ steps_in element events = count_by (is_done element) events
 abbrev pub steps_by : ℕ → List Made → ℕ
 steps_by element made = count_by (λ m. is_done element m.event) made
 
--- if the hand had made a step since its last join, only it counted steps of what it may step before and after
+-- if the hand had counted its joins, only this hand counted steps of what it may step before and after
 abbrev pub IsCalm : View → View → Type 0
 IsCalm v w = v.own.fresh ≡ true → (element : ℕ) → element < ELEMENTS → MayStep v element → MayStep w element
     → steps_in element w.seen.object + steps_by element v.own.made

@@ -5,7 +5,7 @@ use Rattle.thread_table.specs.declared.hand.ThreadTable.{ThreadTable}
 use Rattle.thread_table.specs.declared.hand.Hand.{Hand}
 use Rattle.table_theory.specs.Seating as seats
 
--- what the hand knows
+-- the view of the hand: what it knows
 abbrev pub view_of : Hand → View
 view_of hand = hand.seat.me.0
 

@@ -2,14 +2,14 @@
 use Rattle.std.specs.Prelude.{◌≡◌}
 use Rattle.thread_table.specs.Own.{View}
 
--- the hand serves the same processors, has the same elements on them, and has the same share
+-- the hand keeps the processors that it serves, the elements on them, and its share
 pub record Keeps (v w : View) : Type 0 where
   pub first : w.own.first ≡ v.own.first
   pub serves : w.own.serves ≡ v.own.serves
   pub on : w.own.on ≡ v.own.on
   pub share : w.member.share ≡ v.member.share
 
--- the hand serves, has on processors, shares and holds what it did before, and made no event
+-- the hand keeps all that, holds what it held, and made no event
 pub record Stays (v w : View) : Type 0 where
   pub keeps : Keeps v w
   pub held : w.own.held ≡ v.own.held

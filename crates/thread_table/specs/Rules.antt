@@ -36,7 +36,7 @@ no_processors = repeat PROCESSORS (false ∷ [])
 abbrev pub nothing_on : List (Option ℕ)
 nothing_on = repeat PROCESSORS (None ∷ [])
 
--- what a hand has that has nothing, in a table with this first position
+-- the contents of a hand that has nothing, in a table with this first position
 abbrev pub nothing_of : ℕ → Having
 nothing_of first = record {
   first = first;
@@ -50,7 +50,7 @@ nothing_of first = record {
   doubled = false;
 }
 
--- what a new hand has, which serves the processors of the mask
+-- the contents of a new hand, which serves the processors of the mask
 abbrev pub serving : ℕ → List Bool → Having
 serving first mask = record (nothing_of first) { serves = mask; fresh = true }
 
@@ -120,12 +120,12 @@ MayStep v element = (has v element ≡ true) ⊎ ((p : ℕ) × (serves v p ≡ t
 abbrev pub done_at : List Event → ℕ → ℕ
 done_at events element = (thread_at (elements_after events) element).done
 
--- if the hand has made a step since its last join, it has seen each step of the elements that it may step
+-- if the hand has counted its joins, it has seen each step done of the elements that it may step
 abbrev pub IsSteady : View → List Event → Type 0
 IsSteady v events = v.own.fresh ≡ true → (element : ℕ) → element < ELEMENTS → MayStep v element
     → done_at events element ≡ done_at v.seen.object element
 
--- if the hand has the whole and has made a step since its last join, it has seen all these steps
+-- if the hand has the whole and has counted its joins, it has seen all these steps
 abbrev pub IsNewest : View → Course → Type 0
 IsNewest v past = IsWhole v.member.share → v.own.fresh ≡ true → past ≡ v.course
 
@@ -161,6 +161,6 @@ pub record Rule (key : Shape) (s : State Unit View) : Type 0 where
   pub order : AreOrdered (of_hands key.first) [] (now_of events s.words) (joiner ∷ s.views)
   pub newest : (j : ℕ) (v : View) → get_elem? s.views j ≡ some v → IsNewest v (map entry_of order.course.course)
 
--- what the first hand of a table knows
+-- the view of the first hand of a table
 abbrev pub newcomer : Shape → View
 newcomer key = first_of (serving key.first (repeat PROCESSORS (true ∷ []))) []

@@ -24,9 +24,9 @@ use Rattle.thread_table.specs.Entries.{Acts, change}
 use Rattle.thread_table.specs.Telling.{IsHonest}
 use Rattle.thread_table.specs.Views.{quiet, having_found, count_of, after_event}
 
--- The schedule that a step of the hand found: its events were allowed, and it is no earlier than what the hand had
--- seen. No step is undone, or was counted of what the hand has. A hand with the whole had seen it all. It took in no
--- hand with which it shared an element or a processor. Words show the elements.
+-- The schedule that a step of the hand found: allowed, no earlier than what the hand had seen, with no step undone, and
+-- with words that show its elements. If the hand has counted its joins, no step was counted of what it has, and if it
+-- also has the whole, it had seen all. It took in no hand with which it shared an element or a processor.
 pub record Sees (v : View) (schedule : List Event) : Type 0 where
   pub allowed : IsAllowed schedule
   pub lawful : IsLawfulElements (elements_after schedule)
@@ -84,8 +84,8 @@ abbrev pub tries : ℕ → Event → Step Unit → Me Unit View → ℕ → Me U
 tries call event st m r m' = Tells call ((r ≡ st.first → Did call m.0 st.word st.first event m'.0)
     × (r ≢ st.first → Found m.0 st.word r m'.0)) m m'
 
--- what a compare-and-swap of an element's state word to `new` may be: the park of an element that the hand holds, whose
--- stop bit is set; the start of one whose stop bit is set; or a delivery to one that the hand holds
+-- a compare-and-swap of an element's state word to `new` is one of these: the park of an element that the hand holds,
+-- whose stop bit is set; the start of one whose stop bit is set; or a delivery to one that the hand holds
 abbrev pub IsTurn : Event → ℕ → ℕ → View → ℕ → ℕ → Type 0
 IsTurn event call element v old new =
     ((event ≡ events.Park call element) × (has v element ≡ true) × (bit_at old stop_bit ≡ 1) × (new ≡ bit_or old CELL))
@@ -184,7 +184,7 @@ rest_of mask v =
 abbrev pub newborn : List Bool → View → View
 newborn mask v = ends.newborn (serving v.own.first mask) v
 
--- what a hand has after it took in another, which had `e`
+-- the contents of a hand after it took in another, which had `e`
 abbrev pub had_by_both : Having → Having → Having
 had_by_both d e = record {
   first = d.first;

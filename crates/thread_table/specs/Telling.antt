@@ -13,7 +13,7 @@ abbrev pub Happens : List Event → List Event → Type 0
 Happens past next = (event : Event) × (next ≡ past ++ event ∷ []) × IsAllowed next
     × Grows (elements_after past) (elements_after next)
 
--- what the theory of tables takes from this table, with this first position of each element queue
+-- the parameters that the theory of tables takes from this table, with this first position of each element queue
 abbrev pub of_hands : ℕ → ends.Subject (List Event)
 of_hands first = record {
   ends_word = ends_word;
@@ -27,7 +27,7 @@ abbrev pub IsReal : ℕ → ends.Step (List Event) → Type 0
 IsReal first e = ends.IsReal (of_hands first) e
 
 -- The hand's list is true, of a table that began with no event. Each event that the hand has seen was allowed in its
--- turn. It took in no hand with which it shared an element or a processor.
+-- turn. The hand took in no other with which it shared an element or a processor.
 pub record IsHonest (v : View) : Type 0 where
   pub list : ends.IsHonest (of_hands v.own.first) v
   pub first : v.first ≡ []

@@ -74,8 +74,8 @@ with_wakes v call wait tries w = record v {
 }
 
 -- The mask has the elements that were taken, each once. The hand did not hold them before, and holds them now beside
--- what it held. The call made one notify, and then tried to take while the tail was below the head that the notify had
--- found. It ended when it found the tail at or past that head. All else that the hand has is as it was.
+-- what it held. The call made one notify, and then tried to take, each time after it found the tail below the head that
+-- the notify had found. It ended when it found the tail at or past that head. All else that the hand has is as it was.
 pub record WokeAll (call : ℕ) (v : View) (wait mask : ℕ) (w : View) : Type 0 where
   pub holds : (e : ℕ) → e < ELEMENTS → has w e ≡ (has v e || is_in mask e)
   pub woken : (e : ℕ) → e < ELEMENTS → is_in mask e ≡ true → has v e ≡ false

@@ -133,6 +133,7 @@ impl ThreadTable {
         // linearization point: the number of hands becomes one more, before the new hand is made, so it is never too
         // low
         count_up::<Brand>(&self.table.shared, &mut hand.seat);
+        // the first word is loaded too, and its number is not used
         let seat = split_off::<Brand>(&self.table.shared, &mut hand.seat, &mask);
         hand.served = parted(&hand.served, &mask);
         Hand {
@@ -156,7 +157,7 @@ impl ThreadTable {
             served,
             running,
         } = other;
-        // linearization point: the join, a step on no word: the first hand then has what both had
+        // linearization point: the join, a step on no word: the first hand has what both had
         take_in::<Brand>(&self.table.shared, &mut hand.seat, seat);
         // the number of hands becomes one less after the join, so it is never too low
         count_down::<Brand>(&self.table.shared, &mut hand.seat);

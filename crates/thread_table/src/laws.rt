@@ -49,8 +49,9 @@ ghost use Rattle.thread_table.specs.Keeping.{Keeps, Stays};
 /// A hand's list is true: each entry that a call adds is a real step. It found events that were each allowed in their
 /// turn, words that showed the state after them, and the number in its word. It made one event, or none. Real steps
 /// lead from what the hand had seen to each of these entries, in order, and the last of them left what the hand sees
-/// then. If the hand has the whole, these entries alone lead there. What was seen before is a beginning of what is
-/// seen, and the elements have grown since. A hand has seen as many steps of an element as done events of it.
+/// then. If the hand has the whole, these entries alone lead there. The events that were seen before are a beginning of
+/// those that are seen, and the elements have grown since. A hand has seen as many steps of an element as done events
+/// of it.
 pub fn lists_are_true()
     ensures hand { (hand : Hand) → ∥ IsHonest (view_of hand) ∥₁ }
     ensures entries { (old : View) (new : Hand) (entries : List Step) → Adds old entries (view_of new)

@@ -199,7 +199,7 @@ fn is_idle<R: Wait>(rt: &R, threads: &ThreadTable, hand: &mut Hand, idle: Idle) 
     begin(rt, threads, hand, &mut signals) == Err(idle)
 }
 
-/// Whether a call that is repeated so often has its result each time.
+/// Whether the calls of an act that is repeated so often all have their results.
 fn does_often<R: Abort + Wait>(rt: &R, threads: &ThreadTable, hand: &mut Hand, act: &Act) -> bool
     requires { IsHandOf threads.now hand.old }
     ensures { IsSameHand hand.old hand.new }
@@ -222,7 +222,7 @@ fn does_often<R: Abort + Wait>(rt: &R, threads: &ThreadTable, hand: &mut Hand, a
     }
 }
 
-/// Whether a call of the hand has its result.
+/// Whether the call of an act has the act's result.
 fn as_said<R: Abort + Wait>(rt: &R, threads: &ThreadTable, hand: &mut Hand, act: &Act) -> bool
     requires { IsHandOf threads.now hand.old }
     ensures { IsSameHand hand.old hand.new }

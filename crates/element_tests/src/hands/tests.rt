@@ -169,7 +169,7 @@ fn no_position_left(rt: HostRuntime) {
 }
 
 /// If the ready ring has no position left, an element that is started stays in the hand, and so does one that is woken.
-/// If its wait queue has none, an element that would wait stays in the hand too.
+/// If a wait queue has none, an element that would wait there stays in the hand too.
 const HELD_BY_WHO_STARTS_IT: &[Act] = &[
     Act::Free(0),
     Act::Readies(0, 128),

@@ -176,7 +176,7 @@ fn wakes_before<R: Abort>(
     answer.map(|woken| woken.map(Element::number)) == wanted
 }
 
-/// Whether a call of the hand with an element has its result.
+/// Whether the call of an act with an element has the act's result.
 fn tends<R: Abort>(rt: &R, table: &ThreadTable, hand: &mut Hand, act: &Act) -> bool
     requires { IsHandOf table.now hand.old }
     ensures { IsSameHand hand.old hand.new }
@@ -198,7 +198,7 @@ fn tends<R: Abort>(rt: &R, table: &ThreadTable, hand: &mut Hand, act: &Act) -> b
     }
 }
 
-/// Whether a call of the hand with queues, processors, or elements that it need not hold has its result.
+/// Whether the call of an act with queues, processors, or elements that the hand need not hold has the act's result.
 fn as_said<R: Abort + Wait>(rt: &R, table: &ThreadTable, hand: &mut Hand, act: &Act) -> bool
     requires { IsHandOf table.now hand.old }
     ensures { IsSameHand hand.old hand.new }

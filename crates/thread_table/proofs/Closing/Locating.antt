@@ -27,7 +27,7 @@ cell word is = ap (place_by None None) (sym (eq-eqb (bit_at word 17) 1 is))
 pub hand : (word : ℕ) → bit_at word 17 ≡ 0 → places.Held ≡ place_by None None (bit_at word 17 == 1)
 hand word is = ap (place_by None None) (sym (ne_eqb (bit_at word 17) 1 (λ e. omega arith)))
 
--- of a decidable property, whether it holds of one of the numbers below this
+-- whether a decidable property holds of some number below this
 any_below : (P : ℕ → Type 0) → ((m : ℕ) → P m ⊎ (P m → ⊥)) → (n : ℕ) → ((m : ℕ) × (m < n) × P m) ⊎ ((m : ℕ) → m < n → P m → ⊥)
 any_below P each zero = inr (λ m less is. omega arith)
 any_below P each (suc n) = ⊎_elim

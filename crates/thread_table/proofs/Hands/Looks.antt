@@ -59,7 +59,7 @@ seen_all w events schedule = record {
 pub no_other : (first n : ℕ) (views : List View) (id j : ℕ) (v u : View) → EndsStand (nothing_of first) n views → get_elem? views id ≡ some v → 1 ≤ v.member.ends → get_elem? views j ≡ some u → j ≢ id → IsWhole u.member.share → ⊥
 no_other first n views id j v u k at live has ne whole = let t = two_of (λ (z : View). z.member.share) views j id u v has at ne in let s = k.counted.shared in let w = k.counted.within id v at in omega arith
 
--- what holds of each view holds of each where one is replaced; the hypothesis for the others has that they are others
+-- a property holds of each view after one is replaced, if it holds of the new one and of each other view
 pub each_set : (Q : ℕ → View → Type 0) (views : List View) (id : ℕ) (w : View) → ((j : ℕ) (u : View) → j ≢ id → get_elem? views j ≡ some u → Q j u) → Q id w
     → (j : ℕ) (u : View) → get_elem? (set views id w) j ≡ some u → Q j u
 each_set Q views id w old mine j u has = ⊎_elim (λ e. subst (λ (z : ℕ). Q z u) (sym e.0) (subst (Q id) e.1 mine)) (λ e. old j u e.0 e.1) (at_set views id j w u has)

@@ -1,4 +1,4 @@
--- The result of several steps together.
+-- What several steps tell together.
 use Rattle.meters.proofs.Common.{◌≡◌, ◌≢◌, ◌⊎◌, inl, inr, ne_eqb, ℕ, suc, ◌+◌, ◌<◌, ◌≤◌, true, false, List, [], ◌∷◌, ◌++◌, length, length-append, filter_map, refl, sym, ap, ◌∙◌, subst, arith, Option, Some, None, append-nil, true≢false, filter_map-append, ∥∥₁_elim, Alarm, Moment, Step, load, change, IsHonest, Adds, Made, Looked, clock_word, slot_word, word_of, alarm_in, Did, Reading, with_alarm, SeatView, of_meters, Fits, WasSet, WasFired, FoundIn, Gave, NotAdvanced, scan, NotSet}
 use Rattle.std.specs.Prelude.{◌==◌}
 use Rattle.std.proofs.Common.{append_assoc}
@@ -19,7 +19,7 @@ use Rattle.meters.proofs.Clocks.{clock_seen}
 pub made_own : (v w : SeatView) (es : List (Step Reading)) (own : Did) → Made v es own w → own_of w ≡ own_of (record v { own = own })
 made_own v w es own m = (λ i. own_of (record v { own = m.did i; member = m.member i }))
 
--- two looks, one after the other
+-- two looks, one behind the other
 two_looks : (v u w : SeatView) (es : List (Step Reading)) (word found : ℕ) → Made v es v.own u → (l : Looked u word found w) → Made v (es ++ load word found l.at ∷ []) v.own w
 two_looks v u w es word found a l = made_then v u w es (load word found l.at ∷ []) v.own (λ d. d) a l.made
 
@@ -56,7 +56,7 @@ searched_more v u w slot (Some alarm) s f e = let bits : ℕ = word_of (Some ala
 pub no_room : (v w : SeatView) (slot : ℕ) → slot ≡ 16 → Searched v slot w → NotSet v not_set.NoRoom w × DidNothing v w
 no_room v w slot is s = ((s.taken, s.as_many ∙ is, s.full, s.made.adds), made_own v w _ v.own s.made)
 
--- the slot was found empty after a search
+-- the slot was found empty behind a search
 empty_slot : (u x : SeatView) (slot : ℕ) (stood : Option Alarm) → FoundIn u slot stood x → is_some stood ≡ false → Looked u (slot_word slot) 0 x
 empty_slot u x slot None f e = f.looked
 empty_slot u x slot (Some alarm) f e = absurd (true≢false e)
@@ -74,7 +74,7 @@ module _ (v u x w : SeatView) (slot : ℕ) (stood : Option Alarm) (below : slot 
 nothing_more : (v w : SeatView) (es : List (Step Reading)) → Made v es v.own w → Made v es (record v.own { fired = v.own.fired ++ [] }) w
 nothing_more v w es m = record { adds = m.adds; did = m.did ∙ (λ i. record v.own { fired = sym (append-nil v.own.fired) i }); member = m.member }
 
--- what stood is not due
+-- the content of the slot is not due
 abbrev pub IsNotDue : ℕ → Option Alarm → Type 0
 IsNotDue clock None = Unit {0}
 IsNotDue clock (Some alarm) = clock < alarm.due
@@ -106,7 +106,7 @@ gave_fired v u w clock slot alarm f due h = let l = f.looked in record {
 pub clock_seat : (v w : SeatView) (clock : ℕ) (es : List (Step Reading)) → ∥ IsHonest of_meters v ∥₁ → IsHonest of_meters w → Adds v es w → clock ≤ v.seen.object.clock → clock ≤ w.seen.object.clock
 clock_seat v w clock es x y adds told = ∥∥₁_elim x le_prop (λ (h : IsHonest of_meters v). let up = clock_seen v w es h y adds in omega arith)
 
--- the clock is no less after the visit of a slot
+-- the clock is no less behind the visit of a slot
 pub clock_on : (v w : SeatView) (clock slot : ℕ) (alarm : Option Alarm) → ∥ IsHonest of_meters v ∥₁ → ∥ IsHonest of_meters w ∥₁ → clock ≤ v.seen.object.clock → Gave v clock slot alarm w → clock ≤ w.seen.object.clock
 clock_on v w clock slot alarm x y told g = ∥∥₁_elim y le_prop (λ (h : IsHonest of_meters w). clock_seat v w clock (entries_of slot g.visit) x h g.made.adds told)
 

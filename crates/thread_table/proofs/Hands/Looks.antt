@@ -64,7 +64,7 @@ pub each_set : (Q : ℕ → View → Type 0) (views : List View) (id : ℕ) (w :
     → (j : ℕ) (u : View) → get_elem? (set views id w) j ≡ some u → Q j u
 each_set Q views id w old mine j u has = ⊎_elim (λ e. subst (λ (z : ℕ). Q z u) (sym e.0) (subst (Q id) e.1 mine)) (λ e. old j u e.0 e.1) (at_set views id j w u has)
 
--- the view that stood there served the same
+-- the view that was there served the same
 was : (views : List View) (id : ℕ) (v w : View) → get_elem? views id ≡ some v → w.own.serves ≡ v.own.serves → (j : ℕ) (u : View) → get_elem? (set views id w) j ≡ some u
     → (o : View) × (get_elem? views j ≡ some o) × (o.own.serves ≡ u.own.serves)
 was views id v w at same = each_set (λ j u. (o : View) × (get_elem? views j ≡ some o) × (o.own.serves ≡ u.own.serves)) views id w (λ j u ne has. (u, has, refl)) (v, at, sym same)

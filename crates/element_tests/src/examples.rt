@@ -1,4 +1,4 @@
-//! The examples of the first pages of `thread_table` and `meters`, word for word, but that the alarm is lent.
+//! The examples of the first pages of `thread_table` and `meters`, word for word, except that the alarm is borrowed.
 
 use event_theory::{Element, Signal, WaitNumber};
 use meters::{Alarm, Meters};

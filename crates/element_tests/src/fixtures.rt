@@ -1,5 +1,5 @@
-//! Elements and what goes with them by their numbers, tables with their only hand, hands split off from one, and what is
-//! told of a refusal.
+//! Elements, wait queues, processors and alarms by their numbers; tables with their only hand; hands that are split
+//! off; and the message of a refusal.
 ghost use Rattle.std.specs.Prelude.{◌≡◌, ◌≤◌, IfSome};
 ghost use Rattle.thread_table.specs.Handles.{view_of, IsDivisible, IsHandOf, IsSameHand, AreOfOneTable};
 ghost use Rattle.table_theory.specs.Sharing.{kept};
@@ -45,7 +45,7 @@ pub(crate) fn begins<R: Abort>(rt: &R, alloc: Global, first: u32) -> (ThreadTabl
     ThreadTable::new_at(alloc, first).expect(rt, "memory")
 }
 
-/// The table is closed with its only hand. These elements are in these places then.
+/// Closes the table with its only hand. These elements are in these places then.
 pub(crate) fn closes<R: Abort>(
     rt: &R,
     table: ThreadTable,
@@ -63,7 +63,7 @@ pub(crate) fn closes<R: Abort>(
     closed
 }
 
-/// A new hand with one processor of the first hand's, which has to serve it and to have nothing there.
+/// A new hand with one processor of the first hand, which has to serve the processor and to have nothing on it.
 pub(crate) fn part(table: &ThreadTable, hand: &mut Hand, processor: Processor) -> Option<Hand>
     requires table { IsHandOf table.now hand.old }
     requires parts { IsDivisible hand.old }
@@ -80,7 +80,7 @@ pub(crate) fn part(table: &ThreadTable, hand: &mut Hand, processor: Processor) -
     Some(table.split(hand, 1 << processor.number()))
 }
 
-/// How many steps were counted, of all elements.
+/// How many steps of all elements were counted.
 pub(crate) fn steps_of(closed: &Places) -> u64 {
     let mut steps = 0u64;
     for done in closed.pcs {
@@ -89,7 +89,7 @@ pub(crate) fn steps_of(closed: &Places) -> u64 {
     steps
 }
 
-/// Whether a refusal is told in these words.
+/// Whether these words are the message of a refusal.
 pub(crate) fn is_told<T: Copy + Display>(alloc: Global, refusal: T, words: &str) -> bool {
     format!(in alloc; "{refusal}").is_ok_and(|text| text.as_str() == words)
 }

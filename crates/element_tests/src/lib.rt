@@ -1,5 +1,5 @@
-//! The tests of `thread_table`, `meters` and `turn_dispatch`, in a crate of their own: beside a library they would prove it
-//! once more, and each crate of tests links all that it stands on.
+//! The tests of `thread_table`, `meters` and `turn_dispatch`, in a crate of their own: beside a library they would
+//! prove it once more, and each crate of tests links all that it depends on.
 #![tactic(auto)]
 
 #[cfg(test)]

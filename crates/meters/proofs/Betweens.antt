@@ -5,7 +5,7 @@ use Rattle.std.proofs.lemmas.Grind.{same_number_lists}
 use Rattle.std.proofs.lemmas.List.{length-map, get_or-map}
 use Rattle.meters.specs.Between.{ShowsMeters}
 
--- numbers that stand in the gauges' words
+-- numbers that are in the gauges' words
 pub gauges_by : (gauges words : List ℕ) → length words ≡ 26 → length gauges ≡ 8 → ((g : ℕ) → g < 8 → get_or gauges g 0 ≡ get_or words (1 + g) 0) → gauges ≡ take 8 (drop 1 words)
 gauges_by gauges words wide eight same = let d = length-drop 1 words in let t = length-take 8 (drop 1 words) in same_number_lists gauges (take 8 (drop 1 words)) (omega arith)
     (λ g b. same g (omega arith) ∙ (sym (get_or-drop 1 words g 0) ∙ sym (get_or-take 8 (drop 1 words) g 0 (omega arith))))

@@ -37,7 +37,7 @@ below slots slot h e = dite (dec_lt slot (position_or_len is_empty slots))
     (λ before. absurd (true≢false (sym (ap is_empty e) ∙ fails_before_first is_empty slots slot None before)))
     (λ no. omega arith)
 
--- what stands in a slot after a change of one that was empty
+-- the slots after a change of one that was empty
 slots_set : (alarm : Alarm) (slots : List (Option Alarm)) (slot : ℕ) (new : Option Alarm) → slot < length slots → get_or slots slot None ≡ None
     → count_by (stands alarm) (set slots slot new) ≡ count_by (stands alarm) slots + cond (stands alarm new) 1 0
 slots_set alarm slots slot new within was = let s = sum_by-set (λ x. cond (stands alarm x) 1 0) slots slot new None within in let e : ◌≡◌ {A = ℕ} (cond (stands alarm (get_or slots slot None)) 1 0) 0 = ap (λ (x : Option Alarm). cond {A = ℕ} (stands alarm x) 1 0) was in omega arith

@@ -74,7 +74,7 @@ module _ (v u x w : SeatView) (slot : ℕ) (stood : Option Alarm) (below : slot 
 nothing_more : (v w : SeatView) (es : List (Step Reading)) → Made v es v.own w → Made v es (record v.own { fired = v.own.fired ++ [] }) w
 nothing_more v w es m = record { adds = m.adds; did = m.did ∙ (λ i. record v.own { fired = sym (append-nil v.own.fired) i }); member = m.member }
 
--- what stood is not due
+-- the content of the slot is not due
 abbrev pub IsNotDue : ℕ → Option Alarm → Type 0
 IsNotDue clock None = Unit {0}
 IsNotDue clock (Some alarm) = clock < alarm.due

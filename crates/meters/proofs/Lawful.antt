@@ -79,11 +79,11 @@ head_or d (z ∷ zs) = z
 last_of : {A : Type 0} (xs : List A) (x y : A) → xs ++ x ∷ [] ≡ xs ++ y ∷ [] → x ≡ y
 last_of xs x y e = ap (head_or x) (append_cancel_left xs (x ∷ []) (y ∷ []) e)
 
--- the alarm stood in some slot
+-- the alarm was in some slot
 abbrev Stood : Reading → Alarm → Type 0
 Stood m alarm = (k : ℕ) × (k < 16) × (in_slot m k ≡ Some alarm)
 
--- an alarm that was fired stood somewhere, and was due
+-- an alarm that was fired was in some slot, and was due
 was_there : (m o : Reading) (slot : ℕ) (alarm : Alarm) → with_fired m slot alarm ≡ o → (o ≡ m) ⊎ Becomes m o → Stood m alarm × (alarm.due ≤ m.clock)
 was_there m o slot alarm is (inl e) = absurd (longer m.fired alarm (λ i. ((is ∙ e) i).fired))
 was_there m o slot alarm is (inr (becomes.ticked g a b e)) = absurd (longer m.fired alarm (λ i. ((is ∙ e) i).fired))
@@ -92,7 +92,7 @@ was_there m o slot alarm is (inr (becomes.was_set k other b s e)) = absurd (long
 was_there m o slot alarm is (inr (becomes.fired k other b s d e)) = let same : other ≡ alarm = last_of m.fired other alarm (λ i. (sym (is ∙ e) i).fired) in ((k, b, s ∙ ap Some same), subst (λ (z : Alarm). z.due ≤ m.clock) same d)
 was_there m o slot alarm is (inr (becomes.cancelled k other b s e)) = absurd (longer m.fired alarm (λ i. ((is ∙ e) i).fired))
 
--- an alarm that was cancelled stood somewhere
+-- an alarm that was cancelled was in some slot
 was_cancellable : (m o : Reading) (slot : ℕ) (alarm : Alarm) → with_cancelled m slot alarm ≡ o → (o ≡ m) ⊎ Becomes m o → Stood m alarm
 was_cancellable m o slot alarm is (inl e) = absurd (longer m.cancelled alarm (λ i. ((is ∙ e) i).cancelled))
 was_cancellable m o slot alarm is (inr (becomes.ticked g a b e)) = absurd (longer m.cancelled alarm (λ i. ((is ∙ e) i).cancelled))
@@ -101,11 +101,11 @@ was_cancellable m o slot alarm is (inr (becomes.was_set k other b s e)) = absurd
 was_cancellable m o slot alarm is (inr (becomes.fired k other b s d e)) = absurd (longer m.cancelled alarm (λ i. ((is ∙ e) i).cancelled))
 was_cancellable m o slot alarm is (inr (becomes.cancelled k other b s e)) = (k, b, s ∙ ap Some (last_of m.cancelled other alarm (λ i. (sym (is ∙ e) i).cancelled)))
 
--- an alarm that stood can be said by a word
+-- a word can encode an alarm that was in a slot
 in_range : (m : Reading) (words : List ℕ) (alarm : Alarm) → WordsShow m words → Stood m alarm → IsInRange alarm
 in_range m words alarm h s = subst Fits s.2 (h.slots.fit s.0 s.1)
 
--- the alarm stood in the slot whose word was the alarm's
+-- the alarm was in the slot whose word was the alarm's
 stood_then : (e : Step Reading) (slot : ℕ) (alarm : Alarm) → slot < 16 → IsInRange alarm → e.word ≡ slot_word slot → e.found ≡ word_of (Some alarm) → IsReal of_meters e → in_slot e.then.object slot ≡ Some alarm
 stood_then e slot alarm below range is bits r = one_word (in_slot e.then.object slot) alarm (r.shows.slots.fit slot below) range (sym (slot_says e slot below is r) ∙ bits)
 

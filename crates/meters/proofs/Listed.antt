@@ -98,7 +98,7 @@ pub listed_event : (first : ℕ) (m n : Reading) (views : List SeatView) (id : �
 listed_event first m n views id v w h at d clock advances = listed first m n views id v w h at d
     (subst (λ (z : ℕ). AdvancesShow first z (set views id w)) (sym clock) (advances_same first m.clock views (set views id w) h.advances (λ f adds. total_kept (λ (u : SeatView). f u.own.advances) views id v w at (ap f advances))))
 
--- one more advance, to the tick behind the clock
+-- one more advance, to the tick after the clock
 advances_more : (first clock : ℕ) (views : List SeatView) (id : ℕ) (v w : SeatView) → get_elem? views id ≡ some v → w.own.advances ≡ v.own.advances ++ (clock + 1) ∷ [] → AdvancesShow first clock views → AdvancesShow first (clock + 1) (set views id w)
 advances_more first clock views id v w at more h =
     let on : (t : ℕ) → total (λ u. times_to t u.own.advances) (set views id w) ≡ total (λ u. times_to t u.own.advances) views + cond (eqb (clock + 1) t) 1 0 =

@@ -7,7 +7,7 @@ use Rattle.meters.specs.declared.alarms.SetRefusal.TheVariants as not_set
 use Rattle.meters.specs.declared.gauges.AdvanceRefusal.TheVariants as not_advanced
 use Rattle.meters.proofs.Lawful.{clock_says, slot_says}
 
--- two loads, one behind the other, found the same meters
+-- two loads, one after the other, found the same meters
 same_meters : (a b m n : Moment Reading) (word x y : ℕ) → Continues a (load word x m ∷ load word y n ∷ []) b → m ≡ n
 same_meters a b m n word x y c = c.1.0
 

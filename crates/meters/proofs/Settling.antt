@@ -1,4 +1,4 @@
--- What closing reads and tells.
+-- The words that closing reads, and its result.
 use Rattle.meters.proofs.Common.{◌≡◌, ℕ, suc, ◌+◌, ◌%◌, ◌<◌, cond, List, [], ◌∷◌, ◌++◌, take, drop, length, get_or, get_or-set_same, get_or-set_other, set, sym, refl, ap, ◌∙◌, subst, arith, Option, Some, None, count_by, filter_map-append, dite, ℕ_discrete, get_elem?, Alarm, is_alarm, stands, Moment, ends_word, word_of, Reading, Shape, Rule, IsLawful, SeatView, ViewsShow, amount_on, times, times_to, Fits, SlotsShow, WordsShow, standing}
 use Rattle.std.proofs.Common.{add-zero, take-suc}
 use Rattle.std.proofs.Math.Path.{transport}
@@ -34,7 +34,7 @@ read_on ws slot items new gave below read found is slots h = let sixteen = h.six
     taken_more : (xs : List (Option Alarm)) (i : ℕ) (d : Option Alarm) → i < length xs → take (i + 1) xs ≡ take i xs ++ get_or xs i d ∷ []
     taken_more xs i d lt = let e : i + 1 ≡ suc i = omega arith in (λ k. take (e k) xs) ∙ take-suc xs i d lt
 
--- the alarms that stand, counted
+-- the alarms that are in the slots, counted
 pub standing_times : (a : Alarm) (slots : List (Option Alarm)) → times a (standing slots) ≡ count_by (stands a) slots
 standing_times a [] = refl
 standing_times a (None ∷ xs) = standing_times a xs

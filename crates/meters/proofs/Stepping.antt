@@ -1,4 +1,4 @@
--- Each step keeps the rule, and tells its end what it says.
+-- Each step keeps the rule, and returns to its end what the step's definition says.
 use Rattle.meters.proofs.Common.{◌≡◌, ℕ, ◌+◌, ◌-◌, ◌%◌, ◌<◌, ◌≤◌, [], ◌∷◌, ◌++◌, eqb, get_or, set, sym, refl, ◌∙◌, subst, arith, Option, Some, None, some, get_elem?, State, set_else, Alarm, change, IsHonest, Made, rest_of, newborn, both, emptied, word_of, Did, Reading, Shape, Becomes, first_reading, in_slot, ticked, advanced, was_set, fired, cancelled, with_tick, with_advance, with_alarm, with_fired, with_cancelled, SeatView, of_meters, nothing_did, did_both, ViewsShow, Fits, IsInRange, WordsShow, Rule, WasSet, WasFired}
 use mathlib.Core.Option.{none}
 use prog.Atomic.{either}

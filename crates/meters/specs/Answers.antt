@@ -1,4 +1,4 @@
--- What the calls answer: the entries that they added, all of them, and how their numbers compare.
+-- The results of the calls: all entries that a call added, and how their numbers compare.
 use Rattle.std.specs.Prelude.{◌≡◌, ◌≢◌, ◌⊎◌, ◌+◌, ◌<◌, ◌≤◌, ℕ, Bool, true, false, List, [], ◌∷◌, ◌++◌, length}
 use Rattle.std.specs.Prelude.{filter_map, Option, Some, None}
 use Rattle.std.specs.List.{AllByRecursion}
@@ -15,7 +15,7 @@ use Rattle.meters.specs.declared.rule.Reading.{Reading}
 use Rattle.meters.specs.Changes.{with_tick, with_advance, with_alarm, with_fired, with_cancelled}
 use Rattle.meters.specs.Own.{SeatView}
 
--- the gauge was found at this number, and ticked
+-- one step found this number in the gauge, and added the amount to it
 abbrev pub Ticked : SeatView → ℕ → ℕ → ℕ → SeatView → Type 0
 Ticked v gauge amount found w =
     (m : Moment Reading) × Adds v (change (gauge_word gauge) found m (with_tick m.object gauge amount) ∷ []) w
@@ -24,13 +24,13 @@ Ticked v gauge amount found w =
 abbrev pub Loaded : SeatView → ℕ → ℕ → SeatView → Type 0
 Loaded v word found w = (m : Moment Reading) × Adds v (load word found m ∷ []) w
 
--- the clock was loaded, and moved on from the tick that was found, to the next
+-- the clock was loaded, and moved on from the tick that was found to the next one, which is `clock`
 abbrev pub AdvancedNow : SeatView → ℕ → SeatView → Type 0
 AdvancedNow v clock w = (was : ℕ) × (m n : Moment Reading) × (clock ≡ was + 1)
     × Adds v (load clock_word was m ∷ change clock_word was n (with_advance n.object) ∷ []) w
 
--- Why the clock was not moved on. Spent: it was loaded, and is the last tick. Lost: it was loaded, but the exchange
--- found another, past the one loaded
+-- Why the clock was not moved on. Spent: the clock was loaded, and is the last tick. Lost: the clock was loaded, but
+-- the exchange found another clock, past the one that was loaded.
 abbrev pub NotAdvanced : SeatView → AdvanceRefusal → SeatView → Type 0
 NotAdvanced v not_advanced.Spent w = (m : Moment Reading) × Adds v (load clock_word LAST_TICK m ∷ []) w
 NotAdvanced v (not_advanced.Lost clock) w = (was : ℕ) × (m n : Moment Reading) × (was < clock)
@@ -45,19 +45,19 @@ abbrev pub scan : ℕ → Scanned → List (Step Reading)
 scan slot [] = []
 scan slot (found ∷ more) = load (slot_word slot) found.0 found.1 ∷ scan (slot + 1) more
 
--- each of them had an alarm
+-- each of these slots was found with an alarm
 abbrev pub AreTaken : Scanned → Type 0
 AreTaken scanned = AllByRecursion (λ found. 0 < found.0) scanned
 
--- the slots before this one were found taken, this one empty, and then the alarm was set in it
+-- the slots before this one were found taken and this one empty, and then the alarm was set in it
 abbrev pub SetNow : SeatView → ℕ → Alarm → SeatView → Type 0
 SetNow v slot alarm w = (taken : Scanned) × (m n : Moment Reading)
     × (length taken ≡ slot) × (slot < SLOTS) × AreTaken taken
     × Adds v (scan 0 taken
     ++ load (slot_word slot) 0 m ∷ change (slot_word slot) 0 n (with_alarm n.object slot alarm) ∷ []) w
 
--- Why an alarm was not set. NoRoom: all 16 slots were found taken. Lost: those before this one were found taken, this
--- one empty, but the exchange found an alarm in it
+-- Why an alarm was not set. NoRoom: all 16 slots were found taken. Lost: the slots before this one were found taken and
+-- this one empty, but the exchange found an alarm in it.
 abbrev pub NotSet : SeatView → SetRefusal → SeatView → Type 0
 NotSet v not_set.NoRoom w =
     (taken : Scanned) × (length taken ≡ SLOTS) × AreTaken taken × Adds v (scan 0 taken) w
@@ -65,15 +65,15 @@ NotSet v (not_set.Lost slot) w = (taken : Scanned) × (other : ℕ) × (m n : Mo
     × (length taken ≡ slot) × (slot < SLOTS) × AreTaken taken × (0 < other)
     × Adds v (scan 0 taken ++ load (slot_word slot) 0 m ∷ load (slot_word slot) other n ∷ []) w
 
--- the alarm was found in the slot and cancelled, or another number was found there
+-- the alarm was found in the slot and cancelled (true), or another number was found there (false)
 abbrev pub CancelledNow : SeatView → ℕ → Alarm → Bool → SeatView → Type 0
 CancelledNow v slot alarm true w = (m : Moment Reading)
     × Adds v (change (slot_word slot) (word_of (Some alarm)) m (with_cancelled m.object slot alarm) ∷ []) w
 CancelledNow v slot alarm false w = (other : ℕ) × (m : Moment Reading) × (other ≢ word_of (Some alarm))
     × Adds v (load (slot_word slot) other m ∷ []) w
 
--- What `due` finds in a slot: no alarm, or one that is not due; one that is due, and is fired; or one that is due, but
--- then another number
+-- A visit of a slot by `due`. It finds no alarm, or one that is not due; or one that is due, and fires it; or one that
+-- is due, but the exchange then finds another number.
 pub data Visit : Type 0 where
   stays : ℕ → Moment Reading → Visit
   goes : Alarm → Moment Reading → Moment Reading → Visit
@@ -86,7 +86,7 @@ entries_of slot (goes alarm m n) = load (slot_word slot) (word_of (Some alarm)) 
     ∷ change (slot_word slot) (word_of (Some alarm)) n (with_fired n.object slot alarm) ∷ []
 entries_of slot (went found m other n) = load (slot_word slot) found m ∷ load (slot_word slot) other n ∷ []
 
--- how its numbers compare with the clock
+-- how the numbers of a visit compare with the clock
 abbrev pub IsVisit : ℕ → Visit → Type 0
 IsVisit clock (stays found m) = (found ≡ 0) ⊎ (clock < (alarm_in found).due)
 IsVisit clock (goes alarm m n) = alarm.due ≤ clock
@@ -97,13 +97,13 @@ abbrev pub tour : ℕ → List Visit → List (Step Reading)
 tour slot [] = []
 tour slot (visit ∷ visits) = entries_of slot visit ++ tour (slot + 1) visits
 
--- the alarm that was fired there
+-- the alarm that a visit fired
 abbrev pub gave : Visit → Option Alarm
 gave (stays found m) = None
 gave (goes alarm m n) = Some alarm
 gave (went found m other n) = None
 
--- The clock was loaded, and then all 16 slots were visited, in order. The alarms are those that were fired
+-- The clock was loaded, and then all 16 slots were visited, in order. The alarms are those that the visits fired.
 abbrev pub FiredNow : SeatView → List Alarm → SeatView → Type 0
 FiredNow v alarms w = (clock : ℕ) × (m : Moment Reading) × (visits : List Visit) × (length visits ≡ SLOTS)
     × AllByRecursion (IsVisit clock) visits × (alarms ≡ filter_map gave visits)

@@ -1,4 +1,4 @@
--- How the meters change: by one event at a time. `Events` has the core's events that these are.
+-- The changes of the meters, one event at a time. `Events` has the core's events that these are.
 use Rattle.std.specs.Prelude.{◌≡◌, ℕ, ◌+◌, ◌%◌, ◌^◌, ◌<◌, ◌≤◌, [], ◌∷◌, ◌++◌, slice_index_or, slice_set}
 use Rattle.std.specs.Prelude.{Option, Some, None}
 use Rattle.std.specs.List.{repeat}
@@ -19,11 +19,11 @@ meters_of m = record {
   cancelled = m.cancelled;
 }
 
--- they are lawful meters of the core
+-- the meters of the reading are lawful meters of the core
 abbrev pub IsLawful : Reading → Type 0
 IsLawful m = IsLawfulMeters (meters_of m)
 
--- what stands in a slot
+-- the alarm in a slot, or none
 abbrev pub in_slot : Reading → ℕ → Option Alarm
 in_slot m slot = slice_index_or m.slots slot None
 
@@ -38,29 +38,29 @@ first_reading clock = record {
   cancelled = [];
 }
 
--- the meters after each event: a tick of a gauge
+-- the meters after a tick of a gauge, which wraps at 2^64
 abbrev pub with_tick : Reading → ℕ → ℕ → Reading
 with_tick m gauge amount = record m {
   gauges = slice_set m.gauges gauge ((slice_index_or m.gauges gauge 0 + amount) % 2 ^ 64);
 }
 
--- the clock is one tick on
+-- the meters after the clock was moved on by one tick
 abbrev pub with_advance : Reading → Reading
 with_advance m = record m { clock = m.clock + 1 }
 
--- the alarm is set in this slot
+-- the meters after the alarm was set in this slot
 abbrev pub with_alarm : Reading → ℕ → Alarm → Reading
 with_alarm m slot alarm = record m { slots = slice_set m.slots slot (Some alarm); set = m.set ++ alarm ∷ [] }
 
--- the alarm of this slot is taken out, as fired
+-- the meters after the alarm of this slot was taken out as fired
 abbrev pub with_fired : Reading → ℕ → Alarm → Reading
 with_fired m slot alarm = record m { slots = slice_set m.slots slot None; fired = m.fired ++ alarm ∷ [] }
 
--- the same, as cancelled
+-- the meters after the alarm of this slot was taken out as cancelled
 abbrev pub with_cancelled : Reading → ℕ → Alarm → Reading
 with_cancelled m slot alarm = record m { slots = slice_set m.slots slot None; cancelled = m.cancelled ++ alarm ∷ [] }
 
--- one event makes n of m
+-- one event, whose condition holds in m, makes n of m
 pub data Becomes (m n : Reading) : Type 0 where
   ticked : (gauge amount : ℕ) → gauge < GAUGES → n ≡ with_tick m gauge amount → Becomes m n
   advanced : m.clock < LAST_TICK → n ≡ with_advance m → Becomes m n

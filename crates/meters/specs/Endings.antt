@@ -1,17 +1,17 @@
--- What making and joining ends does to what they know.
+-- How a split and a join of ends change what the ends know.
 use Rattle.table_theory.specs.Ledgers as ends
 use Rattle.meters.specs.Layout.{ends_word}
 use Rattle.meters.specs.Own.{SeatView, nothing_did, did_both}
 use Rattle.meters.specs.Views.{IsPart}
 
--- the end was counted once more, and gave a part of its share away
+-- the number of ends was made one more, and the end gave away a part of its share
 abbrev pub Divided : SeatView → SeatView → Type 0
 Divided v w = ends.Divided ends_word v w
 
--- the new end has nothing but the part of the share, and has seen what the other end had seen
+-- the new end has only its part of the share, and has seen what the other end had seen
 abbrev pub IsNewborn : SeatView → SeatView → SeatView → Type 0
 IsNewborn old new born = ends.IsNewborn nothing_did old new born
 
--- the end has what both had, and was counted once less; no alarm that was taken out is had by both
+-- the end has what both had, the number of ends was made one less, and the end's lists are part of what happened
 abbrev pub TookIn : SeatView → SeatView → SeatView → Type 0
 TookIn v u w = ends.TookIn did_both ends_word v u w × IsPart w

@@ -7,7 +7,7 @@ use Rattle.event_theory.specs.Lawful.{stands}
 use Rattle.meters.specs.declared.rule.Reading.{Reading}
 use Rattle.meters.specs.Changes.{meters_of, in_slot}
 
--- the same but for the slots that the same alarms stand in
+-- the meters are alike, except that the same alarms may be in other slots
 pub record AreAlike (m n : Meters) : Type 0 where
   pub gauges : n.gauges ≡ m.gauges
   pub clock : n.clock ≡ m.clock
@@ -17,7 +17,8 @@ pub record AreAlike (m n : Meters) : Type 0 where
   pub as_many : length n.slots ≡ length m.slots
   pub stand : (alarm : Alarm) → count_by (stands alarm) n.slots ≡ count_by (stands alarm) m.slots
 
--- The alarm is set, in this slot, which was empty. It is the core's event, which sets it in the first empty slot
+-- The alarm is set in this slot, which was empty. The core's event sets it in the first empty slot: the meters are
+-- alike.
 pub record IsSet (slot : ℕ) (alarm : Alarm) (m n : Reading) : Type 0 where
   pub within : slot < length m.slots
   pub empty : in_slot m slot ≡ None
@@ -26,7 +27,7 @@ pub record IsSet (slot : ℕ) (alarm : Alarm) (m n : Reading) : Type 0 where
   pub event : set_alarm alarm (meters_of m) ≡ Ok core
   pub alike : AreAlike core (meters_of n)
 
--- one event of the core
+-- one event of the core makes n of m
 pub data Happens (m n : Reading) : Type 0 where
   ticked : (gauge amount : ℕ) → tick gauge amount (meters_of m) ≡ Ok (meters_of n) → Happens m n
   advanced : advance (meters_of m) ≡ Ok (meters_of n) → Happens m n
@@ -34,7 +35,7 @@ pub data Happens (m n : Reading) : Type 0 where
   fired : (slot : ℕ) → fire slot (meters_of m) ≡ Ok (meters_of n) → Happens m n
   cancelled : (slot : ℕ) → cancel slot (meters_of m) ≡ Ok (meters_of n) → Happens m n
 
--- events of the core, one after another, lead from the one to the other
+-- events of the core, one after another, lead from m to the other reading
 pub data Leads (m : Reading) : Reading → Type 0 where
   here : Leads m m
   further : (n o : Reading) → Leads m n → Happens n o → Leads m o

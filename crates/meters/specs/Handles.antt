@@ -1,11 +1,11 @@
--- What a clause says of meters and of their ends.
+-- The terms in which a contract speaks of the meters and of their ends.
 use Rattle.std.specs.Prelude.{ℕ}
 use Rattle.meters.specs.declared.ends.Meters.{Meters}
 use Rattle.meters.specs.declared.ends.MeterSeat.{MeterSeat}
 use Rattle.meters.specs.Own.{SeatView}
 use Rattle.table_theory.specs.Seating as seats
 
--- what the end knows
+-- the view of the end: what it knows
 abbrev pub view_of : MeterSeat → SeatView
 view_of end = end.seat.me.0
 

@@ -1,5 +1,5 @@
--- Where the words of the meters' table stand: number of ends, gauges, clock and slots, side by side, so that each word
--- has a use; and what a slot's word says. What the marks weigh is in the law `layout_is`.
+-- The positions of the words of the meters' table: number of ends, gauges, clock and slots, side by side, so that each
+-- word has a use; and the content of a slot's word. The law `layout_is` has the weights of the marks.
 use Rattle.std.specs.Prelude.{ℕ, ◌+◌, ◌*◌, ◌/◌, ◌%◌, List, take, drop, Option, Some, None}
 use Rattle.event_theory.specs.declared.alarm.Alarm.{Alarm}
 use Rattle.meters.specs.declared.layout.TheConstants.{STANDS, SIGNAL, ELEMENT, TICKS, FIELD}
@@ -28,12 +28,12 @@ width = 26
 abbrev pub gauges_in : List ℕ → List ℕ
 gauges_in words = take 8 (drop 1 words)
 
--- what the word of a slot is: 0, or bit 63 set, and in it the alarm's signal, element and tick
+-- the word of a slot: 0, or bit 63 set, with the alarm's signal, element and tick
 abbrev pub word_of : Option Alarm → ℕ
 word_of None = 0
 word_of (Some alarm) = STANDS + alarm.signal * SIGNAL + alarm.element * ELEMENT + alarm.due
 
--- the alarm that a word other than 0 says
+-- the alarm that a word other than 0 encodes
 abbrev pub alarm_in : ℕ → Alarm
 alarm_in word = record {
   due = word % TICKS;

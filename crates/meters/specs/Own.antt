@@ -1,4 +1,4 @@
--- What is an end's own: what it did, and its share. Each call says how its end's own changes.
+-- An end's own: what it did, and its share. The contract of each call says how it changes.
 use Rattle.std.specs.Prelude.{◌≡◌, ℕ, ◌+◌, List, [], ◌∷◌, ◌++◌}
 use Rattle.event_theory.specs.declared.alarm.Alarm.{Alarm}
 use Rattle.table_theory.specs.declared.views.Ledger.{Ledger}
@@ -11,15 +11,15 @@ use Rattle.meters.specs.declared.rule.Tick.{Tick}
 use Rattle.meters.specs.Changes.{IsLawful, Becomes}
 use Rattle.meters.specs.Words.{WordsShow}
 
--- what an end of the meters knows
+-- the view of an end of the meters: what it knows
 abbrev pub SeatView : Type 0
 SeatView = Ledger Did Reading
 
--- what an end did that did nothing
+-- the record of an end that did nothing
 abbrev pub nothing_did : Did
 nothing_did = record { ticks = []; advances = []; set = []; fired = []; cancelled = [] }
 
--- what two ends did
+-- the record of what two ends did together
 abbrev pub did_both : Did → Did → Did
 did_both d e = record {
   ticks = d.ticks ++ e.ticks;
@@ -29,12 +29,12 @@ did_both d e = record {
   cancelled = d.cancelled ++ e.cancelled;
 }
 
--- what the table of the meters says of them
+-- the parameters that the theory of tables takes from the table of the meters
 abbrev pub of_meters : Subject Reading
 of_meters = record { ends_word = ends_word; Shows = WordsShow; IsLawful = IsLawful; Happens = Becomes }
 
--- its ticks, the ticks that it moved the clock on to, the alarms that it set, fired and cancelled, how often it was
--- split and took in another end, its loads that no list has, and its share
+-- an end's own: its ticks, the ticks that it moved the clock on to, the alarms that it set, fired and cancelled, how
+-- often it was split and took in another end, its loads that no list has, and its share
 pub record Own : Type 0 where
   pub ticks : List Tick
   pub advances : List ℕ
@@ -46,7 +46,7 @@ pub record Own : Type 0 where
   pub unlisted : ℕ
   pub share : ℕ
 
--- what is the end's own
+-- the end's own, by what it knows
 abbrev pub own_of : SeatView → Own
 own_of v = record {
   ticks = v.own.ticks;
@@ -64,8 +64,8 @@ own_of v = record {
 abbrev pub DidNothing : SeatView → SeatView → Type 0
 DidNothing v w = own_of w ≡ own_of v
 
--- one of these more, and nothing else: a tick of this gauge by this amount; a move of the clock on to this tick; an
--- alarm set; an alarm cancelled; these alarms fired
+-- one event more, and nothing else: a tick of this gauge by this amount; a move of the clock on to this tick; an alarm
+-- set; an alarm cancelled; these alarms fired
 abbrev pub DidTick : ℕ → ℕ → SeatView → SeatView → Type 0
 DidTick gauge amount v w =
     own_of w ≡ record (own_of v) { ticks = v.own.ticks ++ record { gauge = gauge; amount = amount } ∷ [] }
@@ -82,7 +82,7 @@ DidCancel alarm v w = own_of w ≡ record (own_of v) { cancelled = v.own.cancell
 abbrev pub DidFire : List Alarm → SeatView → SeatView → Type 0
 DidFire alarms v w = own_of w ≡ record (own_of v) { fired = v.own.fired ++ alarms }
 
--- a split more, by one load that no list has, and the share that is kept
+-- one split more, one load more that no list has, and the share that is kept
 abbrev pub DidSplit : SeatView → SeatView → Type 0
 DidSplit v w = own_of w ≡ record (own_of v) {
   splits = v.member.splits + 1;
@@ -90,7 +90,7 @@ DidSplit v w = own_of w ≡ record (own_of v) {
   share = kept v.member.share;
 }
 
--- the end then has what both had, and one join more, by one load that no list has
+-- the end then has what both had, with one join more, and one load more that no list has
 abbrev pub DidBoth : SeatView → SeatView → SeatView → Type 0
 DidBoth v u w = own_of w ≡ record {
   ticks = v.own.ticks ++ u.own.ticks;

@@ -13,10 +13,10 @@ pub record Rule (key : Shape) (s : State Unit SeatView) : Type 0 where
   pub stands : Stands of_meters nothing_did (first_reading key.clock) now s.words s.views
   pub listed : ViewsShow key.clock now.object s.views
 
--- what the first end of the meters knows
+-- the view of the first end of the meters
 abbrev pub newcomer : Shape → SeatView
 newcomer key = first_of nothing_did (first_reading key.clock)
 
--- the end's list is true, and no alarm that was set or taken out is had by two ends
+-- the end's list is true, and lists no alarm as set, fired or cancelled more often than it was
 abbrev pub IsSound : SeatView → Type 0
 IsSound v = IsHonest of_meters v × IsPart v

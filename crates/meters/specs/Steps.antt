@@ -1,4 +1,4 @@
--- What each step tells its end: its entry, and what the end has done then.
+-- The result of each step for its end: its entry, and what the end has done then.
 use Rattle.std.specs.Prelude.{◌≡◌, ◌≢◌, ◌+◌, ◌≤◌, ℕ, [], ◌∷◌, ◌++◌, Option, Some, filter_map}
 use Rattle.event_theory.specs.declared.alarm.Alarm.{Alarm}
 use Rattle.atomic_table.specs.Seated.{TableId}
@@ -15,58 +15,58 @@ use Rattle.meters.specs.Own.{SeatView, of_meters}
 use Rattle.meters.specs.Words.{IsInRange, Fits}
 use Rattle.meters.specs.Answers.{Visit, entries_of, IsVisit, gave}
 
--- an end that stands can make a step on the words of its table
+-- an end that exists can make a step on the words of its table
 abbrev pub CanStep : TableId → Seat Unit SeatView → Type 0
 CanStep table seat = (seat.table_id ≡ table) × (width ≤ table.words) × (1 ≤ seat.me.0.member.ends)
 
--- it made one: it is the same end, what it holds stays, and its list is true
+-- the end made a step: it is the same end, what it holds stays, and its list is true
 abbrev pub HasStepped : Seat Unit SeatView → Seat Unit SeatView → Type 0
 HasStepped old new = IsSame old new × (new.me.1 ≡ old.me.1) × IsHonest of_meters new.me.0
 
--- the gauge was found at this number, and ticked
+-- the gauge was found at this number, and ticked by this amount
 abbrev pub WasTicked : SeatView → ℕ → ℕ → ℕ → SeatView → Type 0
 WasTicked v gauge amount found w = (m : Moment Reading)
     × Made v (change (gauge_word gauge) found m (with_tick m.object gauge amount) ∷ [])
     (record v.own { ticks = v.own.ticks ++ record { gauge = gauge; amount = amount } ∷ [] }) w
 
--- what adding to a gauge tells
+-- the result of adding to a gauge
 abbrev pub ticks : Step Unit → Me Unit SeatView → ℕ → Me Unit SeatView → Type 0
 ticks st m r m' = Stays (IsHonest of_meters) m m'
     × ((gauge : ℕ) → st.word ≡ gauge_word gauge → WasTicked m.0 gauge st.first r m'.0)
 
--- the clock was found at this tick, and moved on
+-- the clock was found at this tick, and moved on by one
 abbrev pub WasAdvanced : SeatView → ℕ → SeatView → Type 0
 WasAdvanced v clock w = (m : Moment Reading)
     × Made v (change clock_word clock m (with_advance m.object) ∷ [])
     (record v.own { advances = v.own.advances ++ (clock + 1) ∷ [] }) w
 
--- what an exchange of the clock tells
+-- the result of an exchange of the clock: it was moved on if the expected tick was found, else only loaded
 abbrev pub advances : Step Unit → Me Unit SeatView → ℕ → Me Unit SeatView → Type 0
 advances st m r m' = Stays (IsHonest of_meters) m m'
     × (r ≡ st.first → WasAdvanced m.0 st.first m'.0)
     × (r ≢ st.first → Looked m.0 st.word r m'.0)
 
--- it is the word of this slot, and these bits are this alarm's
+-- the word is that of this slot, and the bits are those of this alarm, which is in range
 pub record IsWordOf (slot : ℕ) (alarm : Alarm) (word bits : ℕ) : Type 0 where
   pub place : word ≡ slot_word slot
   pub range : IsInRange alarm
   pub bits_are : bits ≡ word_of (Some alarm)
 
--- the slot was found empty, and the alarm set in it
+-- the slot was found empty, and the alarm was set in it
 abbrev pub WasSet : SeatView → ℕ → Alarm → SeatView → Type 0
 WasSet v slot alarm w = (m : Moment Reading)
     × Made v (change (slot_word slot) 0 m (with_alarm m.object slot alarm) ∷ [])
     (record v.own { set = v.own.set ++ alarm ∷ [] }) w
 
--- What an exchange of a slot's word tells: where it found the old number, this happened to the slot and the alarm that
--- have the bits
+-- The result of an exchange of a slot's word: if it found the expected number, `Was` holds of the slot and of the alarm
+-- that has the bits; else the slot was only loaded.
 abbrev pub exchanges : (SeatView → ℕ → Alarm → SeatView → Type 0) → ℕ → Step Unit → Me Unit SeatView → ℕ
     → Me Unit SeatView → Type 0
 exchanges Was bits st m r m' = Stays (IsHonest of_meters) m m'
     × (r ≡ st.first → (slot : ℕ) (alarm : Alarm) → IsWordOf slot alarm st.word bits → Was m.0 slot alarm m'.0)
     × (r ≢ st.first → Looked m.0 st.word r m'.0)
 
--- what an exchange tells that is to set an alarm
+-- the result of the exchange that sets an alarm
 abbrev pub sets : Step Unit → Me Unit SeatView → ℕ → Me Unit SeatView → Type 0
 sets st m r m' = exchanges WasSet st.second st m r m'
 
@@ -76,30 +76,30 @@ WasFired v slot alarm w = (m : Moment Reading)
     × Made v (change (slot_word slot) (word_of (Some alarm)) m (with_fired m.object slot alarm) ∷ [])
     (record v.own { fired = v.own.fired ++ alarm ∷ [] }) w
 
--- what an exchange tells that is to fire an alarm
+-- the result of the exchange that fires an alarm
 abbrev pub fires : Step Unit → Me Unit SeatView → ℕ → Me Unit SeatView → Type 0
 fires st m r m' = exchanges WasFired st.first st m r m'
 
--- the same, as cancelled
+-- the alarm was found in this slot, and taken out as cancelled
 abbrev pub WasCancelled : SeatView → ℕ → Alarm → SeatView → Type 0
 WasCancelled v slot alarm w = (m : Moment Reading)
     × Made v (change (slot_word slot) (word_of (Some alarm)) m (with_cancelled m.object slot alarm) ∷ [])
     (record v.own { cancelled = v.own.cancelled ++ alarm ∷ [] }) w
 
--- what an exchange tells that is to cancel an alarm
+-- the result of the exchange that cancels an alarm
 abbrev pub cancels : Step Unit → Me Unit SeatView → ℕ → Me Unit SeatView → Type 0
 cancels st m r m' = exchanges WasCancelled st.first st m r m'
 
--- a slot's word was found, which says this
+-- the word of this slot was loaded, and is the word of `stood`, which is in range
 pub record FoundIn (v : SeatView) (slot : ℕ) (stood : Option Alarm) (w : SeatView) : Type 0 where
   pub looked : Looked v (slot_word slot) (word_of stood) w
   pub fits : Fits stood
 
--- another number than the word of this was found in the slot
+-- a number other than the word of `other` was found in the slot
 abbrev pub FoundOther : SeatView → ℕ → Option Alarm → SeatView → Type 0
 FoundOther v slot other w = (found : ℕ) × Looked v (slot_word slot) found w × (found ≢ word_of other)
 
--- one slot was visited, and gave this
+-- one slot was visited, and the visit fired this alarm, or none
 pub record Gave (v : SeatView) (clock slot : ℕ) (alarm : Option Alarm) (w : SeatView) : Type 0 where
   pub visit : Visit
   pub alarm_is : alarm ≡ gave visit

@@ -1,4 +1,4 @@
--- What the ends list together.
+-- The lists of the ends together.
 use Rattle.std.specs.Prelude.{◌≡◌, ◌⊎◌, ℕ, ◌+◌, ◌%◌, ◌^◌, ◌==◌, ◌<◌, ◌≤◌, List, if◌then◌else◌, length, slice_index_or}
 use Rattle.std.specs.Prelude.{sum_by, count_by}
 use Rattle.event_theory.specs.declared.alarm.Alarm.{Alarm}
@@ -21,7 +21,7 @@ times alarm alarms = count_by (is_alarm alarm) alarms
 abbrev pub times_to : ℕ → List ℕ → ℕ
 times_to tick clocks = count_by (λ clock. clock == tick) clocks
 
--- The clock was moved on from the first one to this one by as many advances as the ends list, once to each tick
+-- the ends list as many advances as lead from the first clock to this one: one to each tick between, and no other
 pub record AdvancesShow (first clock : ℕ) (views : List SeatView) : Type 0 where
   pub number : clock ≡ first + total (λ v. length v.own.advances) views
   pub once : (tick : ℕ) → first < tick → tick ≤ clock → total (λ v. times_to tick v.own.advances) views ≡ 1
@@ -36,7 +36,7 @@ pub record ViewsShow (first : ℕ) (m : Reading) (views : List SeatView) : Type 
   pub fired : (alarm : Alarm) → times alarm m.fired ≡ total (λ v. times alarm v.own.fired) views
   pub cancelled : (alarm : Alarm) → times alarm m.cancelled ≡ total (λ v. times alarm v.own.cancelled) views
 
--- No alarm that was set or taken out is had by two ends: of what was, the end has each no more often than it happened
+-- The end lists no alarm as set, fired or cancelled more often than it was, up to what the end has seen.
 pub record IsPart (v : SeatView) : Type 0 where
   pub set : (alarm : Alarm) → times alarm v.own.set ≤ times alarm v.seen.object.set
   pub fired : (alarm : Alarm) → times alarm v.own.fired ≤ times alarm v.seen.object.fired

@@ -20,8 +20,7 @@ use thiserror::Error;
 /// Why an alarm was not set.
 #[derive(Clone, Copy, Debug, PartialEq, Eq, Drop, Error)]
 pub enum SetRefusal {
-    /// Each of the 16 slots was loaded and found taken, one behind the other. They need not have been taken all at
-    /// once.
+    /// Each of the 16 slots was loaded and found taken, one after the other. They need not have been taken all at once.
     #[error("no slot is empty")]
     NoRoom,
     /// Another end took this slot first, the first one that was found empty: the exchange found it taken.
@@ -30,8 +29,8 @@ pub enum SetRefusal {
 }
 
 impl Meters {
-    /// One try to set an alarm: it loads the slots in order up to the first that is empty, and exchanges that one.
-    /// Gives the slot, 0 to 15, by which the alarm can be cancelled.
+    /// One try to set an alarm: it loads the slots in order up to the first that is empty, and exchanges that one by a
+    /// compare-and-swap. Returns the slot, 0 to 15, by which the alarm can be cancelled.
     pub fn try_set(&self, seat: &mut MeterSeat, alarm: Alarm) -> Result<usize, SetRefusal>
         requires { IsSeatOf self.now seat.old }
         ensures own { MatchResult result (λ slot. DidSet alarm (view_of seat.old) (view_of seat.new))
@@ -41,7 +40,10 @@ impl Meters {
         ensures same { IsSameSeat seat.old seat.new }
     {
         for slot in 0..SLOTS {
+            // one load of each slot: NoRoom means that each slot was taken when it was loaded, not that all were taken
+            // at once
             if load_alarm(&self.table.shared, &mut seat.seat, slot).is_none() {
+                // linearization point: the alarm is in the slot; the slot's word is 0, so no other alarm is overwritten
                 if exchange_in(&self.table.shared, &mut seat.seat, slot, alarm) {
                     return Ok(slot);
                 }
@@ -51,8 +53,8 @@ impl Meters {
         Err(SetRefusal::NoRoom)
     }
 
-    /// Takes this alarm out of this slot, 0 to 15, by one exchange. True where it stood there; else it was fired or
-    /// cancelled before, or never stood there. Two alarms that are equal cannot be told apart.
+    /// Takes this alarm out of this slot, 0 to 15, by one compare-and-swap. True if the alarm was there; else it was
+    /// fired or cancelled before, or was never there. Two equal alarms cannot be distinguished.
     pub fn cancel(&self, seat: &mut MeterSeat, slot: usize, alarm: Alarm) -> bool
         requires { IsSeatOf self.now seat.old × (slot < SLOTS) }
         ensures own { MatchBool result (DidCancel alarm (view_of seat.old) (view_of seat.new))
@@ -60,11 +62,13 @@ impl Meters {
         ensures steps { CancelledNow (view_of seat.old) slot alarm result (view_of seat.new) }
         ensures same { IsSameSeat seat.old seat.new }
     {
+        // linearization point: the alarm is out of the slot, or the slot has another word; the whole alarm is in one
+        // word
         exchange_cancelled(&self.table.shared, &mut seat.seat, slot, alarm)
     }
 
-    // Takes out the alarm of this slot, in which this word was found, where it is due at this tick of the clock, and puts
-    // it into the list. Most slots are empty, so this stands apart from the loop over them.
+    // Takes out the alarm of this slot, in which this word was found, if it is due at this tick of the clock, and puts
+    // it into the list. Most slots are empty, so this is a function apart from the loop over them.
     #[inline(never)]
     fn fire(
         &self,
@@ -88,15 +92,16 @@ impl Meters {
         if u64::from(alarm.due) > clock {
             return;
         }
+        // linearization point: the alarm is fired; it is still due, since the clock never goes down
         if !exchange_fired(&self.table.shared, &mut seat.seat, slot, alarm) {
             return;
         }
         fired.push(standing);
     }
 
-    /// Loads the clock once, and then takes out each alarm that is due at it, slots in order: each slot is loaded, and
-    /// where an alarm stands there that is due, it is taken out by one exchange. One that another end takes first is
-    /// passed over.
+    /// Loads the clock once, and then takes out each alarm that is due at it, slots in order. Each slot is loaded, and
+    /// an alarm in it that is due is taken out by one compare-and-swap. An alarm that another end takes first is passed
+    /// over.
     pub fn due(&self, seat: &mut MeterSeat) -> ArrayVec<Alarm, SLOTS>
         requires { IsSeatOf self.now seat.old }
         ensures own { DidFire result.items (view_of seat.old) (view_of seat.new) }
@@ -117,8 +122,10 @@ impl Meters {
         ensures same { IsSameSeat seat.old seat.new }
     {
         fired.clear();
+        // one load of the clock suffices: an alarm that is due at it stays due, since the clock never goes down
         let clock = load_clock(&self.table.shared, &mut seat.seat);
         for slot in 0..SLOTS {
+            // one load of each slot: an alarm that is set in the slot after it is left to a later call
             let found = load_slot(&self.table.shared, &mut seat.seat, slot);
             if !found.is_empty() {
                 self.fire(seat, slot, clock, found, fired);

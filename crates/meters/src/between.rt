@@ -1,4 +1,4 @@
-//! What holds between any two steps of any threads.
+//! The properties that hold between any two steps of any threads.
 
 ghost use Rattle.atomic_table.specs.Table.{State};
 ghost use Rattle.meters.specs.declared.rule.Shape.{Shape};
@@ -13,7 +13,7 @@ use crate::ends::Meters;
 use crate::rule::{MeterRule, Shape, View};
 use atomic_table::{Shared, TableRule};
 
-/// Whatever the rule holds of are lawful meters of the core, shown by the words and by what the ends list.
+/// A state of which the rule holds has lawful meters of the core, shown by the words and by the lists of the ends.
 ///
 /// Every atomic step of this crate keeps the rule, so it holds between any two steps, whoever makes them. And wherever
 /// the steps lead, the clock never goes down.
@@ -24,7 +24,7 @@ pub fn between_steps()
 {}
 
 impl Meters {
-    /// The table of the meters. By its type it is under the rule that `between_steps` speaks of.
+    /// The table of the meters. By its type it is under the rule of `between_steps`.
     pub fn table(&self) -> &Shared<(), View, Shape, MeterRule>
         ensures { result.now ≡ self.now.table.shared }
     {

@@ -17,7 +17,7 @@ use std::marker::Brand;
 use table_theory::OpenEnds;
 use table_theory::last_end::{close_by, count};
 
-/// The meters at their end: the gauges, the clock, and the alarms that stand, in the order of their slots.
+/// The meters at their end: the gauges, the clock, and the alarms in the slots, in the order of the slots.
 #[derive(Drop)]
 pub struct Metered {
     pub gauges: [u64; GAUGES],
@@ -53,8 +53,8 @@ fn read_alarms(closed: &Closed<(), Global>) -> ArrayVec<Alarm, SLOTS>
 impl Meters {
     ghost use Rattle.meters.specs.Handles.{view_of, first_of, IsSeatOf, IsOnlySeat, IsSameSeat};
 
-    /// Closes the meters where every other end has been joined. Else the meters and the end come back, and the number
-    /// of the others. It takes no memory.
+    /// Closes the meters if every other end has been joined. Else it returns the meters, the end, and the number of the
+    /// other ends. It allocates no memory.
     pub fn close(self, seat: MeterSeat) -> Result<Metered, (Meters, MeterSeat, OpenEnds)>
         requires { IsSeatOf self seat }
         ensures only { IsOnlySeat seat → MatchResult result (λ c. Unit {0}) (λ e. ⊥) }
@@ -64,6 +64,8 @@ impl Meters {
         ensures same { IfErr result (λ e. (e.0 ≡ self) × IsSameSeat seat e.1) }
     {
         let MeterSeat { seat } = seat;
+        // linearization point: the number of ends is loaded; one load suffices, since it is 1 exactly if this end has
+        // the whole, and then no other end makes a step
         let last = match count::<_, _, _, _, Brand>(&self.table.shared, seat, ENDS) {
             Ok(last) => last,
             Err((seat, ends)) => {

@@ -1,4 +1,4 @@
-//! How the ends of the meters are counted: what the steps of the theory of tables take from their rule.
+//! The count of the ends of the meters: the parts of their rule that the steps of the theory of tables use.
 use crate::rule::{Did, MeterRule, Reading, Shape, View};
 use table_theory::end_steps::EndsRule;
 use table_theory::last_end::CountRule;

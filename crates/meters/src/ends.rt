@@ -26,8 +26,8 @@ pub struct Meters {
 
 /// An end of the meters. It has no bytes.
 ///
-/// What it lists is true: each entry of its steps, and of the steps of all ends that it has seen, found the number that
-/// stood in its word then, and found the meters as the step before it left them, lawful and shown by the words.
+/// An end's list is true. Each entry, of its own steps or of other ends' steps that it has seen, found the number that
+/// its word had then. It found the meters as the step before it left them, lawful and shown by the words.
 ///
 /// An end that is dropped can never be joined, so the meters can then never be closed; what it did stays done.
 #[derive(Drop)]
@@ -41,7 +41,7 @@ pub struct MeterSeat {
 impl Meters {
     ghost use Rattle.meters.specs.Handles.{view_of, first_of, IsDivisible, IsSeatOf, IsSameSeat, AreOfOneTable};
 
-    /// Gauges at 0, the clock as told, no alarm, and the only end.
+    /// Gauges at 0, the given clock, no alarm, and the only end.
     pub fn new(alloc: Global, clock: u32) -> Result<(Meters, MeterSeat), OutOfMemory>
         ensures { IfOk result (λ r. IsSeatOf r.0 r.1 × (first_of r.0 ≡ clock)
             × (view_of r.1 ≡ newcomer (record { clock = clock }))) }
@@ -57,7 +57,7 @@ impl Meters {
     }
 
     /// A new end, which has done nothing. Both ends are to be joined again before the meters can be closed. Besides the
-    /// step that counts it, the first word is loaded once, and what is found there is not used.
+    /// step that counts the new end, the first word is loaded once, and the number found there is not used.
     ///
     /// Condition: the end has two parts or more of its meters' 2^64 - 1. The first end can be split two million
     /// times without a join, and each of those ends 43 times in a chain.
@@ -69,13 +69,15 @@ impl Meters {
         ensures steps { Divided (view_of seat.old) (view_of seat.new) }
         ensures same { IsSameSeat seat.old seat.new × AreOfOneTable seat.old result }
     {
+        // linearization point: the number of ends becomes one more, before the new end is made, so it is never too low
         count_up(&self.table.shared, &mut seat.seat, ENDS);
+        // the first word is loaded too, and its number is not used
         let new = split_off(&self.table.shared, &mut seat.seat);
         MeterSeat { seat: new }
     }
 
     /// The first end then has all that both had: what they did, and their parts of the meters. Besides the step that
-    /// counts one end less, the first word is loaded once, and what is found there is not used.
+    /// counts one end less, the first word is loaded once, and the number found there is not used.
     pub fn join(&self, seat: &mut MeterSeat, other: MeterSeat)
         requires { IsSeatOf self.now seat.old × IsSeatOf self.now other }
         ensures own { DidBoth (view_of seat.old) (view_of other) (view_of seat.new) }
@@ -83,7 +85,10 @@ impl Meters {
         ensures same { IsSameSeat seat.old seat.new }
     {
         let MeterSeat { seat: spent } = other;
+        // linearization point: the first end has what both had; the first word is loaded too, and its number is not
+        // used
         take_in::<_, _, _, _, _, Brand>(&self.table.shared, &mut seat.seat, spent);
+        // the number of ends becomes one less after the join, so it is never too low
         count_down(&self.table.shared, &mut seat.seat, ENDS);
     }
 }

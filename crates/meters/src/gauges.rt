@@ -11,7 +11,7 @@ use crate::layout::LAST_TICK;
 use crate::steps::{add_to_gauge, exchange_clock, load_clock, load_gauge};
 use thiserror::Error;
 
-/// Why the clock was not moved on. The refusals stand in the order in which they are checked.
+/// Why the clock was not moved on. The refusals are in the order in which they are checked.
 #[derive(Clone, Copy, Debug, PartialEq, Eq, Drop, Error)]
 pub enum AdvanceRefusal {
     /// The clock that was loaded is the last tick, 4,294,967,295. It stays there for good.
@@ -23,13 +23,14 @@ pub enum AdvanceRefusal {
 }
 
 impl Meters {
-    /// Adds `amount` to the gauge 0 to 7, modulo 2^64, by one step, and gives the gauge's value before.
+    /// Adds `amount` to the gauge 0 to 7, modulo 2^64, by one step, and returns the gauge's value before.
     pub fn tick(&self, seat: &mut MeterSeat, gauge: usize, amount: u64) -> u64
         requires { IsSeatOf self.now seat.old × (gauge < GAUGES) }
         ensures own { DidTick gauge amount (view_of seat.old) (view_of seat.new) }
         ensures steps { Ticked (view_of seat.old) gauge amount result (view_of seat.new) }
         ensures same { IsSameSeat seat.old seat.new }
     {
+        // linearization point: the amount is added; one fetch-and-add finds the value before
         add_to_gauge(&self.table.shared, &mut seat.seat, gauge, amount)
     }
 
@@ -40,6 +41,7 @@ impl Meters {
         ensures steps { Loaded (view_of seat.old) (gauge_word gauge) result (view_of seat.new) }
         ensures same { IsSameSeat seat.old seat.new }
     {
+        // linearization point: the gauge is loaded
         load_gauge(&self.table.shared, &mut seat.seat, gauge)
     }
 
@@ -50,11 +52,12 @@ impl Meters {
         ensures steps { Loaded (view_of seat.old) clock_word result (view_of seat.new) }
         ensures same { IsSameSeat seat.old seat.new }
     {
+        // linearization point: the clock is loaded
         load_clock(&self.table.shared, &mut seat.seat) as u32
     }
 
-    /// One try to move the clock on by one tick: it loads the clock and exchanges it for the next. Gives the clock
-    /// after.
+    /// One try to move the clock on by one tick: it loads the clock and exchanges it for the next by a
+    /// compare-and-swap. Returns the new clock.
     pub fn advance(&self, seat: &mut MeterSeat) -> Result<u32, AdvanceRefusal>
         requires { IsSeatOf self.now seat.old }
         ensures own { MatchResult result (λ clock. DidAdvance clock (view_of seat.old) (view_of seat.new))
@@ -63,10 +66,12 @@ impl Meters {
             (λ r. NotAdvanced (view_of seat.old) r (view_of seat.new)) }
         ensures same { IsSameSeat seat.old seat.new }
     {
+        // linearization point of Spent: one load suffices, since the clock never leaves its last tick
         let clock = load_clock(&self.table.shared, &mut seat.seat);
         if clock == LAST_TICK {
             return Err(AdvanceRefusal::Spent);
         }
+        // linearization point: the clock is moved on; the same clock means that no other end moved it on since the load
         let found = exchange_clock(&self.table.shared, &mut seat.seat, clock);
         if found != clock {
             return Err(AdvanceRefusal::Lost {

@@ -1,4 +1,4 @@
-//! What an end lists is true, and each change is an event of the core: statements over plain data.
+//! Laws over plain data: an end's list is true, and each change is an event of the core.
 
 ghost use Rattle.std.specs.Prelude.{◌≡◌, ◌≢◌, ◌+◌, ◌^◌, ◌<◌, ◌≤◌, ◌∷◌, ◌++◌, ◌⊎◌, ℕ, List, Some, None, Ok, slice_index_or};
 ghost use Rattle.std.specs.List.{AllByRecursion};
@@ -22,10 +22,10 @@ ghost use Rattle.meters.specs.Events.{Happens, Leads, IsSet};
 ghost use Rattle.meters.specs.Own.{SeatView, of_meters};
 ghost use Rattle.meters.specs.Handles.{view_of, IsOnlySeat};
 
-/// What an end lists is true: each entry that a call adds is a real step. It found lawful meters that the words showed,
-/// and the number in its word, and made one event of the core, or none. Real steps lead from what the end had seen to
-/// each of these entries, in their order, and the last of them left what the end sees then. Where the end has the
-/// whole, these entries alone lead there.
+/// An end's list is true: each entry that a call adds is a real step. It found lawful meters that the words showed, and
+/// the number in its word, and it made one event of the core, or none. Real steps lead from what the end had seen to
+/// each of these entries, in order, and the last of them left what the end sees then. If the end has the whole, these
+/// entries alone lead there.
 pub fn lists_are_true()
     ensures seat { (seat : MeterSeat) → ∥ IsHonest of_meters (view_of seat) ∥₁ }
     ensures entries { (old : SeatView) (new : MeterSeat) (entries : List (Step Reading))
@@ -43,8 +43,8 @@ pub fn lists_are_true()
     ensures lawful { (e : Step Reading) → IsReal of_meters e → IsLawful e.next.object }
 {}
 
-/// The same of a join: real steps lead from what either end had seen to what the one sees then, and the entry of the
-/// step that counts one end less is real.
+/// A join: real steps lead from what either end had seen to what the one end sees then. The entry of the step that
+/// counts one end less is real.
 pub fn joins_are_true()
     ensures since { (old other new : MeterSeat) → TookIn (view_of old) (view_of other) (view_of new)
         → ∥ Reaches of_meters (view_of old).seen (view_of new).seen ∥₁
@@ -53,7 +53,7 @@ pub fn joins_are_true()
         → ∥ IsReal of_meters (count_down ends_word t.0.found) ∥₁ }
 {}
 
-/// An end that has the whole is never answered Lost: between its steps, no other end makes one.
+/// An end that has the whole is never refused with Lost: no other end makes a step between its steps.
 pub fn only_ends_are_never_lost()
     ensures advance { (old new : MeterSeat) (clock : ℕ) → IsOnlySeat old
         → NotAdvanced (view_of old) (not_advanced.Lost clock) (view_of new) → ⊥ }
@@ -61,7 +61,7 @@ pub fn only_ends_are_never_lost()
         → NotSet (view_of old) (not_set.Lost slot) (view_of new) → ⊥ }
 {}
 
-/// What the number says that a step found: the number of ends, a gauge, the clock, or what stands in a slot.
+/// The meaning of a number that a step found: the number of ends, a gauge, the clock, or the content of a slot.
 pub fn numbers_say()
     ensures ends { (found : ℕ) (m : Moment Reading) → IsReal of_meters (load ends_word found m) → found ≡ m.ends }
     ensures gauge { (e : Step Reading) (gauge : ℕ) → gauge < GAUGES → e.word ≡ gauge_word gauge → IsReal of_meters e
@@ -76,9 +76,9 @@ pub fn numbers_say()
         → IsReal of_meters e → e.found ≢ word_of (Some alarm) → in_slot e.then.object slot ≢ Some alarm }
 {}
 
-/// No clock that a call has found is below one that its end had seen: a clock that an entry found is no less than what
-/// the end had seen before the call, no less than what an earlier entry of the call found, and no more than what the
-/// end sees then.
+/// No clock that a call finds is below one that its end had seen. The clock that an entry found is at least what the
+/// end had seen before the call. It is at least what an earlier entry of the call found, and at most what the end sees
+/// then.
 pub fn never_below()
     ensures clock { (old new : MeterSeat) (before after : List (Step Reading)) (e : Step Reading)
         → Adds (view_of old) (before ++ e ∷ after) (view_of new) → e.word ≡ clock_word
@@ -88,7 +88,7 @@ pub fn never_below()
         → e.word ≡ clock_word → f.word ≡ clock_word → e.found ≤ f.found }
 {}
 
-/// Each change that an answer lists is the event of the core that its name says.
+/// Each change that a result lists is the event of the core that its name says.
 pub fn changes_are_events()
     ensures ticked { (gauge amount found : ℕ) (m : Moment Reading) → gauge < GAUGES
         → IsReal of_meters (change (gauge_word gauge) found m (with_tick m.object gauge amount))
@@ -109,8 +109,8 @@ pub fn changes_are_events()
         × (cancel slot (meters_of m.object) ≡ Ok (meters_of (with_cancelled m.object slot alarm))) }
 {}
 
-/// The numbers of the layout: where the words are, how many there are of each kind, and what the parts of a slot's word
-/// weigh. The words are side by side, also where different threads write them.
+/// The numbers of the layout: the positions of the words, how many there are of each kind, and what the parts of a
+/// slot's word weigh. The words are side by side, even if different threads write them.
 pub fn layout_is()
     ensures words { (ends_word ≡ 0) × (clock_word ≡ 9) × (width ≡ 26) }
     ensures rows { (i : ℕ) → (gauge_word i ≡ 1 + i) × (slot_word i ≡ 10 + i) }

@@ -26,13 +26,13 @@
 //! assert!(rt; (metered.clock, metered.alarms.len()) == (1, 0));
 //! ```
 //!
-//! Each thread steps with an end of its own, made by `split`, and the contracts speak of what an end knows: what it
-//! did, every step that it made with the number that it found there, and every step that any end had made up to its own
-//! last one. Once every other end is joined, `close` gives the gauges, the clock and the alarms that are left.
+//! Each thread steps with an end of its own, made by `split`. The contracts speak of what an end knows: what it did,
+//! every step that it made with the number that it found there, and every step that any end had made up to its own last
+//! one. Once every other end is joined, `close` returns the gauges, the clock and the alarms that are left.
 //!
 //! There are 8 gauges of 64 bits, which wrap, and 16 slots for alarms. The clock has 32 bits, and is Spent at its last
-//! number. An alarm is due once the clock has reached its tick; `due` takes out all that are, in the order of their
-//! slots. What each call does is said by the meters of `event_theory`.
+//! number. An alarm is due once the clock has reached its tick; `due` takes out all alarms that are due, in the order
+//! of their slots. The meters of `event_theory` define what each call does.
 #![tactic(auto)]
 
 mod alarms;

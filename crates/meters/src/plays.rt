@@ -1,4 +1,4 @@
-//! What each step tells. These types are for the proofs alone.
+//! The result of each step. These types are for the proofs alone.
 ghost use Rattle.table_theory.specs.Ledgers.{IsHonest};
 ghost use Rattle.table_theory.specs.Plays.{finds};
 ghost use Rattle.meters.specs.Own.{of_meters};

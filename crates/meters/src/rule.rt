@@ -1,24 +1,23 @@
-//! The rule of the table. Its types are for the proofs alone: no program makes a value of them but the meters
-//! themselves.
+//! The rule of the table. Its types are for the proofs alone: only the meters themselves make values of them.
 use atomic_table::TableRule;
 use event_theory::Alarm;
 use std::collections::LinkedList;
 use table_theory::views::Ledger;
 
-/// What the rule is told when the table is made: the clock then.
+/// The parameter of the rule, set when the table is made: the clock then.
 #[derive(Drop)]
 pub struct Shape {
     pub clock: u64,
 }
 
-/// What one tick added to one gauge.
+/// The amount that one tick added to one gauge.
 pub struct Tick {
     pub gauge: u64,
     pub amount: u64,
 }
 
-/// The meters at one step: the gauges, the clock, what stands in each slot, and all alarms that were set, fired and
-/// cancelled up to then.
+/// The meters at one step: the gauges, the clock, the alarm or none in each slot, and all alarms that were set, fired
+/// and cancelled up to then.
 pub struct Reading {
     pub gauges: LinkedList<u64>,
     pub clock: u64,
@@ -28,8 +27,8 @@ pub struct Reading {
     pub cancelled: LinkedList<Alarm>,
 }
 
-/// What an end did: its ticks, the ticks that it moved the clock on to, and the alarms that it set, fired and
-/// cancelled. Proofs alone speak of it.
+/// The record of an end: its ticks, the ticks that it moved the clock on to, and the alarms that it set, fired and
+/// cancelled. Only proofs speak of it.
 pub struct Did {
     pub ticks: LinkedList<Tick>,
     pub advances: LinkedList<u64>,
@@ -38,7 +37,7 @@ pub struct Did {
     pub cancelled: LinkedList<Alarm>,
 }
 
-/// What an end knows: what it did, its steps, and all ends' steps up to its own last one.
+/// The knowledge of an end: what it did, its steps, and all ends' steps up to its own last one.
 pub type View = Ledger<Did, Reading>;
 
 pub struct MeterRule;

@@ -84,7 +84,7 @@ pub(crate) fn exchange_clock(words: &Words, seat: &mut Seat<(), View>, clock: u6
     words.compare_exchange::<Advances>(seat, CLOCK, clock, clock + 1)
 }
 
-/// Whether the slot was empty, and the alarm now stands there.
+/// Sets the alarm in the slot if the slot is empty, and returns whether it was.
 pub(crate) fn exchange_in(
     words: &Words,
     seat: &mut Seat<(), View>,
@@ -100,7 +100,7 @@ pub(crate) fn exchange_in(
     words.compare_exchange::<Sets>(seat, FIRST_SLOT + slot, 0, word) == 0
 }
 
-/// Whether the alarm, which is due, stood there and is now fired.
+/// Takes the alarm, which is due, out of the slot as fired if it is there, and returns whether it was.
 pub(crate) fn exchange_fired(
     words: &Words,
     seat: &mut Seat<(), View>,
@@ -117,7 +117,7 @@ pub(crate) fn exchange_fired(
     words.compare_exchange::<Fires>(seat, FIRST_SLOT + slot, word, 0) == word
 }
 
-/// Whether the alarm stood there and is now cancelled.
+/// Takes the alarm out of the slot as cancelled if it is there, and returns whether it was.
 pub(crate) fn exchange_cancelled(
     words: &Words,
     seat: &mut Seat<(), View>,

@@ -8,7 +8,7 @@ ghost use Rattle.meters.specs.declared.layout.TheConstants.{TICKS};
 use crate::layout::{ELEMENT, FIELD, SIGNAL, STANDS, TICKS};
 use event_theory::{Alarm, Element, Signal};
 
-/// What a slot's word says: 0, or an alarm with its tick in bits 0 to 31, its element in bits 32 to 39, its signal in
+/// The content of a slot: 0, or an alarm with its tick in bits 0 to 31, its element in bits 32 to 39, its signal in
 /// bits 40 to 47, and bit 63 set.
 #[derive(Clone, Copy, Debug, PartialEq, Eq)]
 pub struct AlarmWord {
@@ -16,7 +16,7 @@ pub struct AlarmWord {
 }
 
 impl AlarmWord {
-    /// The word of a slot in which this alarm stands.
+    /// The word of a slot with this alarm.
     pub fn of(alarm: Alarm) -> AlarmWord
         ensures bits { result.bits ≡ word_of (Some alarm) }
         ensures range { IsInRange alarm }
@@ -42,7 +42,7 @@ impl AlarmWord {
         self.bits
     }
 
-    /// Whether no alarm stands here.
+    /// Whether the word is that of an empty slot.
     pub fn is_empty(self) -> bool
         ensures { result ≡ (self.bits == 0) }
     {
@@ -56,8 +56,7 @@ impl AlarmWord {
         (self.bits % TICKS) as u32
     }
 
-    /// The alarm that stands here, which is the one that the word was made of. None where the word is 0, and where it
-    /// is the word of no alarm.
+    /// The alarm of which the word was made. None if the word is 0, or if it is the word of no alarm.
     pub fn alarm(self) -> Option<Alarm>
         ensures stands { (slot : Option Alarm) → Fits slot → self.bits ≡ word_of slot → result ≡ slot }
         ensures made { IfSome result (λ alarm. self.bits ≡ word_of (Some alarm)) }

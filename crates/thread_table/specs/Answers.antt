@@ -1,5 +1,5 @@
--- What the calls answer: the entries that they added, all of them, how their numbers compare, and what the hand then
--- has. The numbers and moments are those of the entries, which w's list fixes.
+-- The results of the calls: all entries that a call added, how their numbers compare, and what the hand then has. The
+-- numbers and moments are those of the entries, which the list of w fixes.
 use Rattle.std.specs.Prelude.{◌≡◌, ◌≢◌, ◌⊎◌, ◌+◌, ◌-◌, ◌/◌, ◌%◌, ◌<◌, ◌==◌, ℕ, zero, suc, Bool, true, false, not}
 use Rattle.std.specs.Prelude.{List, [], ◌∷◌, ◌++◌, slice_set, filter, Result, Ok, Err, Some, None}
 use Rattle.std.specs.List.{range_with_len}
@@ -28,9 +28,9 @@ use Rattle.table_theory.specs.Ledgers.{load}
 use Rattle.thread_table.specs.Entries.{Step, change, Acts, with_event, steps_in, HoldsMore, HoldsLess}
 use Rattle.thread_table.specs.Entries.{take_event, claim_event}
 
--- Behind these entries, the answer to a taking. The tail was loaded, and then the place at it. The place was raised,
--- and the exchange of the tail found it still: the hand holds the place's element. NoneReady: the place was not raised,
--- and the tail was found again. Lost: another tail was found, past that one
+-- The result of a taking that is made after these entries: the tail is loaded, then the place at it. Ok: the place was
+-- raised, the exchange found the same tail, and the hand holds the element. NoneReady: the place was not raised, and
+-- the tail was found again. Lost: a tail past the first one was found.
 abbrev pub TakesAfter : List Step → ℕ → View → ℕ → Result ℕ NextRefusal → View → Type 0
 TakesAfter before call v ring (Ok element) w = (tail place : ℕ) × (r s t : Past)
     × (place / 256 ≡ tail + 1) × (element ≡ place % 256) × HoldsMore element v w
@@ -46,7 +46,7 @@ TakesAfter before call v ring (Err (nexts.Lost seen)) w = (tail place : ℕ) × 
     × Acts v (before ++ load (tail_word ring) tail r ∷ load (place_word ring tail) place s
     ∷ load (tail_word ring) seen t ∷ []) (quiet v) w
 
--- the answer to a taking
+-- the result of a taking
 abbrev pub TakeAnswer : ℕ → View → ℕ → Result ℕ NextRefusal → View → Type 0
 TakeAnswer call v ring answer w = TakesAfter [] call v ring answer w
 
@@ -57,11 +57,11 @@ head_in word = word % NOTIFY
 abbrev pub mark_in : ℕ → ℕ
 mark_in word = word / NOTIFY
 
--- the hand raises the place of this position
+-- the event by which the hand raises the place of this position
 abbrev pub raise_event : ℕ → View → ℕ → ℕ → Event
 raise_event call v ring position = events.Raise call (ring_name ring) (position - v.own.first) 0
 
--- the element is moved on by these two events, the first behind this schedule
+-- the view after these two events moved the element, the first one made at this schedule
 abbrev pub with_move : View → ℕ → Event → Past → Event → View
 with_move v element claim past raise = record v {
   own = record v.own {
@@ -73,9 +73,9 @@ with_move v element claim past raise = record v {
   };
 }
 
--- The head word was loaded, with a position left, and exchanged, and was that one still: the event claims the position
--- for the element, of which no step was counted up to then. Then the place there was raised. The hand holds the element
--- no more
+-- The head word was loaded, with a position left, and the exchange found the same word: the event claims the position
+-- for the element. Up to the exchange no step of the element was counted. Then the place was raised, and the hand no
+-- longer holds the element.
 abbrev pub MovedBy : ℕ → View → ℕ → ℕ → Event → ℕ → View → Type 0
 MovedBy call v ring element event word w = (place : ℕ) × (r s t : Past)
     × (head_in word < last_head) × (steps_in element s.object ≡ steps_in element v.seen.object) × HoldsLess element v w
@@ -88,13 +88,13 @@ abbrev pub WasSpent : View → ℕ → View → Type 0
 WasSpent v ring w = (word : ℕ) × (r : Past) × (head_in word ≡ last_head)
     × Acts v (load (head_word ring) word r ∷ []) (quiet v) w
 
--- the head word was loaded, with a position left, but the exchange found another
+-- the head word was loaded, with a position left, but the exchange found another word
 abbrev pub Overtaken : View → ℕ → ℕ → ℕ → View → Type 0
 Overtaken v ring word seen w = (r s : Past) × (head_in word < last_head) × (seen ≢ word)
     × Acts v (load (head_word ring) word r ∷ load (head_word ring) seen s ∷ []) (quiet v) w
 
--- the answer to a move without a ticket: the element is in the queue; or no position was left; or another hand moved
--- first
+-- the result of a move without a ticket: the element is in the queue; or no position was left (Spent); or another hand
+-- changed the head word first (Lost); never Moved
 abbrev pub MoveAnswer : ℕ → View → ℕ → ℕ → Result (Unit {0}) MoveRefusal → View → Type 0
 MoveAnswer call v ring element (Ok done) w =
     (word : ℕ) × MovedBy call v ring element (claim_event call ring element) word w
@@ -102,21 +102,21 @@ MoveAnswer call v ring element (Err moves.Spent) w = WasSpent v ring w
 MoveAnswer call v ring element (Err (moves.Lost seen)) w = (word : ℕ) × Overtaken v ring word seen w
 MoveAnswer call v ring element (Err (moves.Moved mark)) w = ⊥
 
--- the number of notifies was loaded
+-- the ticket is the number of notifies in the head word, which was loaded
 abbrev pub IsTicket : View → ℕ → ℕ → View → Type 0
 IsTicket v wait ticket w = (word : ℕ) × (r : Past) × (ticket ≡ mark_in word)
     × Acts v (load (head_word (wait_ring wait)) word r ∷ []) (quiet v) w
 
--- Not the ticket but this number of notifies was found: in the head word that was loaded, with a position left; or in
--- the one that the exchange found, where the one loaded had the ticket
+-- A number of notifies other than the ticket was found. It was in the head word that was loaded, with a position left.
+-- Or it was in the word that the exchange found, and the loaded word had the ticket.
 abbrev pub HasMoved : View → ℕ → ℕ → ℕ → View → Type 0
 HasMoved v wait ticket mark w = (word : ℕ) × (r : Past) × (head_in word < last_head) × (mark ≢ ticket)
     × (((mark ≡ mark_in word) × Acts v (load (head_word (wait_ring wait)) word r ∷ []) (quiet v) w)
     ⊎ ((mark_in word ≡ ticket) × (seen : ℕ) × (s : Past) × (mark ≡ mark_in seen)
     × Acts v (load (head_word (wait_ring wait)) word r ∷ load (head_word (wait_ring wait)) seen s ∷ []) (quiet v) w))
 
--- the answer to a wait with a ticket: the element is in the wait queue; or no position was left; or another hand moved
--- first; or the number of notifies was no more the ticket
+-- the result of a wait with a ticket: the element is in the wait queue; or no position was left; or another hand moved
+-- first, and the ticket is still good; or the number of notifies is no longer the ticket
 abbrev pub WaitAnswer : ℕ → View → ℕ → ℕ → ℕ → Result (Unit {0}) MoveRefusal → View → Type 0
 WaitAnswer call v wait element ticket (Ok done) w = (word : ℕ) × (mark_in word ≡ ticket)
     × MovedBy call v (wait_ring wait) element (events.WaitAt call wait element ticket) word w
@@ -128,39 +128,39 @@ WaitAnswer call v wait element ticket (Err (moves.Moved mark)) w = HasMoved v wa
 abbrev pub is_in : ℕ → ℕ → Bool
 is_in mask number = bit_at mask number == 1
 
--- the stop bit was set, and the answer is whether it was clear
+-- the stop bit was set by one step, and the result is whether it was clear before
 abbrev pub StoppedNow : ℕ → View → ℕ → Bool → View → Type 0
 StoppedNow call v element was_clear w = (word : ℕ) × (r : Past) × (was_clear ≡ not (is_in word stop_bit))
     × Acts v (change (state_word element) word r (events.Stop call element) ∷ [])
     (with_event (quiet v) (events.Stop call element)) w
 
--- the signal was made pending, and this is whether it had been
+-- the signal was made pending by one step, and `was_pending` is whether it was pending before
 abbrev pub SignalledNow : ℕ → View → ℕ → ℕ → Bool → View → Type 0
 SignalledNow call v element number was_pending w = (word : ℕ) × (r : Past) × (is_in word number ≡ was_pending)
     × Acts v (change (state_word element) word r (events.Signal call element number) ∷ [])
     (with_event (quiet v) (events.Signal call element number)) w
 
--- the answer to a signal: whether it was pending before
+-- the result of a signal: Merged if the signal was pending before, else Raised
 abbrev pub SignalAnswer : ℕ → View → ℕ → ℕ → Signalled → View → Type 0
 SignalAnswer call v element number signalled.Raised w = SignalledNow call v element number false w
 SignalAnswer call v element number signalled.Merged w = SignalledNow call v element number true w
 
--- the state word was loaded, which is so, and exchanged, and was that one still: the event was made
+-- the state word was loaded and satisfies `Is`, the exchange found the same word, and the event was made
 abbrev pub Exchanged : (ℕ → Type 0) → View → ℕ → Event → View → View → Type 0
 Exchanged Is v element event now w = (word : ℕ) × (r s : Past) × Is word
     × Acts v (load (state_word element) word r ∷ change (state_word element) word s event ∷ []) now w
 
--- the state word was loaded, which is so, but the exchange found another
+-- the state word was loaded and satisfies `Is`, but the exchange found another word
 abbrev pub WasChanged : (ℕ → Type 0) → View → ℕ → ℕ → View → Type 0
 WasChanged Is v element seen w = (word : ℕ) × (r s : Past) × Is word × (seen ≢ word)
     × Acts v (load (state_word element) word r ∷ load (state_word element) seen s ∷ []) (quiet v) w
 
--- the state word was loaded, which is so
+-- the state word was loaded and satisfies `Is`
 abbrev pub FoundState : (ℕ → Type 0) → View → ℕ → View → Type 0
 FoundState Is v element w = (word : ℕ) × (r : Past) × Is word
     × Acts v (load (state_word element) word r ∷ []) (quiet v) w
 
--- the state word was loaded, and these are the signals that were pending there
+-- the state word was loaded, and the mask is the signals that were pending in it
 abbrev pub IsPending : View → ℕ → ℕ → View → Type 0
 IsPending v element mask w = FoundState (λ word. mask ≡ word % STOP) v element w
 
@@ -171,7 +171,7 @@ HasStop word = is_in word stop_bit ≡ true
 abbrev pub HasNoStop : ℕ → Type 0
 HasNoStop word = is_in word stop_bit ≡ false
 
--- its stop bit is set, and the bit of its stop cell is this
+-- the stop bit of the state word is set, and the stop cell's bit is `parked`
 abbrev pub HasCell : Bool → ℕ → Type 0
 HasCell parked word = HasStop word × (is_in word cell_bit ≡ parked)
 
@@ -179,20 +179,21 @@ HasCell parked word = HasStop word × (is_in word cell_bit ≡ parked)
 abbrev pub HasSignals : ℕ → Type 0
 HasSignals word = 0 < word % STOP
 
--- the stop bit is cleared, and this is whether the element was parked
+-- the stop bit was cleared, and `parked` is whether the element was in its stop cell
 abbrev pub StartedNow : ℕ → View → ℕ → Bool → View → Type 0
 StartedNow call v element parked w = Exchanged (HasCell parked) v element (events.Start call element)
     (with_event (with_start v element parked) (events.Start call element)) w
 
--- the answer to a start: the stop bit was clear; or it is now, and the hand holds the element where that was parked; or
--- the state word was changed meanwhile
+-- the result of a start: the stop bit was clear; or it was cleared, and the hand holds the element if the element was
+-- parked; or the state word was changed between the load and the exchange
 abbrev pub StartAnswer : ℕ → View → ℕ → Result Started Lost → View → Type 0
 StartAnswer call v element (Ok started.NotStopped) w = FoundState HasNoStop v element w
 StartAnswer call v element (Ok started.Cleared) w = StartedNow call v element false w
 StartAnswer call v element (Ok started.Held) w = HoldsMore element v w × StartedNow call v element true w
 StartAnswer call v element (Err lost) w = WasChanged HasStop v element lost.seen w
 
--- the answer to a park: whether the element stands in its stop cell; no step of it was counted
+-- the result of a park: true if the element was put into its stop cell, and no step of it was counted in the call;
+-- false if the stop bit was clear; Lost if the state word was changed between the load and the exchange
 abbrev pub ParkAnswer : ℕ → View → ℕ → Result Bool Lost → View → Type 0
 ParkAnswer call v element (Ok true) w = HoldsLess element v w
     × Exchanged HasStop v element (events.Park call element)
@@ -205,7 +206,7 @@ ParkAnswer call v element (Err lost) w = WasChanged HasStop v element lost.seen 
 abbrev pub signals_in : ℕ → List ℕ
 signals_in mask = filter (is_in mask) (range_with_len 0 16)
 
--- these signals of an element are delivered
+-- the view after these signals of an element were delivered
 abbrev pub with_delivery : View → Event → ℕ → View
 with_delivery v event mask = record v {
   own = record v.own {
@@ -214,19 +215,20 @@ with_delivery v event mask = record v {
   };
 }
 
--- the answer to a delivery: the signals that were pending; where none was, no event is made
+-- the result of a delivery: the mask of the pending signals that were delivered; 0, and no event, if none was pending;
+-- or Lost if the state word was changed between the load and the exchange
 abbrev pub DeliverAnswer : ℕ → View → ℕ → Result ℕ Lost → View → Type 0
 DeliverAnswer call v element (Ok zero) w = FoundState (λ word. word % STOP ≡ 0) v element w
 DeliverAnswer call v element (Ok (suc mask)) w = Exchanged (λ word. word % STOP ≡ suc mask) v element
     (events.Deliver call element) (with_delivery v (events.Deliver call element) (suc mask)) w
 DeliverAnswer call v element (Err lost) w = WasChanged HasSignals v element lost.seen w
 
--- the number of steps that the element had done was found: those that were counted up to then
+-- the number of steps done of the element was found: all those that were counted up to the load
 abbrev pub ReadPc : ℕ → View → ℕ → View → Type 0
 ReadPc element v found w = (r : Past) × (found ≡ steps_in element r.object)
     × Acts v (load (done_word element) found r ∷ []) (having_found v (count_of element found)) w
 
--- the hand counts a step of an element, which had done so many
+-- the hand counts one step of an element, which had done `number` steps
 abbrev pub with_step : View → Event → ℕ → View
 with_step v event number = record v {
   own = record v.own {
@@ -235,8 +237,8 @@ with_step v event number = record v {
   };
 }
 
--- the answer to a step done: the new number of steps, one more than was found; or Spent, where 4,294,967,295 were found
--- to be done
+-- the result of a step done: the new number of steps, one more than was found; or Spent, if 4,294,967,295 steps were
+-- found
 abbrev pub DoneAnswer : ℕ → View → ℕ → Result ℕ Spent → View → Type 0
 DoneAnswer call v element (Ok number) w = (count : ℕ) × (r s : Past) × (number ≡ count + 1)
     × (count ≡ steps_in element r.object) × (count ≡ steps_in element s.object)
@@ -244,13 +246,13 @@ DoneAnswer call v element (Ok number) w = (count : ℕ) × (r s : Past) × (numb
     (with_step v (events.Done call element) count) w
 DoneAnswer call v element (Err spent) w = ReadPc element v most_done w
 
--- an element that the hand held is on a processor, whose word was 0
+-- an element that the hand held was put on a processor, whose word was 0
 abbrev pub PutsOn : ℕ → ℕ → ℕ → View → View → Type 0
 PutsOn call p element v w = (r : Past) × (running w p ≡ Some element) × HoldsLess element v w
     × Acts v (change (processor_word p) 0 r (events.On call p element) ∷ [])
     (with_event (with_on v p element) (events.On call p element)) w
 
--- the element is off the processor, whose word was one more than its number
+-- the element was taken off the processor, whose word was one more than the element's number
 abbrev pub TakesOff : ℕ → ℕ → ℕ → View → View → Type 0
 TakesOff call p element v w = (r : Past) × (running w p ≡ None) × HoldsMore element v w
     × Acts v (change (processor_word p) (element + 1) r (events.Off call p) ∷ [])

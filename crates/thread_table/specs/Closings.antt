@@ -1,4 +1,4 @@
--- What closing a table answers.
+-- The result of closing a table.
 use Rattle.std.specs.Prelude.{◌≡◌, ◌≢◌, ◌+◌, ◌%◌, ◌<◌, ◌≤◌, ◌==◌, ℕ, zero, suc, Bool, true, false, List, [], ◌∷◌}
 use Rattle.std.specs.Prelude.{Option, Some, None, slice_index_or}
 use Rattle.std.specs.List.{list_any}
@@ -28,12 +28,12 @@ use Rattle.thread_table.specs.Answers.{is_in}
 abbrev pub word_at : List ℕ → ℕ → ℕ
 word_at words i = slice_index_or words i 0
 
--- the element of a processor's word
+-- the processor whose word names the element; none if no processor's word does
 abbrev pub ProcessorOf : ℕ → List ℕ → Option ℕ → Type 0
 ProcessorOf element words None = (p : ℕ) → p < PROCESSORS → word_at words (processor_word p) ≢ element + 1
 ProcessorOf element words (Some p) = (p < PROCESSORS) × (word_at words (processor_word p) ≡ element + 1)
 
--- the element stands in a place of the queue that is claimed and not taken
+-- the element is in a place of the queue that is claimed and not taken
 abbrev pub IsIn : ℕ → List ℕ → ℕ → Type 0
 IsIn element words ring = (position : ℕ) × (word_at words (tail_word ring) ≤ position)
     × (position < word_at words (head_word ring) % NOTIFY)
@@ -54,7 +54,7 @@ place_by None (Some ring) parked = ring_place ring
 place_by None None true = places.Stopped
 place_by None None false = places.Held
 
--- what the words say of an element's place: where they say nothing, it is held
+-- the element's place by the words: a processor, else an element queue, else its stop cell; else the element is held
 abbrev pub PlaceOf : ℕ → List ℕ → Place → Type 0
 PlaceOf element words place = (seat : Option ℕ) × (ring : Option ℕ) × ProcessorOf element words seat
     × RingOf element words ring
@@ -63,7 +63,7 @@ PlaceOf element words place = (seat : Option ℕ) × (ring : Option ℕ) × Proc
 abbrev pub is_left : ℕ → Queue → Bool
 is_left element q = list_any (λ item. item == element) (left q)
 
--- the element is in this place; Held is: by the call
+-- the element is in this place; for Held: the call holds the element
 abbrev pub StandsAt : ℕ → ℕ → Elements → Place → Type 0
 StandsAt call element e (places.Processor p) = is_on element (slice_index_or e.processors p None) ≡ true
 StandsAt call element e places.Ready = is_left element (ring_at e ready_ring) ≡ true
@@ -77,9 +77,10 @@ abbrev pub ArePending : ℕ → List Event → ℕ → Type 0
 ArePending element schedule mask = (signal : ℕ) → signal < 16
     → (thread_at (elements_after schedule) element).pending signal ≡ is_in mask signal
 
--- The table is closed, by a hand that has the whole and so has seen all events: its schedule is that of the table, its
--- list has each event of a hand once, each step that an element has done is counted by one of them, and each signal was
--- made pending as often as it was delivered, once more where it is pending. Each element is in the place that is told
+-- The table is closed by a hand that has the whole, so the hand has seen all events and lists each event except the
+-- joins once. One event of the list counts each step that an element has done. Each signal was made pending as often as
+-- it was delivered, once more if it is pending. Each element's place, steps, pending signals and stop bit are those
+-- that are reported.
 pub record ClosedNow (call : ℕ) (v : View) (stands : List Place) (pcs pending : List ℕ) (stops : ℕ) : Type 0 where
   pub whole : IsWhole v.member.share
   pub allowed : IsAllowed v.seen.object
@@ -94,7 +95,7 @@ pub record ClosedNow (call : ℕ) (v : View) (stands : List Place) (pcs pending 
   pub signals : (x : ℕ) → x < ELEMENTS → ArePending x v.seen.object (slice_index_or pending x 0)
   pub stopped : (x : ℕ) → x < ELEMENTS → (thread_at (elements_after v.seen.object) x).stop ≡ is_in stops x
 
--- other hands stand: their number was found, with this hand's, and this hand has not the whole
+-- other hands exist: the number of hands was found, this hand included, and this hand doesn't have the whole
 pub record WereOpen (v : View) (others : ℕ) (w : View) : Type 0 where
   pub some_other : 0 < others
   pub not_whole : IsWhole v.member.share → ⊥

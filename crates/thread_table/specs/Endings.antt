@@ -1,4 +1,4 @@
--- What making and joining hands does to what they know.
+-- How a split and a join of hands change what the hands know.
 use Rattle.std.specs.Prelude.{◌≡◌, ◌+◌, ◌<◌, ◌&&◌, ◌||◌, ℕ, not, false, [], ◌∷◌, None}
 use Rattle.table_theory.specs.Ends.{Begins}
 use Rattle.table_theory.specs.Ledgers as ends
@@ -12,7 +12,7 @@ use Rattle.thread_table.specs.Steps.{both}
 use Rattle.thread_table.specs.Entries.{Acts}
 use Rattle.thread_table.specs.Answers.{is_in}
 
--- the hand serves what w serves, was split once more, by one load that no list has, and kept its part of the share
+-- the hand serves what w serves, has one more split and one more load that no list has, and keeps its part of the share
 abbrev pub with_split : View → View → View
 with_split v w = record v {
   own = record v.own { serves = w.own.serves; counted = None };
@@ -23,32 +23,31 @@ with_split v w = record v {
   };
 }
 
--- The number of hands was found and made one more; the hand gave a part of its share away, and the processors of the
--- mask. Nothing else changed
+-- The number of hands was found and made one more. The hand gave away a part of its share and the processors of the
+-- mask. Nothing else changed except the counts in `with_split`.
 pub record Divided (mask : ℕ) (v w : View) : Type 0 where
   pub serves : (p : ℕ) → p < PROCESSORS → serves w p ≡ (serves v p && not (is_in mask p))
   pub found : Past
   pub acts : Acts v (ends.count_up ends_word found ∷ []) (with_split v w) w
 
--- The new hand has nothing but the processors of the mask and the part of the share, and has seen what the other had
--- seen
+-- the new hand has only the processors of the mask and its part of the share, and has seen what the other hand had seen
 pub record IsNewborn (mask : ℕ) (old new born : View) : Type 0 where
   pub serves : (p : ℕ) → p < PROCESSORS → serves born p ≡ is_in mask p
   pub same : ends.IsNewborn (serving new.own.first born.own.serves) old new born
 
--- what both hands have, before one has the share of both: between that and its next step comes the step of the join,
--- which is on no word
+-- the view of what both hands have, before one of them has the share of both: the step of the join, which is on no
+-- word, comes between this and the hand's next step
 abbrev pub together : View → View → View
 together v u = record (both v u) { member = record (both v u).member { share = 0 } }
 
--- the hand that took in the other is one, and has the share of both
+-- the hand that took in the other counts as one hand, has one more join, and has the share of both
 abbrev pub with_join : View → View → View
 with_join v u = record (both v u) {
   member = record (both v u).member { ends = 1; joins = v.member.joins + u.member.joins + 1 };
 }
 
--- The hand has what both had, who had nothing of the same; then the number of hands was found and made one less. It
--- has seen what both had seen, of one table
+-- Both hands were of one table, and had no element and no processor in common. The hand has what both had, and has seen
+-- what both had seen. Then the number of hands was found and made one less.
 pub record TookIn (v u w : View) : Type 0 where
   pub apart : (e : ℕ) → (has v e && has u e) ≡ false
   pub alone : (p : ℕ) → (serves v p && serves u p) ≡ false

@@ -1,11 +1,11 @@
--- What a clause says of a table and of a hand.
+-- The terms in which a contract speaks of a table and of a hand.
 use Rattle.std.specs.Prelude.{ℕ}
 use Rattle.thread_table.specs.Own.{View}
 use Rattle.thread_table.specs.declared.hand.ThreadTable.{ThreadTable}
 use Rattle.thread_table.specs.declared.hand.Hand.{Hand}
 use Rattle.table_theory.specs.Seating as seats
 
--- what the hand knows
+-- the view of the hand: what it knows
 abbrev pub view_of : Hand → View
 view_of hand = hand.seat.me.0
 

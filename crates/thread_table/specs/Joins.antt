@@ -1,4 +1,4 @@
--- The joins among the steps, and which hands they were of: a join makes an event, but it is a step on no word.
+-- The joins among the steps, and the hands that were joined: a join makes an event, but is a step on no word.
 use Rattle.std.specs.Prelude.{◌≡◌, ◌==◌, ℕ, ◌+◌, ◌≤◌, Bool, false, if◌then◌else◌, List, [], ◌∷◌, ◌++◌, length, count_by}
 use mathlib.Core.Option.{some}
 use lib.ListN.{get_elem?}
@@ -11,7 +11,7 @@ use Rattle.thread_table.specs.Own.{View}
 use Rattle.thread_table.specs.Makers.{is_join}
 use Rattle.thread_table.specs.Schedules.{Past, Course}
 
--- behind the last word
+-- the number after the last word's, which is that of no word
 abbrev pub no_word : ℕ
 no_word = WORDS
 
@@ -19,7 +19,7 @@ no_word = WORDS
 abbrev pub joining : Past → ℕ → ℕ → Step (List Event)
 joining before call other = change no_word 0 before (before.object ++ events.Join call other ∷ [])
 
--- Each of the entries is that of a join, and they are all the joins of the schedule
+-- each of these entries is a join's, and they are as many as the joins of the schedule
 pub record AreJoins (schedule : List Event) (joins : Course) : Type 0 where
   pub each : (i : ℕ) (e : Step (List Event)) → get_elem? joins i ≡ some e → (call : ℕ) × (other : ℕ)
       × (e ≡ joining e.then call other)
@@ -34,12 +34,12 @@ is_join_of hand event = false
 abbrev pub times_joined : ℕ → List Event → ℕ
 times_joined hand schedule = count_by (is_join_of hand) schedule
 
--- how many joins the hand has yet to count: one, where it stands, took in another and has made no step since
+-- how many joins the hand has yet to count: one, if it exists, took in another hand and has made no step since
 abbrev pub uncounted : View → ℕ
 uncounted v = if v.own.fresh then 0 else (if v.member.ends == 0 then 0 else 1)
 
--- The joins of the schedule are as many as the hands have counted, and are about to count. Each hand that doesn't stand
--- any more was joined once, and no other ever
+-- The joins of the schedule are as many as the hands have counted or are about to count. Each hand that no longer
+-- exists was joined once, and no other number was ever joined.
 pub record AreJoined (schedule : List Event) (views : List View) : Type 0 where
   pub number : count_by is_join schedule ≡ total (λ v. v.member.joins) views + total uncounted views
   pub once : (hand : ℕ) (v : View) → get_elem? views hand ≡ some v → v.member.ends ≡ 0

@@ -1,10 +1,10 @@
--- What is written into the words of a new table.
+-- The words of a new table.
 use Rattle.std.specs.Prelude.{◌≡◌, ℕ, ◌+◌, ◌*◌, ◌<◌, ◌≤◌, ◌==◌, if◌then◌else◌, List, length, slice_index_or}
 use Rattle.table_theory.specs.Unused.{AreZero}
 use Rattle.thread_table.specs.declared.layout.TheConstants.{WORDS, RINGS, PLACES}
 use Rattle.thread_table.specs.Layout.{head_word, tail_word, places_word, place_word, ready_ring, free_ring, IsUsed}
 
--- the heads and tails of so many element queues are at first, the head of the free elements so much behind it
+-- the heads and tails of so many rings are `first`; the head of the free elements' ring is `free` more
 pub record RingsLaid (first free rings : ℕ) (old words : List ℕ) : Type 0 where
   pub wide : length words ≡ WORDS
   pub heads : (ring : ℕ) → ring < rings

@@ -1,7 +1,7 @@
--- Where the words of the table stand, and the marks in them. How many there are of each kind, and what the marks weigh,
--- is in the law `layout_is`. An element queue is called a ring: the ready ring, that of the free elements, or that of a
--- wait queue. A cache line holds eight words: words that different processors write often stand eight words apart. So
--- they are in lines of their own, and each of them begins a line if the table's memory begins at one.
+-- The positions of the words of the table, and the marks in them. The law `layout_is` has the number of words of each
+-- kind and the weights of the marks. An element queue is called a ring: the ready ring, the free elements' ring, or a
+-- wait queue's. A cache line holds eight words. Words that different processors write often are eight words apart. So
+-- they are in lines of their own, and each begins a line if the table's memory begins at one.
 use Rattle.std.specs.Prelude.{◌≡◌, ℕ, ◌+◌, ◌*◌, ◌%◌, ◌<◌}
 use Rattle.thread_table.specs.declared.layout.TheConstants.{PROCESSORS, ELEMENTS, RINGS}
 pub use Rattle.event_theory.specs.Marks.{wait_ring}
@@ -46,7 +46,7 @@ ready_ring = 0
 abbrev pub free_ring : ℕ
 free_ring = 1
 
--- the word with this number has a use: it is one of these. Each other word stays 0
+-- the word with this number has a use, which is one of these; each other word stays 0
 pub data IsUsed (word : ℕ) : Type 0 where
   by_ends : word ≡ ends_word → IsUsed word
   by_processor : (processor : ℕ) → processor < PROCESSORS → word ≡ processor_word processor → IsUsed word
@@ -64,7 +64,7 @@ stop_bit = 16
 abbrev pub cell_bit : ℕ
 cell_bit = 17
 
--- what half a word holds is below this
+-- the bound of a half word: a half word holds less than this
 abbrev pub half_word : ℕ
 half_word = 4294967296
 
@@ -72,7 +72,7 @@ half_word = 4294967296
 abbrev pub last_head : ℕ
 last_head = 4294967295
 
--- the last of the first positions of a table: the free elements stand behind it
+-- the greatest first position of a table, which leaves room for the places of the free elements
 abbrev pub last_first : ℕ
 last_first = 4294967231
 

@@ -1,4 +1,4 @@
--- Which hand made which event of the schedule.
+-- The events of the schedule, by the hands that made them.
 use Rattle.std.specs.Prelude.{◌≡◌, ◌<◌, ℕ, Bool, true, false, if◌then◌else◌, slice_index_or, List, [], ◌∷◌, map}
 use Rattle.std.specs.List.{filter, range_with_len}
 use mathlib.Core.Option.{some}
@@ -21,7 +21,7 @@ is_join event = false
 abbrev pub made_of : View → List Made
 made_of v = v.own.made
 
--- how many steps the element of a done event, or of a claim, had done before
+-- how many steps the element of a done event, a claim or a wait had done before the event; 0 for all other events
 abbrev pub number_of : Event → State → ℕ
 number_of (events.Done call element) s = (thread_at s.elements element).done
 number_of (events.Claim call queue items) s = (thread_at s.elements (slice_index_or items 0 0)).done
@@ -33,23 +33,23 @@ abbrev pub signals_of : Event → State → List ℕ
 signals_of (events.Deliver call element) s = filter (thread_at s.elements element).pending (range_with_len 0 16)
 signals_of event s = []
 
--- an event, where it found this state
+-- the list entry of an event that was made in this state
 abbrev pub made_in : Event → State → Made
 made_in event s = record { event = event; number = number_of event s; signals = signals_of event s }
 
--- the events but for the joins, each with the number that it found
+-- the events except the joins, each with the number and the signals that it found
 abbrev pub numbered : State → List Event → List Made
 numbered s [] = []
 numbered s (event ∷ events) = if is_join event then numbered (result_unwrap_or (step event s) s) events
     else (made_in event s ∷ numbered (result_unwrap_or (step event s) s) events)
 
--- the lists of the hands have the events of the schedule, each once, but for the joins
+-- the lists of the hands together have the events of the schedule except the joins, each once
 pub record AreMade (events : List Event) (lists : List (List Made)) : Type 0 where
   pub log : List (Owned Made)
   pub listed : ListedOnce log lists
   pub logged : map entry_of log ≡ numbered begun events
 
--- each step that an element has done is counted by one event of the list
+-- each step that an element has done is counted by exactly one event of the list
 pub record StepsOnce (made : List Made) (e : Elements) : Type 0 where
   pub once : (i j element : ℕ) (a b : Made) → get_elem? made i ≡ some a → get_elem? made j ≡ some b
       → is_done element a.event ≡ true → is_done element b.event ≡ true → a.number ≡ b.number → i ≡ j

@@ -1,4 +1,4 @@
--- The notifies of a wait queue among events, and what a hand has seen of an element queue.
+-- The notifies of a wait queue among events, and the head and the tail that a hand has seen of an element queue.
 use Rattle.std.specs.Prelude.{◌==◌, ◌+◌, ℕ, Bool, false, List, count_by, length}
 use Rattle.event_theory.specs.declared.event.Event.{Event}
 use Rattle.event_theory.specs.declared.event.Event.TheVariants as events
@@ -14,7 +14,7 @@ is_notify wait event = false
 abbrev pub notifies_in : ℕ → List Event → ℕ
 notifies_in wait events = count_by (is_notify wait) events
 
--- the head and the tail of an element queue in what the hand has seen, where the queue has this first position
+-- the head and the tail of an element queue in what the hand has seen, if the queue's first position is `first`
 abbrev pub head_seen : ℕ → View → ℕ → ℕ
 head_seen first v ring = first + length (ring_at (elements_after v.seen.object) ring).history
 

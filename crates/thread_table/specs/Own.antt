@@ -1,4 +1,4 @@
--- What a hand knows: its ledger, whose object is the schedule.
+-- The knowledge of a hand: its ledger, whose object is the schedule.
 use Rattle.std.specs.Prelude.{List}
 use Rattle.event_theory.specs.declared.event.Event.{Event}
 use Rattle.table_theory.specs.declared.views.Ledger.{Ledger}

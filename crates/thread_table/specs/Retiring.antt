@@ -1,4 +1,4 @@
--- Who put which element behind the free elements, and who took free elements.
+-- The elements that were put after the free elements, and the takings of free elements.
 use Rattle.std.specs.Prelude.{◌≡◌, ◌==◌, ℕ, Bool, false, List, [], ◌∷◌, ◌++◌, map, drop, flat_map, slice_index_or}
 use Rattle.std.specs.List.{list_any}
 use Rattle.event_theory.specs.Runs.{Run}
@@ -13,7 +13,7 @@ use Rattle.thread_table.specs.Schedules.{elements_after, ring_at}
 abbrev pub items_of : Run → List ℕ
 items_of run = run.items
 
--- what an event claims of the free elements' queue
+-- the elements that an event claims a place for in the free elements' queue
 abbrev pub retired_by : Event → List (List ℕ)
 retired_by (events.Claim call names.Free items) = items ∷ []
 retired_by event = []
@@ -22,11 +22,11 @@ abbrev pub retired_in : List Event → List (List ℕ)
 retired_in [] = []
 retired_in (event ∷ events) = retired_by event ++ retired_in events
 
--- the runs of the free elements' queue, behind the 64 with which it began, are the claims of it, in their order
+-- the runs of the free elements' queue, after the 64 with which it began, are the claims of this queue, in their order
 abbrev pub AreRetired : List Event → Type 0
 AreRetired events = drop ELEMENTS (map items_of (ring_at (elements_after events) free_ring).history) ≡ retired_in events
 
--- a taking of free elements, by how many it takes
+-- how many free elements an event takes, if it is a taking of free elements
 abbrev pub taking_by : Event → List ℕ
 taking_by (events.Take call names.Free count) = count ∷ []
 taking_by event = []
@@ -35,11 +35,11 @@ taking_by event = []
 abbrev pub free_takings : List Made → List ℕ
 free_takings made = flat_map (λ (m : Made). taking_by m.event) made
 
--- the event put this element behind the free ones, which go there one by one
+-- the event puts this element after the free elements, which are put there one by one
 abbrev pub frees : ℕ → Event → Bool
 frees element (events.Claim call names.Free items) = slice_index_or items 0 0 == element
 frees element event = false
 
--- an event of the list did
+-- an event of the list put this element after the free elements
 abbrev pub was_freed : ℕ → List Made → Bool
 was_freed element made = list_any (λ (m : Made). frees element m.event) made

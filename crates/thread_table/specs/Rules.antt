@@ -1,4 +1,4 @@
--- The rule: there is a schedule, each event of which the core allowed in its turn, and the words show what it led to.
+-- The rule: there is a schedule whose events the core allowed in their turn, and the words show the state after it.
 use Rattle.std.specs.Prelude.{◌≡◌, ◌⊎◌, ℕ, ◌<◌, ◌≤◌, Bool, true, false, ◌||◌, List, [], ◌∷◌, map, length}
 use Rattle.std.specs.Prelude.{slice_index_or, Option, Some, None, option_map}
 use Rattle.std.specs.List.{slice_get, list_any, repeat}
@@ -36,7 +36,7 @@ no_processors = repeat PROCESSORS (false ∷ [])
 abbrev pub nothing_on : List (Option ℕ)
 nothing_on = repeat PROCESSORS (None ∷ [])
 
--- what a hand has that has nothing, in a table with this first position
+-- the contents of a hand that has nothing, in a table with this first position
 abbrev pub nothing_of : ℕ → Having
 nothing_of first = record {
   first = first;
@@ -50,7 +50,7 @@ nothing_of first = record {
   doubled = false;
 }
 
--- what a new hand has, which serves the processors of the mask
+-- the contents of a new hand, which serves the processors of the mask
 abbrev pub serving : ℕ → List Bool → Having
 serving first mask = record (nothing_of first) { serves = mask; fresh = true }
 
@@ -77,13 +77,13 @@ pub record IsClaimed (call : ℕ) (c : Claimed) (e : Elements) : Type 0 where
   pub run : slice_get (ring_at e c.ring).history c.run ≡ Some (record { call = call; items = c.element ∷ [] })
   pub low : (ring_at e c.ring).raised c.run 0 ≡ false
 
--- the call may count a step of the element, which had so many
+-- the call may count a step of the element, which has done so many steps
 pub record IsCounted (call : ℕ) (c : Counted) (e : Elements) : Type 0 where
   pub known : c.element < ELEMENTS
   pub may : may_step call c.element e ≡ true
   pub done : (thread_at e c.element).done ≡ c.done
 
--- what a hand has is what its call has
+-- the hand has what its call has in these elements: what it holds and has on its processors, its claim and its count
 pub record HandIs (call : ℕ) (v : View) (e : Elements) : Type 0 where
   pub held_long : length v.own.held ≡ ELEMENTS
   pub serves_long : length v.own.serves ≡ PROCESSORS
@@ -94,11 +94,11 @@ pub record HandIs (call : ℕ) (v : View) (e : Elements) : Type 0 where
   pub claimed : (c : Claimed) → v.own.claimed ≡ Some c → IsClaimed call c e
   pub counted : (c : Counted) → v.own.counted ≡ Some c → IsCounted call c e
 
--- a hand that has made a step has what its call has in what it has seen
+-- if the hand has made a step, its view agrees with the elements as the hand has seen them
 abbrev pub HasStood : ℕ → View → Type 0
 HasStood call v = (v.steps ≡ [] → ⊥) → HandIs call v (elements_after v.seen.object)
 
--- what a hand has seen was earlier
+-- the events that the hand has seen are a beginning of these, and the elements have grown since
 pub record Seen (v : View) (events : List Event) : Type 0 where
   pub schedule : Begins v.seen.object events
   pub grows : Grows (elements_after v.seen.object) (elements_after events)
@@ -108,11 +108,11 @@ abbrev pub IsOpen : ℕ → ℕ → Elements → Type 0
 IsOpen ring run e =
     (run < length (ring_at e ring).history) × ((ring_at e ring).raised run 0 ≡ false)
 
--- the hand stands, and has counted each join that it made
+-- the hand exists, and has counted each join that it made
 abbrev pub IsActive : View → Type 0
 IsActive v = (1 ≤ v.member.ends) × (v.own.fresh ≡ true)
 
--- the hand holds the element, or has it on a processor
+-- the hand holds the element, or has it on a processor that it serves
 abbrev pub MayStep : View → ℕ → Type 0
 MayStep v element = (has v element ≡ true) ⊎ ((p : ℕ) × (serves v p ≡ true) × (running v p ≡ Some element))
 
@@ -120,12 +120,12 @@ MayStep v element = (has v element ≡ true) ⊎ ((p : ℕ) × (serves v p ≡ t
 abbrev pub done_at : List Event → ℕ → ℕ
 done_at events element = (thread_at (elements_after events) element).done
 
--- where the hand has made a step since it took in another, no step was counted of what it has
+-- if the hand has counted its joins, it has seen each step done of the elements that it may step
 abbrev pub IsSteady : View → List Event → Type 0
 IsSteady v events = v.own.fresh ≡ true → (element : ℕ) → element < ELEMENTS → MayStep v element
     → done_at events element ≡ done_at v.seen.object element
 
--- a hand that has the whole, and has made a step since it took in another, has seen all these steps
+-- if the hand has the whole and has counted its joins, it has seen all these steps
 abbrev pub IsNewest : View → Course → Type 0
 IsNewest v past = IsWhole v.member.share → v.own.fresh ≡ true → past ≡ v.course
 
@@ -133,10 +133,10 @@ IsNewest v past = IsWhole v.member.share → v.own.fresh ≡ true → past ≡ v
 abbrev pub now_of : List Event → List ℕ → Past
 now_of events words = record { ends = slice_index_or words ends_word 0; object = events }
 
--- The core allowed each of these events in its turn; what they lead to is what the words show and what the hands have.
--- No processor is served by two hands, each run that isn't raised is a hand's that is about to raise it, no call but
--- the hands' holds an element, the hands list the events, no hand was joined to one that had something of the same, and
--- each hand that doesn't stand any more was joined once
+-- The core allowed each event in its turn, and the words show the elements after them, which the hands have. No two
+-- hands serve one processor. Each run that isn't raised is the claim of a hand. Only the calls of hands hold elements.
+-- The hands list the events. No hand took in one with which it shared an element or a processor. Each hand that no
+-- longer exists was joined once.
 pub record Rule (key : Shape) (s : State Unit View) : Type 0 where
   pub events : List Event
   pub allowed : IsAllowed events
@@ -155,12 +155,12 @@ pub record Rule (key : Shape) (s : State Unit View) : Type 0 where
   pub undoubled : (j : ℕ) (v : View) → get_elem? s.views j ≡ some v → v.own.doubled ≡ false
   pub ends : EndsStand (nothing_of key.first) (slice_index_or s.words ends_word 0) s.views
   pub joined : AreJoined events s.views
-  -- the hands' steps lead to the events from none, with the joins among them, which this view, of no hand, has
+  -- the steps of the hands and the joins, which the view `joiner` has, lead from no event to these events
   pub joiner : View
   pub are_joins : AreJoins events joiner.steps
   pub order : AreOrdered (of_hands key.first) [] (now_of events s.words) (joiner ∷ s.views)
   pub newest : (j : ℕ) (v : View) → get_elem? s.views j ≡ some v → IsNewest v (map entry_of order.course.course)
 
--- what the first hand of a table knows
+-- the view of the first hand of a table
 abbrev pub newcomer : Shape → View
 newcomer key = first_of (serving key.first (repeat PROCESSORS (true ∷ []))) []

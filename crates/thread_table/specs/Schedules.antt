@@ -14,15 +14,15 @@ use Rattle.event_theory.specs.declared.names.QueueName.TheVariants as names
 use Rattle.table_theory.specs.declared.views.Moment.{Moment}
 use Rattle.table_theory.specs.Ledgers.{Step}
 
--- what a step found: a schedule, and how many hands there are
+-- the state that a step found: a schedule, and how many hands there are
 abbrev pub Past : Type 0
 Past = Moment (List Event)
 
--- steps of all hands and their joins, in their order
+-- the steps and the joins of all hands, in their order
 abbrev pub Course : Type 0
 Course = List (Step (List Event))
 
--- the state after these events; one that isn't allowed changes nothing
+-- the state after these events; an event that isn't allowed changes nothing
 unfoldable pub after : State → List Event → State
 after s [] = s
 after s (event ∷ events) = after (result_unwrap_or (step event s) s) events
@@ -42,7 +42,7 @@ elements_after events = (state_after events).elements
 unfoldable pub IsAllowed : List Event → Type 0
 IsAllowed events = Reaches begun events (state_after events)
 
--- an element queue by its number: the ready ring, the free elements, and behind them the wait queues
+-- an element queue by its number: 0 is the ready ring, 1 the free elements, and 2 and more are the wait queues
 abbrev pub ring_at : Elements → ℕ → Queue
 ring_at e ring = slice_index_or e.rings ring (empty_queue PLACES)
 
@@ -54,7 +54,7 @@ ring_name zero = names.Ready
 ring_name (suc zero) = names.Free
 ring_name (suc (suc wait)) = names.Wait wait
 
--- the element of a run, which has one
+-- the element of a run, which has exactly one
 abbrev pub element_of : Run → ℕ
 element_of run = slice_index_or run.items 0 0
 
@@ -65,13 +65,13 @@ no_run = record { call = 0; items = [] }
 abbrev pub element_at : Queue → ℕ → ℕ
 element_at q run = element_of (slice_index_or q.history run no_run)
 
--- r is q some events later
+-- r is q some events later: no run, no taking and no raise is undone, and each run has the same element
 pub record QueueGrows (q r : Queue) : Type 0 where
   pub longer : length q.history ≤ length r.history
   pub further : q.taken ≤ r.taken
   pub items : (run : ℕ) → run < length q.history → element_at r run ≡ element_at q run
   pub raised : (run : ℕ) → q.raised run 0 ≡ true → r.raised run 0 ≡ true
 
--- so is each element queue
+-- each element queue of f is that of e some events later
 abbrev pub Grows : Elements → Elements → Type 0
 Grows e f = (ring : ℕ) → QueueGrows (ring_at e ring) (ring_at f ring)

@@ -1,4 +1,4 @@
--- What the words of the table show: the number of hands, processors, states, steps done, and the element queues.
+-- The words of the table: the number of hands, processors, states, steps done, and the element queues.
 use Rattle.std.specs.Prelude.{◌≡◌, ℕ, zero, suc, ◌+◌, ◌-◌, ◌*◌, ◌<◌, ◌≤◌, true, false, if◌then◌else◌, Bool, List}
 use Rattle.std.specs.Prelude.{length}
 use Rattle.std.specs.Prelude.{slice_index_or, Option, Some, None}
@@ -30,8 +30,9 @@ pub record StateShows (thread : Thread) (word : ℕ) : Type 0 where
   pub stop : bit_at word stop_bit ≡ bit_of thread.stop
   pub parked : bit_at word cell_bit ≡ bit_of thread.parked
 
--- The place of a raised run has its element and one more than its position. Before that it has what was left there: 0,
--- or what the run 64 before put there. So it has no more than the run's position, and no number in it is free
+-- The place of a raised run has its element and its position plus one. Before the raise, the place has 0, or the word
+-- that was put there for the run 64 before. So its mark is at most the run's position, and the whole word is
+-- determined.
 pub record PlaceShows (first : ℕ) (q : Queue) (run word : ℕ) : Type 0 where
   pub up : q.raised run 0 ≡ true → word ≡ element_at q run + 256 * (first + run + 1)
   pub low : q.raised run 0 ≡ false → word < 256 * (first + run + 1)
@@ -39,7 +40,7 @@ pub record PlaceShows (first : ℕ) (q : Queue) (run word : ℕ) : Type 0 where
   pub late : q.raised run 0 ≡ false → PLACES ≤ run
       → word ≡ element_at q (run - PLACES) + 256 * (first + (run - PLACES) + 1)
 
--- how many notifies are marked in the head word of an element queue
+-- how many notifies are marked in the head word of an element queue; 0 for the ready ring and the free elements
 abbrev pub mark_of : Elements → ℕ → ℕ
 mark_of e zero = 0
 mark_of e (suc zero) = 0
@@ -51,7 +52,7 @@ head_shown first e ring = first + length (ring_at e ring).history + mark_of e ri
 abbrev pub tail_shown : ℕ → Elements → ℕ → ℕ
 tail_shown first e ring = first + (ring_at e ring).taken
 
--- each run is one element
+-- the words show an element queue each of whose runs is one element
 pub record RingShows (first : ℕ) (e : Elements) (ring : ℕ) (words : List ℕ) : Type 0 where
   pub capacity : (ring_at e ring).capacity ≡ PLACES
   pub is_open : (ring_at e ring).shut ≡ false
@@ -75,5 +76,5 @@ pub record WordsShow (first : ℕ) (e : Elements) (words : List ℕ) : Type 0 wh
   pub steps : (x : ℕ) → x < ELEMENTS → slice_index_or words (done_word x) 0 ≡ (thread_at e x).done
   pub few : (x : ℕ) → x < ELEMENTS → (thread_at e x).done < half_word
   pub rings : (ring : ℕ) → ring < RINGS → RingShows first e ring words
-  -- a word that is none of these, and not that of the number of hands, is 0
+  -- a word that has no use is 0
   pub unused : AreZero IsUsed words

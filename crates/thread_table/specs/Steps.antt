@@ -1,5 +1,5 @@
--- What each step tells its hand. Each adds one entry to the hand's list, and to the course of all hands' steps that it
--- has seen: the word's number, what was found there, and the schedule as the step found it and left it.
+-- The result of each step for its hand. A step adds one entry to the hand's list and to the course of all hands' steps
+-- that it has seen: the word's number, the number found there, and the schedule before and after.
 use Rattle.std.specs.Prelude.{◌≡◌, ◌≢◌, ◌⊎◌, ℕ, ◌+◌, ◌-◌, ◌≤◌, Bool, true, false, ◌&&◌, ◌||◌, if◌then◌else◌, List, []}
 use Rattle.std.specs.Prelude.{◌∷◌, ◌++◌, slice_index_or, Some, None, Option}
 use Rattle.atomic_table.specs.Table.{Me, Step}
@@ -24,8 +24,9 @@ use Rattle.thread_table.specs.Entries.{Acts, change}
 use Rattle.thread_table.specs.Telling.{IsHonest}
 use Rattle.thread_table.specs.Views.{quiet, having_found, count_of, after_event}
 
--- At a step of the hand this was the schedule: each of its events was allowed, it is no earlier than what the hand had
--- seen, no step is undone, none was counted of what the hand has, and the words showed the elements after it
+-- The schedule that a step of the hand found: allowed, no earlier than what the hand had seen, with no step undone, and
+-- with words that show its elements. If the hand has counted its joins, no step was counted of what it has, and if it
+-- also has the whole, it had seen all. It took in no hand with which it shared an element or a processor.
 pub record Sees (v : View) (schedule : List Event) : Type 0 where
   pub allowed : IsAllowed schedule
   pub lawful : IsLawfulElements (elements_after schedule)
@@ -37,54 +38,54 @@ pub record Sees (v : View) (schedule : List Event) : Type 0 where
   pub words : List ℕ
   pub shows : WordsShow v.own.first (elements_after schedule) words
 
--- One step of the hand: it found this schedule, and this number in its word. Then the hand has what `now` has
+-- One step of the hand: the hand found this schedule, and this number in the word. Then it has what `now` has.
 pub record Stepped (v : View) (e : ends.Step (List Event)) (now w : View) : Type 0 where
   pub sees : Sees v e.then.object
   pub is : e.found ≡ slice_index_or sees.words e.word 0
   pub acts : Acts v (e ∷ []) now w
   pub told : IsHonest w
 
--- a number was found in a word, and nothing else changed for the hand
+-- the hand found a number in a word, and nothing else changed for the hand
 abbrev pub Found : View → ℕ → ℕ → View → Type 0
 Found v word found w = Stepped v (load word found w.seen) (quiet v) w
 
--- the number of steps that the element had done was found
+-- the hand found the number of steps that the element had done
 abbrev pub ReadPc : ℕ → View → ℕ → View → Type 0
 ReadPc element v found w =
     Stepped v (load (done_word element) found w.seen) (having_found v (count_of element found)) w
 
--- The hand made this event: the schedule is the one before it, with the event at its end
+-- the hand made this event: the schedule is the one before it, with the event at its end
 pub record Did (call : ℕ) (v : View) (word found : ℕ) (event : Event) (w : View) : Type 0 where
   pub before : Past
   pub hand : HandIs call v (elements_after before.object)
   pub step : Stepped v (change word found before event) (after_event event before.object v) w
 
--- what the hand has is what its call has in what it has seen
+-- the view of the hand agrees with the elements as the hand has seen them
 abbrev pub Stands : ℕ → View → Type 0
 Stands call v = HandIs call v (elements_after v.seen.object)
 
--- what each step tells: this, and that the hand stands
+-- the result of each step: `Does` holds, what the hand carries stays, and its view agrees with what it has seen
 abbrev pub Tells : ℕ → Type 0 → Me Unit View → Me Unit View → Type 0
 Tells call Does m m' = (m'.1 ≡ m.1) × Does × Stands call m'.0
 
 abbrev pub finds : ℕ → Step Unit → Me Unit View → ℕ → Me Unit View → Type 0
 finds call st m r m' = Tells call (Found m.0 st.word r m'.0) m m'
 
--- a step that is the event, whatever word it found
+-- a step that is the event, whatever number it found
 abbrev pub makes : ℕ → Event → Step Unit → Me Unit View → ℕ → Me Unit View → Type 0
 makes call event st m r m' = Tells call (Did call m.0 st.word r event m'.0) m m'
 
--- the same of a store, which doesn't tell what it found
+-- a store that is the event; the number that it found is not known
 abbrev pub stores : ℕ → Event → Step Unit → Me Unit View → ℕ → Me Unit View → Type 0
 stores call event st m r m' = Tells call ((found : ℕ) × Did call m.0 st.word found event m'.0) m m'
 
--- a step that is the event, or found another word than the one that was expected
+-- a step that is the event if it found the number that was expected, and else only finds another number
 abbrev pub tries : ℕ → Event → Step Unit → Me Unit View → ℕ → Me Unit View → Type 0
 tries call event st m r m' = Tells call ((r ≡ st.first → Did call m.0 st.word st.first event m'.0)
     × (r ≢ st.first → Found m.0 st.word r m'.0)) m m'
 
--- what an exchange of the state word of an element may be, where it becomes `new`: the park of an element that the hand
--- holds, which is stopping; the start of one that is stopping; or a delivery to one that the hand holds
+-- a compare-and-swap of an element's state word to `new` is one of these: the park of an element that the hand holds,
+-- whose stop bit is set; the start of one whose stop bit is set; or a delivery to one that the hand holds
 abbrev pub IsTurn : Event → ℕ → ℕ → View → ℕ → ℕ → Type 0
 IsTurn event call element v old new =
     ((event ≡ events.Park call element) × (has v element ≡ true) × (bit_at old stop_bit ≡ 1) × (new ≡ bit_or old CELL))
@@ -94,14 +95,14 @@ IsTurn event call element v old new =
 abbrev pub reads_pc : ℕ → ℕ → Step Unit → Me Unit View → ℕ → Me Unit View → Type 0
 reads_pc call element st m r m' = Tells call (ReadPc element m.0 r m'.0) m m'
 
--- a split more, and a join more
+-- the counts of a hand after one more split, and after one more join
 abbrev pub with_split : Part → Part
 with_split m = record m { ends = m.ends + 1; splits = m.splits + 1 }
 
 abbrev pub with_join : Part → Part
 with_join m = record m { ends = m.ends - 1; joins = m.joins + 1 }
 
--- The view after a step, behind all steps of the course: the hand has seen what the step left, and has made a step
+-- the view after a step that came after all steps of the course: the hand has seen what the step left
 abbrev pub after : View → Course → ends.Step (List Event) → View
 after v past e = record v {
   own = record v.own { counted = None; fresh = true };
@@ -112,7 +113,7 @@ after v past e = record v {
   joined_first = v.first;
 }
 
--- The number of hands was found, and made one more
+-- the number of hands was found and made one more
 pub record CountedUp (v : View) (found : ℕ) (w : View) : Type 0 where
   pub past : Course
   pub follows : Begins v.course past
@@ -122,7 +123,7 @@ pub record CountedUp (v : View) (found : ℕ) (w : View) : Type 0 where
   pub sees : Sees v before.object
   pub told : IsHonest w
 
--- The number of hands was found, and made one less
+-- the number of hands was found and made one less
 pub record CountedDown (v : View) (found : ℕ) (w : View) : Type 0 where
   pub past : Course
   pub follows : Begins v.course past
@@ -133,7 +134,7 @@ pub record CountedDown (v : View) (found : ℕ) (w : View) : Type 0 where
   pub sees : Sees v before.object
   pub told : IsHonest w
 
--- the number of hands was found, which is 1 exactly where this hand has the whole
+-- the number of hands was found; it is 1 exactly if this hand has the whole
 pub record Tallied (v : View) (found : ℕ) (w : View) : Type 0 where
   pub looked : Found v ends_word found w
   pub number : found ≡ w.seen.ends
@@ -145,36 +146,36 @@ counts_up call st m r m' = Tells call (CountedUp m.0 r m'.0) m m'
 abbrev pub counts_down : ℕ → Step Unit → Me Unit View → ℕ → Me Unit View → Type 0
 counts_down call st m r m' = Tells call (CountedDown m.0 r m'.0) m m'
 
--- what the hand of this call knows that found the number of hands
+-- the result of finding the number of hands, for the hand of this call
 abbrev pub HasTallied : ℕ → View → ℕ → View → Type 0
 HasTallied call v found w = Tallied v found w × Stands call w
 
--- the marks of the first list that the second has not
+-- the marks of the first list without those of the second
 abbrev pub parted : List Bool → List Bool → List Bool
 parted [] marks = []
 parted (b ∷ bs) [] = b ∷ bs
 parted (b ∷ bs) (m ∷ ms) = (if m then false else b) ∷ parted bs ms
 
--- the marks of one list or of the other
+-- the marks of either list
 abbrev pub either : List Bool → List Bool → List Bool
 either [] marks = []
 either (b ∷ bs) [] = b ∷ bs
 either (b ∷ bs) (m ∷ ms) = (if b then true else m) ∷ either bs ms
 
--- whether both lists have a mark at one place
+-- whether both lists have a mark at the same index
 abbrev pub any_both : List Bool → List Bool → Bool
 any_both [] marks = false
 any_both (b ∷ bs) [] = false
 any_both (b ∷ bs) (m ∷ ms) = (b && m) || any_both bs ms
 
--- the elements of the first list, and of the second where the first has none
+-- the elements of the first list, and at an index where the first has none, that of the second
 abbrev pub either_on : List (Option ℕ) → List (Option ℕ) → List (Option ℕ)
 either_on [] others = []
 either_on (x ∷ xs) [] = x ∷ xs
 either_on (None ∷ xs) (y ∷ ys) = y ∷ either_on xs ys
 either_on (Some x ∷ xs) (y ∷ ys) = Some x ∷ either_on xs ys
 
--- what a split leaves
+-- the view that a split leaves to the hand
 abbrev pub rest_of : List Bool → View → View
 rest_of mask v =
     record (ends.rest_of v) { own = record v.own { serves = parted v.own.serves mask; counted = None } }
@@ -183,7 +184,7 @@ rest_of mask v =
 abbrev pub newborn : List Bool → View → View
 newborn mask v = ends.newborn (serving v.own.first mask) v
 
--- what a hand has that took in another, which had this
+-- the contents of a hand after it took in another, which had `e`
 abbrev pub had_by_both : Having → Having → Having
 had_by_both d e = record {
   first = d.first;

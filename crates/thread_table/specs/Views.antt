@@ -1,4 +1,4 @@
--- What a hand has after each of its events.
+-- The view of a hand after each of its events.
 use Rattle.std.specs.Prelude.{ℕ, Bool, true, false, if◌then◌else◌, slice_set, slice_index_or, Option, Some, None, List}
 use Rattle.std.specs.Prelude.{◌≡◌, ◌-◌, ◌≤◌, [], ◌∷◌, ◌++◌, length}
 use Rattle.event_theory.specs.Elements.{Elements}
@@ -14,15 +14,15 @@ use Rattle.thread_table.specs.declared.rule.Having.{Having}
 use Rattle.thread_table.specs.declared.rule.Claimed.{Claimed}
 use Rattle.thread_table.specs.declared.rule.Counted.{Counted}
 
--- this is what the hand has then, and it has found no number of steps
+-- the hand has `own` then, and no number of steps that it has just found
 abbrev pub having : View → Having → View
 having v own = record v { own = record own { counted = None } }
 
--- nothing else changed for the hand
+-- the view after a step that changed nothing else for the hand
 abbrev pub quiet : View → View
 quiet v = having v v.own
 
--- the hand holds the element, or no longer does
+-- the view after the hand got the element, or let it go
 abbrev pub with_held : View → ℕ → Bool → View
 with_held v element is = having v (record v.own { held = slice_set v.own.held element is })
 
@@ -38,7 +38,7 @@ with_off v p element = having v (record v.own {
   on = slice_set v.own.on p None;
 })
 
--- an element that was parked is held
+-- the view after a start: an element that was parked is held
 abbrev pub with_start : View → ℕ → Bool → View
 with_start v element parked = having v (record v.own {
   held = if parked then slice_set v.own.held element true else v.own.held;
@@ -47,7 +47,7 @@ with_start v element parked = having v (record v.own {
 abbrev pub count_of : ℕ → ℕ → Counted
 count_of element done = record { element = element; done = done }
 
--- the hand has found this number of steps
+-- the view after the hand found this number of steps
 abbrev pub having_found : View → Counted → View
 having_found v count = record v { own = record v.own { counted = Some count } }
 
@@ -57,7 +57,7 @@ ring_of names.Free = free_ring
 ring_of (names.Wait wait) = wait_ring wait
 ring_of queue = ready_ring
 
--- the next run of an element queue is claimed for an element
+-- the claim of this run of an element queue for an element
 abbrev pub claim_of : ℕ → ℕ → ℕ → Claimed
 claim_of ring run element = record { ring = ring; run = run; element = element }
 
@@ -69,12 +69,12 @@ abbrev pub HasClaimed : View → ℕ → ℕ → ℕ → Type 0
 HasClaimed v ring position element =
     (v.own.claimed ≡ Some (claim_of ring (position - v.own.first) element)) × (v.own.first ≤ position)
 
--- what is held beside what stood on a processor
+-- the held elements, with the one that was taken off a processor, if there was one
 abbrev pub with_taken_off : Option ℕ → List Bool → List Bool
 with_taken_off None held = held
 with_taken_off (Some element) held = slice_set held element true
 
--- what the hand of an event holds then, where it found these elements
+-- the elements that the hand of an event holds after it, if the event found these elements
 abbrev pub held_after : Event → Having → Elements → List Bool
 held_after (events.Claim call queue items) own e = slice_set own.held (slice_index_or items 0 0) false
 held_after (events.WaitAt call wait element ticket) own e = slice_set own.held element false
@@ -87,20 +87,20 @@ held_after (events.Start call element) own e =
     if (thread_at e element).parked then slice_set own.held element true else own.held
 held_after event own e = own.held
 
--- what it then has on its processors
+-- the elements that the hand of an event has on its processors after it
 abbrev pub on_after : Event → Having → List (Option ℕ)
 on_after (events.On call p element) own = slice_set own.on p (Some element)
 on_after (events.Off call p) own = slice_set own.on p None
 on_after event own = own.on
 
--- what it then has claimed and not raised
+-- the run that the hand of an event has claimed and not raised after it
 abbrev pub claimed_after : Event → Having → Elements → Option Claimed
 claimed_after (events.Claim call queue items) own e = next_claim e (ring_of queue) (slice_index_or items 0 0)
 claimed_after (events.WaitAt call wait element ticket) own e = next_claim e (wait_ring wait) element
 claimed_after (events.Raise call queue run index) own e = None
 claimed_after event own e = own.claimed
 
--- all that
+-- the view after an event, without the event in its list
 abbrev pub left_by_event : Event → Elements → View → View
 left_by_event event e v = having v (record v.own {
   held = held_after event v.own e;
@@ -108,7 +108,7 @@ left_by_event event e v = having v (record v.own {
   claimed = claimed_after event v.own e;
 })
 
--- the same, where the hand lists the event, behind this schedule
+-- the view after an event that was made at this schedule, with the event in its list
 abbrev pub after_event : Event → List Event → View → View
 after_event event past v = record v {
   own = record (left_by_event event (elements_after past) v).own {

@@ -1,4 +1,4 @@
-//! What holds between any two steps of any threads.
+//! The properties that hold between any two steps of any threads.
 
 ghost use Rattle.std.specs.Prelude.{◌≡◌};
 ghost use Rattle.atomic_table.specs.Table.{State};
@@ -10,8 +10,8 @@ use crate::hand::ThreadTable;
 use crate::rule::{Shape, ThreadRule, View};
 use atomic_table::{Shared, TableRule};
 
-/// Whatever the rule holds of is a lawful state of the core, which a schedule of its events led to: the words show its
-/// elements, each element is in exactly one place, and each hand has what its call has.
+/// A state of which the rule holds is a lawful state of the core, to which a schedule of its events led: the words show
+/// its elements, each element is in exactly one place, and each hand has what its call has.
 ///
 /// Every atomic step of this crate keeps the rule, so it holds between any two steps, whoever makes them.
 pub fn between_steps()
@@ -20,7 +20,7 @@ pub fn between_steps()
 {}
 
 impl ThreadTable {
-    /// The table of the elements. By its type it is under the rule that `between_steps` speaks of.
+    /// The table of the elements. By its type it is under the rule of `between_steps`.
     pub fn table(&self) -> &Shared<(), View, Shape, ThreadRule>
         ensures { result.now ≡ self.now.table.shared }
     {

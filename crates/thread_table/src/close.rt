@@ -18,10 +18,10 @@ use std::marker::Brand;
 use table_theory::OpenEnds;
 use table_theory::last_end::{close_by, count};
 
-/// What a table had at its end, each list by the number of the element.
+/// The contents of a table at its end, each list by the number of the element.
 #[derive(Drop)]
 pub struct Places {
-    /// Where each element is.
+    /// The place of each element.
     pub places: [Place; 64],
     /// How many steps each element has done.
     pub pcs: [u64; 64],
@@ -91,11 +91,11 @@ fn read_stops(closed: &Closed<(), Global>) -> u64
 }
 
 impl ThreadTable {
-    /// Closes the table where every other hand has been joined, and tells where each element is, how many steps it has
-    /// done, and its signals and stop bit. Else the table and the hand come back, and the number of the others. It
-    /// takes no memory.
+    /// Closes the table if every other hand has been joined. It returns the place of each element, how many steps it
+    /// has done, and its signals and stop bit. Else it returns the table, the hand, and the number of the other hands.
+    /// It allocates no memory.
     ///
-    /// The hand that closes the table lists every event of it: each once, but for the joins.
+    /// The hand that closes the table lists every event of the table except the joins, each once.
     pub fn close(self, hand: Hand) -> Result<Places, (ThreadTable, Hand, OpenEnds)>
         requires { IsHandOf self hand }
         ensures only { IsOnlyHand hand → MatchResult result (λ c. Unit {0}) (λ e. ⊥) }
@@ -110,6 +110,8 @@ impl ThreadTable {
             served,
             running,
         } = hand;
+        // linearization point: the number of hands is loaded; one load suffices, since it is 1 exactly if this hand has
+        // the whole, and then no other hand makes a step
         let last = match count::<_, _, _, _, Brand>(&self.table.shared, seat, ENDS) {
             Ok(last) => last,
             Err((seat, ends)) => {

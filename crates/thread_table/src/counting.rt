@@ -1,4 +1,4 @@
-//! How the hands of a table are counted: what the look before a close of the theory of tables takes from its rule.
+//! The count of the hands of a table: the part of its rule that the theory of tables uses for the load before a close.
 use crate::rule::{Shape, ThreadRule, View};
 use table_theory::last_end::CountRule;
 

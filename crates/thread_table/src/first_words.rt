@@ -7,7 +7,7 @@ ghost use Rattle.thread_table.specs.Laid.{RingsLaid, ItemsLaid};
 use crate::layout::{FREE, RINGS, head_word, place_word, tail_word};
 use crate::words::PlaceWord;
 
-// The head and the tail of each element queue. The free elements' head is behind them.
+// The head and the tail of each element queue. The free elements' head is 64 positions after their tail.
 pub(crate) fn lay_rings(words: &mut [u64], first: u32)
     requires { (length words.old ≡ WORDS) × (first ≤ last_first) }
     ensures { RingsLaid first ELEMENTS RINGS words.old words.new }

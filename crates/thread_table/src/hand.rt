@@ -19,7 +19,7 @@ use std::alloc::Global;
 use std::marker::Brand;
 
 /// Sixty-four thread elements, each in exactly one place: on a processor, in the ready ring, free, in one of sixteen
-/// wait queues, in its stop cell, or held by a hand. A table that is dropped, not closed, tells nothing of them.
+/// wait queues, in its stop cell, or held by a hand. A table that is dropped, not closed, reports nothing of them.
 #[derive(Drop)]
 pub struct ThreadTable {
     pub(crate) table: Table<(), View, Shape, ThreadRule, Global>,
@@ -28,11 +28,11 @@ pub struct ThreadTable {
     ghost shaped: { table.shared.key.first ≡ first },
 }
 
-/// The elements that one user of the table holds, the processors that it serves, and what it has put on them.
+/// The elements that one user of the table holds, the processors that it serves, and the elements that it put on them.
 ///
-/// What it lists is true: each entry of its steps, and of the steps of all hands that it has seen, found the number
-/// that stood in its word then, and found the events that the step before it left, each allowed in its turn, with the
-/// words showing what they led to. What it has is what its call has in what it has seen, once it has made a step.
+/// A hand's list is true. Each entry, of its own steps or of other hands' steps that it has seen, found the number that
+/// its word had then. It found the events that the step before it left, each allowed in its turn, and words that showed
+/// the state after them. Once a hand has made a step, it has what its call has in what the hand has seen.
 ///
 /// A hand that is dropped can never be joined: what it had stays out of all others' reach, and the table can't be
 /// closed.
@@ -82,7 +82,7 @@ impl ThreadTable {
     ghost use Rattle.thread_table.specs.Handles.{view_of, first_of, IsDivisible, IsHandOf, IsSameHand, AreOfOneTable};
 
     /// A table in which no event was made: all elements are free, in their order, all processors are empty, and its
-    /// only hand serves them. OutOfMemory where the table's words get no memory.
+    /// only hand serves them. OutOfMemory if no memory can be allocated for the table's words.
     pub fn new(alloc: Global) -> Result<(ThreadTable, Hand), OutOfMemory>
         ensures { IfOk result (λ r. IsHandOf r.0 r.1 × (first_of r.0 ≡ 0)
             × (view_of r.1 ≡ newcomer (record { first = 0 }))) }
@@ -90,7 +90,7 @@ impl ThreadTable {
         ThreadTable::new_at(alloc, 0)
     }
 
-    /// `new`, where each element queue has the first position `first`, at most 4,294,967,231.
+    /// `new`, with the first position `first`, at most 4,294,967,231, of each element queue.
     pub fn new_at(alloc: Global, first: u32) -> Result<(ThreadTable, Hand), OutOfMemory>
         requires { first ≤ last_first }
         ensures { IfOk result (λ r. IsHandOf r.0 r.1 × (first_of r.0 ≡ first)
@@ -117,9 +117,9 @@ impl ThreadTable {
     /// A new hand, which holds nothing and serves the processors of the mask, bit p for processor p. Both hands are to
     /// be joined again before the table can be closed.
     ///
-    /// Conditions: the processors of the mask are the first hand's, and empty; and that hand has two parts or more of
-    /// its table's 2^64 - 1. The first hand can be split two million times without a join, and each of those hands 43
-    /// times in a chain.
+    /// Conditions: the first hand serves the processors of the mask, which are empty, and has two parts or more of its
+    /// table's 2^64 - 1. The first hand can be split two million times without a join, and each of those hands 43 times
+    /// in a chain.
     pub fn split(&self, hand: &mut Hand, processors: u8) -> Hand
         requires table { IsHandOf self.now hand.old }
         requires parts { IsDivisible hand.old }
@@ -130,7 +130,10 @@ impl ThreadTable {
         ensures same { IsSameHand hand.old hand.new × AreOfOneTable hand.old result }
     {
         let mask = marks_of(processors);
+        // linearization point: the number of hands becomes one more, before the new hand is made, so it is never too
+        // low
         count_up::<Brand>(&self.table.shared, &mut hand.seat);
+        // the first word is loaded too, and its number is not used
         let seat = split_off::<Brand>(&self.table.shared, &mut hand.seat, &mask);
         hand.served = parted(&hand.served, &mask);
         Hand {
@@ -141,7 +144,7 @@ impl ThreadTable {
         }
     }
 
-    /// The first hand then has all that both had: their elements, their processors and what stands there, the events
+    /// The first hand then has all that both had: their elements, their processors and the elements on them, the events
     /// that they made, and their parts of the table. No element was held, and no processor served, by both.
     pub fn join(&self, hand: &mut Hand, other: Hand)
         requires { IsHandOf self.now hand.old × IsHandOf self.now other }
@@ -154,7 +157,9 @@ impl ThreadTable {
             served,
             running,
         } = other;
+        // linearization point: the join, a step on no word: the first hand has what both had
         take_in::<Brand>(&self.table.shared, &mut hand.seat, seat);
+        // the number of hands becomes one less after the join, so it is never too low
         count_down::<Brand>(&self.table.shared, &mut hand.seat);
         hand.held = either(&hand.held, &held);
         hand.served = either(&hand.served, &served);
@@ -162,7 +167,7 @@ impl ThreadTable {
     }
 }
 
-// Which bits of the mask are set.
+// The bits of the mask that are set.
 fn marks_of(mask: u8) -> [bool; 8]
     ensures { (p : ℕ) → slice_index_or result p false ≡ is_in mask p }
 {
@@ -218,7 +223,7 @@ pub(crate) fn set_held(held: &mut [bool; 64], element: u8, is: bool)
     held[usize::from(element)] = is;
 }
 
-// Notes what the hand has on a processor.
+// Records the element that the hand has on a processor.
 pub(crate) fn set_running(
     running: &mut [Option<Element>; 8],
     processor: u8,

@@ -1,5 +1,5 @@
-//! What a hand lists is true, what a call leaves to its hand as it was, and where a closed table tells what was put
-//! behind the free elements: statements over plain data.
+//! Laws over plain data: the truth of a hand's list, the parts of a hand that a call leaves as they were, and the
+//! elements that a closed table reports as free.
 ghost use Rattle.std.specs.Prelude.{◌≡◌, ◌<◌, ◌≤◌, ℕ, Bool, true, false, List, length, slice_index_or, Result, Ok, Err};
 ghost use Rattle.std.specs.Prelude.{Option, None, ◌≢◌, ◌+◌, ◌*◌, ◌/◌, ◌%◌, ◌^◌, [], ◌∷◌, ◌++◌, take};
 ghost use Rattle.std.specs.List.{AllByRecursion};
@@ -46,11 +46,12 @@ ghost use Rattle.thread_table.specs.Notifies.{notifies_in, head_seen, tail_seen}
 ghost use Rattle.thread_table.specs.Wakes.{WokeAll, NotifiedNow, BeforeAnswer};
 ghost use Rattle.thread_table.specs.Keeping.{Keeps, Stays};
 
-/// What a hand lists is true: each entry that a call adds is a real step. It found events that were allowed, each in
-/// its turn, words that showed what they led to, and the number in its word, and it made one event, or none. Real steps
-/// lead from what the hand had seen to each of these entries, in their order, and the last of them left what the hand
-/// sees then. What was seen before is a beginning of what is seen, and the elements have grown since. A hand has seen
-/// as many steps of an element done as done events.
+/// A hand's list is true: each entry that a call adds is a real step. It found events that were each allowed in their
+/// turn, words that showed the state after them, and the number in its word. It made one event, or none. Real steps
+/// lead from what the hand had seen to each of these entries, in order, and the last of them left what the hand sees
+/// then. If the hand has the whole, these entries alone lead there. The events that were seen before are a beginning of
+/// those that are seen, and the elements have grown since. A hand has seen as many steps of an element as done events
+/// of it.
 pub fn lists_are_true()
     ensures hand { (hand : Hand) → ∥ IsHonest (view_of hand) ∥₁ }
     ensures entries { (old : View) (new : Hand) (entries : List Step) → Adds old entries (view_of new)
@@ -73,15 +74,15 @@ pub fn lists_are_true()
         → done_at past element ≡ steps_in element past }
 {}
 
-/// What a hand has is what its call has: where the hand has made a step, what it holds, the processors that it serves
-/// and what it has on them, and the run that it has claimed, are its call's in what it has seen.
+/// A hand has what its call has. If the hand has made a step, all it has is its call's in what the hand has seen: the
+/// elements that it holds, those on its processors, its claimed run and its counted step.
 pub fn hands_stand()
     ensures { (hand : Hand) → ((view_of hand).steps ≡ [] → ⊥)
         → ∥ HandIs (call_of hand) (view_of hand) (elements_after (view_of hand).seen.object) ∥₁ }
 {}
 
-/// Of a join: real steps lead from what either hand had seen to what the one sees then, and the entry of the
-/// step that counts one hand less is real.
+/// A join: real steps lead from what either hand had seen to what the one hand sees then. The entry of the step that
+/// counts one hand less is real.
 pub fn joins_are_true()
     ensures since { (old other new : Hand) → TookIn (view_of old) (view_of other) (view_of new)
         → ∥ Reaches (of_hands (view_of new).own.first) (view_of old).seen (view_of new).seen ∥₁
@@ -90,7 +91,7 @@ pub fn joins_are_true()
         → ∥ IsReal (view_of new).own.first (count_down ends_word t.found) ∥₁ }
 {}
 
-/// A hand that has the whole is never answered Lost: between its steps, no other hand makes one.
+/// A hand that has the whole is never refused with Lost: no other hand makes a step between its steps.
 pub fn only_hands_are_never_lost()
     ensures takes { (old new : Hand) (call ring seen : ℕ) → ring < RINGS → IsOnlyHand old
         → TakeAnswer call (view_of old) ring (Err (nexts.Lost seen)) (view_of new) → ⊥ }
@@ -108,8 +109,8 @@ pub fn only_hands_are_never_lost()
         → DeliverAnswer call (view_of old) element (Err r) (view_of new) → ⊥ }
 {}
 
-/// What the number says that a step found: the number of hands, the head and the number of notifies of an element
-/// queue, its tail, one of its places, a state word by its bits, the steps done of an element, or what stands on a
+/// The meaning of a number that a step found: the number of hands, the head and the number of notifies of an element
+/// queue, its tail, one of its places, a state word by its bits, the steps done of an element, or the element on a
 /// processor.
 pub fn numbers_say()
     ensures ends { (first found : ℕ) (m : Past) → IsReal first (load ends_word found m) → found ≡ m.ends }
@@ -134,9 +135,9 @@ pub fn numbers_say()
         → e.found ≡ processor_shown (slice_index_or (elements_after e.then.object).processors p None) }
 {}
 
-/// What the entries of a taking say. Where the place at the tail was raised, and then the tail was found again, the
-/// place has the oldest element of the queue. Where it was not raised, and the tail was found again, the run at the
-/// tail was not raised.
+/// The meaning of a taking's entries. If the place at the tail was raised, and then the tail was found again, the place
+/// has the oldest element of the queue. If the place was not raised, and the tail was found again, the run at the tail
+/// was not raised. An entry that made an event found its number as a load finds it.
 pub fn takings_say()
     ensures oldest { (first ring tail place : ℕ) (p q r : Past) → ring < RINGS
         → IsReal first (load (tail_word ring) tail p) → IsReal first (load (place_word ring tail) place q)
@@ -154,10 +155,10 @@ pub fn takings_say()
         → IsReal first (change word found past event) → IsReal first (load word found past) }
 {}
 
-/// The places of waits against what notifies of their queue find, whoever makes them. A place that was claimed by a
-/// wait before a notify is below the head that the notify found; one that was claimed after it is at that head or past
-/// it. And where the same number of notifies was found at two steps, with fewer than 2^32 notifies between them, there
-/// was none.
+/// The places of waits with a ticket, and the heads that notifies of their queue find, whichever hands make them. A
+/// place that was claimed before a notify is below the head that the notify found; one that was claimed after the
+/// notify is at that head or past it. If two steps found the same number of notifies, with fewer than 2^32 notifies
+/// between them, there was none between them.
 pub fn waits_stand_by_notifies()
     ensures before { (first wait element ticket call other word found : ℕ) (p q : Past) → wait < WAITS
         → IsReal first (change (head_word (wait_ring wait)) word p (events.WaitAt call wait element ticket))
@@ -175,9 +176,9 @@ pub fn waits_stand_by_notifies()
         → notifies_in wait rest < NOTIFY → notifies_in wait rest ≡ 0 }
 {}
 
-/// No head or tail of an element queue that a call has found is below one that its hand had seen: a number that an
-/// entry found is no less than what the hand had seen before the call, no less than what an earlier entry of the call
-/// found in the same word, and no more than what the hand sees then.
+/// No head or tail of an element queue that a call finds is below one that its hand had seen. The number that an entry
+/// found is at least what the hand had seen before the call. It is at least what an earlier entry of the call found in
+/// the same word, and at most what the hand sees then.
 pub fn never_below()
     ensures head { (old new : Hand) (before rest : List Step) (e : Step) (ring : ℕ) → ring < RINGS
         → Adds (view_of old) (before ++ e ∷ rest) (view_of new) → e.word ≡ head_word ring
@@ -195,18 +196,18 @@ pub fn never_below()
         → f.word ≡ tail_word ring → e.found ≤ f.found }
 {}
 
-/// Each change that an answer lists is the event of the core that it names, which was allowed there.
+/// Each change that a result lists is the event of the core that it names, which was allowed there.
 pub fn changes_are_events()
     ensures { (first word found : ℕ) (past : Past) (event : Event) → IsReal first (change word found past event)
         → IsAllowed (past.object ++ event ∷ [])
         × (step event (state_after past.object) ≡ Ok (state_after (past.object ++ event ∷ []))) }
 {}
 
-/// A call that only looked, or that was refused, leaves to its hand all that it has, and made no event.
+/// A call that only loads, or that is refused, leaves to its hand all that the hand has, and makes no event.
 ///
-/// These are the refusals of all takings, moves, starts, parks, deliveries and counts, and the answers that come
-/// without an event: a ticket, the steps done, a start, a park or a delivery where there is nothing to do, and a try to
-/// take what is before a position that the tail has reached.
+/// These are the refusals of all takings, moves, starts, parks, deliveries and counts. These are also the results
+/// without an event: a ticket, the pending signals, the steps done, a start, a park or a delivery with nothing to do,
+/// and a try to take before a position that the tail has reached.
 pub fn refusals_stay()
     ensures looks { (v w : View) (entries : List Step) → Acts v entries (quiet v) w → Stays v w }
     ensures takes { (call ring : ℕ) (v w : View) (r : NextRefusal) → TakeAnswer call v ring (Err r) w → Stays v w }
@@ -231,8 +232,8 @@ pub fn refusals_stay()
     ensures spent { (call element : ℕ) (v w : View) (r : Spent) → DoneAnswer call v element (Err r) w → Stays v w }
 {}
 
-/// No taking, move, mark, start, park, delivery, step, notify or wake changes the processors that its hand serves, what
-/// it has on them, or its share.
+/// No taking, move, stop, start, park, signal, delivery, step, notify or wake changes the processors that its hand
+/// serves, the elements that it has on them, or its share.
 pub fn answers_keep()
     ensures takes { (call ring : ℕ) (v w : View) (r : Result ℕ NextRefusal) → TakeAnswer call v ring r w
         → Keeps v w }
@@ -257,15 +258,15 @@ pub fn answers_keep()
         → BeforeAnswer call v ring head r w → Keeps v w }
 {}
 
-/// A closed table began with 64 free elements. Where the list of the hand that closed it has no more takings of free
-/// elements than these, each element that an event of the list put behind the free ones is told as free.
+/// A closed table began with 64 free elements. Condition: the list of the hand that closed it has at most 64 takings of
+/// free elements. Then each element that an event of the list put after the free ones is reported as free.
 pub fn freed_stay_free()
     ensures { (call : ℕ) (v : View) (stands : List Place) (pcs pending : List ℕ) (stops element : ℕ)
         → ClosedNow call v stands pcs pending stops → length (free_takings v.own.made) ≤ ELEMENTS → element < ELEMENTS
         → was_freed element v.own.made ≡ true → slice_index_or stands element places.Held ≡ places.Free }
 {}
 
-/// The numbers of the layout: where the words are, how many there are of each kind, and what the marks in them weigh.
+/// The numbers of the layout: the positions of the words, how many there are of each kind, and what the marks weigh.
 ///
 /// A cache line has 8 words. The number of hands, the word of each processor, the two words of each element, and the
 /// head, the tail and the first place of each ring begin 8 words apart, so they are in lines of their own. Each of them

@@ -1,15 +1,15 @@
-//! Where the words of the table stand, how many there are of each kind, and the marks in them.
+//! The positions of the words of the table, how many words there are of each kind, and the marks in them.
 //!
-//! The first word has the number of hands. Behind it stand a word of each processor, two words of each element, which
-//! are its state word and its steps done, and then the element queues, called rings here: of each its head word, its
-//! tail word and its places. A ring is the ready ring, that of the free elements, or that of a wait queue.
+//! The first word has the number of hands. After it come a word of each processor, two words of each element (its state
+//! word and its steps done), and the element queues, called rings here: a head word, a tail word and the places of
+//! each. A ring is the ready ring, the free elements' ring, or a wait queue's.
 //!
-//! A cache line holds eight words, and who writes one word of a line takes it from all who use another. So words that
-//! different processors write often stand eight words apart: the number of hands, the word of each processor, the two
-//! words of each element, and of each ring its head word, its tail word and the first of its places. The words between
-//! them are never used, and the rule says that they are 0. A line begins at one of the words only if the table's memory
-//! begins at a line, which nothing promises. An element's two words stand side by side, since the processor that it is
-//! on writes both. The places of a ring stand side by side: a line for each of them gains nothing that can be measured.
+//! A cache line holds eight words, and a write to one word of a line takes the line from all who use another. So words
+//! that different processors write often are eight words apart: the number of hands, the word of each processor, the
+//! two words of each element, and each ring's head word, tail word and first place. The words between them are never
+//! used, and the rule says that they are 0. A line begins at one of the words only if the table's memory begins at a
+//! line, which nothing promises. An element's two words are side by side, since the processor that the element is on
+//! writes both. The places of a ring are side by side: a line for each of them gains nothing that can be measured.
 ghost use Rattle.std.specs.Prelude.{◌≡◌, ◌+◌, ◌<◌};
 ghost use Rattle.thread_table.specs.declared.layout.TheConstants.{WORDS, PROCESSORS, ELEMENTS, RINGS, PLACES, WAITS};
 ghost use Rattle.thread_table.specs.Layout.{wait_ring, processor_word, state_word, done_word, head_word};
@@ -33,7 +33,7 @@ pub const PLACES: u64 = 64;
 /// The wait queues.
 pub const WAITS: usize = 16;
 
-/// Where the number of hands stands.
+/// The index of the word with the number of hands.
 pub const ENDS: usize = 0;
 
 /// The ready ring's number.
@@ -65,7 +65,7 @@ pub(crate) fn wait_ring(wait: u8) -> usize
     wait as usize + 2
 }
 
-/// Where the word of a processor stands.
+/// The index of a processor's word.
 pub(crate) fn processor_word(processor: u8) -> usize
     requires { processor < PROCESSORS }
     ensures { (result ≡ processor_word processor) × (result < WORDS) }
@@ -73,7 +73,7 @@ pub(crate) fn processor_word(processor: u8) -> usize
     8 * processor as usize + 8
 }
 
-/// Where the state word of an element stands.
+/// The index of an element's state word.
 pub(crate) fn state_word(element: u8) -> usize
     requires { element < ELEMENTS }
     ensures { (result ≡ state_word element) × (result < WORDS) }
@@ -81,7 +81,7 @@ pub(crate) fn state_word(element: u8) -> usize
     8 * element as usize + 72
 }
 
-/// Where the word with an element's steps done stands. It is behind the state word.
+/// The index of the word with an element's steps done, which is the word after its state word.
 pub(crate) fn done_word(element: u8) -> usize
     requires { element < ELEMENTS }
     ensures { (result ≡ done_word element) × (result < WORDS) }
@@ -89,7 +89,7 @@ pub(crate) fn done_word(element: u8) -> usize
     8 * element as usize + 73
 }
 
-/// Where the head word of a ring stands.
+/// The index of a ring's head word.
 pub(crate) fn head_word(ring: usize) -> usize
     requires { ring < RINGS }
     ensures { (result ≡ head_word ring) × (result < WORDS) }
@@ -97,7 +97,7 @@ pub(crate) fn head_word(ring: usize) -> usize
     80 * ring + 584
 }
 
-/// Where the tail word of a ring stands.
+/// The index of a ring's tail word.
 pub(crate) fn tail_word(ring: usize) -> usize
     requires { ring < RINGS }
     ensures { (result ≡ tail_word ring) × (result < WORDS) }
@@ -105,7 +105,7 @@ pub(crate) fn tail_word(ring: usize) -> usize
     80 * ring + 592
 }
 
-/// Where the place word of a position of a ring stands.
+/// The index of the place word of a position of a ring.
 pub(crate) fn place_word(ring: usize, position: u64) -> usize
     requires { ring < RINGS }
     ensures { (result ≡ place_word ring position) × (result < WORDS) }

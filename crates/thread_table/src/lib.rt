@@ -28,18 +28,18 @@
 //!
 //! A thread element describes a thread. Each of 64 elements is in exactly one place between any two atomic steps: on a
 //! processor, in an element queue, in its stop cell, or held by a hand. Each thread of the program has a hand, and
-//! moves the elements that it holds. All calls but `wake_all` make a bounded number of steps; `notify` and
-//! `try_wake_before` do its work without a wait.
+//! moves the elements that it holds. All calls except `wake_all` make a bounded number of steps; `notify` and
+//! `try_wake_before` do the work of `wake_all` without a wait.
 //!
-//! **Tickets.** Whoever looks at a condition and then waits may miss the wake that comes in between. So a wait queue's
-//! head word has a number of notifies beside the head. A waiter reads it first, as its ticket, then looks at the
-//! condition, and then waits with the ticket: the exchange that claims its place finds the ticket in the word, or the
-//! wait is refused with Moved. `wake_all` makes a notify, which adds one to that number, and then takes each element
-//! whose place was claimed before it. So a waiter is either ahead of the notify, and is woken, or is told to look
-//! again. This is the event count of Reed and Kanodia (1979).
+//! **Tickets.** A thread that checks a condition and then waits can miss a wake in between. So a wait queue's head word
+//! has a number of notifies beside the head. A waiter first reads this number, its ticket, then checks the condition,
+//! and then waits with the ticket. The compare-and-swap that claims its place finds the ticket in the word, or the wait
+//! is refused with Moved. `wake_all` makes a notify, which adds one to the number, and then takes each element whose
+//! place was claimed before the notify. So a waiter is either ahead of the notify and is woken, or has to check again.
+//! This is the event count of Reed and Kanodia (1979).
 //!
-//! `Claimed`, `Counted`, `Having`, `Made`, `Shape`, `ThreadRule` and `View` are for proofs alone: no program makes a
-//! value of them but the table itself.
+//! `Claimed`, `Counted`, `Having`, `Made`, `Shape`, `ThreadRule` and `View` are for proofs alone: only the table itself
+//! makes values of them.
 #![tactic(auto)]
 
 mod between;

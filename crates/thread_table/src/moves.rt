@@ -23,7 +23,7 @@ use thiserror::Error;
 /// Why an element wasn't moved. The hand then holds it still. Spent is checked first, then Moved, and Lost last.
 #[derive(Clone, Copy, Debug, PartialEq, Eq, Error)]
 pub enum MoveRefusal {
-    /// The head of the queue is 4,294,967,295, behind the last position. No position comes back.
+    /// The head of the queue is 4,294,967,295, the number after the last position. No position comes back.
     #[error("the queue's positions are spent")]
     Spent,
     /// Another hand put an element into the queue first, or made a notify: the exchange found this head word, not the
@@ -36,7 +36,7 @@ pub enum MoveRefusal {
     Moved { mark: u32 },
 }
 
-// Raises the place that the hand has claimed for the element, which it then holds no more.
+// Raises the place that the hand has claimed for the element, which the hand then no longer holds.
 fn raise<J: Deed>(
     words: &Words,
     seat: &mut Seat<(), View>,
@@ -58,16 +58,18 @@ fn raise<J: Deed>(
         element,
         mark: head + 1,
     };
+    // linearization point: the place is raised; one store publishes its element and its mark, after the claim, and no
+    // other hand writes a claimed place
     store_place::<J>(words, seat, ring, head, element, place.word());
     set_held(held, element, false);
 }
 
 impl ThreadTable {
-    /// Puts an element that the hand holds into the ready ring: it loads the head word, exchanges it, and raises the
-    /// place. Refused where no position is left, and where another hand moved first; never for room, and never with
-    /// Moved.
+    /// Puts an element that the hand holds into the ready ring: it loads the head word, exchanges it by a
+    /// compare-and-swap, and raises the place. Refused if no position is left, or if another hand moved first; never
+    /// for lack of room, and never with Moved.
     ///
-    /// Condition: the hand holds the element, which `Hand::holds` tells.
+    /// Condition: the hand holds the element, which `Hand::holds` reports.
     pub fn try_ready(&self, hand: &mut Hand, element: Element) -> Result<(), MoveRefusal>
         requires table { IsHandOf self.now hand.old }
         requires holds { has (view_of hand.old) element ≡ true }
@@ -93,7 +95,7 @@ impl ThreadTable {
         self.move_to(hand, wait_ring(wait.number()), element)
     }
 
-    /// Puts an element that the hand holds behind the free elements, as `try_ready` does into the ready ring.
+    /// Puts an element that the hand holds after the free elements, as `try_ready` does into the ready ring.
     pub fn try_retire(&self, hand: &mut Hand, element: Element) -> Result<(), MoveRefusal>
         requires table { IsHandOf self.now hand.old }
         requires holds { has (view_of hand.old) element ≡ true }
@@ -103,7 +105,7 @@ impl ThreadTable {
         self.move_to(hand, FREE, element)
     }
 
-    // Claims the next place of an element queue, and raises it.
+    // Claims the next place of an element queue for an element, and raises the place.
     fn move_to(&self, hand: &mut Hand, ring: usize, element: Element) -> Result<(), MoveRefusal>
         requires table { IsHandOf self.now hand.old × (ring < RINGS) }
         requires holds { has (view_of hand.old) element ≡ true }
@@ -111,11 +113,15 @@ impl ThreadTable {
         ensures same { IsSameHand hand.old hand.new }
     {
         let number = element.number();
+        // linearization point of Spent: one load suffices, since the head never goes down; the tail need not be loaded,
+        // since the hand holds one of the 64 elements, so one of the 64 places is left
         let word = load_head(&self.table.shared, &mut hand.seat, ring);
         let head = HeadWord::of(word).head;
         if head == u32::MAX as u64 {
             return Err(MoveRefusal::Spent);
         }
+        // linearization point: the place is claimed; the same head word means that no other hand claimed it since the
+        // load
         let found = exchange_head::<Brand>(&self.table.shared, &mut hand.seat, ring, number, word);
         if found != word {
             return Err(MoveRefusal::Lost { seen: found });
@@ -137,13 +143,13 @@ impl ThreadTable {
         ensures steps { IsTicket (view_of hand.old) wait result (view_of hand.new) }
         ensures same { IsSameHand hand.old hand.new }
     {
+        // linearization point: the number of notifies is loaded
         HeadWord::of(load_head(&self.table.shared, &mut hand.seat, wait_ring(wait.number()))).mark
     }
 
-    /// Puts an element that the hand holds into a wait queue, if its number of notifies is the ticket still. So a wait
-    /// is refused with Moved where a notify came between the reading of the ticket and the wait, also where it came
-    /// between the two steps of the wait. Lost means that another hand put an element first, and that the ticket is
-    /// still good.
+    /// Puts an element that the hand holds into a wait queue, if the queue's number of notifies is still the ticket.
+    /// The wait is refused with Moved if a notify came between the reading of the ticket and the wait, or between the
+    /// two steps of the wait. Lost means that another hand put an element first, and that the ticket is still good.
     pub fn try_wait_at(
         &self,
         hand: &mut Hand,
@@ -159,6 +165,8 @@ impl ThreadTable {
     {
         let (number, queue) = (element.number(), wait.number());
         let ring = wait_ring(queue);
+        // linearization point of Spent, and of Moved if the number is not the ticket: head and number are in one word,
+        // so one load finds both
         let word = load_head(&self.table.shared, &mut hand.seat, ring);
         let HeadWord { head, mark } = HeadWord::of(word);
         if head == u32::MAX as u64 {
@@ -167,6 +175,8 @@ impl ThreadTable {
         if mark != ticket {
             return Err(MoveRefusal::Moved { mark });
         }
+        // linearization point: the place is claimed while the number is the ticket; one compare-and-swap checks both,
+        // and if it fails, the word that it found decides between Moved and Lost
         let found = exchange_head_at::<Brand>(
             &self.table.shared,
             &mut hand.seat,

@@ -1,4 +1,4 @@
-//! Where the elements are when a table is closed.
+//! The places of the elements when a table is closed.
 ghost use Rattle.std.specs.Prelude.{◌≡◌, ◌<◌, ◌≤◌, ◌==◌, None, MatchBool};
 ghost use Rattle.std.specs.Int.{bit_at};
 ghost use Rattle.std.specs.Mem.Slots.{slots_items, slots_len, IsFull};
@@ -11,7 +11,7 @@ use crate::words::{HeadWord, StateWord};
 use atomic_table::Closed;
 use std::alloc::Global;
 
-/// Where an element is.
+/// The place of an element.
 #[derive(Clone, Copy, Debug, PartialEq, Eq)]
 pub enum Place {
     /// On this processor.
@@ -28,7 +28,7 @@ pub enum Place {
     Held,
 }
 
-// The processor on which the element stands.
+// The processor that the element is on.
 fn processor_of(closed: &Closed<(), Global>, element: u8) -> Option<u8>
     requires { (slots_len closed.now.words ≡ WORDS) × IsFull closed.now.words × (element < ELEMENTS) }
     ensures { ProcessorOf element (slots_items closed.now.words) result }
@@ -41,7 +41,7 @@ fn processor_of(closed: &Closed<(), Global>, element: u8) -> Option<u8>
     None
 }
 
-// Whether the element stands in a place of this element queue.
+// Whether the element is in a place of this element queue.
 fn is_in_ring(closed: &Closed<(), Global>, element: u8, ring: usize) -> bool
     requires { (slots_len closed.now.words ≡ WORDS) × IsFull closed.now.words × (element < ELEMENTS) × (ring < RINGS) }
     ensures { MatchBool result (IsIn element (slots_items closed.now.words) ring)
@@ -57,7 +57,7 @@ fn is_in_ring(closed: &Closed<(), Global>, element: u8, ring: usize) -> bool
     false
 }
 
-// The element queue in which the element stands.
+// The element queue that the element is in.
 fn ring_of(closed: &Closed<(), Global>, element: u8) -> Option<u8>
     requires { (slots_len closed.now.words ≡ WORDS) × IsFull closed.now.words × (element < ELEMENTS) }
     ensures { RingOf element (slots_items closed.now.words) result }
@@ -70,7 +70,7 @@ fn ring_of(closed: &Closed<(), Global>, element: u8) -> Option<u8>
     None
 }
 
-/// Where the words say that the element is.
+/// The place of the element, by the words.
 pub(crate) fn place_of(closed: &Closed<(), Global>, element: u8) -> Place
     requires { (slots_len closed.now.words ≡ WORDS) × IsFull closed.now.words × (element < ELEMENTS) }
     ensures { PlaceOf element (slots_items closed.now.words) result }
@@ -86,7 +86,7 @@ pub(crate) fn place_of(closed: &Closed<(), Global>, element: u8) -> Place
     }
 }
 
-// The place of an element that stands on no processor and in no element queue.
+// The place of an element that is on no processor and in no element queue.
 fn cell_or_hand(closed: &Closed<(), Global>, element: u8) -> Place
     requires { (slots_len closed.now.words ≡ WORDS) × IsFull closed.now.words × (element < ELEMENTS) }
     ensures { result

@@ -1,4 +1,4 @@
-//! What each step tells. These types are for the proofs alone.
+//! The result of each step. These types are for the proofs alone.
 ghost use Rattle.std.specs.Prelude.{ℕ, List, Bool, []};
 ghost use Rattle.event_theory.specs.declared.event.Event.{Event};
 ghost use Rattle.event_theory.specs.declared.event.Event.TheVariants as events;

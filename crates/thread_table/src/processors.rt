@@ -10,19 +10,19 @@ use event_theory::{Element, Processor};
 use std::marker::Brand;
 use thiserror::Error;
 
-/// An element stands on the processor.
+/// An element is on the processor.
 #[derive(Clone, Copy, Debug, PartialEq, Eq, Error)]
 #[error("an element stands on the processor")]
 pub struct ProcessorBusy;
 
-/// No element stands on the processor.
+/// No element is on the processor.
 #[derive(Clone, Copy, Debug, PartialEq, Eq, Error)]
 #[error("no element stands on the processor")]
 pub struct ProcessorEmpty;
 
 impl ThreadTable {
-    /// Puts an element that the hand holds on a processor that it serves, by one step. Where another element stands
-    /// there, it makes no step.
+    /// Puts an element that the hand holds on a processor that it serves, by one step. It makes no step if another
+    /// element is there.
     pub fn on(
         &self,
         hand: &mut Hand,
@@ -41,6 +41,8 @@ impl ThreadTable {
             return Err(ProcessorBusy);
         }
         let number = element.number();
+        // linearization point: the element is on the processor; no load is needed, since only the hand that serves a
+        // processor writes its word
         swap_on::<Brand>(
             &self.table.shared,
             &mut hand.seat,
@@ -52,8 +54,8 @@ impl ThreadTable {
         Ok(())
     }
 
-    /// Takes the element off a processor that the hand serves, by one step. The hand then holds it. Where none stands
-    /// there, it makes no step.
+    /// Takes the element off a processor that the hand serves, by one step. The hand then holds it. It makes no step if
+    /// no element is there.
     pub fn off(&self, hand: &mut Hand, processor: Processor) -> Result<Element, ProcessorEmpty>
         requires table { IsHandOf self.now hand.old }
         requires mine { serves (view_of hand.old) processor ≡ true }
@@ -67,6 +69,8 @@ impl ThreadTable {
             return Err(ProcessorEmpty);
         };
         let number = element.number();
+        // linearization point: the element is off the processor; no load is needed, since only the hand that serves a
+        // processor writes its word
         swap_off::<Brand>(
             &self.table.shared,
             &mut hand.seat,

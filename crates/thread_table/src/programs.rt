@@ -1,4 +1,4 @@
-//! How many steps of its program an element has done.
+//! The number of steps of its program that an element has done.
 ghost use Rattle.std.specs.Prelude.{◌≡◌};
 ghost use Rattle.thread_table.specs.Handles.{view_of, call_of, IsHandOf, IsSameHand};
 ghost use Rattle.thread_table.specs.Rules.{MayStep};
@@ -16,28 +16,32 @@ use thiserror::Error;
 pub struct Spent;
 
 impl ThreadTable {
-    /// How many steps an element has done that the hand holds or has on a processor, by one load. Nobody else can count
-    /// a step of it before the hand's next step, so it is the number that `step_done` then counts from.
+    /// The number of steps of an element that the hand holds or has on a processor, by one load. No other hand can
+    /// count a step of it before this hand's next step, so `step_done` then counts from this number.
     pub fn pc(&self, hand: &mut Hand, element: Element) -> u64
         requires { IsHandOf self.now hand.old × MayStep (view_of hand.old) element }
         ensures steps { ReadPc element (view_of hand.old) result (view_of hand.new) }
         ensures same { IsSameHand hand.old hand.new }
     {
+        // linearization point: the number of steps is loaded
         load_done::<Brand>(&self.table.shared, &mut hand.seat, element.number())
     }
 
-    /// Counts one more step of an element that the hand holds or has on a processor, and gives the new number. Spent
-    /// where the element has done 4,294,967,295 steps.
+    /// Counts one more step of an element that the hand holds or has on a processor, and returns the new number. Spent
+    /// if the element has done 4,294,967,295 steps.
     pub fn step_done(&self, hand: &mut Hand, element: Element) -> Result<u64, Spent>
         requires { IsHandOf self.now hand.old × MayStep (view_of hand.old) element }
         ensures steps { DoneAnswer (call_of hand.old) (view_of hand.old) element result (view_of hand.new) }
         ensures same { IsSameHand hand.old hand.new }
     {
         let number = element.number();
+        // linearization point of Spent; the number stays until the store, since no other hand may count a step of this
+        // element
         let done = load_done::<Brand>(&self.table.shared, &mut hand.seat, number);
         if done == u32::MAX as u64 {
             return Err(Spent);
         }
+        // linearization point: the step is counted; a store suffices, since no other hand writes this word now
         store_done::<Brand>(&self.table.shared, &mut hand.seat, number, done);
         Ok(done + 1)
     }

@@ -1,10 +1,10 @@
-//! The rule of the table. Its types are for the proofs alone: no program makes a value of them but the table itself.
+//! The rule of the table. Its types are for the proofs alone: only the table itself makes values of them.
 use atomic_table::TableRule;
 use event_theory::Event;
 use std::collections::LinkedList;
 use table_theory::views::Ledger;
 
-/// What the rule is told when the table is made: the first position of each element queue.
+/// The parameter of the rule, set when the table is made: the first position of each element queue.
 #[derive(Drop)]
 pub struct Shape {
     pub first: u64,
@@ -31,10 +31,10 @@ pub struct Made {
     pub signals: LinkedList<u64>,
 }
 
-/// What a hand has: the first position of each element queue; what it holds, the processors that it serves and what it
-/// has on them; the run that it has claimed and not raised, and the number of steps that it has just found; the events
-/// that it made; whether it has made a step since it took in a hand, and whether both had something then. Proofs alone
-/// speak of it.
+/// A hand's own: the first position of each element queue; the elements that it holds; the processors that it serves
+/// and the elements on them; the run that it has claimed and not raised; the number of steps that it has just found;
+/// the events that it made; whether it has made a step since it took in a hand; whether it shared an element or a
+/// processor with a hand that it took in. Only proofs speak of it.
 pub struct Having {
     pub first: u64,
     pub held: LinkedList<bool>,
@@ -47,7 +47,7 @@ pub struct Having {
     pub doubled: bool,
 }
 
-/// What a hand knows: what it has, its steps, and all hands' steps up to its own last one, with every join. The object
+/// A hand's knowledge: what it has, its steps, and all hands' steps up to its own last one, with every join. The object
 /// is the schedule: the events of all hands.
 pub type View = Ledger<Having, LinkedList<Event>>;
 

@@ -20,52 +20,56 @@ pub struct Lost {
     pub seen: u64,
 }
 
-/// What a start did.
+/// The result of a start.
 #[derive(Clone, Copy, Debug, PartialEq, Eq)]
 pub enum Started {
     /// The stop bit was clear. No event was made.
     NotStopped,
-    /// The stop bit was cleared. The element didn't stand in its stop cell.
+    /// The stop bit was cleared. The element wasn't in its stop cell.
     Cleared,
-    /// The stop bit was cleared, and the hand holds the element, which stood in its stop cell.
+    /// The stop bit was cleared, and the hand holds the element, which was in its stop cell.
     Held,
 }
 
-/// What a signal did.
+/// The result of a signal.
 #[derive(Clone, Copy, Debug, PartialEq, Eq)]
 pub enum Signalled {
-    /// The signal is pending now.
+    /// The signal is pending now, and was not before.
     Raised,
-    /// The signal was pending.
+    /// The signal was pending already.
     Merged,
 }
 
 impl ThreadTable {
-    /// Sets the stop bit of an element, wherever it is, by one step. True where it was clear.
+    /// Sets the stop bit of an element, wherever it is, by one step. True if the stop bit was clear.
     pub fn stop(&self, hand: &mut Hand, element: Element) -> bool
         requires { IsHandOf self.now hand.old }
         ensures steps { StoppedNow (call_of hand.old) (view_of hand.old) element result (view_of hand.new) }
         ensures same { IsSameHand hand.old hand.new }
     {
+        // linearization point: the stop bit is set; one fetch-and-or sets it and finds whether it was clear
         let word = or_stop::<Brand>(&self.table.shared, &mut hand.seat, element.number());
         let state = StateWord { word };
         !state.is_stopping()
     }
 
-    /// Clears the stop bit of an element: it loads the state word and exchanges it. Where the element stood in its stop
-    /// cell, the hand then holds it.
+    /// Clears the stop bit of an element: it loads the state word and exchanges it by a compare-and-swap. If the
+    /// element was in its stop cell, the hand then holds it.
     pub fn try_start(&self, hand: &mut Hand, element: Element) -> Result<Started, Lost>
         requires { IsHandOf self.now hand.old }
         ensures steps { StartAnswer (call_of hand.old) (view_of hand.old) element result (view_of hand.new) }
         ensures same { IsSameHand hand.old hand.new }
     {
         let number = element.number();
+        // linearization point of NotStopped: the stop bit is clear
         let word = load_state(&self.table.shared, &mut hand.seat, number);
         let state = StateWord { word };
         if !state.is_stopping() {
             return Ok(Started::NotStopped);
         }
         let new = state.started();
+        // linearization point: the element is started; all bits of its state are in one word, so the same word means
+        // the same state
         let seen = exchange_state::<Brand>(&self.table.shared, &mut hand.seat, number, word, new);
         if seen != word {
             return Err(Lost { seen });
@@ -78,7 +82,8 @@ impl ThreadTable {
     }
 
     /// Puts an element that the hand holds into its stop cell, if its stop bit is set: it loads the state word and
-    /// exchanges it. True where the element stands there, false where the stop bit was clear.
+    /// exchanges it by a compare-and-swap. True if the element is then in its stop cell, false if the stop bit was
+    /// clear.
     pub fn try_park(&self, hand: &mut Hand, element: Element) -> Result<bool, Lost>
         requires table { IsHandOf self.now hand.old }
         requires holds { has (view_of hand.old) element ≡ true }
@@ -86,12 +91,14 @@ impl ThreadTable {
         ensures same { IsSameHand hand.old hand.new }
     {
         let number = element.number();
+        // linearization point of false: the stop bit is clear
         let word = load_state(&self.table.shared, &mut hand.seat, number);
         let state = StateWord { word };
         if !state.is_stopping() {
             return Ok(false);
         }
         let new = state.parked();
+        // linearization point: the element is in its stop cell; the same word means that its stop bit is set
         let seen = exchange_state::<Brand>(&self.table.shared, &mut hand.seat, number, word, new);
         if seen != word {
             return Err(Lost { seen });
@@ -108,6 +115,7 @@ impl ThreadTable {
         ensures same { IsSameHand hand.old hand.new }
     {
         let (number, bit) = (element.number(), signal.number());
+        // linearization point: the signal is pending; one fetch-and-or sets it and finds whether it was pending
         let word = or_signal::<Brand>(&self.table.shared, &mut hand.seat, number, bit);
         let state = StateWord { word };
         if state.is_pending(bit) {
@@ -123,13 +131,15 @@ impl ThreadTable {
         ensures steps { IsPending (view_of hand.old) element result (view_of hand.new) }
         ensures same { IsSameHand hand.old hand.new }
     {
+        // linearization point: the pending signals are loaded, all from one word
         let word = load_state(&self.table.shared, &mut hand.seat, element.number());
         let state = StateWord { word };
         state.pending()
     }
 
     /// Delivers the pending signals of an element that the hand holds: bit s for signal s. It loads the state word and
-    /// exchanges it, and the signals are pending no more; where none was pending it answers 0 after the load.
+    /// exchanges it by a compare-and-swap. The signals are then no longer pending. If none was pending, it returns 0
+    /// after the load.
     pub fn try_deliver(&self, hand: &mut Hand, element: Element) -> Result<u16, Lost>
         requires table { IsHandOf self.now hand.old }
         requires holds { has (view_of hand.old) element ≡ true }
@@ -137,6 +147,7 @@ impl ThreadTable {
         ensures same { IsSameHand hand.old hand.new }
     {
         let number = element.number();
+        // linearization point of 0: no signal is pending
         let word = load_state(&self.table.shared, &mut hand.seat, number);
         let state = StateWord { word };
         let pending = state.pending();
@@ -144,6 +155,8 @@ impl ThreadTable {
             return Ok(0);
         }
         let new = state.delivered();
+        // linearization point: the signals are delivered; the same word means that no other signal became pending since
+        // the load
         let seen = exchange_state::<Brand>(&self.table.shared, &mut hand.seat, number, word, new);
         if seen != word {
             return Err(Lost { seen });

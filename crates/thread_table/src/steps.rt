@@ -68,7 +68,7 @@ pub(crate) fn load_tail(words: &Words, seat: &mut Seat<(), View>, ring: usize) -
     load::<Brand>(words, seat, tail_word(ring))
 }
 
-// The place of a position at which the tail was, or is behind.
+// Loads the place at the tail that the hand has seen; the tail may be past this place by now.
 pub(crate) fn load_place(
     words: &Words,
     seat: &mut Seat<(), View>,
@@ -105,6 +105,7 @@ pub(crate) fn exchange_head<J: Deed>(
         × (result ≡ head_shown seat.old.me.0.own.first (elements_after seat.new.me.0.seen.object) ring) }
 {
     let _ = element;
+    // the lower half of the word stays below 2^32, so adding 1 leaves the number of notifies
     words.compare_exchange::<Tries<J>>(seat, head_word(ring), head, head + 1)
 }
 
@@ -129,6 +130,7 @@ pub(crate) fn exchange_head_at<J: Deed>(
         × (result ≡ head_shown seat.old.me.0.own.first (elements_after seat.new.me.0.seen.object) (wait_ring wait)) }
 {
     let _ = (element, ticket);
+    // the lower half of the word stays below 2^32, so adding 1 leaves the number of notifies
     words.compare_exchange::<Tries<J>>(seat, head_word(wait_ring(wait)), head, head + 1)
 }
 
@@ -150,10 +152,11 @@ pub(crate) fn store_place<J: Deed>(
     ensures did { (found : ℕ) × Did J.call seat.old.me.0 (place_word ring position) found J.event seat.new.me.0 }
 {
     let _ = element;
+    // a store suffices: no other hand writes a place between its claim and its raise
     words.store::<Stores<J>>(seat, place_word(ring, position), new);
 }
 
-// The place at the tail was raised when the hand last looked.
+// Takes the place at this tail, which was raised when the hand last looked.
 pub(crate) fn exchange_tail<J: Deed>(
     words: &Words,
     seat: &mut Seat<(), View>,
@@ -183,6 +186,7 @@ pub(crate) fn add_notify<J: Deed>(words: &Words, seat: &mut Seat<(), View>, wait
     ensures stands { ∥ HasStood seat.new.id seat.new.me.0 ∥₁ }
     ensures did { Did J.call seat.old.me.0 (head_word (wait_ring wait)) result J.event seat.new.me.0 }
 {
+    // the addition changes only the upper half of the word, which wraps at 2^32, and leaves the head
     words.fetch_add::<Makes<J>>(seat, head_word(wait_ring(wait)), NOTIFY)
 }
 
@@ -197,6 +201,7 @@ pub(crate) fn swap_on<J: Deed>(words: &Words, seat: &mut Seat<(), View>, process
     ensures stands { ∥ HasStood seat.new.id seat.new.me.0 ∥₁ }
     ensures did { (found : ℕ) × Did J.call seat.old.me.0 (processor_word processor) found J.event seat.new.me.0 }
 {
+    // no comparison is needed: only the hand that serves the processor writes its word, which is 0
     words.swap::<Makes<J>>(seat, processor_word(processor), element as u64 + 1);
 }
 
@@ -216,6 +221,7 @@ pub(crate) fn swap_off<J: Deed>(
     ensures did { (found : ℕ) × Did J.call seat.old.me.0 (processor_word processor) found J.event seat.new.me.0 }
 {
     let _ = element;
+    // no comparison is needed: only the hand that serves the processor writes its word
     words.swap::<Makes<J>>(seat, processor_word(processor), 0);
 }
 
@@ -260,7 +266,7 @@ pub(crate) fn or_signal<J: Deed>(
     words.fetch_or::<Makes<J>>(seat, state_word(element), 1 << signal)
 }
 
-// A park, a start or a delivery, where the state word is still the one that was loaded.
+// A park, a start or a delivery, if the state word is still the one that was loaded.
 pub(crate) fn exchange_state<J: Deed>(
     words: &Words,
     seat: &mut Seat<(), View>,
@@ -306,6 +312,7 @@ pub(crate) fn store_done<J: Deed>(words: &Words, seat: &mut Seat<(), View>, elem
     ensures stands { ∥ HasStood seat.new.id seat.new.me.0 ∥₁ }
     ensures did { (found : ℕ) × Did J.call seat.old.me.0 (done_word element) found J.event seat.new.me.0 }
 {
+    // a store suffices: no other hand may count a step of this element
     words.store::<Stores<J>>(seat, done_word(element), done + 1);
 }
 
@@ -332,7 +339,7 @@ pub(crate) fn count_down<J: Caller>(words: &Words, seat: &mut Seat<(), View>) ->
     words.fetch_sub::<CountDown<J>>(seat, ENDS, 1)
 }
 
-// The new hand serves the processors of the mask, which are the hand's and empty.
+// The new hand serves the processors of the mask, which this hand serves and which are empty.
 pub(crate) fn split_off<J: Mask>(
     words: &Words,
     seat: &mut Seat<(), View>,

@@ -1,4 +1,4 @@
-//! Takings: the oldest element of the ready ring, of the free elements or of a wait queue is then held.
+//! Takings: a hand takes the oldest element of the ready ring, of the free elements or of a wait queue, and holds it.
 ghost use Rattle.std.specs.Prelude.{◌≡◌, ◌<◌};
 ghost use Rattle.thread_table.specs.declared.layout.TheConstants.{RINGS};
 ghost use Rattle.thread_table.specs.Layout.{ready_ring, free_ring, wait_ring};
@@ -26,8 +26,8 @@ pub enum NextRefusal {
 }
 
 impl ThreadTable {
-    /// Takes the oldest element of the ready ring: it loads the tail and the place there, and exchanges the tail. The
-    /// hand then holds the element.
+    /// Takes the oldest element of the ready ring: it loads the tail and the place there, and exchanges the tail by a
+    /// compare-and-swap. The hand then holds the element.
     pub fn try_next(&self, hand: &mut Hand) -> Result<Element, NextRefusal>
         requires { IsHandOf self.now hand.old }
         ensures steps { TakeAnswer (call_of hand.old) (view_of hand.old) ready_ring result (view_of hand.new) }
@@ -60,15 +60,21 @@ impl ThreadTable {
         ensures steps { TakeAnswer (call_of hand.old) (view_of hand.old) ring result (view_of hand.new) }
         ensures same { IsSameHand hand.old hand.new }
     {
+        // the tail never goes down, so a tail that is found again has not changed in between
         let tail = load_tail(&self.table.shared, &mut hand.seat, ring);
+        // linearization point of NoneReady, if the tail is found again: the place at the tail is not raised
         let place = PlaceWord::of(load_place(&self.table.shared, &mut hand.seat, ring, tail));
         if place.mark != tail + 1 {
+            // the same tail means that the place was at the tail when it was loaded, so NoneReady is exact without a
+            // load of the head
             let now = load_tail(&self.table.shared, &mut hand.seat, ring);
             if now == tail {
                 return Err(NextRefusal::NoneReady);
             }
             return Err(NextRefusal::Lost { seen: now });
         }
+        // linearization point: the place is taken; the same tail means that no hand took it since the loads, so its
+        // element is the oldest
         let found = exchange_tail::<Brand>(&self.table.shared, &mut hand.seat, ring, tail);
         if found != tail {
             return Err(NextRefusal::Lost { seen: found });

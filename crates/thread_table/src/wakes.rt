@@ -15,9 +15,9 @@ use std::marker::Brand;
 use std::sync::Wait;
 
 impl ThreadTable {
-    /// Makes one notify of a wait queue, and then takes its elements until each place that was claimed before the
-    /// notify was taken, by this hand or by others. Gives the mask of the elements that it took, bit e for element e,
-    /// which the hand then holds beside those that it held; it takes from no other queue.
+    /// Makes one notify of a wait queue. It then takes the queue's elements until each place that was claimed before
+    /// the notify is taken, by this hand or by others. Returns the mask of the elements that it took, bit e for element
+    /// e. The hand then holds them beside those that it held. It takes from no other queue.
     ///
     /// Waits for the hands that claimed a place before the notify and have not raised it.
     pub fn wake_all<R: Wait>(&self, rt: &R, hand: &mut Hand, wait: WaitNumber) -> u64
@@ -26,11 +26,15 @@ impl ThreadTable {
         ensures same { IsSameHand hand.old hand.new }
     {
         let ring = wait_ring(wait.number());
+        // linearization point of the notify: head and number of notifies are in one word, so one fetch-and-add counts
+        // the notify and finds the head
         let word = add_notify::<Brand>(&self.table.shared, &mut hand.seat, wait.number());
         let head = HeadWord::of(word).head;
         let mut woken = 0;
         let backoff = Backoff::new();
         for _ in rt.forever() {
+            // one load suffices, since the tail never goes down: a tail at or past `head` means that each place before
+            // `head` is taken
             let tail = load_tail(&self.table.shared, &mut hand.seat, ring);
             if tail >= head {
                 return woken;
@@ -43,24 +47,25 @@ impl ThreadTable {
         unreachable!()
     }
 
-    /// Makes one notify of a wait queue, by one step, which counts its number of notifies one up. Gives the head that
-    /// the step found: the position behind the last place that was claimed before it.
+    /// Makes one notify of a wait queue, by one step, which adds one to its number of notifies. Returns the head that
+    /// the step found: the position after the last place that was claimed before the notify.
     ///
-    /// With `try_wake_before` it is a wake of all that never waits: a notify, and then tries until one gives None.
+    /// With `try_wake_before` it wakes all and never waits: a notify, and then tries until one returns None.
     pub fn notify(&self, hand: &mut Hand, wait: WaitNumber) -> u32
         requires { IsHandOf self.now hand.old }
         ensures steps { NotifiedNow (call_of hand.old) (view_of hand.old) wait result (view_of hand.new) }
         ensures same { IsSameHand hand.old hand.new }
     {
+        // linearization point: one fetch-and-add counts the notify and finds the head
         let found = add_notify::<Brand>(&self.table.shared, &mut hand.seat, wait.number());
         HeadWord::of(found).head as u32
     }
 
-    /// Loads the tail of a wait queue. None where it has reached the position `head`: each place before it is taken.
-    /// Else it takes the oldest element, as `try_wake` does, which the hand then holds; the refusals are those of
-    /// `try_wake`.
+    /// Loads the tail of a wait queue. Returns None if the tail has reached the position `head`: each place before
+    /// `head` is taken. Else it takes the oldest element, as `try_wake` does, and the hand then holds it. The refusals
+    /// are those of `try_wake`.
     ///
-    /// Where another hand takes between the load and the taking, the element may be of a place behind `head`.
+    /// If another hand takes between the load and the taking, the element may be of a place at `head` or after it.
     pub fn try_wake_before(
         &self,
         hand: &mut Hand,
@@ -73,6 +78,7 @@ impl ThreadTable {
         ensures same { IsSameHand hand.old hand.new }
     {
         let ring = wait_ring(wait.number());
+        // linearization point of None: one load suffices, since the tail never goes down
         let reached = load_tail(&self.table.shared, &mut hand.seat, ring);
         if u64::from(head) <= reached {
             return Ok(None);

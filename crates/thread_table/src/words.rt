@@ -83,7 +83,7 @@ impl StateWord {
         self.word >> signal & 1 == 1
     }
 
-    /// Whether the element stands in its stop cell.
+    /// Whether the element is in its stop cell.
     pub(crate) fn is_parked(self) -> bool
         ensures { MatchBool result (bit_at self.word cell_bit ≡ 1) (bit_at self.word cell_bit ≡ 0) }
     {

@@ -1,4 +1,4 @@
-//! What a hand does with the elements of a thread table, as tables, and what plays them.
+//! Scripts: a hand's calls on the elements of a thread table, each with its result, and functions that run them.
 ghost use Rattle.std.specs.Prelude.{◌≡◌, ◌≤◌, true, IfSome};
 ghost use Rattle.thread_table.specs.Handles.{view_of, IsHandOf, IsSameHand};
 ghost use Rattle.thread_table.specs.Rules.{has};
@@ -11,11 +11,11 @@ use std::sync::Wait;
 use thread_table::{Hand, NextRefusal, Place, ThreadTable};
 use turn_dispatch::*;
 
-/// What a hand does, and how it is answered. Elements and wait queues stand by their numbers.
+/// A call of a hand, with its result. Elements and wait queues are given by their numbers.
 pub(crate) enum Act {
-    /// The next free element is this one.
+    /// This element is the next free one.
     Free(u8),
-    /// The turn that begins has this element, with so many steps done; or none, or parks this one.
+    /// A turn begins with this element, which has done so many steps; or with none; or it parks this element.
     Begin(u8, u64),
     Idle,
     Parked(u8),
@@ -26,15 +26,15 @@ pub(crate) enum Act {
     Retire(u8, bool),
     WaitIn(u8, u8, bool),
     WaitAt(u8, u8, u32, Waited),
-    /// The ticket of a wait queue; the masks of those that are taken there and made ready.
+    /// The ticket of a wait queue; the masks of the elements that are taken there and made ready.
     Ticket(u8, u32),
     Wake(u8, u64, u64),
-    /// The stop bit, which was clear, is set; an element that is held is parked; one is started.
+    /// The stop bit, which was clear, is set; an element that is held is parked; an element is started.
     Stop(u8),
     Park(u8),
     Start(u8, Resumed),
-    /// So often: a free element is made ready, begun and retired; the element is made ready and begun; it waits in the
-    /// wait queue and is woken; a free element is made ready.
+    /// Repeated so often: a free element is made ready, begun and retired; the element is made ready and begun; it
+    /// waits in the wait queue and is woken; a free element is made ready.
     Passes(u32),
     Readies(u8, u32),
     Waits(u8, u8, u32),
@@ -70,8 +70,8 @@ fn begun<R: Wait>(rt: &R, threads: &ThreadTable, hand: &mut Hand) -> Option<(Ele
     }
 }
 
-/// Takes free elements and makes them ready, so often, and takes them from there and retires them. False where one of
-/// these is refused.
+/// Takes free elements, makes them ready, takes them from there and retires them, so often. False if one of these calls
+/// is refused.
 fn passes<R: Wait>(rt: &R, threads: &ThreadTable, hand: &mut Hand, times: u32) -> bool
     requires { IsHandOf threads.now hand.old }
     ensures { IsSameHand hand.old hand.new }
@@ -93,7 +93,7 @@ fn passes<R: Wait>(rt: &R, threads: &ThreadTable, hand: &mut Hand, times: u32) -
     true
 }
 
-/// Makes an element ready that the hand holds, and takes it again, so often. False where one of these is refused.
+/// Makes an element ready that the hand holds, and takes it again, so often. False if one of these calls is refused.
 fn readies<R: Wait>(
     rt: &R,
     threads: &ThreadTable,
@@ -118,7 +118,7 @@ fn readies<R: Wait>(
     true
 }
 
-/// Puts an element that the hand holds in a wait queue, and wakes it, so often. False where it isn't held, or is refused.
+/// Puts an element that the hand holds in a wait queue, and wakes it, so often. False if it isn't held, or is refused.
 fn waits<R: Wait>(
     rt: &R,
     threads: &ThreadTable,
@@ -142,7 +142,7 @@ fn waits<R: Wait>(
     true
 }
 
-/// Makes free elements ready, so many. False where one of these is refused.
+/// Makes so many free elements ready. False if one of these calls is refused.
 fn readies_rest<R: Wait>(rt: &R, threads: &ThreadTable, hand: &mut Hand, times: u32) -> bool
     requires { IsHandOf threads.now hand.old }
     ensures { IsSameHand hand.old hand.new }
@@ -158,7 +158,7 @@ fn readies_rest<R: Wait>(rt: &R, threads: &ThreadTable, hand: &mut Hand, times: 
     true
 }
 
-/// What is done with an element that the hand has to hold.
+/// Makes one call with an element that the hand has to hold.
 fn does_with<R: Abort + Wait>(
     rt: &R,
     threads: &ThreadTable,
@@ -190,7 +190,7 @@ fn does_with<R: Abort + Wait>(
     }
 }
 
-/// Whether a turn that begins is answered so.
+/// Whether a turn that begins has this result.
 fn is_idle<R: Wait>(rt: &R, threads: &ThreadTable, hand: &mut Hand, idle: Idle) -> bool
     requires { IsHandOf threads.now hand.old }
     ensures { IsSameHand hand.old hand.new }
@@ -199,7 +199,7 @@ fn is_idle<R: Wait>(rt: &R, threads: &ThreadTable, hand: &mut Hand, idle: Idle) 
     begin(rt, threads, hand, &mut signals) == Err(idle)
 }
 
-/// Whether what is done so often, in this order, is answered as it says.
+/// Whether the calls of an act that is repeated so often all have their results.
 fn does_often<R: Abort + Wait>(rt: &R, threads: &ThreadTable, hand: &mut Hand, act: &Act) -> bool
     requires { IsHandOf threads.now hand.old }
     ensures { IsSameHand hand.old hand.new }
@@ -222,7 +222,7 @@ fn does_often<R: Abort + Wait>(rt: &R, threads: &ThreadTable, hand: &mut Hand, a
     }
 }
 
-/// Whether what the hand does is answered as it says.
+/// Whether the call of an act has the act's result.
 fn as_said<R: Abort + Wait>(rt: &R, threads: &ThreadTable, hand: &mut Hand, act: &Act) -> bool
     requires { IsHandOf threads.now hand.old }
     ensures { IsSameHand hand.old hand.new }
@@ -254,7 +254,7 @@ fn as_said<R: Abort + Wait>(rt: &R, threads: &ThreadTable, hand: &mut Hand, act:
     }
 }
 
-/// What the hand does, in this order, is answered as it says.
+/// Makes these calls of the hand in order, and checks each result.
 pub(crate) fn does<R: Abort + Wait>(rt: &R, threads: &ThreadTable, hand: &mut Hand, acts: &[Act])
     requires { IsHandOf threads.now hand.old }
     ensures { IsSameHand hand.old hand.new }
@@ -264,7 +264,7 @@ pub(crate) fn does<R: Abort + Wait>(rt: &R, threads: &ThreadTable, hand: &mut Ha
     }
 }
 
-/// The only hand of a table does all this, and the table is closed. These elements are in these places then.
+/// The only hand of a table makes all these calls, and the table is closed. These elements are in these places then.
 pub(crate) fn plays<R: Abort + Wait>(
     rt: &R,
     alloc: Global,

@@ -16,8 +16,8 @@ use std::test::*;
 use thread_table::{Hand, Place, ThreadTable};
 use turn_dispatch::*;
 
-/// One turn with a step that is done, in which the element sends itself a signal and wakes all that wait. That the step
-/// which is counted is the one that was begun, and that no other event is made, is proved, not tried.
+/// One turn with a step that is done, in which the element sends itself a signal and wakes all that wait. Proved, not
+/// tested: the step that is counted is the one that was begun, and no other event is made.
 fn turn<R: Wait>(
     rt: &R,
     threads: &ThreadTable,
@@ -140,10 +140,10 @@ fn waits_and_wakes(rt: HostRuntime) {
     plays(&rt, rt.alloc(), 0, WAITS_AND_WAKES, &places);
 }
 
-/// The first position of element queues that have 128 left each.
+/// The first position of element queues that have 128 positions left each.
 const LAST: u32 = 4_294_967_167;
 
-/// Each element is made ready and retired; then the free elements have 64 positions less, and so has the ready ring.
+/// Each element is made ready and retired. Then the free elements and the ready ring have 64 positions less each.
 const NO_POSITION_LEFT: &[Act] = &[
     Act::Passes(64),
     Act::Free(0),
@@ -168,8 +168,8 @@ fn no_position_left(rt: HostRuntime) {
     plays(&rt, rt.alloc(), LAST, NO_POSITION_LEFT, &places);
 }
 
-/// Where the ready ring has no position left, an element that is started stays in the hand, and so does one that is woken;
-/// and where its wait queue has none, one that would wait.
+/// If the ready ring has no position left, an element that is started stays in the hand, and so does one that is woken.
+/// If a wait queue has none, an element that would wait there stays in the hand too.
 const HELD_BY_WHO_STARTS_IT: &[Act] = &[
     Act::Free(0),
     Act::Readies(0, 128),

@@ -14,8 +14,8 @@ use turn_dispatch::*;
 
 const TURNS: u32 = 10_000;
 
-/// So many turns on a processor: every third element that is at hand waits, with the ticket that was read before its
-/// step, and then all that wait are woken. Gives the number of steps counted.
+/// So many turns on a processor. On every third turn the element waits, with the ticket that was read before its step;
+/// then all that wait are woken. Returns the number of steps counted.
 fn turns<R: Wait>(
     rt: &R,
     threads: &ThreadTable,

@@ -1,4 +1,4 @@
-//! What a hand does at a thread table, as tables, and what plays them.
+//! Scripts: a hand's calls on a thread table, each with its result, and functions that run them.
 ghost use Rattle.std.specs.Prelude.{◌≡◌, ◌≤◌, true};
 ghost use Rattle.thread_table.specs.Handles.{view_of, IsHandOf, IsSameHand};
 ghost use Rattle.thread_table.specs.Rules.{has};
@@ -10,10 +10,10 @@ use std::process::Abort;
 use std::sync::Wait;
 use thread_table::*;
 
-/// What a hand does, and how it is answered. Elements, wait queues, processors and signals stand by their numbers.
+/// A call of a hand, with its result. Elements, wait queues, processors and signals are given by their numbers.
 #[derive(Clone, Copy)]
 pub(crate) enum Act {
-    /// The next free element is this one; the next ready one.
+    /// This element is the next free one; the next ready one.
     Free(u8),
     Next(u8),
     NoneReady,
@@ -22,21 +22,21 @@ pub(crate) enum Act {
     Wait(u8, u8),
     WaitAt(u8, u8, u32, Result<(), MoveRefusal>),
     Retire(u8, Result<(), MoveRefusal>),
-    /// The ticket of a wait queue; the first element there; the mask of all there.
+    /// The ticket of a wait queue; the first element there; the mask of all elements there.
     Ticket(u8, u32),
     Wake(u8, u8),
     WakeAll(u8, u64),
-    /// The head that a notify of a wait queue finds; what a try to take there before a position answers.
+    /// The head that a notify of a wait queue finds; the result of a try to take there before a position.
     Notify(u8, u32),
     WakeBefore(u8, u32, Result<Option<u8>, NextRefusal>),
-    /// On this processor the element is put, and from it one is taken.
+    /// The element is put on this processor; an element is taken off it.
     On(u8, u8, Result<(), ProcessorBusy>),
     Off(u8, Option<u8>),
-    /// The stop bit, which was clear, is set; the element is parked or not; and started.
+    /// The stop bit, which was clear, is set; the element is parked or not; the element is started.
     Stop(u8),
     Park(u8, bool),
     Start(u8, Started),
-    /// The signal of this number; the mask of what is delivered.
+    /// The signal of this number; the mask of the signals that are delivered.
     Signal(u8, u8, Signalled),
     Deliver(u8, u16),
     /// The mask of the signals that are pending, wherever the element is.
@@ -73,7 +73,7 @@ fn moves<R: Abort>(
     }
 }
 
-/// Moves an element, which the hand has to hold, and is answered so.
+/// Moves an element, which the hand has to hold, and checks the result.
 fn is_moved<R: Abort>(
     rt: &R,
     table: &ThreadTable,
@@ -118,7 +118,7 @@ fn puts_on<R: Abort>(
         && (answer.is_err() || hand.on_processor(p) == Some(e))
 }
 
-/// Takes what stands on a processor, which the hand has to serve.
+/// Takes off the element on a processor, which the hand has to serve.
 fn takes_off<R: Abort>(
     rt: &R,
     table: &ThreadTable,
@@ -136,7 +136,7 @@ fn takes_off<R: Abort>(
     table.off(hand, p).ok().map(Element::number) == wanted && hand.on_processor(p).is_none()
 }
 
-/// Parks an element, which the hand has to hold, or not.
+/// Parks an element that the hand has to hold, or finds its stop bit clear.
 fn parks<R: Abort>(rt: &R, table: &ThreadTable, hand: &mut Hand, e: u8, parked: bool) -> bool
     requires { IsHandOf table.now hand.old }
     ensures { IsSameHand hand.old hand.new }
@@ -160,7 +160,7 @@ fn delivers<R: Abort>(rt: &R, table: &ThreadTable, hand: &mut Hand, e: u8, mask:
     table.try_deliver(hand, element) == Ok(mask)
 }
 
-/// Tries to take what is before a position of a wait queue, and is answered so.
+/// Tries to take before a position of a wait queue, and checks the result.
 fn wakes_before<R: Abort>(
     rt: &R,
     table: &ThreadTable,
@@ -176,7 +176,7 @@ fn wakes_before<R: Abort>(
     answer.map(|woken| woken.map(Element::number)) == wanted
 }
 
-/// Whether what the hand does with an element is answered as it says.
+/// Whether the call of an act with an element has the act's result.
 fn tends<R: Abort>(rt: &R, table: &ThreadTable, hand: &mut Hand, act: &Act) -> bool
     requires { IsHandOf table.now hand.old }
     ensures { IsSameHand hand.old hand.new }
@@ -198,7 +198,7 @@ fn tends<R: Abort>(rt: &R, table: &ThreadTable, hand: &mut Hand, act: &Act) -> b
     }
 }
 
-/// Whether what the hand does with queues, processors and elements that it need not hold is answered as it says.
+/// Whether the call of an act with queues, processors, or elements that the hand need not hold has the act's result.
 fn as_said<R: Abort + Wait>(rt: &R, table: &ThreadTable, hand: &mut Hand, act: &Act) -> bool
     requires { IsHandOf table.now hand.old }
     ensures { IsSameHand hand.old hand.new }
@@ -221,7 +221,7 @@ fn as_said<R: Abort + Wait>(rt: &R, table: &ThreadTable, hand: &mut Hand, act: &
     }
 }
 
-/// What the hand does, in this order, is answered as it says.
+/// Makes these calls of the hand in order, and checks each result.
 pub(crate) fn does<R: Abort + Wait>(rt: &R, table: &ThreadTable, hand: &mut Hand, acts: &[Act])
     requires { IsHandOf table.now hand.old }
     ensures { IsSameHand hand.old hand.new }
@@ -231,7 +231,7 @@ pub(crate) fn does<R: Abort + Wait>(rt: &R, table: &ThreadTable, hand: &mut Hand
     }
 }
 
-/// The only hand of a table does all this, and the table is closed. These elements are in these places then.
+/// The only hand of a table makes all these calls, and the table is closed. These elements are in these places then.
 pub(crate) fn plays<R: Abort + Wait>(
     rt: &R,
     alloc: Global,

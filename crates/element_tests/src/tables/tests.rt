@@ -12,8 +12,8 @@ use std::sync::Wait;
 use std::test::*;
 use thread_table::*;
 
-/// Wakes all, and then takes off what the hand has on a processor: that it serves it still, and that the same element
-/// stands there, is proved, not tried. The mask of what was woken comes back too.
+/// Wakes all, and then takes off what the hand has on a processor. Proved, not tested: the hand still serves the
+/// processor, and the same element is on it. The mask of the woken elements is returned too.
 fn wake_and_take_off<R: Wait>(
     rt: &R,
     table: &ThreadTable,
@@ -30,8 +30,8 @@ fn wake_and_take_off<R: Wait>(
     (woken, table.off(hand, processor))
 }
 
-/// Looks at an element's signals, and then takes off what the hand has on a processor: that it serves it still, and
-/// that the same element stands there, is proved, not tried. The mask of the signals comes back too.
+/// Looks at an element's signals, and then takes off what the hand has on a processor. Proved, not tested: the hand
+/// still serves the processor, and the same element is on it. The mask of the signals is returned too.
 fn look_and_take_off(
     table: &ThreadTable,
     hand: &mut Hand,
@@ -47,7 +47,7 @@ fn look_and_take_off(
     (pending, table.off(hand, processor))
 }
 
-/// Notifies, and tries once to take: that what was taken wasn't held before, and is held now, is proved, not tried.
+/// Notifies, and tries once to take. Proved, not tested: an element that was taken wasn't held before, and is held now.
 fn notify_and_try(
     table: &ThreadTable,
     hand: &mut Hand,
@@ -62,7 +62,7 @@ fn notify_and_try(
     table.try_wake_before(hand, wait, head)
 }
 
-/// The number of steps, and then one step more: that no other counts between the two is proved, not tried.
+/// The number of steps, and then one more step. Proved, not tested: no other hand counts a step between the two.
 fn count_on(table: &ThreadTable, hand: &mut Hand, element: Element) -> (u64, Result<u64, Spent>)
     requires table { IsHandOf table.now hand.old }
     requires mine { has (view_of hand.old) element ≡ true }
@@ -192,7 +192,7 @@ const SIXTEEN_SIGNALS: &[Act] = &[
     Act::Pending(0, 65_535),
 ];
 
-/// What a hand has on a processor it can look at there: all sixteen signals, each by its bit, which another hand sends.
+/// A hand can look at what it has on a processor: all sixteen signals, each by its bit, which another hand sends.
 #[test]
 fn pending_on_a_processor(rt: HostRuntime) {
     let (table, mut first) = ThreadTable::new(rt.alloc()).expect(&rt, "memory");
@@ -338,7 +338,7 @@ const THREE_WAIT: &[Act] = &[
     Act::WakeAll(5, 2),
 ];
 
-/// Of three that wait all are woken at once, and none again.
+/// Three elements that wait are all woken at once, and none is woken again.
 #[test]
 fn three_wake_once(rt: HostRuntime) {
     let places = [(0, Place::Held), (1, Place::Held), (2, Place::Held)];
@@ -359,14 +359,14 @@ const NOTIFIED: &[Act] = &[
     Act::WakeBefore(4, 2, Ok(None)),
 ];
 
-/// Of those that wait two are taken, which waited at the notify, and one stays, which came behind it.
+/// Two elements that waited at the notify are taken, and one that came after it still waits.
 #[test]
 fn notified_are_taken(rt: HostRuntime) {
     let places = [(0, Place::Held), (1, Place::Held), (2, Place::Wait(4))];
     plays(&rt, rt.alloc(), 0, NOTIFIED, &places);
 }
 
-/// Of two that wait a notify and one try take the first.
+/// A notify and one try take the first of two elements that wait.
 #[test]
 fn one_is_taken(rt: HostRuntime) {
     let (table, mut first) = begins(&rt, rt.alloc(), 0);
@@ -390,7 +390,7 @@ const NOTIFIED_LATE: &[Act] = &[
     Act::Ticket(15, 2),
 ];
 
-/// A notify tells the position, behind the first one of the table; behind the head there is nothing to take.
+/// A notify returns a position, counted from the table's first one; at the head and after it there is nothing to take.
 #[test]
 fn late_positions_are_notified(rt: HostRuntime) {
     let places = [(0, Place::Held), (1, Place::Free)];
@@ -416,7 +416,7 @@ fn hands_to_join(rt: HostRuntime) -> Result<(), Fail> {
     Ok(())
 }
 
-/// Where all hands are joined, the table is closed: that no other answer comes is proved, not tried.
+/// If all hands are joined, the table is closed. Proved, not tested: there is no other result.
 fn split_and_joined(alloc: Global) -> Result<Places, OutOfMemory> {
     let (table, mut a) = ThreadTable::new(alloc)?;
     let b = table.split(&mut a, 0);
@@ -464,7 +464,7 @@ fn stopped_at_the_close(rt: HostRuntime) {
     assert!(rt; (closed.stops, closed.pending[0], closed.pending[1]) == (1, 8, 0));
 }
 
-/// Where an allocation is refused there is no table, and a later try makes one.
+/// If an allocation fails there is no table, and a later try makes one.
 #[test]
 fn memory_may_be_wanting(rt: HostRuntime) {
     let mut made = false;
@@ -502,7 +502,7 @@ const MOVES_TOLD: &[(MoveRefusal, &str)] = &[
     ),
 ];
 
-/// Each refusal is told in its words, with its number.
+/// The message of each refusal has its words and its number.
 #[test]
 fn refusals_are_told(rt: HostRuntime) {
     let alloc = rt.alloc();

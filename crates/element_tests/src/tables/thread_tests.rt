@@ -66,7 +66,7 @@ fn put_any<R: Wait>(
     }
 }
 
-/// One step of an element on the processor. True where it was done.
+/// One step of an element on the processor. True if it was done.
 fn run_on(table: &ThreadTable, hand: &mut Hand, processor: Processor, element: Element) -> bool
     requires { IsHandOf table.now hand.old }
     ensures { IsSameHand hand.old hand.new }
@@ -83,7 +83,7 @@ fn run_on(table: &ThreadTable, hand: &mut Hand, processor: Processor, element: E
     hand.holds(element) && table.step_done(hand, element).is_ok()
 }
 
-/// Passes elements on, with a step of each. Gives the number of steps done.
+/// Passes elements on, with a step of each. Returns the number of steps done.
 fn pass<R: Wait>(
     rt: &R,
     table: &ThreadTable,

@@ -8,8 +8,8 @@ use meters::*;
 use std::alloc::Global;
 use std::test::*;
 
-/// What a client can prove of an end that is alone: the gauge is what it added, the clock stands where it was, no alarm
-/// is left, and the close is not refused.
+/// Provable by a client for an end that is alone: the gauge is what the end added, the clock is as it was, no alarm is
+/// left, and the close is not refused.
 fn alone(alloc: Global, clock: u32) -> Result<Metered, OutOfMemory>
     ensures gauge { IfOk result (λ m. slice_index_or m.gauges 3 0 ≡ 7) }
     ensures clock { IfOk result (λ m. m.clock ≡ clock) }
@@ -25,7 +25,7 @@ fn alone(alloc: Global, clock: u32) -> Result<Metered, OutOfMemory>
     }
 }
 
-/// What a client can prove of the clock where its end is alone: a try to move it on is never lost, and gives the next
+/// Provable by a client for the clock of an end that is alone: a try to move it on is never lost, and returns the next
 /// tick.
 fn moves_on(alloc: Global) -> Result<u32, OutOfMemory>
     ensures { IfOk result (λ clock. clock ≡ 1) }
@@ -41,7 +41,7 @@ fn moves_on(alloc: Global) -> Result<u32, OutOfMemory>
     }
 }
 
-/// A gauge and the clock are read, each alone.
+/// A gauge and the clock are loaded, by one call each.
 #[test]
 fn a_gauge_and_the_clock_are_read(rt: HostRuntime) {
     let Ok((meters, mut seat)) = Meters::new(rt.alloc(), 9) else {
@@ -186,7 +186,7 @@ fn words_give_back_their_alarms(rt: HostRuntime) {
     assert!(rt; AlarmWord::from_bits(word.bits() + 0x0001_0000_0000_0000).alarm() == None);
 }
 
-/// Where an allocation is refused there are no meters, and a later try makes them.
+/// If an allocation fails there are no meters, and a later try makes them.
 #[test]
 fn memory_may_be_wanting(rt: HostRuntime) {
     let mut made = false;

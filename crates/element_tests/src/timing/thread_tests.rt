@@ -42,7 +42,7 @@ fn nothing_had(alloc: Global) -> Result<Had, AllocError> {
     })
 }
 
-/// Sets an alarm, moves the clock on, and cancels the alarm at each second time, else takes out what is due.
+/// Sets an alarm, moves the clock on, and cancels the alarm if its tick is even, else takes out what is due.
 fn alarm_once(meters: &Meters, seat: &mut MeterSeat, had: &mut Had, alarm: &Alarm)
     requires { IsSeatOf meters.now seat.old }
     ensures { IsSeatOf meters.now seat.new }
@@ -66,7 +66,7 @@ fn alarm_once(meters: &Meters, seat: &mut MeterSeat, had: &mut Had, alarm: &Alar
     }
 }
 
-/// The work of one end: its ticks, and after every fourth an alarm of its own.
+/// The work of one end: its ticks, and after every fourth tick an alarm of its own.
 fn work(meters: &Meters, end: (MeterSeat, Had), element: u8) -> (MeterSeat, Had)
     requires { IsSeatOf meters.now end.0 }
     ensures { IsSeatOf meters.now result.0 }
@@ -140,7 +140,7 @@ fn at(times: &[u64], number: usize) -> u64 {
     }
 }
 
-/// How many alarms were set at most once, and fired, cancelled or left as often as set. The lists are those of all
+/// How many alarms were set at most once, and were fired, cancelled or left as often as set. The lists are those of all
 /// ends.
 fn once_each(set: [&[u64]; 4], gone: [&[u64]; 4], left: &[u64]) -> u64 {
     let mut once = 0u64;

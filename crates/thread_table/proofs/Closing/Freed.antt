@@ -1,4 +1,4 @@
--- What was put behind the free elements is there at the end, where no more were taken than there were at first.
+-- Elements that were put after the free elements are there at the end, if no more were taken than there were at first.
 use Rattle.thread_table.proofs.Common.{◌≡◌, ◌≢◌, ℕ, zero, suc, ◌+◌, ◌<◌, ◌≤◌, Bool, true, false, List, [], ◌∷◌, ◌++◌, map, length, drop, get_or, refl, sym, ap, ◌∙◌, subst, arith, Option, None, slice_get, or-false, or_left, or_right, flat_map, if◌then◌else◌, list_any, AllByRecursion, result_unwrap_or, map-append, slice_get-get_or, get_or-eq_default, list_any-append, list_any-IsPermutation, sum_by-IsPermutation, sum_by-cons, dite, dec_lt, appearances, is_on, in_list, in_cell, Elements, Thread, new_thread, IsLawfulElements, IsLawfulQueue, Queue, empty_queue, left, Run, flat, run_length, State, step, Event, Hold, every_at, entry_of, ELEMENTS, PLACES, free_ring, wait_ring, Place, Made, View, ClosedNow, StandsAt, is_left, is_join, made_in, numbered, AreMade, items_of, retired_by, retired_in, taking_by, ring_at}
 use Rattle.std.proofs.Common.{sum_by}
 use Rattle.table_theory.proofs.Reaching.{all_behind}
@@ -36,13 +36,13 @@ all_solid : (history : List Run) → ((run : ℕ) → run < length history → 0
 all_solid [] solid = tt
 all_solid (run ∷ history) solid = (solid 0 (omega arith), all_solid history (λ n low. solid (suc n) (omega arith)))
 
--- a part of a sum, where it isn't the default
+-- one entry's number is at most the sum, if the default's is 0
 one_sum : {X : Type 0} (f : X → ℕ) (xs : List X) (i : ℕ) (d : X) → f d ≡ 0 → f (get_or xs i d) ≤ sum_by f xs
 one_sum f [] i d none = omega arith
 one_sum f (x ∷ xs) zero d none = let c = sum_by-cons f x xs in omega arith
 one_sum f (x ∷ xs) (suc i) d none = let c = sum_by-cons f x xs in let m = one_sum f xs i d none in omega arith
 
--- two parts of a sum
+-- two entries' numbers together are at most the sum, if the default's is 0
 two_sum : {X : Type 0} (f : X → ℕ) (xs : List X) (i j : ℕ) (d : X) → f d ≡ 0 → i ≢ j → f (get_or xs i d) + f (get_or xs j d) ≤ sum_by f xs
 two_sum f [] i j d none apart = omega arith
 two_sum f (x ∷ xs) zero zero d none apart = absurd (apart refl)
@@ -72,7 +72,7 @@ module _ (x : ℕ) where
   abbrev is_it : ℕ → Bool
   is_it item = item == x
 
-  -- a run begins with it
+  -- a run begins with the element
   abbrev among : List (List ℕ) → Bool
   among runs = list_any is_it (map first_item runs)
 

@@ -27,7 +27,7 @@ cell word is = ap (place_by None None) (sym (eq-eqb (bit_at word 17) 1 is))
 pub hand : (word : ℕ) → bit_at word 17 ≡ 0 → places.Held ≡ place_by None None (bit_at word 17 == 1)
 hand word is = ap (place_by None None) (sym (ne_eqb (bit_at word 17) 1 (λ e. omega arith)))
 
--- of a decidable property, whether it holds of one of the numbers below this
+-- whether a decidable property holds of some number below this
 any_below : (P : ℕ → Type 0) → ((m : ℕ) → P m ⊎ (P m → ⊥)) → (n : ℕ) → ((m : ℕ) × (m < n) × P m) ⊎ ((m : ℕ) → m < n → P m → ⊥)
 any_below P each zero = inr (λ m less is. omega arith)
 any_below P each (suc n) = ⊎_elim
@@ -45,7 +45,7 @@ is_in_or_not element words ring = ⊎_elim
     (λ no. inr (λ h. no h.0)))
     (word_at words (head_word ring) % NOTIFY))
 
--- the element stands in a queue or in none
+-- the element is in a queue or in none
 pub some_ring : (element : ℕ) (words : List ℕ) → (ring : Option ℕ) × RingOf element words ring
 some_ring element words = ⊎_elim
     (λ found. (Some found.0, (found.1, found.2)))

@@ -19,7 +19,7 @@ use Rattle.thread_table.specs.Schedules.{begun, state_after, elements_after, IsA
 use Rattle.thread_table.specs.Retiring.{AreRetired}
 use Rattle.thread_table.proofs.Schedule.Schedules.{elements_of}
 
--- what the runs of a queue put there, and how many items were taken
+-- the items of a queue's runs, and how many items were taken from the queue
 abbrev pub queue_told : Queue → List (List ℕ) × ℕ
 queue_told q = (map items_of q.history, q.taken)
 
@@ -30,7 +30,7 @@ told rings = queue_told (get_or rings 1 (empty_queue PLACES))
 abbrev pub with_more : List (List ℕ) → ℕ → List (List ℕ) × ℕ → List (List ℕ) × ℕ
 with_more more n t = (t.0 ++ more, t.1 + n)
 
--- what comes of it, if it goes, is so
+-- P holds of the result, if the result is Ok
 abbrev pub Gives : {A : Type 0} → (A → Type 0) → Result A Refusal → Type 0
 Gives {A} P said = (t : A) → said ≡ Ok t → P t
 
@@ -44,11 +44,11 @@ module _ {B : Type 0} (P : B → Type 0) where
   pub ok_gives : (x : B) → P x → Gives P (Ok x)
   ok_gives x is t ok = subst P (given_ok x t ok) is
 
--- an event of the elements adds so much to it, and takes so many
+-- an event of the elements, if allowed, adds these runs to the free elements' queue, and takes so many items from it
 abbrev Adds : List (List ℕ) → ℕ → (Elements → Result Elements Refusal) → Type 0
 Adds more n event = (s : Elements) → Gives (λ t. told t.rings ≡ with_more more n (told s.rings)) (event s)
 
--- so does an event of the state
+-- an event of the state, if allowed, adds these runs to the free elements' queue, and takes so many items from it
 abbrev AddsTo : List (List ℕ) → ℕ → (State → Result State Refusal) → Type 0
 AddsTo more n event = (s : State) → Gives (λ t. told t.elements.rings ≡ with_more more n (told s.elements.rings)) (event s)
 
@@ -60,7 +60,7 @@ none_more old =
 abbrev Stays : Elements → Elements → Type 0
 Stays s t = told t.rings ≡ with_more [] 0 (told s.rings)
 
--- one queue has so many more runs, and more taken
+-- one queue has these runs more, and so many more of its items are taken
 pub record Changes (more : List (List ℕ)) (n ring : ℕ) (s t : Elements) : Type 0 where
   pub old : Queue
   pub new : Queue
@@ -69,7 +69,7 @@ pub record Changes (more : List (List ℕ)) (n ring : ℕ) (s t : Elements) : Ty
   pub rings : t.rings ≡ set s.rings ring new
   pub notified : t.notified ≡ s.notified
 
--- so it is of the free elements, where the queue is theirs, and else theirs stays
+-- a change of the free elements' queue adds to it and takes from it; a change of another queue leaves it
 of_free : {more : List (List ℕ)} {n : ℕ} {s t : Elements} → Changes more n 1 s t → told t.rings ≡ with_more more n (told s.rings)
 of_free {more} {n} {s} {t} c = ap told c.rings ∙ (ap queue_told (get_or-set_same s.rings 1 c.new (empty_queue PLACES) (slice_get_within s.rings 1 c.old c.there))
     ∙ (c.is ∙ ap (λ (q : Queue). with_more more n (queue_told q)) (sym (get_or_from_slice_get s.rings 1 c.old (empty_queue PLACES) c.there))))
@@ -108,7 +108,7 @@ pub raise_changes : (ring call run index : ℕ) (s : Elements) → Gives (Change
 raise_changes ring call run index s = let P : Elements → Type 0 = Changes [] 0 ring s in then_gives P (change_at ring (raise call run index) s.rings) _ (λ rings ok. let d = change_ok ring (raise call run index) s.rings rings ok in
     ok_gives P _ record { old = d.0; new = d.1; there = d.2; is = ap queue_told (raise_ok call run index d.0 d.1 d.3).is ∙ none_more (queue_told d.0); rings = d.4; notified = refl })
 
--- an event that changes one other part
+-- an event of the elements that leaves the queues adds nothing and takes nothing
 part_adds : {A : Type 0} (said : Elements → Result A Refusal) (f : Elements → A → Elements) → ((s : Elements) (x : A) → (f s x).rings ≡ s.rings) → Adds [] 0 (λ s. said s >>= λ x. Ok (f s x))
 part_adds said f same s = then_gives (Stays s) (said s) _ (λ x _. ok_gives (Stays s) (f s x) (ap told (same s x) ∙ none_more (told s.rings)))
 
@@ -121,7 +121,7 @@ elements_add : (more : List (List ℕ)) (n : ℕ) (event : Elements → Result E
 elements_add more n event adds s = let P : State → Type 0 = λ t. told t.elements.rings ≡ with_more more n (told s.elements.rings) in
     then_gives P (event s.elements) _ (λ e is. ok_gives P _ (adds s.elements e is))
 
--- one that changes another part
+-- an event of the state that leaves the elements adds nothing and takes nothing
 else_adds : {A : Type 0} (said : State → Result A Refusal) (f : State → A → State) → ((s : State) (x : A) → (f s x).elements ≡ s.elements) → AddsTo [] 0 (λ s. said s >>= λ x. Ok (f s x))
 else_adds said f same s = let P : State → Type 0 = λ t. Stays s.elements t.elements in
     then_gives P (said s) _ (λ x _. ok_gives P (f s x) (ap (λ (e : Elements). told e.rings) (same s x) ∙ none_more (told s.elements.rings)))
@@ -161,7 +161,7 @@ effect_adds event = else_adds _ _ (λ s x. refl)
 step_adds : (event : Event) → AddsTo (retired_by event) (length (taking_by event)) (step event)
 step_adds event s t ok = let a = then_ok (effect event s) _ t ok in ap (λ (z : State). told z.elements.rings) (sym (given_ok (counted a.0) t a.2)) ∙ effect_adds event s a.0 a.1
 
--- an event takes as many of the free elements as it tells
+-- an event takes as many of the free elements as its count says
 pub step_takes : (event : Event) (s t : State) → step event s ≡ Ok t
     → (get_or t.elements.rings 1 (empty_queue PLACES)).taken ≡ (get_or s.elements.rings 1 (empty_queue PLACES)).taken + length (taking_by event)
 step_takes event s t ok = ap (λ (p : List (List ℕ) × ℕ). p.1) (step_adds event s t ok)
@@ -191,7 +191,7 @@ are_told past allowed =
     let many : (ring_at (elements_after past) 1).taken ≡ 0 + takings_in past = ap (λ (p : List (List ℕ) × ℕ). p.1) all in
     (ap (λ (p : List (List ℕ) × ℕ). p.0) all, omega arith)
 
--- the runs of the queue, behind those with which it began
+-- the runs of the queue, after those with which it began
 pub are_retired : (past : List Event) → IsAllowed past → AreRetired past
 are_retired past allowed = ap (drop 64) (are_told past allowed).0 ∙ drop_all first_runs (retired_in past) 64 refl
   where

@@ -1,4 +1,4 @@
--- Where an element of a closed table stands: the words show its one appearance, or the hand that closed holds it.
+-- The place of an element of a closed table: the words show its one appearance, or the hand that closed holds it.
 use Rattle.thread_table.proofs.Common.{◌≡◌, ◌≢◌, ℕ, zero, suc, ◌+◌, ◌-◌, ◌%◌, ◌<◌, ◌≤◌, Bool, true, false, cond, eqb, List, [], ◌∷◌, length, map, drop, get_or, Some, None, Option, slice_get, refl, sym, ap, subst, ◌∙◌, arith, length-drop, eq-eqb, ne_eqb, true≢false, or_left, or_right, and_from, list_any-append, list_any_at, sum_by-cons, get_or-le-sum_by, slice_get-get_or, bit_at, list_any, sum_by, dite, dec_lt, ℕ_discrete, appearances, is_on, in_list, in_cell, Elements, is_hold, holds, new_thread, IsLawfulElements, IsLawfulQueue, Queue, empty_queue, left, flat, Hold, every_at, ProcessorOf, IsIn, RingOf, PlaceOf, StandsAt, is_left, place_by, word_at, ring_at, thread_at, element_at, element_of, no_run, ELEMENTS, RINGS, PLACES, state_word, place_word, WordsShow, processor_shown, bit_of, Place}
 use Rattle.thread_table.proofs.Lists.Counts.{find_it}
 use Rattle.std.proofs.lemmas.List.{get_or-drop, get_or-map}
@@ -26,7 +26,7 @@ left_at q i single below = ap (λ items. get_or (drop q.taken items) i 0) (flat_
 left_long : (q : Queue) → Singles q.history → length (left q) ≡ length q.history - q.taken
 left_long q single = let long : length (left q) ≡ length (flat q.history) - q.taken = length-drop q.taken (flat q.history) in let many = flat_long q.history single in omega arith
 
--- of one element's holds one is the call's, where all others' hands are empty
+-- an element that is held, and by no other call, is held by this call
 held_by : (call x : ℕ) (held : List Hold) → 1 ≤ count_by (λ (h : Hold). eqb h.element x) held → ((other : ℕ) → other ≢ call → list_any (is_hold other x) held ≡ false) → list_any (is_hold call x) held ≡ true
 held_by call x held some alone = let f = find_it (λ (h : Hold). eqb h.element x) held some in let p : Hold → Bool = is_hold f.it.call x in
     let here : list_any p held ≡ true = ap (list_any p) f.is ∙ (list_any-append p f.front (f.it ∷ f.back)
@@ -119,6 +119,6 @@ module _ (call first : ℕ) (e : Elements) (words : List ℕ) (s : Settled call 
   stands_by x below None (Some l) is in_row = in_ring x l in_row
   stands_by x below None None is in_row = in_cell_or_hand x below is in_row _ (bit_read (bit_at (word_at words (state_word x)) 17) (thread_at e x).parked (s.shows.states x below).parked)
 
-  -- what the words say of an element's place is so
+  -- the element is in the place that the words show
   pub stands : (x : ℕ) (place : Place) → x < ELEMENTS → PlaceOf x words place → StandsAt call x e place
   stands x place below is = subst (StandsAt call x e) (sym is.4) (stands_by x below is.0 is.1 is.2 is.3)

@@ -21,7 +21,7 @@ seen_ring v ring = ring_at (elements_after v.seen.object) ring
 pub place_mark : (place element mark tail : ℕ) → place ≡ element + 256 * mark → element < 256 → (mark ≢ tail + 1 → place / 256 ≢ tail + 1) × (mark ≡ tail + 1 → place / 256 ≡ tail + 1)
 place_mark place element mark tail parts bounded = (λ low is. low (omega arith), λ up. omega arith)
 
--- the place at the tail was found not raised, and the tail is the same behind
+-- the place at the tail was found not raised, and afterwards the tail is the same
 pub not_raised : (call : ℕ) (u v f w : View) (ring tail place element mark now : ℕ) → Found u (tail_word ring) tail v → Found v (place_word ring tail) place f → Found f (tail_word ring) now w
     → place ≡ element + 256 * mark → element < 256 → mark ≢ tail + 1 → now ≡ tail → TakeAnswer call u ring (Err nexts.NoneReady) w
 not_raised call u v f w ring tail place element mark now a b c parts bounded low same = (
@@ -81,7 +81,7 @@ took_oldest call u v f w ring tail found element mark below a b tail_is peek par
     let oldest : take 1 (left q) ≡ element ∷ [] = first_of_left q lawful' (s.shows.rings ring below).single still ∙ ap (λ n. n ∷ []) is in
     (is, oldest, subst (λ n. element < n) s.shows.threads (first_known (elements_after t.before.object) ring element s.lawful many' oldest))
 
--- after a taking: the element is one of the table's, and what it tells
+-- after a taking: the element is one of the table's, and the entries are those of the answer
 pub taken_first : (call : ℕ) (u v f w : View) (ring tail found element mark : ℕ) → ring < RINGS → Found u (tail_word ring) tail v → Found v (place_word ring tail) found f → tail ≡ tail_shown u.own.first (elements_after v.seen.object) ring
     → Peeked v ring found f → found ≡ element + 256 * mark → element < 256 → mark ≡ tail + 1 → Did call f (tail_word ring) tail (take_event call ring) w → (element < ELEMENTS) × TakeAnswer call u ring (Ok element) w
 taken_first call u v f w ring tail found element mark below a b tail_is peek parts bounded up t =
@@ -174,7 +174,7 @@ module _ (call ring element : ℕ) (event : Event) (word head mark : ℕ) (v m :
   claim_known = let run = run_claimed in let first = first_same in let number : length (ring_at (elements_after c.before.object) ring).history ≡ head - m.own.first = omega arith in
       (ap (λ (z : View). z.own.claimed) c.step.acts.has ∙ (ap (λ (z : View). z.own.claimed) (moves v (elements_after c.before.object)) ∙ ap (λ n. Some (claim_of ring n element)) number), omega arith)
 
-  -- after a move: what it tells
+  -- after a move: the entries are those of the answer
   pub moved_to : (u w : View) (found : ℕ) → u.own.fresh ≡ true → has u element ≡ true → element < ELEMENTS → Found u (head_word ring) word v → head ≢ 4294967295
       → Did call m (place_word ring head) found (raise_event call m ring head) w → MovedBy call u ring element event word w
   moved_to u w found fresh mine known fa more r =

@@ -1,4 +1,4 @@
--- What an event comes to that changes one element queue and the holds; or threads, processors and holds.
+-- The result of an event that changes one element queue and the holds; or threads, processors and holds.
 use Rattle.thread_table.proofs.Common.{IsUsed, by_done, by_state, unused_kept, ◌≡◌, ◌≢◌, ℕ, ◌+◌, ◌*◌, ◌<◌, ◌≤◌, Bool, false, List, length, set, get_or, slice_get, Some, Option, Result, Ok, refl, sym, ap, subst, ◌∙◌, length-set, get_or-set_same, get_or-set_other, arith, ⊎_elim, ◌⊎◌, inl, None, list_any, dite, ℕ_discrete, Elements, Thread, is_hold, is_put, holds, new_thread, Queue, empty_queue, Hold, Refusal, View, Claimed, QueueGrows, ring_at, thread_at, PROCESSORS, ELEMENTS, RINGS, PLACES, NOTIFY, processor_word, state_word, done_word, head_word, tail_word, place_word, PlaceShows, StateShows, processor_shown, mark_of, HandIs, IsClaimed, may_step, serves, having, places_word, ready_ring}
 use Rattle.thread_table.proofs.Events.Effects.{Effect, Ready}
 use Rattle.thread_table.proofs.Events.Owing.{QueueOwes, ring_owes, same_owes}

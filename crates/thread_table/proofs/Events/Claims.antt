@@ -17,7 +17,7 @@ use Rattle.thread_table.proofs.Hands.HeldLists.{held_set}
 use Rattle.thread_table.proofs.Hands.Releases.{hold_else, hold_own}
 use Rattle.thread_table.proofs.Events.Rooms.{room, out_of_hands, unheld, let_go_goes}
 
--- what stands at an index still does after one more
+-- an entry at an index is still there after one entry more
 later_at : {X : Type 0} (xs : List X) (y : X) (index : ℕ) (x : X) → slice_get xs index ≡ Some x → slice_get (xs ++ y ∷ []) index ≡ Some x
 later_at [] y index x at = absurd (cc)
 later_at (z ∷ xs) y zero x at = at

@@ -82,7 +82,7 @@ seat_effect id v first event e words p old on held element is ready free below k
       few = ready.shows.few;
     }
 
--- what a hand has on a processor stands there
+-- the element that a hand has on a processor is there
 seat_there : (id : ℕ) (v : View) (e : Elements) (p : ℕ) (on : Option ℕ) → HandIs id v e → serves v p ≡ true → running v p ≡ on → slice_get e.processors p ≡ Some (processor_of id on)
 seat_there id v e p on hand served runs = hand.on p served ∙ ap (λ o. Some (processor_of id o)) runs
 

@@ -1,4 +1,4 @@
--- What the state words tell at the steps of a call.
+-- The bits of the state words at the steps of a call.
 use Rattle.thread_table.proofs.Common.{get_or-set_same, inl, ◌≡◌, ◌≢◌, ℕ, zero, suc, ◌+◌, ◌*◌, ◌/◌, ◌%◌, ◌<◌, ◌==◌, Bool, true, false, cond, List, [], ◌∷◌, ◌++◌, ◌∙◌, length, set, get_or, refl, sym, ap, subst, arith, Ok, Some, None, Option, bit_at, get_or_from_slice_get, range_with_len, Elements, Thread, hold, Event, ELEMENTS, PROCESSORS, View, Past, thread_at, state_word, done_word, processor_word, StateShows, bit_of, processor_shown, has, serves, running, quiet, having, having_found, with_taken_off, with_held, count_of, Found, Did, load, change, seen_as, Acts, with_event, steps_in, StartAnswer, ParkAnswer, DeliverAnswer, ReadPc, DoneAnswer, TakesOff, is_in, is_done}
 use mathlib.Core.Path.{transport}
 use Rattle.std.proofs.Common.{MatchBool}
@@ -17,7 +17,7 @@ use Rattle.thread_table.proofs.Schedule.Schedules.{elements_of}
 use Rattle.thread_table.proofs.Events.Answering.{held_more, held_less}
 use Rattle.thread_table.proofs.Events.Firsts.{parked_unheld, placed_unheld}
 
--- a bit that tells one truth value and shows another: they are the same
+-- a bit that gives one truth value and shows another: they are the same
 pub bit_told : (b c : Bool) (n : ℕ) → MatchBool b (n ≡ 1) (n ≡ 0) → n ≡ bit_of c → b ≡ c
 bit_told true true n bit is = refl
 bit_told true false n bit is = absurd (omega arith)

@@ -1,10 +1,10 @@
--- What a step tells of the words that it found.
+-- A step's result, by the words that it found.
 use Rattle.thread_table.proofs.Common.{true_from_ne_false, false_from_ne_true, ◌≡◌, ◌≢◌, ℕ, ◌+◌, ◌/◌, ◌%◌, ◌<◌, ◌≤◌, true, false, get_or, sym, ◌∙◌, subst, arith, slice_get-get_or, dite, dec_lt, List, Elements, IsLawfulQueue, IsLawfulElements, Queue, empty_queue, Event, every_at, View, Grows, ring_at, element_at, thread_at, ELEMENTS, RINGS, PLACES, head_word, tail_word, place_word, state_word, WordsShow, RingShows, PlaceShows, StateShows, head_shown, tail_shown, Sees, Found, Did, Peeked}
 use Rattle.thread_table.specs.Schedules.{elements_after}
 use Rattle.thread_table.proofs.Events.SingleRuns.{within_room, taken_raised, first_of_left}
 use Rattle.thread_table.proofs.Events.Takes.{first_known}
 
--- what a step tells, by another name of its word
+-- a step's result, by another name of its word
 pub found_at : {v w : View} {i place found : ℕ} → i ≡ place → Found v i found w → Found v place found w
 found_at {v} {w} {i} {place} {found} here f = subst (λ (z : ℕ). Found v z found w) here f
 

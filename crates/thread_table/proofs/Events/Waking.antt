@@ -27,7 +27,7 @@ all_as : {A : Type 0} (P Q : A → Type 0) → ((x : A) → P x → Q x) → (xs
 all_as P Q f [] all = tt
 all_as P Q f (x ∷ xs) all = (f x all.0, all_as P Q f xs all.1)
 
--- so it is after what the hand did next, where it counted no step
+-- the hand still holds a taken element after entries that count no step and let nothing go
 held_on : (l w now : View) (es : List Step) → Acts l es now w → l.own.fresh ≡ true → ((x : ℕ) → has l x ≡ true → has w x ≡ true) → ((x : ℕ) → steps_by x w.own.made ≡ steps_by x l.own.made) → (try : Try) → IsHeld l try → IsHeld w try
 held_on l w now es a up more made (took before tail place q r s t) h = (
   h.0,
@@ -49,7 +49,7 @@ pub record Rounds (call wait ring word : ℕ) (v : View) (mask : ℕ) (w : View)
   pub woken : (e : ℕ) → e < ELEMENTS → is_in mask e ≡ true → has v e ≡ false
   pub held : AllByRecursion (IsHeld w) tries
 
--- of what the hand holds then no more is said than of what it has
+-- the view `now` can name the held elements as those of w
 holding : {v now w : View} {es : List Step} → Acts v es now w → Acts v es (record now { own = record now.own { held = w.own.held } }) w
 holding {v} {now} {w} {es} a = subst (λ (z : List Bool). Acts v es (record now { own = record now.own { held = z } }) w) (sym (ap (λ (z : View). z.own.held) a.has)) a
 

@@ -3,7 +3,7 @@ use Rattle.thread_table.proofs.Common.{◌≡◌, ◌≢◌, ℕ, zero, suc, ◌
 use Rattle.thread_table.proofs.Lists.Copies.{length-copies, get_or-copies}
 use Rattle.thread_table.proofs.Hands.Releases.{held_counts}
 
--- a test of each entry, after one entry took the place of another that it tells as much of
+-- whether some entry passes a test, after one entry was replaced by another with the same result
 pub any_set : {X : Type 0} (p : X → Bool) (xs : List X) (i : ℕ) (old new : X) → slice_get xs i ≡ Some old → p new ≡ p old → list_any p (set xs i new) ≡ list_any p xs
 any_set p [] i old new at same = refl
 any_set p (x ∷ xs) zero old new at same = let e : x ≡ old = cc in ap (λ b. b || list_any p xs) (same ∙ ap p (sym e))

@@ -88,7 +88,7 @@ before views id other p v w e at at' h = each_joined (λ (j : ℕ) (u : View). s
     (λ s. ⊎_elim (λ s. (id, v, at, s, sym (renamed_call id other))) (λ s. (other, w, at', s, sym (renamed_other id other))) (or_cases (serves v p) (serves w p) (sym (serves_either id other p v w e h) ∙ s)))
     (λ s. let no : serves (emptied v) p ≡ false = get_or-copies 8 false p in absurd (cc))
 
--- the core's state after the join, but for its counting
+-- the core's state after the join, except for its counting
 abbrev joined : ℕ → ℕ → core.State → core.State
 joined id other s = record s {
   queues = map (join_queue id other) s.queues;
@@ -114,7 +114,7 @@ later_seen : (b : Bool) (v w u : View) (events : List Event) → u.seen ≡ (if 
 later_seen true v w u events is mine its = seen_by w u events is its
 later_seen false v w u events is mine its = seen_by v u events is mine
 
--- the ends that stand behind the join
+-- the ends that exist after the join
 ends_joined : (first n : ℕ) (views : List View) (id other : ℕ) (v w : View) → v.own.first ≡ first → EndsStand (nothing_of first) n views → get_elem? views id ≡ some v → get_elem? views other ≡ some w → other ≢ id → 1 ≤ v.member.ends
     → EndsStand (nothing_of first) n (set (set views id (both v w)) other (emptied v))
 ends_joined first n views id other v w is k at at' ne live = subst (λ (z : ℕ). EndsStand (nothing_of z) n (set (set views id (both v w)) other (emptied v))) is

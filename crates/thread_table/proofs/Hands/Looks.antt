@@ -55,16 +55,16 @@ seen_all w events schedule = record {
   grows = subst (λ (z : List Event). Grows (elements_after z) (elements_after events)) (sym schedule) (grows_refl (elements_after events));
 }
 
--- beside a hand that stands none has the whole
+-- beside a hand that exists no other has the whole
 pub no_other : (first n : ℕ) (views : List View) (id j : ℕ) (v u : View) → EndsStand (nothing_of first) n views → get_elem? views id ≡ some v → 1 ≤ v.member.ends → get_elem? views j ≡ some u → j ≢ id → IsWhole u.member.share → ⊥
 no_other first n views id j v u k at live has ne whole = let t = two_of (λ (z : View). z.member.share) views j id u v has at ne in let s = k.counted.shared in let w = k.counted.within id v at in omega arith
 
--- what holds of each view holds of each where one is replaced; the hypothesis for the others has that they are others
+-- a property holds of each view after one is replaced, if it holds of the new one and of each other view
 pub each_set : (Q : ℕ → View → Type 0) (views : List View) (id : ℕ) (w : View) → ((j : ℕ) (u : View) → j ≢ id → get_elem? views j ≡ some u → Q j u) → Q id w
     → (j : ℕ) (u : View) → get_elem? (set views id w) j ≡ some u → Q j u
 each_set Q views id w old mine j u has = ⊎_elim (λ e. subst (λ (z : ℕ). Q z u) (sym e.0) (subst (Q id) e.1 mine)) (λ e. old j u e.0 e.1) (at_set views id j w u has)
 
--- the view that stood there served the same
+-- the view that was there served the same
 was : (views : List View) (id : ℕ) (v w : View) → get_elem? views id ≡ some v → w.own.serves ≡ v.own.serves → (j : ℕ) (u : View) → get_elem? (set views id w) j ≡ some u
     → (o : View) × (get_elem? views j ≡ some o) × (o.own.serves ≡ u.own.serves)
 was views id v w at same = each_set (λ j u. (o : View) × (get_elem? views j ≡ some o) × (o.own.serves ≡ u.own.serves)) views id w (λ j u ne has. (u, has, refl)) (v, at, sym same)
@@ -96,7 +96,7 @@ pub real_event : (key : Shape) (s : St) (k : Rule key s) (i found : ℕ) (more :
     → IsReal (of_hands key.first) record { word = i; found = found; then = now_at k; next = record (now_at k) { object = k.events ++ more ∷ [] } }
 real_event key s k i found more is allowed grows = real_step key s k i found (record (now_at k) { object = k.events ++ more ∷ [] }) is (event (k.events ++ more ∷ []) (more, refl, allowed, grows) refl)
 
--- what the rule tells of a hand's list
+-- by the rule, a hand's list is true
 pub honest_of : (key : Shape) (s : St) (k : Rule key s) (id : ℕ) (v : View) → get_elem? s.views id ≡ some v → IsHonest v
 honest_of key s k id v at = record {
   list = subst (λ (z : ℕ). ends.IsHonest (of_hands z) v) (sym (k.first id v at)) (order_true (of_hands key.first) [] (now_at k) (k.joiner ∷ s.views) (suc id) v k.order at);
@@ -105,7 +105,7 @@ honest_of key s k id v at = record {
   undoubled = k.undoubled id v at;
 }
 
--- the order behind a step of a hand that has this then, and those who have the whole have seen all of it
+-- the order after a step of a hand that has this then, and those who have the whole have seen all of it
 pub order_goes : (key : Shape) (s : St) (k : Rule key s) (id : ℕ) (v w : View) (own : Having) (member : Part) (e : Step (List Event)) (now : Past) → get_elem? s.views id ≡ some v → 1 ≤ v.member.ends → w ≡ after v own member (steps_to k) e → e.then ≡ now_at k → IsReal (of_hands key.first) e → e.next ≡ now
     → (order : AreOrdered (of_hands key.first) [] now (k.joiner ∷ set s.views id w)) × ((j : ℕ) (u : View) → get_elem? (set s.views id w) j ≡ some u → IsNewest u (order_to order))
 order_goes key s k id v w own member e now at live is found real leaves =
@@ -160,7 +160,7 @@ kept_look key s k i id found v is at live = let w : View = looked v i found (ste
 pub newest_schedule : (key : Shape) (s : St) (k : Rule key s) (id : ℕ) (v : View) → get_elem? s.views id ≡ some v → IsWhole v.member.share → v.own.fresh ≡ true → v.seen.object ≡ k.events
 newest_schedule key s k id v at whole up = ap (λ (z : Past). z.object) (sym (newest_seen (of_hands key.first) [] (now_at k) (k.joiner ∷ s.views) (suc id) v k.order at (k.newest id v at whole up)))
 
--- what the rule tells a hand at one of its steps
+-- what a hand sees at one of its steps, by the rule
 unfoldable pub sees_of : (key : Shape) (s : St) (k : Rule key s) (id : ℕ) (v : View) → get_elem? s.views id ≡ some v → Sees v k.events
 sees_of key s k id v at = record {
   allowed = k.allowed;
@@ -181,7 +181,7 @@ sees_words key s k id v at = refl
 pub ready_of : (key : Shape) (s : St) (k : Rule key s) (id : ℕ) (v : View) → get_elem? s.views id ≡ some v → Ready id v key.first (elements_after k.events) s.words
 ready_of key s k id v at = record { lawful = lawful_after k.events k.allowed; hand = k.hands id v at; shows = k.shows; grown = (k.seen id v at).grows }
 
--- what a step tells that was made where the rule held, and holds then
+-- the result of a step that was made when the rule held, if the rule holds afterwards
 pub stepped_now : (key : Shape) (s t : St) (k : Rule key s) (j : Rule key t) (id : ℕ) (v now : View) (word found : ℕ) (next : Past) → get_elem? s.views id ≡ some v → v.own.fresh ≡ true → let e : Step (List Event) = record { word = word; found = found; then = now_at k; next = next } in
     get_elem? t.views id ≡ some (stepped v now (steps_to k) e) → found ≡ get_or s.words word 0 → Begins k.events next.object → ((x : ℕ) → steps_in x next.object + steps_by x v.own.made ≡ steps_in x k.events + steps_by x now.own.made)
     → Stepped v e now (stepped v now (steps_to k) e)

@@ -42,7 +42,7 @@ pub steps : (events : List Event) (event : Event) (change : Elements → Result 
 steps events event change f is goes = let s : State = state_after events in let goes' : change s.elements ≡ Ok f = ap change (sym (elements_of events)) ∙ goes in
     ap (λ (z : Result State Refusal). z >>= λ next. Ok (counted next)) (is s ∙ ap (λ (z : Result Elements Refusal). z >>= λ elements. Ok (record s { elements = elements })) goes')
 
--- the rule and what it tells, where an event came
+-- the rule, and the step's result, after an event
 pub made : OthersCount → (key : Shape) (s : St) (k : Rule key s) (id : ℕ) (v : View) (event : Event) (change : Elements → Result Elements Refusal) (i y found : ℕ) → found ≡ get_or s.words i 0 → get_elem? s.views id ≡ some v → IsActive v → 0 < i
     → ((t : State) → effect event t ≡ in_elements change t) → is_join event ≡ false → Effect id v (left_by_event event (elements_after k.events) v) key.first change (elements_after k.events) (set s.words i y)
     → (w : View) × Rule key record { words = set s.words i y; homes = s.homes; views = set s.views id w } × Did id v i found event w × Stands id w

@@ -39,7 +39,7 @@ hand_rest id v mask e can h = record {
   counted = λ c is. absurd (cc);
 }
 
--- so does what a split leaves, and the new hand, which has made no step
+-- the view that a split leaves, and that of the new hand, which has made no step, have what their calls have
 pub rest_stands : (id : ℕ) (v : View) (mask : List Bool) → CanPart mask v → HasStood id v → HasStood id (rest_of mask v)
 rest_stands id v mask can stands made = hand_rest id v mask (elements_after v.seen.object) can (stands made)
 

@@ -11,7 +11,7 @@ use Rattle.thread_table.specs.declared.programs.Spent.{Spent}
 use Rattle.thread_table.specs.Answers.{TakesAfter, StoppedNow, SignalAnswer}
 use Rattle.thread_table.specs.Keeping.{Keeps, Stays}
 
--- the hand has what it had, but for what it holds
+-- the hand has what it had, except for what it holds
 pub keeps_by : (v w now : View) (es : List Step) → Acts v es now w → now.own.first ≡ v.own.first → now.own.serves ≡ v.own.serves → now.own.on ≡ v.own.on → now.member ≡ v.member → Keeps v w
 keeps_by v w now es a first serves on member = record { first = ap (λ (z : View). z.own.first) a.has ∙ first; serves = ap (λ (z : View). z.own.serves) a.has ∙ serves; on = ap (λ (z : View). z.own.on) a.has ∙ on; share = ap (λ (z : View). z.member.share) a.has ∙ ap (λ (m : Part). m.share) member }
 

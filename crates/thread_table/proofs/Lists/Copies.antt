@@ -5,13 +5,13 @@ pub length-copies : {X : Type 0} (count : ℕ) (x : X) → length (repeat count 
 length-copies zero x = refl
 length-copies (suc count) x = ap suc (length-copies count x)
 
--- also past the last one, where the entry is what stands for none
+-- also past the last one, where the entry is the one that is used for none
 pub get_or-copies : {X : Type 0} (count : ℕ) (x : X) (i : ℕ) → get_or (repeat count (x ∷ [])) i x ≡ x
 get_or-copies zero x i = refl
 get_or-copies (suc count) x zero = refl
 get_or-copies (suc count) x (suc i) = get_or-copies count x i
 
--- where one of as many marks stands, so does the entry
+-- if one of as many marks is set, the entry is there
 pub slice_get-copies_by : {X : Type 0} (count : ℕ) (x : X) (i : ℕ) → get_or (repeat count (true ∷ [])) i false ≡ true → slice_get (repeat count (x ∷ [])) i ≡ Some x
 slice_get-copies_by zero x i set = absurd (cc)
 slice_get-copies_by (suc count) x zero set = refl

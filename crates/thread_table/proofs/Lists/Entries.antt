@@ -5,7 +5,7 @@ use Rattle.std.specs.Prelude.{◌&&◌, not}
 use Rattle.std.proofs.Math.Bool.{and-true}
 use Rattle.std.specs.Prelude.{◌||◌}
 
--- the first n entries are as f tells, the others as they were
+-- the first n entries are those of f, the others as they were
 pub record ArePut {X : Type 0} (d : X) (f : ℕ → X) (n : ℕ) (old xs : List X) : Type 0 where
   pub long : length xs ≡ length old
   pub done : (i : ℕ) → i < n → get_or xs i d ≡ f i
@@ -112,7 +112,7 @@ module _ {V : Type 0} (Q : ℕ → V → Type 0) where
   each_joined vs id other taker spent old mine gone = each_put (set vs id taker) other spent
       (λ j u ne' at. ⊎_elim (λ t. subst (λ (z : ℕ). Q z u) (sym t.0) (subst (Q id) t.1 mine)) (λ t. old j u t.0 ne' t.1) (at_set vs id j taker u at)) gone
 
--- where no two of a list passed a test, no two pass it that stand under other names
+-- if no two of a list passed a test, no two pass it that have different names
 abbrev pub Passed : {V : Type 0} → (V → Bool) → (ℕ → ℕ) → List V → ℕ → Type 0
 Passed {V} test name vs j = (i : ℕ) × (v : V) × (get_elem? vs i ≡ some v) × (test v ≡ true) × (j ≡ name i)
 

@@ -6,7 +6,7 @@ use Rattle.table_theory.specs.Filing.{ListedOnce}
 use Rattle.thread_table.proofs.Lists.Counts.{plus, many_cons, many_more, many_none, many_one, find_it, range_in, range_far}
 
 module _ {A : Type 0} where
-  -- Lists in which each entry stands equally often
+  -- Lists in which each entry is equally often
   pub same_counts : (same : A → A → Bool) → ((a b : A) → same a b ≡ true → a ≡ b) → ((a : A) → same a a ≡ true)
       → (xs ys : List A) → ((x : A) → count_by (same x) xs ≡ count_by (same x) ys) → IsPermutation ys xs
   same_counts same tells itself [] [] h = IsPermutation-refl []

@@ -11,7 +11,7 @@ pub left_on : (past : Past) (xs ys : List Step) → left_by past (xs ++ ys) ≡ 
 left_on past [] ys = refl
 left_on past (e ∷ xs) ys = left_on e.next xs ys
 
--- one list of steps of the hand behind another, where what it has before and after it has between them
+-- one list of steps of the hand after another, if a step that it may count before and after both it may count between
 pub acts_on : (u v w now now' last : View) (xs ys : List Step) → v.member.share ≡ u.member.share → Acts u xs now v → Acts v ys now' w → w ≡ seen_as last w
     → ((x : ℕ) → x < ELEMENTS → MayStep u x → MayStep w x → MayStep v x) → Acts u (xs ++ ys) last w
 acts_on u v w now now' last xs ys share a b has bridge = let up : v.own.fresh ≡ true = ap (λ (z : View). z.own.fresh) a.has in record {
@@ -51,11 +51,11 @@ acts_kept v w now past e follows newest sees first steps course left made has = 
   calm = λ up x low may after. let same = steps_same v w.seen.object sees x up low may in let made' = ap (λ (z : List Made). steps_by x z) made in omega arith;
 }
 
--- the view after a step, behind which the hand has what `now` has
+-- the view after a step, after which the hand has what `now` has
 abbrev pub stepped : View → View → Course → Step → View
 stepped v now past e = after v (record now.own { fresh = true }) now.member past e
 
--- a step tells its entry, where it counts the steps that it makes
+-- a step adds its entry, if it counts the steps that it makes
 pub acts_step : (v now : View) (past : Course) (e : Step) → Begins v.course past → (IsWhole v.member.share → past ≡ v.course) → Sees v e.then.object → Begins e.then.object e.next.object
     → ((x : ℕ) → steps_in x e.next.object + steps_by x v.own.made ≡ steps_in x e.then.object + steps_by x now.own.made) → Acts v (e ∷ []) now (stepped v now past e)
 acts_step v now past e follows newest sees grows counts = record {
@@ -75,7 +75,7 @@ pub may_as : (v w : View) → w.own.held ≡ v.own.held → w.own.serves ≡ v.o
 may_as v w held serve on x (inl h) = inl (ap (λ (l : List Bool). get_or l x false) held ∙ h)
 may_as v w held serve on x (inr h) = inr (h.0, ap (λ (l : List Bool). get_or l h.0 false) serve ∙ h.1, ap (λ (l : List (Option ℕ)). get_or l h.0 None) on ∙ h.2)
 
--- one look behind what the hand did
+-- one look after what the hand did
 pub then_found : (u v w now : View) (xs : List Step) (word found : ℕ) → now.member ≡ u.member → Acts u xs now v → Found v word found w → Acts u (xs ++ load word found w.seen ∷ []) (quiet now) w
 then_found u v w now xs word found member a f = let b = f.acts in
     acts_on u v w now (quiet v) (quiet now) xs (load word found w.seen ∷ []) (ap (λ (z : View). z.member.share) a.has ∙ ap (λ (m : Part). m.share) member) a b (b.has ∙ ap (λ (z : View). seen_as (quiet z) w) a.has)
@@ -84,7 +84,7 @@ then_found u v w now xs word found member a f = let b = f.acts in
 pub acts_two : (u v w : View) (i r j s : ℕ) → Found u i r v → Found v j s w → Acts u (load i r v.seen ∷ load j s w.seen ∷ []) (quiet u) w
 acts_two u v w i r j s a b = then_found u v w (quiet u) (load i r v.seen ∷ []) j s refl a.acts b
 
--- what the hand did behind looks, of which it says no more than of what it had
+-- what the hand did after looks, of which it says no more than of what it had
 pub then_acts : (u v w : View) (leaves : View → View) (xs ys : List Step) → Acts u xs (quiet u) v → Acts v ys (leaves v) w → seen_as (leaves (seen_as (quiet u) v)) w ≡ seen_as (leaves u) w → Acts u (xs ++ ys) (leaves u) w
 then_acts u v w leaves xs ys a b same = acts_on u v w (quiet u) (leaves v) (leaves u) xs ys (ap (λ (z : View). z.member.share) a.has) a b (b.has ∙ (ap (λ (z : View). seen_as (leaves z) w) a.has ∙ same))
     (λ x low before after. may_as u v (ap (λ (z : View). z.own.held) a.has) (ap (λ (z : View). z.own.serves) a.has) (ap (λ (z : View). z.own.on) a.has) x before)

@@ -25,7 +25,7 @@ pub order_opened : (T : Subject (List Event)) (own : Having) → (o : AreOrdered
 order_opened T own = let t = order_first T own [] in let w : View = first_of own [] in
     (order_split T [] (opened []) (w ∷ []) 0 w own own w.member w.member t refl, split_order T [] (opened []) (w ∷ []) 0 w own own w.member w.member t refl ∙ first_order T own [])
 
--- a join comes behind all steps
+-- a join comes after all steps
 pub order_joined : (T : Subject (List Event)) (now : Past) (views : List View) (joiner : View) (id other : ℕ) (v w : View) → AreJoins now.object joiner.steps → AreOrdered T [] now (joiner ∷ views) → IsReal T (joining now id other)
     → get_elem? views id ≡ some v → get_elem? views other ≡ some w → other ≢ id
     → (next : View) × AreJoins (now.object ++ events.Join id other ∷ []) next.steps × AreOrdered T [] (joining now id other).next (next ∷ set (set views id (both v w)) other (emptied v))

@@ -21,7 +21,7 @@ none_joined hand event plain = refl
 pub none_uncounted : (v : View) → v.own.fresh ≡ true → uncounted v ≡ 0
 none_uncounted v fresh = ap (λ (z : Bool). if z then 0 else (if v.member.ends == 0 then 0 else 1)) fresh
 
--- of a hand that stands
+-- of a hand that exists
 uncounted_by : (v : View) → 1 ≤ v.member.ends → uncounted v ≡ (if v.own.fresh then 0 else 1)
 uncounted_by v live = ap (λ (z : Bool). if v.own.fresh then 0 else (if z then 0 else 1)) (ne_eqb v.member.ends 0 (λ z. omega arith))
 
@@ -31,7 +31,7 @@ one_uncounted v stale live = uncounted_by v live ∙ ap (λ (z : Bool). if z the
 pub same_uncounted : (v w : View) → w.own.fresh ≡ v.own.fresh → 1 ≤ v.member.ends → 1 ≤ w.member.ends → uncounted w ≡ uncounted v
 same_uncounted v w same live live' = uncounted_by w live' ∙ (ap (λ (z : Bool). if z then 0 else 1) same ∙ sym (uncounted_by v live))
 
--- how often a hand was joined: once, where it doesn't stand any more
+-- how often a hand was joined: once, if it no longer exists
 abbrev gone : View → ℕ
 gone v = if v.member.ends == 0 then 1 else 0
 
@@ -66,7 +66,7 @@ joined_event past event views plain j = let same : (hand : ℕ) → times_joined
   strange = λ hand far. same hand ∙ j.strange hand far;
 }
 
--- a step of a hand that stands
+-- a step of a hand that exists
 pub joined_set : (past : List Event) (views : List View) (id : ℕ) (v w : View) → get_elem? views id ≡ some v → 1 ≤ v.member.ends → 1 ≤ w.member.ends → w.member.joins + uncounted w ≡ v.member.joins + uncounted v
     → AreJoined past views → AreJoined past (set views id w)
 joined_set past views id v w at live live' same j = are_joined past (set views id w)

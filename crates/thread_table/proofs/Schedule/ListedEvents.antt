@@ -8,7 +8,7 @@ use Rattle.event_theory.specs.declared.event.Event.TheVariants as events
 use Rattle.thread_table.specs.Schedules.{after, begun, state_after}
 use Rattle.std.specs.Prelude.{◌==◌}
 
--- what stands behind the first event
+-- the list after the first event
 pub by_join : (b : Bool) (x : Made) (a c d : List Made) → a ≡ c ++ d → (if b then a else (x ∷ a)) ≡ (if b then c else (x ∷ c)) ++ d
 by_join true x a c d e = e
 by_join false x a c d e = ap (λ ys. x ∷ ys) e

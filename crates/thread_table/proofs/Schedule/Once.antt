@@ -90,7 +90,7 @@ counted_done past allowed x =
 pub done_grows : (past events : List Event) → Begins past events → IsAllowed events → (element : ℕ) → done_at past element ≤ done_at events element
 done_grows past events b new x = omega (arith, counted_done past (allowed_before past events b new) x, counted_done events new x, many_more (is_done x) past b.0, ap (count_by (is_done x)) b.1)
 
--- it counts the step behind so many
+-- it counts the step after so many
 abbrev counts_it : ℕ → ℕ → Made → Bool
 counts_it x n m = counts_step x m && eqb (n + 1) (m.number + 1)
 

@@ -43,7 +43,7 @@ module _ (first : ℕ) where
   in_order m n [] p = tt
   in_order m n (e ∷ es) p = let l = reach_leads m e.then p.0 in (l.0, l.1, in_order e.next n es p.2)
 
--- the entries that a call added are passed behind what the hand had seen
+-- the entries that a call added are passed after what the hand had seen
 pub adds_pass : (v w : View) (entries : List Step) → IsHonest v → IsHonest w → Adds v entries w → Passes (of_hands w.own.first) v.seen entries w.seen
 adds_pass v w entries hv hw a = passes_led (of_hands w.own.first) v w entries hv.list.leads hw.list a
 
@@ -97,6 +97,6 @@ begins_grow first m n p (e ∷ es) c r a b = by (λ z x y. begins_grow first e.n
 pub honest_grows : (v : View) → IsHonest v → (p : List Event) → Begins p v.seen.object → Grows (elements_after p) (elements_after v.seen.object)
 honest_grows v h p b = begins_grow v.own.first (opened v.first) v.seen p v.course h.list.leads h.list.real (p, ap (λ (z : List Event). z ++ p) h.first) b
 
--- what two hands' lists tell, of which each is true
+-- a consequence of two hands' lists, of which each is true
 pub both_told : (old new : Hand) (P : Type 0) → (IsHonest (view_of old) → IsHonest (view_of new) → P) → ∥ P ∥₁
 both_told old new P tells = ∥∥₁_elim old.told squash₁ (λ (x : IsHonest (view_of old)). ∥∥₁_map new.told (λ h. tells x h))

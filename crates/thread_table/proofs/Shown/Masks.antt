@@ -9,7 +9,7 @@ none_is (Some n) is = absurd (true≢false is)
 one_bit : (q : ℕ) → q < PROCESSORS → 1 * 2 ^ q % 256 ≡ 2 ^ q
 one_bit q below = let bounded : 2 ^ q < 256 = pow-lt {i = q} {j = 8} below in omega arith
 
--- where the hand serves the processor and has nothing there, the same goes for all processors of the mask
+-- if the hand serves the processor and has nothing on it, this holds of each processor of the processor's mask
 pub one_empty : (v : View) (processor q : ℕ) → q ≡ processor → q < PROCESSORS → serves v processor ≡ true → is_some (running v processor) ≡ false
     → (p : ℕ) → p < PROCESSORS → is_in (1 * 2 ^ q % 256) p ≡ true → (serves v p ≡ true) × (running v p ≡ None)
 one_empty v processor q same known served empty p below is = ⊎_elim

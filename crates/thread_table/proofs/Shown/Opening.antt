@@ -14,7 +14,7 @@ use Rattle.thread_table.proofs.Schedule.ListedEvents.{made_first}
 use Rattle.thread_table.proofs.Lists.Copies.{length-copies, get_or-copies, slice_get-copies_by}
 use Rattle.thread_table.proofs.Schedule.Schedules.{after_none, elements_of, grows_refl}
 
--- what stands for no element on a processor
+-- the entry that is used for no element on a processor
 abbrev no_hold : Option Hold
 no_hold = None
 

@@ -60,7 +60,7 @@ acts_none v = record {
   rises = λ e. omega arith;
 }
 
--- what was put where nothing stood, and then taken off again
+-- an element was put on a processor that had none, and was then taken off again
 pub on_back : (xs : List (Option ℕ)) (p e : ℕ) → get_or xs p None ≡ None → set (set xs p (Some e)) p None ≡ xs
 on_back [] p e none = refl
 on_back (x ∷ xs) zero e none = ap (λ y. y ∷ xs) (sym none)

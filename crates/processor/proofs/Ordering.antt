@@ -13,7 +13,7 @@ use Rattle.processor.specs.Points.{GateSaw, points_out}
 use Rattle.processor.specs.Sights.{Sights}
 use Rattle.processor.specs.Turns.{CameOf}
 
--- a try between two looks at its queue, behind the reading of a ticket of the wait queue
+-- a try between two looks at its queue, after the reading of a ticket of the wait queue
 pub tried_between : (S : Sights) (wait wait' : Option ℕ) (queue : QueueIndex) (old hand : Hand) (small small' : List (QueueEnd 64)) (large large' : List (QueueEnd 256)) → wait ≡ wait' → count_of hand ≡ behind_ticket wait (count_of old)
     → QueueShown S hand queue small large → QueueShown S hand queue small' large' → QueueStood S (behind_ticket wait' (count_of old)) queue small small' large large'
 tried_between S wait wait' queue old hand small small' large large' is counted before after = record {
@@ -51,7 +51,7 @@ turns_more S T shared p number (first ∷ log) entry old mid new g h g' t turn s
     shift : (a b : ℕ) → a + suc b ≡ suc a + b
     shift a b = omega arith
 
--- what came of turns in order came of them
+-- the result of turns in order is the result of the turns
 came_of : (S : Sights) (shared : Shared) (p : ℕ) (outcome : Outcome) (line : List ℕ) (old new : Parts) → CameInOrder S shared p outcome line old new → CameOf shared p outcome line old new
 came_of S shared p (outcomes.Idle idle) line old new c = c
 came_of S shared p (outcomes.Had begun had) line old new c = (c.0, c.1, c.2)

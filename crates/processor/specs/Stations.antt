@@ -7,11 +7,11 @@ use Rattle.thread_table.specs.Handles as threads
 use Rattle.processor.specs.declared.shared.Shared.{Shared}
 use Rattle.processor.specs.declared.station.Parts.{Parts}
 
--- no signal of any element
+-- the masks of 64 elements, with no signal
 abbrev pub no_signals : List ℕ
 no_signals = repeat 64 (0 ∷ [])
 
--- nothing was heard, and no signal delivered
+-- nothing was heard, and no signal was delivered
 pub record IsUnused (parts : Parts) : Type 0 where
   pub heard : parts.heard.lines ≡ []
   pub signals : parts.signals ≡ no_signals
@@ -24,7 +24,7 @@ pub record ArePartsOf (shared : Shared) (parts : Parts) : Type 0 where
   pub chains : AreChainEndsOf shared.chains.items parts.chains.items
   pub meters : meters.IsSeatOf shared.meters parts.meters
 
--- they are the same ends of the same objects
+-- both have the same ends of the same objects
 pub record AreSameParts (old new : Parts) : Type 0 where
   pub hand : threads.IsSameHand old.hand new.hand
   pub small : AreSameEnds old.small.items new.small.items

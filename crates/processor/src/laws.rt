@@ -1,5 +1,5 @@
-//! What a plan keeps for its processors: room for each line that is heard, and objects for each step. And what they did
-//! adds up.
+//! What a plan keeps for its processors: room for each line that is heard, and objects for each step. What the
+//! processors did adds up.
 ghost use Rattle.std.specs.Prelude.{◌≡◌, ◌≤◌, ℕ, List, length, Some};
 ghost use Rattle.boot_data.specs.Hearing.{Key};
 ghost use Rattle.boot_data.specs.declared.boot_plan.BootPlan.{BootPlan};
@@ -23,8 +23,7 @@ pub fn steps_fit()
     ensures few { (plan : BootPlan) (thread : ℕ) → length (program plan thread) ≤ 64 }
 {}
 
-/// What is done adds up, and so do shares, which add up in any order. What a split keeps and what it gives are all that
-/// there was.
+/// What is done adds up. Shares add up too, in any order. What a split keeps and what it gives make up what there was.
 pub fn accounts_add()
     ensures accounts { AddsUp nothing (λ a b. a ⊕ b) }
     ensures shares { AddsUp no_shares both_shares }

@@ -108,7 +108,7 @@ at_get [] i x d e = cc
 at_get (a ∷ l) zero x d e = cc
 at_get (a ∷ l) (suc i) x d e = at_get l i x d e
 
--- the way that was read is the one that is known to stand there
+-- the way that was read is the one that is known to be there
 pub way_read : (ways : List (Option Way)) (i : ℕ) (known way : Way) (d : Option Way) → slice_get ways i ≡ Some (Some known) → slice_index_or ways i d ≡ Some way → known ≡ way
 way_read ways i known way d at is = let e : Some known ≡ Some way = sym (at_get ways i (Some known) d at) ∙ is in cc
 

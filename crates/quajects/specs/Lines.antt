@@ -2,7 +2,7 @@
 use Rattle.std.specs.Prelude.{◌%◌, ◌^◌, ℕ, List, [], ◌∷◌, length}
 use Rattle.std.specs.List.{concat}
 
--- the line that is held, where one is held
+-- the line that is held, if one is held
 abbrev pub held_line : List ℕ → List (List ℕ)
 held_line [] = []
 held_line (x ∷ xs) = (x ∷ xs) ∷ []

@@ -97,7 +97,7 @@ impl Switch {
     ghost use Rattle.quajects.specs.declared.world.Queues.{Queues};
 
     /// A switch from the small queue with the index `from`. A line goes to the way whose key is its first item, and to
-    /// the queue with the index `to` where there is none. It holds nothing. Any queue may be the target of several
+    /// the queue with the index `to` if there is no such way. It holds nothing. Any queue may be the target of several
     /// ways, and also the source.
     ///
     /// Conditions: no two keys are the same, and the ends have claimed and taken nothing.
@@ -296,8 +296,8 @@ impl Quaject for Switch {
 
     ghost fits = { Fits };
 
-    /// With nothing held it takes a line from its source; then it puts what is held in the target that its first item
-    /// chooses. Each try is made once. `Worked` where a line was taken or put.
+    /// If nothing is held it takes a line from its source; then it puts what is held in the target that its first item
+    /// chooses. Each try is made once. Returns `Worked` if a line was taken or put.
     fn run(&mut self, world: &Queues, _note: u16) -> Ran
         requires { Fits world.now self.old }
         ensures fits { Fits world.now self.new }

@@ -7,7 +7,7 @@ use Rattle.thread_table.specs.Rules.{serves, running}
 use Rattle.turn_dispatch.specs.Holdings.{IsOn}
 use Rattle.turn_dispatch.proofs.Tallies.{adds_on, adds_before, adds_more, told_steps, told_more}
 
--- the hand has made a step, and no step was counted of what it has before and after but by the hand
+-- the hand has made a step, and only the hand counted steps of what it has before and after
 pub record Calm (v w : View) : Type 0 where
   pub fresh : w.own.fresh ≡ true
   pub calm : IsCalm v w
@@ -47,14 +47,14 @@ goes_on s t u v w a b bridge = record {
   calm = record { fresh = b.calm.fresh; calm = calm_on u v w a.keeps b.keeps a.calm.fresh a.calm.calm b.calm.calm bridge };
 }
 
--- the same, behind what adds nothing, and before it
+-- what several steps leave, if the first ones add nothing, and if the last ones add nothing
 pub goes_after : (t : Tally) (u v w : View) → Goes no_events u v → Goes t v w → Bridges u v w → Goes t u w
 goes_after t u v w a b bridge = goes_on no_events t u v w a b bridge
 
 pub goes_before : (t : Tally) (u v w : View) → Goes t u v → Goes no_events v w → Bridges u v w → Goes t u w
 goes_before t u v w a b bridge = let g = goes_on t no_events u v w a b bridge in record { keeps = g.keeps; adds = adds_before t u v w a.adds b.adds; calm = g.calm }
 
--- where what the hand holds is the same on one side
+-- if the hand holds the same elements on one side
 pub left : (u v w : View) → v.own.held ≡ u.own.held → Bridges u v w
 left u v w same e low held still = ap (λ xs. get_or xs e false) same ∙ held
 
@@ -128,7 +128,7 @@ steady more v w none up before behind g = steady_by more v w none up before behi
 pub only : (more : Tally) (v w : View) → ((e : ℕ) → told_steps e more ≡ 0) → v.own.fresh ≡ true → ∥ IsHonest v ∥₁ → ∥ IsHonest w ∥₁ → Goes more v w → w.own.held ≡ v.own.held → OnlyAdds more v w
 only more v w none up before behind g same = record { keeps = g.keeps; holds = λ e. ap (λ xs. get_or xs e false) same; adds = g.adds; steady = steady more v w none up before behind g }
 
--- what stands on a processor stays there
+-- an element on a processor stays there
 pub still_free : (p : ℕ) (v w : View) → Keeps v w → IsFree p v → IsFree p w
 still_free p v w k f = (ap (λ xs. get_or xs p false) k.serves ∙ f.0, ap (λ xs. get_or xs p None) k.on ∙ f.1)
 

@@ -1,4 +1,4 @@
--- Moves, tried again where they were lost.
+-- Moves, retried when lost.
 use Rattle.turn_dispatch.proofs.Common.{inl, ∥∥₁_elim, ℕ_set, ◌==◌, View, MoveAnswer, WaitAnswer, steps_in, made_in, done_at, has, thread_at, IsHonest, counted_done, elements_of, LostTries, Sent, HoldsUnless, LostWaits, retired, Tally, tally, no_events}
 use Rattle.std.proofs.Common.{◌≡◌, ◌≢◌, ℕ, zero, suc, ◌+◌, ◌<◌, Bool, true, false, List, [], ◌∷◌, get_or, Ok, Err, refl, sym, ap, ◌∙◌, subst, arith}
 use Rattle.std.specs.Prelude.{if◌then◌else◌}
@@ -43,7 +43,7 @@ pub sent_goes : (call ring element : ℕ) (moved : Bool) (v w : View) → ring �
 sent_goes call ring element moved v w other up s = let t = tries_look call ring element s.lost v s.before up s.tries in
     goes_after no_events v s.before w t.0 (last_goes call ring element moved s.before w other s.last) (left v s.before w t.1)
 
--- the events behind which an element was moved were allowed
+-- the events after which an element was moved were allowed
 claim_allowed : (call ring element : ℕ) (event : Event) (word : ℕ) (v w : View) → IsHonest w → (m : MovedBy call v ring element event word w) → IsAllowed m.2.object
 claim_allowed call ring element event word v w h m = let all = adds_real v w _ h m.7.adds in all.1.0.lawful
 

@@ -1,5 +1,5 @@
-//! What the calls of the thread table add to what a hand's events come to, where nothing is added here; and what all
-//! events of a closed table come to.
+//! What the calls of the thread table add to a hand's events, for calls that add nothing here; and what all events of a
+//! closed table come to.
 ghost use Rattle.std.specs.Prelude.{◌<◌, ℕ, Bool, List};
 ghost use Rattle.thread_table.specs.declared.layout.TheConstants.{ELEMENTS, PROCESSORS};
 ghost use Rattle.thread_table.specs.declared.hand.Hand.{Hand};
@@ -25,9 +25,9 @@ pub fn calls_only_add()
         → OnlyAdds no_events (view_of old) (view_of new) }
 {}
 
-/// The hand that closed a table lists all its events, and what they come to is what the closing tells of each element:
-/// its steps, its signals, and whether it is among the free. It tells of no processor and of no wait queue that there
-/// isn't; and of no processor at all where the hand serves them all and has no element on one.
+/// The hand that closed a table lists all its events, and what they come to is what the closing reports of each
+/// element: its steps, its signals, and whether it is among the free. It names only processors and wait queues that
+/// exist, and no processor at all if the hand serves them all and has no element on one.
 pub fn hands_settle()
     ensures settles { (call : ℕ) (v : View) (stands : List Place) (pcs pending : List ℕ) (stops : ℕ)
         → ClosedNow call v stands pcs pending stops → Settles (tally v.own.made) stands pcs pending }

@@ -1,4 +1,4 @@
--- What a poke tells.
+-- What the answer to a poke says.
 use Rattle.turn_io.proofs.Common.{◌≡◌, ℕ, ◌+◌, List, [], ◌∷◌, ◌++◌, map, length, sym, ap, ◌∙◌, arith, length-append, length-map, map-append, Part, ChainRefusal, ChainEnd, Ghosts, me_of, notes_taken, ChainEndWorked, idle_chain}
 use Rattle.std.proofs.lemmas.List.{append-nil}
 use Rattle.proc_chain.specs.declared.rule.Did.{Did}
@@ -17,7 +17,7 @@ none_more a b e = omega arith
 one_more : (d : Did) (position note : ℕ) → map line_of (with_run d position note).runs ≡ map line_of d.runs ++ alone note ∷ []
 one_more d position note = map-append line_of d.runs _
 
--- a note that was refused: the end did nothing, and its place among the ends stays
+-- a note that was refused: the end did nothing, and keeps its place among the ends
 refused_did : (v w : View) (r : ChainRefusal) → NotChained v r w → (w.own ≡ v.own) × (w.member ≡ v.member)
 refused_did v w Spent h = (h.3.did, h.3.member)
 refused_did v w (Full head tail) h = (h.4.did, h.4.member)

@@ -103,7 +103,7 @@ pub tables_more : {E O D : Type 0} (f : E → D) (g : O → D) (ends new : List 
 tables_more f g ends new objects i end object e more same below is =
     ap (map f) more ∙ (map-append f ends (end ∷ []) ∙ ((λ k. e k ++ same k ∷ []) ∙ (sym (map-append g (take i objects) (object ∷ [])) ∙ ap (map g) (ap (λ z. take i objects ++ z ∷ []) is ∙ sym (take_more objects i object below)))))
 
--- the element behind the first ones
+-- the element after the first ones
 pub next_of : {E : Type 0} (first rest all : List E) (x : E) → first ++ (x ∷ rest) ≡ all → (x ≡ get_or all (length first) x) × (length first < length all)
 next_of first rest all x e = subst (λ z. (x ≡ get_or z (length first) x) × (length first < length z)) e (here first, below first)
   where

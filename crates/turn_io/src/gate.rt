@@ -19,7 +19,7 @@ pub enum Point {
 
 /// What is called between the parts of a turn, with the number of the processor.
 pub trait Gate {
-    // The first gate was told this point of this processor, and became the second.
+    // The first gate was called at this point of this processor, and became the second.
     ghost told: { Self → ℕ → Point → Self → Type 0 };
 
     fn between(&mut self, p: u8, point: Point)

@@ -22,7 +22,7 @@ use Rattle.thread_table.proofs.Schedule.Schedules.{allowed_before}
 abbrev pub first_item : List ℕ → ℕ
 first_item items = get_or items 0 0
 
--- the elements that events put behind the free ones, in the order of the events
+-- the elements that events added to the free ones, in the order of the events
 abbrev pub freed : List Event → List ℕ
 freed es = map first_item (flat_map retired_by es)
 
@@ -70,7 +70,7 @@ firsts : (runs : List (List ℕ)) → AllByRecursion IsOne runs → concat runs 
 firsts [] one = refl
 firsts (items ∷ runs) one = λ i. one_item items one.0 i ++ firsts runs one.1 i
 
--- the elements that are free: some of the first, and behind them those that events put there
+-- the elements that are free: some of the first, followed by those that events put there
 pub left_is : (past : List Event) → IsAllowed past → takings_in past ≤ 64 → left (ring_at (elements_after past) 1) ≡ drop (takings_in past) (concat first_runs) ++ freed past
 unfolding IsAllowed
 left_is past allowed few =
@@ -98,7 +98,7 @@ first_gone x k low = ap (in_list x) (drop_range k 0 64) ∙ (counted_so x (range
 pub first_still : (x k : ℕ) → k ≤ x → x < 64 → in_list x (drop k (concat first_runs)) ≡ 1
 first_still x k high low = ap (in_list x) (drop_range k 0 64) ∙ (counted_so x (range_with_len (0 + k) (64 - k)) ∙ range_in (0 + k) (64 - k) x (omega arith) (omega arith))
 
--- AN ELEMENT STANDS AT ONE PLACE
+-- AN ELEMENT IS AT ONE PLACE
 
 cell_at : (ts : List Thread) (y : ℕ) → (get_or ts y new_thread).parked ≡ true → in_cell (slice_get ts y) ≡ 1
 cell_at [] y is = absurd (cc)
@@ -210,7 +210,7 @@ after_one past event = after_last begun past event
 takings_more : (a b : List Event) → takings_in (a ++ b) ≡ takings_in a + takings_in b
 takings_more a b = ap length (flat_map-append taking_by a b) ∙ length-append (flat_map taking_by a) (flat_map taking_by b)
 
--- an element does no more step once it is put behind the free ones
+-- an element does no more step once it is added to the free ones
 module _ (call : ℕ) (items : List ℕ) where
   abbrev put : Event
   put = events.Claim call names.Free items

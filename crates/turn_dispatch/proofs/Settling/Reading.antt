@@ -1,4 +1,5 @@
--- What is read off where a table's events settle: for the crates above, which know the events as those of a first hand and the rest.
+-- What follows if a table's events settle: for the crates above, which know the events as those of a first hand and the
+-- rest.
 use Rattle.turn_dispatch.proofs.Common.{eq-eqb, dite, dec_lt, ◌==◌, ◌&&◌, ◌||◌, ELEMENTS, Place, is_in, ClosedNow, View, plus, many_cons, many_more, by_bool, any_is, is_less, same_pair, IsOnceWhere, is_free, place_of, has_done, Tally, tally, behind, is_delivered}
 use Rattle.thread_table.proofs.Common.{◌≡◌, ⊎_elim, ℕ, ◌<◌, ◌≤◌, Bool, true, false, eqb_tells, List, [], ◌∷◌, ◌++◌, ◌∙◌, length, get_or, refl, sym, ap, arith, count_by, list_any}
 use Rattle.std.specs.Prelude.{if◌then◌else◌, nat_lt}
@@ -68,7 +69,7 @@ module _ (first rest : Tally) (stands : List Place) (pcs pending : List ℕ) (s 
         let taken : nat_lt x (length (first.taken ++ rest.taken)) ≡ true = is_less x (length (first.taken ++ rest.taken)) (omega arith) in
         c ∙ (s.retired (omega arith) x n low ∙ ap (λ (b : Bool). if b && is_free (place_of stands x) && (n == get_or pcs x 0) then 1 else 0) taken)
 
-    -- after the steps that are told
+    -- after the steps that are reported
     pub retired_last : is_free (place_of stands x) ≡ true → list_any (same_pair (x, get_or pcs x 0)) rest.retired ≡ true
     retired_last free = let n : ℕ = get_or pcs x 0 in
         let o : count_by (same_pair (x, n)) rest.retired ≡ 1 = once n ∙ (λ i. if free i && eq-eqb n n refl i then 1 else 0) in

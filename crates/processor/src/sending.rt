@@ -21,8 +21,7 @@ use std::sync::Wait;
 use thread_table::{Hand, ThreadTable};
 use turn_dispatch::{Waited, make_ready, retire, wait_in};
 
-/// Where an element went after its turn. If it is false, the queue has no position left, and the hand holds the
-/// element.
+/// Where an element went after its turn. On false the queue has no position left, and the hand holds the element.
 #[derive(Clone, Copy)]
 pub enum Moved {
     /// To the ready ring.

@@ -19,7 +19,7 @@ type Chain = ProcChain<Waiter>;
 
 type End = ChainEnd<Waiter>;
 
-/// How often the first run looks for the other thread's word. That comes after a fraction of these looks, or never.
+/// How often the first run looks for the other thread's word. The word comes after a fraction of these looks, or never.
 const LOOKS: u32 = 50_000_000;
 
 /// Its first run waits until another thread says, through a queue, what became of the place of its note.
@@ -103,8 +103,7 @@ fn serve_two_and_all<R: Wait>(rt: &R, chain: &Chain, end: &mut End, queue: &Queu
     }
 }
 
-/// Chains the first note, fills the chain with others, says so, and serves two notes and then all. What comes back is
-/// the ends.
+/// Chains the first note, fills the chain with others, says so, and serves two notes and then all. Returns the ends.
 fn serve_full<R: Abort + Wait>(
     rt: &R,
     chain: &Chain,
@@ -130,7 +129,7 @@ fn serve_full<R: Abort + Wait>(
 }
 
 /// Waits for the word to start, chains a note as soon as there is room, finds whether there is room for another, and
-/// says that it has. What comes back is the end, and whether there was none.
+/// says that it has. Returns the end, and whether there was none.
 fn chain_more<R: Wait>(
     rt: &R,
     chain: &Chain,

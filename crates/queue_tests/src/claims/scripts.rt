@@ -13,7 +13,7 @@ pub(crate) type Four = ClaimQueue<4>;
 /// What an end does at a queue of four places, and how it is answered.
 pub(crate) enum Act {
     Put(&'static [u64], Result<u32, ClaimRefusal>),
-    /// It puts the items, and tries again where the head is lost.
+    /// It puts the items, and retries when the head is lost.
     PutAgain(&'static [u64], Result<u32, ClaimRefusal>),
     Take(Result<u64, TakeRefusal>),
     /// It takes a line, of these items.

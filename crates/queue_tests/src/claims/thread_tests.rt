@@ -40,7 +40,7 @@ fn line_of(producer: u64, line: u64) -> ArrayVec<u64, 64> {
     items
 }
 
-/// Puts the line, again where the queue is full.
+/// Puts the line, with retries while the queue is full.
 fn put_line<R: Wait>(rt: &R, queue: &Lines, end: &mut QueueEnd<64>, items: &[u64])
     requires { IsEndOf queue.now end.old }
     ensures { IsEndOf queue.now end.new }

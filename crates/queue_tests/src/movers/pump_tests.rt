@@ -23,7 +23,7 @@ enum Act {
     Is(u64, u64, u64, usize),
 }
 
-/// A note works exactly where there is a line.
+/// A note works exactly if there is a line.
 const WITH_AND_WITHOUT_A_LINE: &[Act] = &[
     Act::Note(false),
     Act::Is(1, 0, 0, 0),
@@ -35,11 +35,11 @@ const WITH_AND_WITHOUT_A_LINE: &[Act] = &[
     Act::Take(&[104, 105, 10]),
 ];
 
-/// What fills a small queue.
+/// Items that fill a small queue.
 const FULL: &[u64] = &[7; 64];
 
-/// A line that finds the target full is held, and goes first at a later note; the line behind it stays in the source until
-/// then.
+/// A line that finds the target full is held, and goes first at a later note; the line after it stays in the source
+/// until then.
 const HELD_UNTIL_THERE_IS_ROOM: &[Act] = &[
     Act::Fill(FULL),
     Act::Put(&[104, 105, 10]),

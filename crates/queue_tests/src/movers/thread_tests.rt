@@ -226,7 +226,7 @@ fn heard(queues: &Queues, reader: QueueEnd<256>, rest: QueueEnd<64>) -> Hearing
     hearing
 }
 
-/// How many bytes the two were refused.
+/// How many bytes of the two were refused.
 fn overruns(one: &RawTty, other: &RawTty) -> u64 {
     one.overruns().wrapping_add(other.overruns())
 }

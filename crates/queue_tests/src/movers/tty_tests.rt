@@ -29,11 +29,11 @@ enum Act {
     Is(u64, u64, usize),
 }
 
-/// What fills a line queue or a screen queue.
+/// Items that fill a line queue or a screen queue.
 const FULL: &[u64] = &[7; 256];
 
-/// A full line queue, and then a full screen queue: the cooked line is held, goes to the line queue at a later note, and
-/// then to the screen queue, once each. The line behind it follows.
+/// A full line queue, and then a full screen queue: the cooked line is held, goes to the line queue at a later note,
+/// and then to the screen queue, once each. The line after it follows.
 const HELD_UNTIL_THERE_IS_ROOM: &[Act] = &[
     Act::PutLine(FULL),
     Act::Type(&[120, 10]),

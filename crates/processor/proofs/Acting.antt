@@ -1,4 +1,4 @@
--- What a hand keeps over several steps, and what its events come to.
+-- The parts that a hand keeps over several steps, and the sum of its events.
 use Rattle.processor.proofs.Common.{◌≡◌, inr, ℕ, zero, suc, true, List, [], ◌∷◌, Option, Some, None, false, get_or, set, refl, sym, ap, ◌∙◌, arith, append_assoc, append-nil, View, Keeps, serves, running, Tally, tally, behind, no_events, Adds, NeverFalls}
 use Rattle.turn_dispatch.specs.Holdings.{OnlyAdds, Steady}
 use Rattle.processor.specs.Acts.{Acts, SteadyOn}

@@ -1,4 +1,4 @@
--- What several pieces of a processor's work come to, one after the other.
+-- The account of several pieces of a processor's work, one after the other.
 use Rattle.processor.proofs.Common.{◌≡◌, ◌||◌, ◌+◌, ◌≤◌, ◌==◌, ℕ, zero, suc, Bool, true, false, List, [], ◌∷◌, ◌++◌, map, refl, sym, ap, subst, ◌∙◌, ⊎_elim, Result, Ok, Err, MatchResult, arith, append-nil, list_any-append, BootPlan, QueueIndex, Small, Large, QueueEnd, queue_account, chain_account, by_index, queue_shares, StaySound, knows_shut_at, Begun, Idle, Shows, Tally, Adds, no_events, nothing_did, did_both, view_of, done_at, Parts, nothing, ◌⊕◌, account, shown_in, seat_parted, NeverFalls, LogEntry, beginning, Climbs, HasDone, Ran, Went, numbers_of, Key, AreAtRest}
 use Rattle.std.specs.List.{All}
 use Rattle.std.proofs.lemmas.Bool.{or_cases}
@@ -26,7 +26,7 @@ use Rattle.processor.proofs.Summing.{accounts_add, dids_add, queue_sums, chain_s
 use mathlib.Core.Option.{some, some-ne-none}
 use lib.ListN.{get_elem?}
 
--- from further below they climb as well
+-- numbers that climb from a bound also climb from a lower one
 climbs_from : (xs : List ℕ) (a b c : ℕ) → a ≤ b → Climbs xs b c → Climbs xs a c
 climbs_from [] a b c low h = omega arith
 climbs_from (x ∷ xs) a b c low h = (let p = h.0 in omega arith, h.1)
@@ -161,7 +161,7 @@ turn_ran plan entry a b c t w = record {
   told = λ q h. w.told q (only (turn_told_shut q entry) h);
 }
 
--- WHAT IT LEAVES
+-- THE STATE AFTER IT
 
 no_claims : (runs : List Batch) → map line_of runs ≡ [] → InOrder runs
 no_claims runs e = subst InOrder (sym (none_of runs e)) order_none

@@ -1,4 +1,4 @@
--- What the gate was shown around a try, and turn by turn.
+-- The sights of the gate around a try, and turn by turn.
 use Rattle.processor.proofs.Common.{◌≡◌, ◌+◌, ℕ, suc, List, [], ◌∷◌, ◌++◌, Option, length, refl, ap, arith, subst, ◌∙◌, QueueEnd, QueueIndex, LogEntry, Parts, Shared, ToldTurns, Turn, view_of}
 use Rattle.std.proofs.Math.Nat.{add-zero}
 use Rattle.std.proofs.lemmas.List.{length-append}
@@ -61,7 +61,7 @@ told_of S T shared p number [] old new g g' t = t
 told_of S T shared p number (entry ∷ log) old new g g' t =
     (t.0, t.1, (t.2.0, t.2.1, came_of S shared p entry.outcome entry.line t.2.0 t.0 t.2.2), t.3, told_of S T shared p (suc number) log t.0 new t.1 g' t.4)
 
--- the same, where the lists are the same
+-- the fact for equal lists
 pub stood_as : (S : Sights) {count : Count} (queue : QueueIndex) {a a' b b' : List (QueueEnd 64)} {c c' d d' : List (QueueEnd 256)} → a ≡ a' → b ≡ b' → c ≡ c' → d ≡ d' → QueueStood S count queue a b c d → QueueStood S count queue a' b' c' d'
 stood_as S {count = count} queue {a = a} {a' = a'} {b = b} {b' = b'} {c = c} {c' = c'} {d = d} {d' = d'} x y z w stood =
     subst (λ (u : List (QueueEnd 256)). QueueStood S count queue a' b' c' u) w

@@ -23,7 +23,7 @@ same_laws = record {
   congr = λ a b z h. let p = same_is a b h in ap (λ (k : ℕ). (k == z.0) && (a.1 == z.1)) p.0 ∙ ap (λ (k : ℕ). (b.0 == z.0) && (k == z.1)) p.1;
 }
 
--- the steps of a program that hear, where the first has this number
+-- the steps of a program that hear, the first of which has this number
 abbrev keys_in : ℕ → ℕ → List Step → List Key
 keys_in thread number [] = []
 keys_in thread number (step ∷ steps) = (if is_hear step then (thread, number) ∷ [] else []) ++ keys_in thread (number + 1) steps

@@ -1,4 +1,4 @@
--- What the try of a step comes to: how it is counted, what its ends did, and what they know.
+-- The result of the try of a step: how it is counted, what its ends did, and what they know.
 use Rattle.processor.proofs.Common.{◌≡◌, ◌+◌, ◌==◌, ◌<◌, ⊎_elim, ℕ, zero, suc, Bool, true, false, cond, List, [], ◌∷◌, ◌++◌, map, length, get_or, set, Some, Result, Ok, Err, refl, sym, ap, subst, ◌∙◌, arith, if◌then◌else◌, eqb-true, eqb_tells, append-nil, QueueIndex, Small, Large, Step, QueueEnd, by_index, OnEnd, knows_shut_at, Counted, CountAnswer, IsNumber, counted_step, Tally, Adds, behind, view_of, View, done_at, Deed, SentOn, Shared, Parts, shown_in, NeverFalls, IsDeedOf, is_done, line_in, heard_by, raised_by, told_shut, FollowsStep, trying, Climbs, EndsWorked, Went, numbers_of, Key, program, step_of, Stepped, Goes, is_last}
 use Rattle.std.proofs.Common.{slice_get}
 use Rattle.std.proofs.Math.Bool.{Bool-set}
@@ -113,7 +113,7 @@ over_so : (call : ℕ) (deed : Deed) (done : Bool) (steps e n : ℕ) (moved : Mo
 over_so call deed done steps e n (moveds.Freed moved) v w g = leb-true steps (n + 1) (split done _ g.2).1
 over_so call deed done steps e n moved v w g = tt
 
--- an element that goes to the free ones did one step more
+-- an element that goes to the free ones did one more step
 gone_so : (call call' : ℕ) (deed : Deed) (done : Bool) (steps e n : ℕ) (moved : Moved) (answer : Counted) (did after u v w : View) → Goes call deed (is_last done n steps) e moved v w
     → CountAnswer call' e done did answer after → IsNumber answer e u v → n ≡ done_at u.seen.object e → n < 64 → gone moved e (done_at v.seen.object e) ≡ gone moved e (n + 1)
 gone_so call call' deed done steps e n (moveds.Freed moved) answer did after u v w g c is now low = ap (gone (moveds.Freed moved) e) (one_more done answer (split done _ g.2).0 c is)

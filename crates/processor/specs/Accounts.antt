@@ -1,4 +1,4 @@
--- What the ends of a station did, and their shares, each added up to one value.
+-- The work of a station's ends, and their shares, each added up to one value.
 use Rattle.std.specs.Prelude.{◌+◌, ◌&&◌, ◌||◌, ℕ, Bool, false, nat_lt, List, [], ◌++◌, slice_index_or}
 use Rattle.boot_data.specs.Hearing.{Line}
 use Rattle.boot_data.specs.declared.plan.QueueIndex.{QueueIndex}
@@ -50,7 +50,7 @@ abbrev pub shown_in : List ℕ → ℕ → ℕ → Bool
 shown_in masks element signal =
     nat_lt element 64 && (nat_lt signal 16 && is_in (slice_index_or masks element 0) signal)
 
--- the account of what the ends of a station did
+-- the account of the work of a station's ends
 abbrev pub account : Parts → Account
 account parts = record {
   queues = by_index (queue_account parts.small.items) (queue_account parts.large.items);

@@ -1,4 +1,4 @@
--- What a step of a thread changes at the hand that runs it, and what it leaves.
+-- The changes that a step of a thread makes at the hand that runs it, and the parts that it leaves as they were.
 use Rattle.std.specs.Prelude.{◌≡◌, ◌≤◌, ◌<◌, ℕ, true, Some}
 use Rattle.thread_table.specs.Own.{View}
 use Rattle.thread_table.specs.Keeping.{Keeps}

@@ -1,4 +1,4 @@
--- What a deed did, as parts of an account. The line is the one to be said, or the one heard.
+-- The work of a deed, as parts of an account. The line is the one to be said, or the one heard.
 use Rattle.std.specs.Prelude.{ℕ, Bool, true, false, List, [], ◌∷◌}
 use Rattle.boot_data.specs.Hearing.{Line, bytes_of}
 use Rattle.boot_data.specs.declared.plan.QueueIndex.{QueueIndex}
@@ -14,19 +14,19 @@ use Rattle.processor.specs.declared.tries.HearAnswer.TheVariants as hears
 use Rattle.processor.specs.declared.tries.SayAnswer.TheVariants as says
 use Rattle.processor.specs.Tries.{said, heard}
 
--- what a deed did at each queue
+-- the work of a deed at each queue
 abbrev pub queues_by : Deed → List ℕ → QueueIndex → AtQueue
 queues_by (deeds.Say queue answer) line = only idle_queue queue (put_if (said answer) line)
 queues_by (deeds.Hear queue answer) line = only idle_queue queue (taken_if (heard answer) line)
 queues_by (deeds.Close queue was_open readers writers) line = only idle_queue (Small queue) (shut_if was_open)
 queues_by deed line = λ queue. idle_queue
 
--- what a deed did at each chain
+-- the work of a deed at each chain
 abbrev pub chains_by : Deed → ℕ → AtChain
 chains_by (deeds.Poke mover answer) = at_one idle_chain mover (chained_if answer 0)
 chains_by deed = λ chain. idle_chain
 
--- what a deed did at the meters
+-- the work of a deed at the meters
 abbrev pub ticks_by : Deed → Did
 ticks_by (deeds.Tick gauge amount before) =
     record nothing_did { ticks = record { gauge = gauge; amount = amount } ∷ [] }

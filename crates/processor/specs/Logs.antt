@@ -1,4 +1,4 @@
--- What a processor did, turn by turn, and the account of all its turns.
+-- The work of a processor, turn by turn, and the account of all its turns.
 use Rattle.std.specs.Prelude.{◌≡◌, ◌≤◌, ◌+◌, ◌==◌, ℕ, Bool, true, List, [], ◌∷◌, map, filter, length}
 use Rattle.std.specs.List.{All, AllByRecursion, list_any}
 use Rattle.boot_data.specs.Hearing.{Key}

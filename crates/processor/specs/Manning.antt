@@ -1,4 +1,4 @@
--- A station that a processor can use, and what its turns leave unchanged.
+-- A station that a processor can use, and the parts of it that its turns leave unchanged.
 use Rattle.std.specs.Prelude.{◌≡◌, ℕ}
 use Rattle.turn_dispatch.specs.Holdings.{IsFree}
 use Rattle.thread_table.specs.Handles.{view_of}

@@ -1,4 +1,4 @@
--- What a gate is shown: a hand and an end, as they were at one moment.
+-- The pairs that a gate is shown: a hand and an end, as they were at one moment.
 use Rattle.std.specs.Prelude.{◌≡◌, ℕ, List, Some}
 use Rattle.std.specs.List.{slice_get}
 use Rattle.claim_queue.specs.declared.ends.QueueEnd.{QueueEnd}

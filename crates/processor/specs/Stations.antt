@@ -1,4 +1,4 @@
--- What a station is made of.
+-- The parts of a station.
 use Rattle.std.specs.Prelude.{◌≡◌, ℕ, List, [], ◌∷◌}
 use Rattle.std.specs.List.{repeat}
 use Rattle.turn_io.specs.EndLists.{AreEndsOf, AreSameEnds, AreChainEndsOf, AreSameChainEnds}
@@ -16,7 +16,7 @@ pub record IsUnused (parts : Parts) : Type 0 where
   pub heard : parts.heard.lines ≡ []
   pub signals : parts.signals ≡ no_signals
 
--- the ends are those of the shared objects, in their order, and no end of a chain has a Turn
+-- each end is an end of the shared object at its place, and no end of a chain has a Turn
 pub record ArePartsOf (shared : Shared) (parts : Parts) : Type 0 where
   pub hand : threads.IsHandOf shared.threads parts.hand
   pub small : AreEndsOf shared.queues.small.items parts.small.items

@@ -1,4 +1,4 @@
--- What the one try of a step did, by the deed that is its result.
+-- The effects of the one try of a step, by the deed that is its result.
 use Rattle.std.specs.Prelude.{◌≡◌, ◌<◌, ℕ, false, List, length, Option}
 use Rattle.boot_data.specs.declared.boot_plan.BootPlan.{BootPlan}
 use Rattle.boot_data.specs.declared.plan.QueueIndex.TheVariants.{Small}
@@ -50,8 +50,8 @@ WokeByHear call wait ticket (hears.Taken paid) v w = WokeFor call wait v paid.wo
 WokeByHear call wait ticket (hears.Over paid) v w = WokeFor call wait v paid.woken w
 WokeByHear call wait ticket (hears.Refused unheard) v w = (unheard.ticket ≡ ticket) × (w ≡ v)
 
--- What the hand did for a deed. For a say or a hear at a pipe a ticket was read, and then elements were woken by the
--- answer. For a shut those who wait to hear were woken first, and then those who wait for room
+-- The effect of a deed at the hand. For a say or a hear at a pipe a ticket was read, and then elements were woken by
+-- the answer. For a shut those who wait to hear were woken first, and then those who wait for room
 abbrev pub HandDid : ℕ → BootPlan → Deed → View → View → Type 0
 HandDid call plan (deeds.Say queue answer) v w = (ticket : Option Ticket) × (u : View)
     × TicketFor (writers_of (waits_at plan queue)) v ticket u
@@ -78,7 +78,7 @@ abbrev pub IsOpenHear : HearAnswer Paid → Type 0
 IsOpenHear (hears.Refused unheard) = is_over unheard.refusal ≡ false
 IsOpenHear answer = Unit {0}
 
--- what a deed did at the ends of the queues, with the line said or heard
+-- the effect of a deed at the ends of the queues, with the line said or heard
 abbrev pub QueuesDid : Deed → List ℕ → List (QueueEnd 64) → List (QueueEnd 64) → List (QueueEnd 256)
     → List (QueueEnd 256) → Type 0
 QueuesDid (deeds.Say queue answer) line old new old' new' =
@@ -89,13 +89,13 @@ QueuesDid (deeds.Close queue was_open readers writers) line old new old' new' =
     OnEnd queue (HasShut was_open) old new × (new' ≡ old')
 QueuesDid deed line old new old' new' = (new ≡ old) × (new' ≡ old')
 
--- what a deed did at the ends of the chains
+-- the effect of a deed at the ends of the chains
 abbrev pub ChainsDid : {Q W : Type 0} {g : Ghosts Q W} → List (ProcChain Q W) → Deed → List (ChainEnd Q W g)
     → List (ChainEnd Q W g) → Type 0
 ChainsDid chains (deeds.Poke mover answer) old new = PokedAt chains mover 0 answer old new
 ChainsDid chains deed old new = new ≡ old
 
--- what a deed did at the seat of the meters
+-- the effect of a deed at the seat of the meters
 abbrev pub SeatDid : Deed → SeatView → SeatView → Type 0
 SeatDid (deeds.Tick gauge amount before) v w = Ticked v gauge amount before w × DidTick gauge amount v w
 SeatDid deed v w = w ≡ v

@@ -1,4 +1,4 @@
-//! Where an element goes after its step.
+//! The queue to which an element goes after its step.
 //!
 //! The type keeps an order: an element goes on after the try and the count of its step. A `SentOn`, the result of the
 //! element's turn, contains the `Tried` that only the count makes; so no `SentOn` exists before the count.
@@ -21,7 +21,8 @@ use std::sync::Wait;
 use thread_table::{Hand, ThreadTable};
 use turn_dispatch::{Waited, make_ready, retire, wait_in};
 
-/// Where an element went after its turn. On false the queue has no position left, and the hand holds the element.
+/// The queue to which an element went after its turn. On false the queue has no position left, and the hand holds the
+/// element.
 #[derive(Clone, Copy)]
 pub enum Moved {
     /// To the ready ring.
@@ -34,7 +35,7 @@ pub enum Moved {
     Ticketed(Waited),
 }
 
-/// The result of a step, and where its element went after it.
+/// The result of a step, and the queue to which its element went after it.
 #[derive(Drop)]
 pub struct SentOn {
     tried: Tried,

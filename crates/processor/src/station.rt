@@ -14,8 +14,8 @@ use quajects::AnyQuaject;
 use std::alloc::Global;
 use thread_table::Hand;
 
-/// What a station is made of, and what its processor heard, as bytes, and was signalled: bit s of the number e is set
-/// for signal s of element e.
+/// The parts of a station: its ends, the lines that its processor heard, as bytes, and the signals that it delivered:
+/// bit s of the number e is set for signal s of element e.
 #[derive(Drop)]
 pub struct Parts {
     pub hand: Hand,

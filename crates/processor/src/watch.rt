@@ -1,7 +1,7 @@
 //! A gate that is shown a hand and an end together.
 //!
-//! The code does nothing there at run time: what was shown is for the proofs alone. The types of both values are fixed,
-//! so that no proof can put another value in the place of one that was shown.
+//! The code does nothing there at run time: the shown values are for the proofs alone. The types of both values are
+//! fixed, so that no proof can put another value in the place of one that was shown.
 ghost use Rattle.processor.specs.Sights.{Sights};
 
 use claim_queue::QueueEnd;

@@ -65,7 +65,7 @@ IsKept (any.Cooked tty) = terminals.IsKept tty
 IsKept (any.Pump pump) = pumps.IsKept pump
 IsKept (any.Switch switch) = switches.IsKept switch
 
--- the quaject put nothing where it takes lines, and took nothing where it puts lines
+-- the quaject put nothing at an end at which it takes lines, and took nothing at an end at which it puts lines
 abbrev pub KeepsSides : AnyQuaject → Type 0
 KeepsSides (any.Cooked tty) = terminals.KeepsSides tty
 KeepsSides (any.Pump pump) = pumps.KeepsSides pump

@@ -1,4 +1,4 @@
--- What a quaject holds, as a line.
+-- The line that a quaject holds.
 use Rattle.std.specs.Prelude.{◌%◌, ◌^◌, ℕ, List, [], ◌∷◌, length}
 use Rattle.std.specs.List.{concat}
 

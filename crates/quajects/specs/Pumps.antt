@@ -58,7 +58,7 @@ pub record IsNew (from : ℕ) (source : QueueEnd 64) (to : ℕ) (target : QueueE
 abbrev pub IsKept : Pump → Type 0
 IsKept pump = lines_taken (view_of (source_of pump)) ≡ lines_put (view_of (target_of pump)) ++ held_line (held_of pump)
 
--- the pump put nothing where it takes lines, and took nothing where it puts lines
+-- the pump put nothing at its source, and took nothing at its target
 abbrev pub KeepsSides : Pump → Type 0
 KeepsSides pump = (lines_put (view_of (source_of pump)) ≡ []) × (lines_taken (view_of (target_of pump)) ≡ [])
 

@@ -95,7 +95,7 @@ pub record IsGiven (given : Given) (way : Option Way) : Type 0 where
   pub end : end_of way ≡ given_end given
   pub none : puts_of way ≡ []
 
--- of the lines taken the chosen ones are the lines put here, followed by the held line if it is chosen
+-- the chosen lines of those taken are the lines put here, followed by the held line if it is chosen
 abbrev pub Routed : (List ℕ → Bool) → List (List ℕ) → List ℕ → List (List ℕ) → Type 0
 Routed chosen taken held puts = filter chosen taken ≡ puts ++ filter chosen (held_line held)
 

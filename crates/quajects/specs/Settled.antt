@@ -1,4 +1,4 @@
--- What was put in a closed queue and taken from it, by the lines of all its ends.
+-- The items put in a closed queue and taken from it, by the lines of all its ends.
 use Rattle.std.specs.Prelude.{◌≡◌, ◌-◌, ◌<◌, ℕ, List, ◌∷◌, map, drop, length, Option, Some}
 use Rattle.std.specs.List.{All, flat_map, sum_by}
 use Rattle.claim_queue.specs.declared.ends.QueueEnd.{QueueEnd}
@@ -27,10 +27,11 @@ shuts_of v = v.own.shuts
 abbrev pub HasRaised : View → Type 0
 HasRaised v = AllRaised v.own.runs
 
--- what the end claimed, and what it took, with their positions
+-- the runs that the end claimed, with their positions
 abbrev pub runs_of : View → List Batch
 runs_of v = v.own.runs
 
+-- the stretches that the end took, with their positions
 abbrev pub takings_of : View → List Batch
 takings_of v = v.own.takes
 

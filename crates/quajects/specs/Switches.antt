@@ -84,7 +84,7 @@ pub record IsKept (switch : Switch) : Type 0 where
   pub rest : RoutesRest switch.ways (lines_taken (view_of (source_of switch))) (held_of switch)
       (lines_put (view_of (other_of switch)))
 
--- the switch put nothing where it takes lines, and took nothing where it puts lines
+-- the switch put nothing at its source, and took nothing at its targets
 abbrev pub KeepsSides : Switch → Type 0
 KeepsSides switch = (lines_put (view_of (source_of switch)) ≡ [])
     × (lines_taken (view_of (other_of switch)) ≡ []) × AllByRecursion TookNothing switch.ways

@@ -85,7 +85,7 @@ pub record IsKept (tty : CookedTty) : Type 0 where
       ≡ lines_put (view_of (line_of tty)) ++ (if is_in_line tty then [] else held_line (held_of tty))
   pub full : is_in_line tty ≡ true → held_of tty ≢ []
 
--- the tty put nothing where it takes lines, and took nothing where it puts lines
+-- the tty put nothing in the raw queue, and took nothing from the line queue and the screen queue
 abbrev pub KeepsSides : CookedTty → Type 0
 KeepsSides tty = (lines_put (view_of (raw_of tty)) ≡ [])
     × (lines_taken (view_of (line_of tty)) ≡ []) × (lines_taken (view_of (screen_of tty)) ≡ [])

@@ -131,7 +131,7 @@ impl Quaject for AnyQuaject {
 
     ghost fits = { Fits };
 
-    /// What its kind does for a note.
+    /// The run of a note, by its kind.
     fn run(&mut self, world: &Queues, note: u16) -> Ran
         requires { Fits world.now self.old }
         ensures fits { Fits world.now self.new }

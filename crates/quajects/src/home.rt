@@ -10,9 +10,9 @@ use crate::ports::Port;
 use proc_chain::{ChainEnd, OpenEnds, ProcChain};
 use std::snapshot::Snapshot;
 
-/// What comes home from a chain: the quaject's ends with the indexes of their queues, in the order of its `new`, and
-/// its numbers. `chained` notes were put in the chain, `left` of them were not run. Only `retire` makes one, nobody
-/// changes it, and it comes apart by one call alone.
+/// The parts that come home from a chain: the quaject's ends with the indexes of their queues, in the order of its
+/// `new`, and its numbers. `chained` notes were put in the chain, `left` of them were not run. Only `retire` makes one,
+/// nobody changes it, and it comes apart by one call alone.
 #[derive(Drop)]
 pub struct Home {
     small: [Option<Port<64>>; 6],
@@ -59,7 +59,7 @@ type Chain = ProcChain<AnyQuaject>;
 
 type End = ChainEnd<AnyQuaject>;
 
-// What a quaject brings home, with this many notes chained and this many left.
+// The home of a quaject, with this many notes chained and this many left.
 fn home_of(quaject: AnyQuaject, chained: u32, left: usize) -> Home
     ensures { IsHome quaject chained left result }
 {

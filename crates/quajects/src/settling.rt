@@ -1,4 +1,4 @@
-//! Closing a queue whose ends come back from several owners.
+//! Closing a queue whose ends are returned from several owners.
 ghost use Rattle.std.specs.Prelude.{◌≡◌, IfOk, IfErr, MatchResult};
 ghost use Rattle.std.specs.List.{All, sum_by};
 ghost use Rattle.table_theory.specs.Sharing.{IsWhole};

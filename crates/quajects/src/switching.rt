@@ -157,7 +157,7 @@ impl Switch {
         self.held.len()
     }
 
-    /// The ends, in the order of `new`, and None where there is no way.
+    /// The ends, in the order of `new`, and None for a way that doesn't exist.
     pub fn into_ends(self) -> [Option<QueueEnd<64>>; 6]
         ensures { result ≡ Some (source_of self) ∷ Some (other_of self) ∷ way_ends self }
     {
@@ -172,7 +172,7 @@ impl Switch {
         ]
     }
 
-    // The ends with their indexes, in the order of `new`, and None where there is no way.
+    // The ends with their indexes, in the order of `new`, and None for a way that doesn't exist.
     pub(crate) fn into_ports(self) -> [Option<Port<64>>; 6]
         ensures { result ≡ Some (source_port self) ∷ Some (other_port self) ∷ way_ports self }
     {

@@ -6,8 +6,8 @@ use claim_queue::{ClaimQueue, QueueEnd};
 use event_theory::OutOfMemory;
 use std::alloc::Global;
 
-/// What the quajects work on, and do not own: the small queues, and the large ones, which are the line and screen
-/// queues of ttys. A queue is named by its index in one of the two lists.
+/// The queues on which the quajects work, and which they do not own: the small queues, and the large ones, which are
+/// the line and screen queues of ttys. A queue is named by its index in one of the two lists.
 #[derive(Drop)]
 pub struct Queues {
     pub small: Vec<ClaimQueue<64>>,

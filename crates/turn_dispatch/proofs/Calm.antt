@@ -1,4 +1,4 @@
--- What a hand keeps over several steps, what they add, and that no step is counted of what it has.
+-- The parts that a hand keeps over several steps, what the steps add, and that none of its elements is counted a step.
 use Rattle.turn_dispatch.proofs.Common.{inl, inr, ∥∥₁_elim, ℕ_set, append-nil, Made, View, steps_in, MayStep, done_at, has, IsHonest, quiet, counted_done, IsFree, OnlyAdds, Steady, Tally, tally, behind, no_events, Adds}
 use Rattle.std.proofs.Common.{◌≡◌, ℕ, ◌+◌, ◌<◌, true, false, List, [], ◌++◌, get_or, Some, None, refl, sym, ap, ◌∙◌, arith}
 use Rattle.thread_table.specs.Entries.{Step, Acts, IsCalm}
@@ -12,7 +12,7 @@ pub record Calm (v w : View) : Type 0 where
   pub fresh : w.own.fresh ≡ true
   pub calm : IsCalm v w
 
--- its processors are as they were, and the events come to this
+-- its processors are unchanged, and its events add this
 pub record Goes (more : Tally) (v w : View) : Type 0 where
   pub keeps : Keeps v w
   pub adds : Adds more v w
@@ -112,7 +112,7 @@ steps_more more v w e up adds calm low may after =
 pub done_is : (v : View) (e : ℕ) → ∥ IsHonest v ∥₁ → done_at v.seen.object e ≡ steps_in e v.seen.object
 done_is v e told = ∥∥₁_elim told (ℕ_set (done_at v.seen.object e) (steps_in e v.seen.object)) (λ (h : IsHonest v). counted_done v.seen.object h.allowed e)
 
--- where no step was counted
+-- if no step was counted
 pub steady_by : (more : Tally) (v w : View) → ((e : ℕ) → told_steps e more ≡ 0) → v.own.fresh ≡ true → ∥ IsHonest v ∥₁ → ∥ IsHonest w ∥₁ → Adds more v w → IsCalm v w → Steady v w
 steady_by more v w none up before behind adds calm e low may after =
     let s = steps_more more v w e up adds calm low may after in
@@ -124,11 +124,11 @@ steady_by more v w none up before behind adds calm e low may after =
 pub steady : (more : Tally) (v w : View) → ((e : ℕ) → told_steps e more ≡ 0) → v.own.fresh ≡ true → ∥ IsHonest v ∥₁ → ∥ IsHonest w ∥₁ → Goes more v w → Steady v w
 steady more v w none up before behind g = steady_by more v w none up before behind g.adds g.calm.calm
 
--- all that the hand had, and the events
+-- the hand keeps all that it had, and its events add this
 pub only : (more : Tally) (v w : View) → ((e : ℕ) → told_steps e more ≡ 0) → v.own.fresh ≡ true → ∥ IsHonest v ∥₁ → ∥ IsHonest w ∥₁ → Goes more v w → w.own.held ≡ v.own.held → OnlyAdds more v w
 only more v w none up before behind g same = record { keeps = g.keeps; holds = λ e. ap (λ xs. get_or xs e false) same; adds = g.adds; steady = steady more v w none up before behind g }
 
--- an element on a processor stays there
+-- a free processor stays free, and an element on a processor stays there
 pub still_free : (p : ℕ) (v w : View) → Keeps v w → IsFree p v → IsFree p w
 still_free p v w k f = (ap (λ xs. get_or xs p false) k.serves ∙ f.0, ap (λ xs. get_or xs p None) k.on ∙ f.1)
 

@@ -1,4 +1,4 @@
--- What events come to, one after the other.
+-- The sum of events, one after the other.
 use Rattle.turn_dispatch.proofs.Common.{cond, ◌==◌, flat_map-append, append-nil, sum_by-append, is_done, Made, View, Tally, tally, behind, no_events, Adds, step_by}
 use Rattle.std.proofs.Common.{◌≡◌, ◌+◌, ℕ, List, [], ◌∷◌, ◌++◌, refl, sym, ap, ◌∙◌, subst, arith}
 use Rattle.std.specs.Prelude.{count_by, flat_map}

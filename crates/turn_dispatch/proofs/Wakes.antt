@@ -146,7 +146,7 @@ sending_ready call call' taken ready n v u w low same s member sent = rw (one_bi
   above = λ m past. ap (λ k. eqb k 1) (bit_set_other ready n m (λ is. omega arith)) ∙ s.above m (omega arith);
 })
 
--- the next element of the mask is held still
+-- the hand still holds the next element of the mask
 pub still_held : (call taken ready n : ℕ) (v w : View) → n < 64 → v.own.fresh ≡ true → CanWake taken v → Sending call taken ready n v w → is_in taken n ≡ true → has w n ≡ true
 still_held call taken ready n v w low up can s member = (ready_to call (record { taken = taken; ready = ready }) v w n (omega arith) up can s.sent).next n low (omega arith) ∙ can n low member
 

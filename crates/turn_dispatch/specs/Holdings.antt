@@ -1,4 +1,4 @@
--- What a hand has, and what it keeps.
+-- The state of a hand, and the parts of it that the hand keeps.
 use Rattle.std.specs.Prelude.{◌≡◌, ◌<◌, ◌||◌, ℕ, true, List, slice_index_or, Option, Some, None}
 use Rattle.thread_table.specs.declared.layout.TheConstants.{ELEMENTS}
 use Rattle.thread_table.specs.Own.{View}

@@ -1,4 +1,4 @@
--- What all events of a thread table come to, by what its closing reports of each element.
+-- The sum of all events of a thread table, by what its closing reports of each element.
 use Rattle.std.specs.Prelude.{◌≡◌, ◌≢◌, ◌==◌, ◌&&◌, ◌||◌, ◌<◌, ◌≤◌, ℕ, Bool, true, false, nat_lt, if◌then◌else◌}
 use Rattle.std.specs.Prelude.{List, length, slice_index_or, count_by}
 use Rattle.std.specs.List.{list_any}

@@ -1,4 +1,4 @@
--- What the events in a hand's list come to: the steps that it counted, the signals that it raised and delivered, the
+-- The sum of the events in a hand's list: the steps that it counted, the signals that it raised and delivered, the
 -- elements that it added to the free ones, and its takings of free elements.
 use Rattle.std.specs.Prelude.{◌≡◌, ◌==◌, ◌&&◌, ℕ, zero, suc, Bool, List, [], ◌∷◌, ◌++◌, map, slice_index_or}
 use Rattle.std.specs.Prelude.{flat_map}

@@ -1,4 +1,4 @@
--- What tending the alarms does: the clock advances, and the signals of the alarms that are due are raised.
+-- Tending the alarms: the clock advances, and the signals of the alarms that are due are raised.
 use Rattle.std.specs.Prelude.{◌≡◌, ℕ, List, [], ◌∷◌, ◌++◌, Result, Ok, Err, MatchResult}
 use Rattle.event_theory.specs.declared.alarm.Alarm.{Alarm}
 use Rattle.meters.specs.declared.gauges.AdvanceRefusal.{AdvanceRefusal}

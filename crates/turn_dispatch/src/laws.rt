@@ -1,5 +1,5 @@
-//! What the calls of the thread table add to a hand's events, for calls that add nothing here; and what all events of a
-//! closed table come to.
+//! The sum of a hand's events after calls of the thread table that add nothing here; and the sum of all events of a
+//! closed table.
 ghost use Rattle.std.specs.Prelude.{◌<◌, ℕ, Bool, List};
 ghost use Rattle.thread_table.specs.declared.layout.TheConstants.{ELEMENTS, PROCESSORS};
 ghost use Rattle.thread_table.specs.declared.hand.Hand.{Hand};
@@ -13,8 +13,8 @@ ghost use Rattle.turn_dispatch.specs.Holdings.{OnlyAdds, IsFree};
 ghost use Rattle.turn_dispatch.specs.Settlings.{Settles, IsNamed, NoneOn, place_of};
 ghost use Rattle.turn_dispatch.specs.Tallies.{tally, no_events, one_signal};
 
-/// A stop, a signal and the reading of a ticket leave to a hand all that it has, and no step is counted of it; a signal
-/// adds one signal.
+/// A stop, a signal and the reading of a ticket leave to a hand all that it has, and count no step of its elements. A
+/// signal adds one signal.
 pub fn calls_only_add()
     ensures stops { (call element : ℕ) (was : Bool) (old new : Hand)
         → StoppedNow call (view_of old) element was (view_of new) → OnlyAdds no_events (view_of old) (view_of new) }

@@ -1,6 +1,6 @@
-//! What a turn of a processor does with a thread element: it takes one from the ready ring, parks it or delivers its
-//! signals, puts it on the processor, counts its step, takes it off and moves it on. Also what its steps do with other
-//! thread elements: they wake, start, and tend the alarms.
+//! The work of a processor's turn at a thread element: it takes one from the ready ring, parks it or delivers its
+//! signals, puts it on the processor, counts its step, takes it off and moves it on. Also the work of its steps at
+//! other thread elements: they wake, start, and tend the alarms.
 //!
 //! Each function here is a sequence of the calls of `thread_table` and `meters` with one hand and one seat. Moves are
 //! retried if another hand was first. Each contract says step by step what was done and why it wasn't, what the hand

@@ -1,4 +1,4 @@
--- What ends did at queues and chains, as a sum: the lines, the shuts and the notes, regardless of which end did them
+-- The work of ends at queues and chains, as a sum: the lines, the shuts and the notes, regardless of which end did them
 -- and by how many steps. A queue is named by the plan's index.
 use Rattle.std.specs.Prelude.{◌≡◌, ◌==◌, ◌+◌, ℕ, if◌then◌else◌, Bool, List, [], ◌++◌, map, length, slice_index_or}
 use Rattle.std.specs.Prelude.{◌∷◌, Result, Ok, Err, is_ok, true}
@@ -22,7 +22,7 @@ use Rattle.turn_io.specs.declared.poking.Poked.TheVariants.{Ran, Left}
 use Rattle.turn_io.specs.EndLists.{HasRaised, ClaimedInOrder, TookInOrder, end_knows_shut, end_share, knows_shut_at}
 use Rattle.turn_io.specs.EndLists.{chain_end_share}
 
--- what was done at one queue: the lines put, the lines taken, and how often it was shut
+-- the work at one queue: the lines put, the lines taken, and how often it was shut
 pub record AtQueue : Type 0 where
   pub put : List (List ℕ)
   pub taken : List (List ℕ)
@@ -32,11 +32,11 @@ pub record AtQueue : Type 0 where
 abbrev pub idle_queue : AtQueue
 idle_queue = record { put = []; taken = []; shuts = 0 }
 
--- what was done at a queue: first a, and then b
+-- the work a at a queue, followed by the work b
 abbrev pub both_queue : AtQueue → AtQueue → AtQueue
 both_queue a b = record { put = a.put ++ b.put; taken = a.taken ++ b.taken; shuts = a.shuts + b.shuts }
 
--- what was done at one chain: the notes chained, each in a list of its own, and how many were run
+-- the work at one chain: the notes chained, each in a list of its own, and how many were run
 pub record AtChain : Type 0 where
   pub notes : List (List ℕ)
   pub ran : ℕ
@@ -45,11 +45,11 @@ pub record AtChain : Type 0 where
 abbrev pub idle_chain : AtChain
 idle_chain = record { notes = []; ran = 0 }
 
--- what was done at a chain: first a, and then b
+-- the work a at a chain, followed by the work b
 abbrev pub both_chain : AtChain → AtChain → AtChain
 both_chain a b = record { notes = a.notes ++ b.notes; ran = a.ran + b.ran }
 
--- what an end has of its object: what it did there, and its share
+-- the stake of an end in its object: its work there, and its share
 pub record Stake (D : Type 0) : Type 0 where
   pub did : D
   pub share : ℕ
@@ -58,19 +58,19 @@ pub record Stake (D : Type 0) : Type 0 where
 abbrev pub no_stake : {D : Type 0} → D → Stake D
 no_stake none = record { did = none; share = 0 }
 
--- what two ends have together
+-- the stakes of two ends, added
 abbrev pub both_stakes : {D : Type 0} → (D → D → D) → Stake D → Stake D → Stake D
 both_stakes add a b = record { did = add a.did b.did; share = a.share + b.share }
 
--- what an end keeps after a split
+-- the stake that an end keeps after a split
 abbrev pub keep : {D : Type 0} → Stake D → Stake D
 keep stake = record stake { share = kept stake.share }
 
--- what a split gives to the new end, which did nothing
+-- the stake that a split gives to the new end, which did nothing
 abbrev pub give : {D : Type 0} → D → Stake D → Stake D
 give none stake = record { did = none; share = given stake.share }
 
--- what an end of a queue did, with its runs and takings as lines
+-- the work of an end of a queue, with its runs and takings as lines
 abbrev pub lines_of : Did → AtQueue
 lines_of did = record { put = map line_of did.runs; taken = map line_of did.takes; shuts = did.shuts }
 
@@ -78,11 +78,11 @@ lines_of did = record { put = map line_of did.runs; taken = map line_of did.take
 abbrev pub notes_of : View → AtChain
 notes_of v = record { notes = notes_put v; ran = length (notes_taken v) }
 
--- what an end of a queue has
+-- the stake of an end of a queue
 abbrev pub stake : {n : ℕ} → QueueEnd n → Stake Did
 stake end = record { did = (view_of end).own; share = (view_of end).member.share }
 
--- what the end of the queue q has
+-- the stake of the end of the queue q
 abbrev pub stakes : {n : ℕ} → List (QueueEnd n) → ℕ → Stake Did
 stakes ends q = slice_index_or (map stake ends) q (no_stake nothing_did)
 
@@ -90,15 +90,15 @@ stakes ends q = slice_index_or (map stake ends) q (no_stake nothing_did)
 abbrev pub queue_shares : {n : ℕ} → List (QueueEnd n) → ℕ → ℕ
 queue_shares ends q = (stakes ends q).share
 
--- what the end of the queue q did there
+-- the work of the end of the queue q
 abbrev pub queue_account : {n : ℕ} → List (QueueEnd n) → ℕ → AtQueue
 queue_account ends q = lines_of (stakes ends q).did
 
--- what an end of a chain has
+-- the stake of an end of a chain
 abbrev pub chain_stake : {Q W : Type 0} {g : Ghosts Q W} → ChainEnd Q W g → Stake AtChain
 chain_stake end = record { did = notes_of (chains.view_of end); share = (chains.view_of end).member.share }
 
--- what the end of the chain q has
+-- the stake of the end of the chain q
 abbrev pub chain_stakes : {Q W : Type 0} {g : Ghosts Q W} → List (ChainEnd Q W g) → ℕ → Stake AtChain
 chain_stakes ends q = slice_index_or (map chain_stake ends) q (no_stake idle_chain)
 
@@ -106,7 +106,7 @@ chain_stakes ends q = slice_index_or (map chain_stake ends) q (no_stake idle_cha
 abbrev pub chain_shares : {Q W : Type 0} {g : Ghosts Q W} → List (ChainEnd Q W g) → ℕ → ℕ
 chain_shares ends q = (chain_stakes ends q).share
 
--- what the end of the chain q did there
+-- the work of the end of the chain q
 abbrev pub chain_account : {Q W : Type 0} {g : Ghosts Q W} → List (ChainEnd Q W g) → ℕ → AtChain
 chain_account ends q = (chain_stakes ends q).did
 

@@ -1,4 +1,4 @@
--- What one step of a thread did at one end, by the answer to it.
+-- The effect of one step of a thread at one end, by the answer to the step.
 use Rattle.std.specs.Prelude.{◌≡◌, ℕ, Bool, List, [], length, Some, Result, Ok, Err}
 use Rattle.std.specs.List.{slice_get}
 use Rattle.atomic_table.specs.Table.{Me}

@@ -19,7 +19,7 @@ const POKED: u16 = 0;
 /// The result of a note that was chained.
 #[derive(Clone, Copy, Debug, PartialEq, Eq, Drop)]
 pub enum Poked {
-    /// The end got the Turn and served it to its end; so many notes were run.
+    /// The end got the Turn and served it to its end; this many notes were run.
     Ran { notes: u64 },
     /// Another end has the Turn, and runs the note.
     Left,

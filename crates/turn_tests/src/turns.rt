@@ -32,7 +32,8 @@ use std::test::*;
 use thread_table::{Hand, Place, Places, ThreadTable};
 use turn_io::NoGate;
 
-/// Where a thread is, how many of its steps are done, and its signals: those that were delivered, and those pending.
+/// The state of a thread: its place, how many of its steps are done, and its signals: those that were delivered, and
+/// those pending.
 #[derive(Clone, Copy, Debug, PartialEq, Eq)]
 struct State {
     place: Place,

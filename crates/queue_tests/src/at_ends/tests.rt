@@ -249,7 +249,7 @@ fn chain_ends_split_and_joined(rt: HostRuntime) {
     assert!(rt; poked == Ok(Poked::Ran { notes: 1 }));
 }
 
-/// Splits the ends and joins them again. If an allocation is refused, all stays as it was, and the ends go on.
+/// Splits the ends and joins them again. If an allocation is refused, the ends are unchanged, and go on.
 fn ends_split_or_not<R: Abort>(
     rt: &R,
     alloc: Global,
@@ -265,7 +265,7 @@ fn ends_split_or_not<R: Abort>(
     }
 }
 
-/// Splits the ends of chains and joins them again, also with an allocation refused.
+/// Splits the ends of chains and joins them again. If an allocation is refused, the ends are unchanged, and go on.
 fn chain_ends_split_or_not<R: Abort>(rt: &R, alloc: Global, chains: &[Chain], ends: &mut Vec<End>)
     requires { AreChainEndsOf chains.now ends.old.items × All IsChainDivisible ends.old.items }
     ensures { AreChainEndsOf chains.now ends.new.items }

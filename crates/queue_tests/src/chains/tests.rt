@@ -49,7 +49,7 @@ fn empty_keeper() -> Keeper
     }
 }
 
-/// What an end does at a chain, and how it is answered.
+/// An act of an end at a chain, and the answer to it.
 enum Act {
     /// It chains the note, and has the Turn.
     Run(u16),
@@ -57,11 +57,11 @@ enum Act {
     Left(&'static [u16]),
     /// The note is refused.
     Refused(u16, ChainRefusal),
-    /// It serves up to the limit, which is used up when so many notes are run.
+    /// It serves up to the limit, which is used up when this many notes are run.
     More { limit: u32, ran: u32 },
-    /// It serves up to the limit, and its Turn is spent when so many notes are run.
+    /// It serves up to the limit, and its Turn is spent when this many notes are run.
     Done { limit: u32, ran: u32 },
-    /// It serves all, so many notes.
+    /// It serves all, this many notes.
     All { ran: u64 },
 }
 
@@ -71,7 +71,7 @@ enum By {
     B,
 }
 
-/// What the ends A and B do, then what A does with all that both had, and the notes that are run, in order.
+/// The acts of the ends A and B, then A's acts with all that both had, and the notes that are run, in order.
 struct Script {
     first: u32,
     acts: &'static [(By, Act)],
@@ -118,7 +118,7 @@ fn leaves<R: Abort>(rt: &R, chain: &Chain, end: &mut End, notes: &[u16]) -> bool
     all
 }
 
-/// The Turn, where the end is the one that has it.
+/// The Turn, if the end is the one that has it.
 fn own<R: Abort>(rt: &R, end: &End, held: Option<Turn>) -> Turn
     ensures { turn_of end.now ≡ true }
 {
@@ -128,7 +128,7 @@ fn own<R: Abort>(rt: &R, end: &End, held: Option<Turn>) -> Turn
     }
 }
 
-/// Serves up to the limit: the Turn that is left, and whether so many notes were run.
+/// Serves up to the limit: the Turn that is left, and whether this many notes were run.
 fn serves<R: Abort>(
     rt: &R,
     chain: &Chain,

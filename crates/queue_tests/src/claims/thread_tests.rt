@@ -16,7 +16,7 @@ const LINES: u64 = 20_000;
 
 type Lines = ClaimQueue<64>;
 
-/// What a taker had: how often each line came, and whether each came whole and in its producer's order.
+/// The lines of a taker: how often each line came, and whether each came whole and in its producer's order.
 #[derive(Drop)]
 struct Had {
     times: Vec<u64>,

@@ -10,7 +10,7 @@ use std::alloc::Global;
 use std::process::Abort;
 use std::test::*;
 
-/// What is done at a pump and its two queues.
+/// An act at a pump and its two queues.
 enum Act {
     /// The items are put in its source, or in its target.
     Put(&'static [u64]),
@@ -19,7 +19,7 @@ enum Act {
     Take(&'static [u64]),
     /// A note is run, and works or not.
     Note(bool),
-    /// The pump has run so many notes, has taken and put so many items, and holds so many.
+    /// The pump has run this many notes, has taken and put this many items, and holds this many.
     Is(u64, u64, u64, usize),
 }
 
@@ -71,7 +71,7 @@ fn numbers(pump: &Pump) -> (u64, u64, u64, usize) {
     (pump.notes(), pump.taken(), pump.put(), pump.held())
 }
 
-/// What the ends of the queues and the pump do, in this order.
+/// The acts of the ends of the queues and of the pump, in this order.
 fn does<R: Abort>(
     rt: &R,
     queues: &Queues,

@@ -1,4 +1,5 @@
--- The free elements, where no more were taken than there were at first: those that events put there are left, once each, and do no step.
+-- The free elements, if no more were taken than there were at first: those that events put there are left, once each,
+-- and do no step.
 use Rattle.turn_dispatch.proofs.Common.{eq-eqb, map, drop, sum_by, AllByRecursion, result_unwrap_or, dite, dec_lt, Reaches, step, effect, empty_queue, left, claim, claim_element, done, is_on, in_list, Refusal, change_at, Thread, new_thread, slice_get, wait_ring, Place, StandsAt, is_left, ◌==◌, ◌&&◌, ◌||◌, concat, flat_map-append, is_done, TooLong, Full, then_ok, test_ok, change_ok, all_append, taking_by, done_at, elements_after, ring_at, first_runs, takings_in, plus, many_cons, many_more, find_it, some_count, range_in, counted_done, elements_of, lawful_after}
 use Rattle.thread_table.proofs.Common.{◌≡◌, ⊎_elim, ℕ, ◌+◌, ◌≤◌, Bool, true, false, not, eqb_tells, List, [], ◌∷◌, ◌++◌, ◌∙◌, length, get_or, refl, sym, ap, subst, arith, Option, None, Some, Ok, Result, count_by, flat_map, list_any, append_assoc, map-append, length-append, State, Event, Hold, Elements, IsLawfulElements, Queue, Run, flat, holds, is_put, appearances, UnknownName, eqb, nat_tests, nat_lt, ◌≢◌, suc, zero, in_cell, sum_by-cons, if◌then◌else◌, ◌-◌, range_with_len, ◌<◌}
 use Rattle.thread_table.specs.declared.places.Place.TheVariants as places
@@ -81,7 +82,7 @@ left_is past allowed few =
     let long : length (concat first_runs) ≡ 64 = refl in
     (λ i. drop (told.1 i) (items i)) ∙ drop-append-le (takings_in past) (concat first_runs) (freed past) (omega arith)
 
--- of the first 64, which go in the order of their numbers, those from the number of takings on are left
+-- the elements left of the first 64, which go in the order of their numbers: those from the number of takings on
 drop_range : (k a n : ℕ) → drop k (range_with_len a n) ≡ range_with_len (a + k) (n - k)
 drop_range zero a n = let x : a ≡ a + 0 = omega arith in let y : n ≡ n - 0 = omega arith in λ i. range_with_len (x i) (y i)
 drop_range (suc k) a zero = let y : 0 ≡ 0 - suc k = omega arith in ap (range_with_len (a + suc k)) y
@@ -105,7 +106,7 @@ cell_at [] y is = absurd (cc)
 cell_at (t ∷ ts) zero is = ap (λ b. if b then 1 else 0) is
 cell_at (t ∷ ts) (suc y) is = cell_at ts y is
 
--- one part of a sum, and two, where the default isn't counted
+-- one part of a sum, and two, if the default isn't counted
 one_sum : {X : Type 0} (f : X → ℕ) (xs : List X) (i : ℕ) (d : X) → f d ≡ 0 → f (get_or xs i d) ≤ sum_by f xs
 one_sum f [] i d none = omega arith
 one_sum f (x ∷ xs) zero d none = let c = sum_by-cons f x xs in omega arith

@@ -1,4 +1,4 @@
--- What the list of the only hand comes to, by the events of the schedule and the states that they found.
+-- The sum of the only hand's list, by the events of the schedule and the states that they found.
 use Rattle.turn_dispatch.proofs.Common.{map, sum_by, result_unwrap_or, step, first_state, Reaches, ELEMENTS, Made, moves, made_in, AreMade, plus, many_cons, many_more}
 use Rattle.thread_table.proofs.Common.{◌≡◌, ℕ, Bool, List, [], ◌∷◌, ◌++◌, ◌∙◌, refl, sym, ap, arith, flat_map, count_by, sum_by-cons, sum_by-IsPermutation, State, Result, Event}
 use Rattle.event_theory.specs.declared.event.Event.TheVariants as events

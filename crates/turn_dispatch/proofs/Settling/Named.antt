@@ -14,7 +14,7 @@ use Rattle.thread_table.specs.declared.places.Place.TheVariants as places
 use Rattle.thread_table.specs.Schedules.{state_after, IsAllowed}
 use Rattle.turn_dispatch.specs.Settlings.{IsNamed, NoneOn}
 
--- what comes of it, if it goes, is so
+-- the result, if there is one, has the property
 abbrev Gives : {A : Type 0} → (A → Type 0) → Result A Refusal → Type 0
 Gives {A} P said = (t : A) → said ≡ Ok t → P t
 

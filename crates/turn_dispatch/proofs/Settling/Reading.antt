@@ -1,5 +1,5 @@
--- What follows if a table's events settle: for the crates above, which know the events as those of a first hand and the
--- rest.
+-- The consequences if a table's events settle: for the crates above, which know the events as those of a first hand and
+-- the rest.
 use Rattle.turn_dispatch.proofs.Common.{eq-eqb, dite, dec_lt, ◌==◌, ◌&&◌, ◌||◌, ELEMENTS, Place, is_in, ClosedNow, View, plus, many_cons, many_more, by_bool, any_is, is_less, same_pair, IsOnceWhere, is_free, place_of, has_done, Tally, tally, behind, is_delivered}
 use Rattle.thread_table.proofs.Common.{◌≡◌, ⊎_elim, ℕ, ◌<◌, ◌≤◌, Bool, true, false, eqb_tells, List, [], ◌∷◌, ◌++◌, ◌∙◌, length, get_or, refl, sym, ap, arith, count_by, list_any}
 use Rattle.std.specs.Prelude.{if◌then◌else◌, nat_lt}
@@ -29,7 +29,7 @@ module _ (x : ℕ) where
       let one : plus (same_pair (x, r.1) r) ≡ 1 = ⊎_elim (λ t. λ i. plus (eq-eqb x r.0 (sym t.1) i && eq-eqb r.1 r.1 refl i)) (λ f. absurd (cc)) (eqb_tells r.0 x) in (r.1, omega arith))
       (λ isnt. let s = with_some rs (sym (ap (λ z. z || list_any is_of rs) isnt) ∙ any) in let c = many_cons (same_pair (x, s.0)) r rs in (s.0, omega arith))
 
-  -- where a pair is, its element is
+  -- if a pair is there, its element is
   of_pair : (n : ℕ) (rs : List (ℕ × ℕ)) → list_any (same_pair (x, n)) rs ≡ true → list_any is_of rs ≡ true
   of_pair n [] any = absurd (cc)
   of_pair n (r ∷ rs) any = by_bool (is_of r)

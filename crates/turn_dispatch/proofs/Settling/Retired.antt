@@ -1,4 +1,4 @@
--- An element was retired once, after all its steps, where it is free at the end.
+-- An element was retired once, after all its steps, if it is free at the end.
 use Rattle.turn_dispatch.proofs.Common.{drop, AllByRecursion, result_unwrap_or, dite, dec_lt, step, first_state, in_list, left, cases_lt, ◌==◌, ◌&&◌, concat, moves, all_append, ELEMENTS, Place, Made, ClosedNow, StandsAt, is_left, made_in, AreMade, View, taking_by, done_at, elements_after, ring_at, thread_at, first_runs, takings_in, plus, many_cons, by_bool, any_is, some_count, is_less, many_more, elements_of, lawful_after, same_pair, IsOnceWhere, is_free, place_of, tally, le-ltb}
 use Rattle.thread_table.proofs.Common.{◌≡◌, ⊎_elim, ℕ, ◌+◌, ◌<◌, ◌≤◌, Bool, true, false, eqb_tells, List, [], ◌∷◌, ◌++◌, ◌∙◌, length, refl, sym, ap, subst, arith, count_by, flat_map, append_assoc, State, Event, Elements, nat_lt}
 use Rattle.std.specs.Prelude.{if◌then◌else◌}
@@ -38,7 +38,7 @@ all_last (e ∷ es) front allowed few =
 
 -- HOW OFTEN
 
--- the number, where the test holds
+-- the number, if the test holds
 abbrev when : Bool → ℕ → ℕ
 when b k = if b then k else 0
 

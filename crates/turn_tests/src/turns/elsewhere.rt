@@ -1,4 +1,4 @@
-//! What another processor does at a point of this one's turn.
+//! The acts of another processor at a point of this one's turn.
 ghost use Rattle.std.specs.Prelude.{◌≡◌, ◌<◌, length};
 ghost use Rattle.thread_table.specs.Handles.{IsHandOf};
 ghost use Rattle.turn_io.specs.EndLists.{AreEndsOf};
@@ -55,7 +55,7 @@ impl<'r, 's, R: Wait> Gate for Sayer<'r, 's, R> {
     }
 }
 
-/// A queue exists.
+/// Makes sure that a queue exists.
 fn must_have_a_queue<R: Abort>(rt: &R, shared: &Shared)
     ensures { 0 < length shared.now.queues.small.items }
 {

@@ -36,8 +36,9 @@ fn split_pump<R: Abort>(rt: &R, alloc: Global, at: u32) -> (Ways, ChainEnd<AnyQu
     (ways, other)
 }
 
-/// What the processors of a plan share, with two queues and a pump from the first to the second, whose chain begins at
-/// this position; the station of this one, with an element ready for each thread; and another end of the chain.
+/// The objects that the processors of a plan share, with two queues and a pump from the first to the second, whose
+/// chain begins at this position; the station of this one, with an element ready for each thread; and another end of
+/// the chain.
 fn stand_pumped<R: Abort + Wait>(
     rt: &R,
     alloc: Global,

@@ -30,8 +30,8 @@ fn split_for<R: Abort>(
     (station, freed(rt, other, q))
 }
 
-/// What two processors of a plan without ttys, pumps and switches share, and the station of each: an element is ready
-/// for each thread.
+/// The objects that two processors of a plan without ttys, pumps and switches share, and the station of each: an
+/// element is ready for each thread.
 pub(super) fn stand_two<R: Abort + Wait>(
     rt: &R,
     alloc: Global,

@@ -1,4 +1,4 @@
-//! What the processors of a plan share, and a first station of it, over queues and chains that a test makes.
+//! The objects that the processors of a plan share, and a first station, over queues and chains that a test makes.
 ghost use Rattle.std.specs.Prelude.{◌≡◌, ◌≤◌, [], length, IfOk};
 ghost use Rattle.std.specs.List.{All};
 ghost use Rattle.thread_table.specs.Handles.{view_of, IsHandOf, IsSameHand};
@@ -160,8 +160,8 @@ fn station_of(alloc: Global, shared: &Shared, ends: Ends) -> Result<Station, Out
     }
 }
 
-/// What the processors of a plan without ttys share, over these queues and chains, with the element queues at this
-/// position and the clock at this tick; and a first station, with nothing done.
+/// The objects that the processors of a plan without ttys share, over these queues and chains, with the element queues
+/// at this position and the clock at this tick; and a first station, with nothing done.
 pub(super) fn first_station<R: Abort>(
     rt: &R,
     alloc: Global,
@@ -236,7 +236,7 @@ pub(super) fn readied<R: Abort + Wait>(
     Station::from_parts(parts)
 }
 
-/// What the processors of a plan without ttys, pumps and switches share, and the station of this one.
+/// The objects that the processors of a plan without ttys, pumps and switches share, and the station of this one.
 pub(super) fn stand<R: Abort + Wait>(
     rt: &R,
     alloc: Global,

@@ -79,7 +79,7 @@ none_done parts = record {
   large = sound_still _ _ refl;
 }
 
--- what a hand and a seat did, and the signals that were shown
+-- the account of a hand and a seat, with the signals that were shown
 abbrev by_hand : Tally → Did → (ℕ → ℕ → Bool) → Account
 by_hand hand meters shown = record nothing { hand = hand; meters = meters; shown = shown }
 
@@ -182,7 +182,7 @@ none_taken [] h k d low = absurd (omega arith)
 none_taken (x ∷ xs) h zero d low = no_takings (queues.view_of x) (h 0)
 none_taken (x ∷ xs) h (suc k) d low = none_taken xs (λ q. h (suc q)) k d (omega arith)
 
--- what a fresh station has done is what its log says
+-- the work of a fresh station is the work that its log says
 pub leaves : (plan : BootPlan) (log : List LogEntry) (old new : Parts) → IsFresh old → seat_parted new ≡ seat_parted old → Ran plan log old new → Leaves plan log new
 leaves plan log old new f seat r = record {
   planned = r.planned;

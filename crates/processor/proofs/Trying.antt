@@ -30,7 +30,7 @@ use Rattle.processor.proofs.Logging.{known_done}
 use Rattle.processor.proofs.Rising.{rises_on}
 use Rattle.processor.proofs.Summing.{none_shows}
 
--- what was heard is one line, or none
+-- a hear has one line, or none
 pub line_heard_at : (queue : QueueIndex) (line : List ℕ) (answer : Result (Unit {0}) TakeRefusal) (old new : List (QueueEnd 64)) (old' new' : List (QueueEnd 256))
     → HeardAt queue line answer old new old' new' → IsLineIf answer (room_of queue) line
 line_heard_at (Small k) line (Ok done) old new old' new' h = h.0.does.0
@@ -38,7 +38,7 @@ line_heard_at (Small k) line (Err refusal) old new old' new' h = h.0.does.0
 line_heard_at (Large k) line (Ok done) old new old' new' h = h.0.does.0
 line_heard_at (Large k) line (Err refusal) old new old' new' h = h.0.does.0
 
--- what is kept of a line that was heard
+-- the record of a line that was heard
 pub heard_line : (step : Step) (deed : Deed) (e n : ℕ) (text : List ℕ) → IsDeedOf step deed (line_in step text) → heard_by deed e n text ≡ heard_by deed e n (line_in step text)
 heard_line (steps.Say queue said) (deeds.Hear at answer) e n text d = absurd d
 heard_line step deed e n text d = refl

@@ -12,8 +12,8 @@ use Rattle.thread_table.specs.Answers.{is_in}
 use Rattle.thread_table.specs.Handles.{view_of}
 use Rattle.processor.specs.declared.station.Parts.{Parts}
 
--- An account of work: what was done at each queue, at each chain and at the meters, the tally of the hand's events, the
--- lines heard, and for each element and signal whether that was delivered
+-- An account of work: what was done at each queue, at each chain and at the meters, the tally of the hand's events, and
+-- the lines heard. For each element and signal it has whether the signal was delivered
 pub record Account : Type 0 where
   pub queues : QueueIndex → AtQueue
   pub chains : ℕ → AtChain
@@ -34,7 +34,7 @@ nothing = record {
 }
 
 infixl 10 ◌⊕◌
--- account a followed by account b
+-- account `a`, followed by account `b`
 abbrev pub ◌⊕◌ : Account → Account → Account
 a ⊕ b = record {
   queues = at_each both_queue a.queues b.queues;

@@ -62,7 +62,8 @@ abbrev pub gone : Moved → ℕ → ℕ → Tally
 gone (moveds.Freed moved) element number = retired moved element number
 gone moved element number = no_events
 
--- the account of a tried step: its deed with this line, its count if it is done, and the element's move
+-- the account of a tried step: its deed with this line, its count if it is done, and the element's retirement if it was
+-- retired
 abbrev pub trying : ℕ → ℕ → SentOn → List ℕ → Account
 trying element number sent line = record nothing {
   queues = queues_by sent.tried.deed line;
@@ -94,13 +95,13 @@ abbrev pub count_of : Bool → ℕ → Counted
 count_of true number = counted.Done (number + 1)
 count_of false number = counted.Undone
 
--- an element that moved to the free elements has no step left
+-- an element sent to the free elements has no step left
 abbrev pub IsOver : Moved → ℕ → ℕ → Type 0
 IsOver (moveds.Freed moved) number steps = steps ≤ number
 IsOver moved number steps = Unit {0}
 
--- The tried step is the plan's step of this thread with this number, and was counted if it is done. An element that
--- moved to the free elements has no step left
+-- The tried step is the plan's step of this thread with this number, the deed and the line are its result, and it was
+-- counted if it is done. An element sent to the free elements has no step left
 pub record FollowsStep (plan : BootPlan) (element number : ℕ) (sent : SentOn) (line : List ℕ) : Type 0 where
   pub step : Step
   pub is : step_of plan element number ≡ Some step
@@ -116,8 +117,8 @@ abbrev pub OutcomeFollows : BootPlan → Outcome → List ℕ → Type 0
 OutcomeFollows plan (outcomes.Idle idle) line = line ≡ []
 OutcomeFollows plan (outcomes.Had begun had) line = HadFollows plan begun.element begun.number had line
 
--- An element that had a turn was retired with all its steps done, or its next step of the plan was tried. In both cases
--- an element that moved to the free elements has no step left. A turn without a try has no line
+-- An element that had a turn was sent to the free elements with all its steps done, or its next step of the plan was
+-- tried. In both cases an element sent to the free elements has no step left. A turn without a try has no line
 abbrev pub FollowsPlan : BootPlan → LogEntry → Type 0
 FollowsPlan plan entry = OutcomeFollows plan entry.outcome entry.line
 

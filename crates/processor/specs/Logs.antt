@@ -63,7 +63,8 @@ pub record Went (IsPlanned : Type 0) (more : Account) (was_told : QueueIndex →
   pub done : HasDone more old new
   pub told : (queue : QueueIndex) → was_told queue ≡ true → knows_shut new queue ≡ true
 
--- the result of a processor's turns: each follows the plan, and the ends did the log's sum
+-- The result of a processor's turns: each follows the plan, and the ends did the log's sum. If the log has an answer
+-- that a queue is shut, the queue's end knows that
 abbrev pub Ran : BootPlan → List LogEntry → Parts → Parts → Type 0
 Ran plan log old new = Went (AllByRecursion (FollowsPlan plan) log) (sum_of log) (was_shut log) old new
 

@@ -53,7 +53,7 @@ QueueShown S hand (Small queue) small large = SmallShown S hand small queue
 QueueShown S hand (Large queue) small large = LargeShown S hand large queue
 
 -- One hand with this count of steps was shown twice: beside an end in its old state, and beside it in its new state.
--- All that the end did in between came after those steps of the hand, and before all its other steps
+-- All that the end did in between came after those steps of the hand, and before all other steps of the hand
 pub record Stood (count : Count) (was is : Hand → Type 0) : Type 0 where
   pub hand : Hand
   pub counted : count_of hand ≡ count

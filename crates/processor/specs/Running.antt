@@ -34,8 +34,8 @@ pub record EndsDid (shared : Shared) (deed : Deed) (line : List ℕ) (old new : 
   pub chains : ChainsDid shared.chains.items deed old.chains.items new.chains.items
   pub seat : SeatDid deed (meters.view_of old.meters) (meters.view_of new.meters)
 
--- The element went on after its step: with its ticket to the wait queue of a pipe; for a step that waits, to the step's
--- wait queue; after its last step to the free elements; and otherwise to the ready ring
+-- The element was sent on after its step: with its ticket to the wait queue of a pipe; for a step that waits, to the
+-- step's wait queue; after its last step to the free elements; and otherwise to the ready ring
 abbrev pub Goes : ℕ → Deed → Bool → ℕ → Moved → View → View → Type 0
 Goes call deed last element (moveds.Ticketed waited) v w = (ticket : Ticket) × (sleeps_on deed ≡ Some ticket)
     × WaitedAt call ticket.wait element ticket.number waited v w

@@ -36,15 +36,15 @@ Fits queues chains (steps.Poke mover) = mover < chains
 Fits queues chains (steps.Close queue) = queue < length queues.small.items
 Fits queues chains step = Unit {0}
 
--- Elements that wait for a line were woken if the say put one. A refused say has the ticket that was read before its
--- try
+-- Elements that wait for a line were woken if the say put one, and otherwise not. A refused say has the ticket that was
+-- read before its try
 abbrev pub WokeBySay : ℕ → Option ℕ → Option Ticket → SayAnswer Paid → View → View → Type 0
 WokeBySay call wait ticket (says.Put paid) v w = WokeFor call wait v paid.woken w
 WokeBySay call wait ticket says.Over v w = w ≡ v
 WokeBySay call wait ticket (says.Refused unsaid) v w = (unsaid.ticket ≡ ticket) × (w ≡ v)
 
--- Elements that wait for room were woken if the hear took a line, or if no line will come. A refused hear has the
--- ticket that was read before its try
+-- Elements that wait for room were woken if the hear took a line, or if no line will come, and otherwise not. A refused
+-- hear has the ticket that was read before its try
 abbrev pub WokeByHear : ℕ → Option ℕ → Option Ticket → HearAnswer Paid → View → View → Type 0
 WokeByHear call wait ticket (hears.Taken paid) v w = WokeFor call wait v paid.woken w
 WokeByHear call wait ticket (hears.Over paid) v w = WokeFor call wait v paid.woken w

@@ -69,8 +69,8 @@ abbrev pub IdleAt : Idle → Parts → Parts → Type 0
 IdleAt idle old new = WasIdle (call_of old.hand) idle (view_of old.hand) (view_of new.hand)
     × AreAtRest old new × (new.meters ≡ old.meters) × (new.signals ≡ old.signals)
 
--- the result of the turn of an element at hand: it had no step left and was retired, or its step was tried with this
--- line
+-- the result of the turn of an element at hand: it had no step left and was sent to the free elements, or its step was
+-- tried with this line
 abbrev pub HadTurn : Shared → ℕ → ℕ → ℕ → Had → List ℕ → Parts → Parts → Type 0
 HadTurn shared p element number (hads.Ended moved) line old new = (length (program shared.plan element) ≤ number)
     × Sent (call_of old.hand) 1 element moved (view_of old.hand) (view_of new.hand)

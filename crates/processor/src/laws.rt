@@ -23,7 +23,8 @@ pub fn steps_fit()
     ensures few { (plan : BootPlan) (thread : ℕ) → length (program plan thread) ≤ 64 }
 {}
 
-/// What is done adds up. Shares add up too, in any order. What a split keeps and what it gives make up what there was.
+/// Work adds up. Shares add up too, in any order. The part that a split keeps and the part that it gives make up the
+/// whole.
 pub fn accounts_add()
     ensures accounts { AddsUp nothing (λ a b. a ⊕ b) }
     ensures shares { AddsUp no_shares both_shares }

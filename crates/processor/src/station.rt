@@ -35,9 +35,9 @@ pub struct Station {
 }
 
 impl Station {
-    /// The station of a processor, which has heard nothing and was signalled nothing, with room for just as many heard
-    /// lines as the plan has hear steps, of 64 bytes each, or of 256 if one hears from a large queue. If an allocation
-    /// is refused, all ends are returned.
+    /// The station of a processor, which has heard nothing and was signalled nothing. It has room for just as many
+    /// heard lines as the plan has hear steps, of 64 bytes each, or of 256 if one hears from a large queue. If an
+    /// allocation is refused, all ends are returned.
     pub fn new(
         alloc: Global,
         shared: &Shared,

@@ -199,10 +199,10 @@ fn turn<R: Wait, G: Watch>(
     let _ = dispatch(rt, shared, parts, p, room, gate);
 }
 
-/// Exactly this many turns of a processor. In each turn the gate is called with the turn's number, from 0, processor 0
-/// tends the alarms, and the oldest element of the ready ring has its turn: one try of its next step. Within a step the
-/// gate is called as `Point` says, and otherwise never. Returns the station, with what its ends did, and what was heard
-/// and signalled.
+/// Exactly this many turns of a processor. In each turn the gate is called with the turn's number, from 0. Then
+/// processor 0 tends the alarms, and the oldest element of the ready ring has its turn: one try of its next step.
+/// Within a step the gate is called as `Point` says, and otherwise never. Returns the station, with what its ends did,
+/// and what was heard and signalled.
 ///
 /// Conditions: the station is one of `shared`, and its hand serves the processor, which has no element.
 pub fn run<R: Wait, G: Watch>(

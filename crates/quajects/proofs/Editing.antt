@@ -180,7 +180,7 @@ front_take (b ∷ []) = refl
 front_take (b ∷ c ∷ s) = ap (λ (z : List ℕ). b ∷ z) (front_take (c ∷ s))
     ∙ (let e : suc (suc (length s)) - 1 ≡ suc (suc (length s) - 1) = omega arith in ap (λ (k : ℕ). take k (b ∷ c ∷ s)) (sym e))
 
--- what one byte more does
+-- the effect of one more byte
 pub cook_kill : (q : List ℕ) (b : ℕ) → is_kill b ≡ true → kept (after_kills (q ++ b ∷ [])) ≡ []
 cook_kill q b h = ap kept (kills_last q b h)
 

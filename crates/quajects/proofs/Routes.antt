@@ -200,7 +200,7 @@ none_routed : (p : List ℕ → Bool) (taken puts : List (List ℕ)) (held : Lis
 none_routed p taken puts held et ep eh = ap (filter p) et ∙ ap (λ (z : List ℕ). filter p (held_line z)) (sym eh) ∙ ap (λ (z : List (List ℕ)). z ++ filter p (held_line held)) (sym ep)
 
 module _ {A B : Type 0} (R : A → B → Type 0) where
-  -- what holds of each pair
+  -- the relation holds of each pair
   zip_each : (xs : List A) (ys : List B) → AllZip R xs ys → (i : ℕ) (y : B) → slice_get ys i ≡ Some y → (x : A) × R x y
   zip_each [] [] h i y e = cc
   zip_each [] (b ∷ ys) h i y e = absurd h
@@ -208,7 +208,7 @@ module _ {A B : Type 0} (R : A → B → Type 0) where
   zip_each (a ∷ xs) (b ∷ ys) h zero y e = let same : b ≡ y = cc in (a, subst (R a) same h.0)
   zip_each (a ∷ xs) (b ∷ ys) h (suc i) y e = zip_each xs ys h.1 i y e
 
-  -- and what holds of its first
+  -- the relation holds of each pair, and the property of its first
   zip_holds : (P : A → Type 0) (xs : List A) (ys : List B) → AllZip R xs ys → All P xs → (i : ℕ) (y : B) → slice_get ys i ≡ Some y → (x : A) × R x y × P x
   zip_holds P [] [] h f i y e = cc
   zip_holds P [] (b ∷ ys) h f i y e = absurd h

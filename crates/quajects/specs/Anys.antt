@@ -51,8 +51,8 @@ Fits world (any.Cooked tty) = terminals.Fits world tty
 Fits world (any.Pump pump) = pumps.Fits world pump
 Fits world (any.Switch switch) = switches.Fits world switch
 
--- Both are of one kind, with the same ends of the same queues and the same shares, and each end has shut its queue
--- equally often. A switch has the same keys
+-- Both are of one kind, with the same ends of the same queues and the same shares. Each end has shut its queue equally
+-- often. A switch has the same keys
 abbrev pub SameEnds : AnyQuaject → AnyQuaject → Type 0
 SameEnds (any.Cooked old) (any.Cooked new) = terminals.SameEnds old new
 SameEnds (any.Pump old) (any.Pump new) = pumps.SameEnds old new

@@ -18,7 +18,7 @@ pub record TriedLine (v : View) (held : List ℕ) (was_in : Bool) (put is_in : B
   pub none : held ≡ [] → (put ≡ false) × (is_in ≡ was_in) × (w ≡ v)
   pub already : was_in ≡ true → (put ≡ false) × (is_in ≡ true) × (w ≡ v)
 
--- If the held line is in the line queue, there was one try to put it in the screen queue, and nothing is held after the
+-- If the held line is in the line queue, there was one try to put it in the screen queue. Nothing is held after the
 -- put. Otherwise the end made no step
 pub record TriedScreen (v : View) (held : List ℕ) (was_in : Bool) (put : Bool) (line : List ℕ)
     (is_in : Bool) (w : View) : Type 0 where

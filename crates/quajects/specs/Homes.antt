@@ -23,9 +23,9 @@ pub record IsHome (quaject : AnyQuaject) (chained left : ℕ) (home : Home) : Ty
   pub put : home.put ≡ counted (all_puts quaject)
   pub held : home.held ≡ length (held_of quaject)
 
--- The home of a quaject that has kept its law and its sides, and results from the quaject given to the chain by runs of
--- notes alone. Each of its ends is in its place, is one of the queue that it names, has raised all that it claimed, and
--- has shut the queue as often as before. As many notes were run as were chained, and none is left
+-- The home of a quaject that has kept its law and its sides. It results from the quaject given to the chain by runs of
+-- notes alone. Each of its ends is in its place and is one of the queue that it names. The end has raised all that it
+-- claimed, and has shut the queue as often as before. As many notes were run as were chained, and none is left
 pub record CameHome (pact : Pact Queues AnyQuaject) (first : ℕ) (v : View) (home : Home) : Type 0 where
   pub quaject : AnyQuaject
   pub closed : ClosedNow (makes MadeOf pact) (suits Fits pact) v first home.chained home.chained [] quaject

@@ -37,7 +37,7 @@ abbrev pub index_of : Option Way → Option ℕ
 index_of None = None
 index_of (Some way) = Some way.outlet.index
 
--- the end that a way puts lines at
+-- the end at which a way puts lines
 abbrev pub end_of : Option Way → Option (QueueEnd 64)
 end_of None = None
 end_of (Some way) = Some way.outlet.end

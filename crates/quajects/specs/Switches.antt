@@ -78,7 +78,7 @@ pub record IsNew (from : ℕ) (source : QueueEnd 64) (to : ℕ) (other : QueueEn
   pub none_run : notes_of switch ≡ 0
 
 -- The switch's law. For each way, the lines taken that begin with its key are the lines put there, followed by the held
--- line if that begins with the key. For the other target this holds of the lines that begin with no key
+-- line if it begins so. For the other target this holds of the lines that begin with no key
 pub record IsKept (switch : Switch) : Type 0 where
   pub each : RoutesEach switch.ways (lines_taken (view_of (source_of switch))) (held_of switch)
   pub rest : RoutesRest switch.ways (lines_taken (view_of (source_of switch))) (held_of switch)
@@ -98,8 +98,8 @@ abbrev pub Fits : Queues → Switch → Type 0
 Fits world switch = IsEndAt world.small.items switch.source.index (source_of switch)
     × IsEndAt world.small.items switch.other.index (other_of switch) × WaysFit world.small.items switch.ways
 
--- both have the same ends of the same queues with the same shares, each of which has shut its queue equally often, and
--- the same keys
+-- Both have the same ends of the same queues, with the same shares, and each end has shut its queue equally often. Both
+-- have the same keys
 pub record SameEnds (old new : Switch) : Type 0 where
   pub source : source_post new ≡ source_post old
   pub other : other_post new ≡ other_post old

@@ -14,7 +14,7 @@ use arrayvec::ArrayVec;
 use claim_queue::{ClaimQueue, QueueEnd};
 
 /// An end of a queue that came out of a quaject, and the index of that queue. Outside of this crate nobody makes one,
-/// and nobody gets its end: all that is done with it is to join it to another end.
+/// and nobody gets its end: its only use is to be joined to another end.
 #[derive(Drop)]
 pub struct Port<const N: usize> {
     index: usize,

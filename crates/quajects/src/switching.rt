@@ -96,9 +96,9 @@ impl Switch {
     ghost use Rattle.quajects.specs.Switches.{source_port, other_port, way_ports, Fits};
     ghost use Rattle.quajects.specs.declared.world.Queues.{Queues};
 
-    /// A switch from the small queue with the index `from`. A line goes to the way whose key is its first item, and to
-    /// the queue with the index `to` if there is no such way. It holds nothing. Any queue may be the target of several
-    /// ways, and also the source.
+    /// A switch from the small queue with the index `from`. A line goes to the way whose key is its first item. If
+    /// there is no such way, it goes to the queue with the index `to`. The switch holds nothing. Any queue may be the
+    /// target of several ways, and also the source.
     ///
     /// Conditions: no two keys are the same, and the ends have claimed and taken nothing.
     pub fn new(

@@ -41,7 +41,7 @@ fn queues_of<const N: usize>(alloc: Global, count: usize) -> Result<Made<N>, Out
 }
 
 impl Queues {
-    /// This many empty queues of 64 places and of 256 places, each with 0 as its first position, and the only end of
+    /// This many empty queues of 64 places and of 256 places, each with 0 as its first position. Also the only end of
     /// each, in the order of the queues. `OutOfMemory` is returned only if an allocation was refused.
     pub fn new(
         alloc: Global,

@@ -18,7 +18,7 @@ pub record Goes (more : Tally) (v w : View) : Type 0 where
   pub adds : Adds more v w
   pub calm : Calm v w
 
--- what the hand holds before and after, it holds in between
+-- the hand holds in between each element that it holds before and after
 abbrev pub Bridges : View → View → View → Type 0
 Bridges u v w = (e : ℕ) → e < 64 → has u e ≡ true → has w e ≡ true → has v e ≡ true
 
@@ -47,7 +47,7 @@ goes_on s t u v w a b bridge = record {
   calm = record { fresh = b.calm.fresh; calm = calm_on u v w a.keeps b.keeps a.calm.fresh a.calm.calm b.calm.calm bridge };
 }
 
--- what several steps leave, if the first ones add nothing, and if the last ones add nothing
+-- several steps, if the first ones add nothing, and if the last ones add nothing
 pub goes_after : (t : Tally) (u v w : View) → Goes no_events u v → Goes t v w → Bridges u v w → Goes t u w
 goes_after t u v w a b bridge = goes_on no_events t u v w a b bridge
 
@@ -78,7 +78,7 @@ looks_none v up = (
 pub looks_on : (u v w : View) → Looks u v → Looks v w → Looks u w
 looks_on u v w a b = (goes_before no_events u v w a.0 b.0 (left u v w a.1), b.1 ∙ a.1)
 
--- what entries leave
+-- the hand after entries
 pub acts_goes : (more : Tally) (v w now : View) (entries : List Step) (l : List Made) → Keeps v now → now.own.made ≡ v.own.made ++ l → tally l ≡ more → Acts v entries now w → Goes more v w
 acts_goes more v w now entries l k grew is a = record {
   keeps = record {

@@ -17,7 +17,7 @@ same_may : (v w : View) (e : ℕ) → w.own.held ≡ v.own.held → w.own.serves
 same_may v w e held serve stand (inl h) = inl (ap (λ xs. get_or xs e false) held ∙ h)
 same_may v w e held serve stand (inr h) = inr (h.0, ap (λ xs. get_or xs h.0 false) serve ∙ h.1, ap (λ xs. get_or xs h.0 None) stand ∙ h.2)
 
--- what a counted step comes to
+-- the tally of a counted step
 pub record StepIs (call element number : ℕ) (v w : View) : Type 0 where
   pub adds : Adds (one_step element (done_at v.seen.object element)) v w
   pub number_is : number ≡ done_at v.seen.object element + 1

@@ -50,7 +50,7 @@ adds_after a u v w x y = adds_on no_events a u v w x y
 pub adds_before : (a : Tally) (u v w : View) → Adds a u v → Adds no_events v w → Adds a u w
 adds_before a u v w x y = subst (λ (t : Tally). Adds t u w) (behind_none a) (adds_on a no_events u v w x y)
 
--- what events come to that are listed after those before
+-- the sum of events that are listed after those before
 pub adds_more : (a : Tally) (v w : View) (l : List Made) → w.own.made ≡ v.own.made ++ l → tally l ≡ a → Adds a v w
 adds_more a v w l grew is = ap tally grew ∙ (tally_more v.own.made l ∙ ap (behind (tally v.own.made)) is)
 

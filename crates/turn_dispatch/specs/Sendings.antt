@@ -12,7 +12,7 @@ use Rattle.turn_dispatch.specs.declared.moving.Waited.TheVariants as waited
 use Rattle.turn_dispatch.specs.Holdings.{HoldsSame}
 use Rattle.turn_dispatch.specs.Tallies.{Tally, no_events, one_retired}
 
--- the element queue that an element is moved to
+-- the element queue to which an element is moved
 abbrev pub ring_of : Target → ℕ
 ring_of targets.Ready = ready_ring
 ring_of targets.Free = free_ring

@@ -36,8 +36,8 @@ is_back taken stands pcs element number =
 
 -- Each step that is reported as done was counted once, and no other step. A signal was raised exactly if it was
 -- delivered or is pending. The elements that are free at first are taken in the order of their numbers. If no more than
--- those were taken, a taken element that is reported free was retired once, with the number of steps reported, and no
--- other element was retired
+-- those were taken, a taken element that is reported free was retired once, with the steps reported. No other element
+-- was then retired
 pub record Settles (tally : Tally) (stands : List Place) (pcs pending : List ℕ) : Type 0 where
   pub steps : (element number : ℕ) → IsOnceWhere (has_done pcs element number) (element, number) tally.done
   pub signals : (element signal : ℕ) → element < ELEMENTS → signal < 16

@@ -1,5 +1,5 @@
--- The sum of the events in a hand's list: the steps that it counted, the signals that it raised and delivered, the
--- elements that it added to the free ones, and its takings of free elements.
+-- The sum of the events in a hand's list: the steps counted, the signals raised and delivered, the elements added to
+-- the free ones, and the takings of free elements.
 use Rattle.std.specs.Prelude.{◌≡◌, ◌==◌, ◌&&◌, ℕ, zero, suc, Bool, List, [], ◌∷◌, ◌++◌, map, slice_index_or}
 use Rattle.std.specs.Prelude.{flat_map}
 use Rattle.std.specs.List.{list_any}

@@ -27,7 +27,7 @@ pub fn calls_only_add()
 
 /// The hand that closed a table lists all its events, and what they come to is what the closing reports of each
 /// element: its steps, its signals, and whether it is among the free. It names only processors and wait queues that
-/// exist, and no processor at all if the hand serves them all and has no element on one.
+/// exist. It names no processor if the hand serves them all and has no element on one.
 pub fn hands_settle()
     ensures settles { (call : ℕ) (v : View) (stands : List Place) (pcs pending : List ℕ) (stops : ℕ)
         → ClosedNow call v stands pcs pending stops → Settles (tally v.own.made) stands pcs pending }

@@ -157,7 +157,7 @@ fn wait_or_ready<R: Wait>(
     unreachable!()
 }
 
-/// Puts an element that the hand holds into a wait queue, if the ticket is still its number of notifies, and retries if
+/// Puts an element that the hand holds into a wait queue, if the ticket is still its number of notifies. It retries if
 /// another hand put an element first. If the number is another, the element is made ready.
 pub fn wait_at<R: Wait>(
     rt: &R,

@@ -25,7 +25,7 @@ module _ {E : Type 0} (ends : List E) (i : ℕ) (end after : E) (is : end ≡ ge
   pub on_end : (Does : E → E → Type 0) → i < length ends → Does end after → OnEnd i Does ends (set ends i after)
   on_end Does below does = record { end = end; after = after; was = slice_get-get_or ends i end below ∙ ap Some (sym is); does = does; now = refl }
 
--- what an end has more, in a measure, the list has more at its place
+-- the increase of an end, in a measure, is the increase of the list at the end's place
 module _ {E A B : Type 0} (F : E → A) (d : A) (m : A → B) (op : B → B → B) (u : B) (right : (b : B) → op b u ≡ b) where
   chosen : (b c : Bool) (x : B) → b ≡ c → (if b then x else u) ≡ (if c then x else u)
   chosen b c x e = ap (λ (z : Bool). if z then x else u) e

@@ -31,7 +31,7 @@ use Rattle.table_theory.proofs.Saying.{passes_split}
 use Rattle.table_theory.proofs.Reaching.{passes_since}
 use Rattle.turn_io.specs.Accounts.{shut_if}
 
--- what has no lines is no stretches
+-- stretches that have no lines are none
 pub none_of : (stretches : List Batch) → map line_of stretches ≡ [] → stretches ≡ []
 none_of [] e = refl
 none_of (x ∷ xs) e = absurd cc

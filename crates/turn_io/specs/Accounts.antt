@@ -32,7 +32,7 @@ pub record AtQueue : Type 0 where
 abbrev pub idle_queue : AtQueue
 idle_queue = record { put = []; taken = []; shuts = 0 }
 
--- the work a at a queue, followed by the work b
+-- the work `a` at a queue, followed by the work `b`
 abbrev pub both_queue : AtQueue → AtQueue → AtQueue
 both_queue a b = record { put = a.put ++ b.put; taken = a.taken ++ b.taken; shuts = a.shuts + b.shuts }
 
@@ -45,7 +45,7 @@ pub record AtChain : Type 0 where
 abbrev pub idle_chain : AtChain
 idle_chain = record { notes = []; ran = 0 }
 
--- the work a at a chain, followed by the work b
+-- the work `a` at a chain, followed by the work `b`
 abbrev pub both_chain : AtChain → AtChain → AtChain
 both_chain a b = record { notes = a.notes ++ b.notes; ran = a.ran + b.ran }
 

@@ -268,8 +268,8 @@ pub(crate) type Seen = (
 /// As many items as a small queue has places.
 pub(crate) const SIXTY_FOUR: &[u64] = &[7; 64];
 
-/// A gate that tries at each point, at other ends, to put as many items as a queue has places and then to take a line,
-/// and keeps the answers. The answers show how far a step is when the gate is called.
+/// A gate that tries at each point, at other ends, to put as many items as a queue has places and then to take a line.
+/// It keeps the answers, which show how far a step is when the gate is called.
 #[derive(Drop)]
 pub(crate) struct Watcher<'a> {
     pub(crate) queues: &'a [ClaimQueue<64>],

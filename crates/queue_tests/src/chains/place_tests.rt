@@ -128,8 +128,8 @@ fn serve_full<R: Abort + Wait>(
     (server, filler)
 }
 
-/// Waits for the word to start, chains a note as soon as there is room, finds whether there is room for another, and
-/// says that it has. Returns the end, and whether there was none.
+/// Waits for the word to start, and chains a note as soon as there is room. It finds whether there is room for another,
+/// and says that it has. Returns the end, and whether there was none.
 fn chain_more<R: Wait>(
     rt: &R,
     chain: &Chain,

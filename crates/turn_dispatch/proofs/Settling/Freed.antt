@@ -143,14 +143,14 @@ module _ (x : ℕ) (e : Elements) where
           both true b = omega arith
           both false b = omega arith
 
-  -- so one that is free is in nobody's hands
+  -- so a free element is in nobody's hands
   in_no_hands : (call : ℕ) → IsLawfulElements e → 1 ≤ in_list x (left (ring_at e 1)) → (holds call x e || list_any (is_put call x) e.processors) ≡ true → ⊥
   in_no_hands call lawful free may = let a = few_places lawful in let b = in_ring in ⊎_elim
       (λ held. let h = held_counts call x e.held held in omega arith)
       (λ put. let p = put_counts call e.processors put in omega arith)
       (or_cases (holds call x e) (list_any (is_put call x) e.processors) may)
 
-  -- and nowhere else
+  -- a free element is at no other place
   module _ (call : ℕ) (lawful : IsLawfulElements e) (free : is_left x (ring_at e 1) ≡ true) where
     few : 1 ≤ in_list x (left (ring_at e 1)) × appearances x e ≤ 1
     few = (some_count (λ item. item == x) (left (ring_at e 1)) free, few_places lawful)
@@ -168,7 +168,7 @@ module _ (x : ℕ) (e : Elements) where
     only_free places.Stopped h = let c = cell_at e.threads x h in let r = in_ring in let f = few.0 in let o = few.1 in absurd (omega arith)
     only_free places.Held h = let t = held_counts call x e.held h in let r = in_ring in let f = few.0 in let o = few.1 in absurd (omega arith)
 
--- and does no step
+-- a free element does no step
 done_may : (call x : ℕ) (s t : Elements) → done call x s ≡ Ok t → (holds call x s || list_any (is_put call x) s.processors) ≡ true
 done_may call x s t ok =
     let a = then_ok (change_at x _ s.threads) _ t ok in

@@ -12,7 +12,7 @@ abbrev pub Move : Type 0
 Move = Event × State
 
 module _ {B : Type 0} (f : Made → List B) where
-  -- what is reported of an event and of the state that it found
+  -- the report of an event and of the state that it found
   abbrev pub by_move : Move → List B
   by_move m = f (made_in m.0 m.1)
 

@@ -8,7 +8,7 @@ use Rattle.turn_dispatch.proofs.Settling.Retired.{retired_settle}
 use Rattle.turn_dispatch.proofs.Settling.Signals.{signals_settle}
 use Rattle.turn_dispatch.proofs.Settling.Steps.{steps_settle}
 
--- what all events of a closed table come to
+-- the sum of all events of a closed table
 pub closed_settles : (call : ℕ) (v : View) (stands : List Place) (pcs pending : List ℕ) (stops : ℕ) → ClosedNow call v stands pcs pending stops → Settles (tally v.own.made) stands pcs pending
 closed_settles call v stands pcs pending stops closed = record {
   steps = λ x n. steps_settle x n call v stands pcs pending stops closed;

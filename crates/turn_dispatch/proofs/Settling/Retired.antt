@@ -15,7 +15,7 @@ use Rattle.turn_dispatch.proofs.Settling.Steps.{turned}
 
 -- AS MANY STEPS AS AT THE END
 
--- it had done as many as it has done at the end
+-- the number is the element's number of steps done at the end
 abbrev IsLast : List Event → ℕ × ℕ → Type 0
 IsLast past r = r.1 ≡ done_at past r.0
 

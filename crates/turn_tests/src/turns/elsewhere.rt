@@ -12,7 +12,8 @@ use std::test::*;
 use turn_dispatch::wake;
 use turn_io::{Gate, Point, say, shut_queue};
 
-/// A gate that says a line in the first queue, or shuts it, and wakes those who wait to hear, after each try of a hear.
+/// A gate that acts after each try of a hear: it says a line in the first queue, or shuts it, and wakes those who wait
+/// to hear.
 #[derive(Drop)]
 struct Sayer<'r, 's, R: Wait> {
     rt: &'r R,

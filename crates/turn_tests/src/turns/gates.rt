@@ -76,8 +76,8 @@ impl<'r, 's, R: Wait> Gate for Taker<'r, 's, R> {
     }
 }
 
-/// When the gate is called for a turn, the turn's element is still in the ready ring, and the element of the turn
-/// before is there again; within a step it is not.
+/// When the gate is called for a turn, the turn's element is still in the ready ring. The element of the turn before is
+/// there again; within a step it is not.
 #[test]
 fn turns_are_told_before_the_taking(rt: HostRuntime) {
     let plan = plan_of(&rt, rt.alloc(), SAID);

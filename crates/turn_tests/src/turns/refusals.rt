@@ -104,8 +104,8 @@ const NO_STEP: &[u8] = b"synthesis 1
 thread a
 ";
 
-/// If the free elements have no position left, an element that is to be retired stays in the hand, whether it had a
-/// turn or no step.
+/// If the free elements have no position left, an element that is to be retired stays in the hand. It doesn't matter
+/// whether it had a turn or no step.
 #[test]
 fn held_in_place_of_retired(rt: HostRuntime) {
     check_late(&rt, rt.alloc(), ONE_STEP, LAST, 1, &[held(1)]);

@@ -109,10 +109,12 @@ pub record FollowsStep (plan : BootPlan) (element number : ℕ) (sent : SentOn) 
   pub counts : sent.tried.counted ≡ count_of (is_done sent.tried.deed) number
   pub over : IsOver sent.moved (number + 1) (length (program plan element))
 
+-- the turn of an element with this number of steps done follows the plan
 abbrev pub HadFollows : BootPlan → ℕ → ℕ → Had → List ℕ → Type 0
 HadFollows plan element number (hads.Ended moved) line = (length (program plan element) ≤ number) × (line ≡ [])
 HadFollows plan element number (hads.Ran sent) line = FollowsStep plan element number sent line
 
+-- the result of an element's turn, if one was at hand, follows the plan
 abbrev pub OutcomeFollows : BootPlan → Outcome → List ℕ → Type 0
 OutcomeFollows plan (outcomes.Idle idle) line = line ≡ []
 OutcomeFollows plan (outcomes.Had begun had) line = HadFollows plan begun.element begun.number had line
@@ -129,5 +131,6 @@ abbrev pub outcome_told_shut : Outcome → QueueIndex → Bool
 outcome_told_shut (outcomes.Had begun (hads.Ran sent)) = told_shut sent.tried.deed
 outcome_told_shut outcome = λ queue. false
 
+-- whether the say or hear of a turn was answered that this queue is shut
 abbrev pub turn_told_shut : QueueIndex → LogEntry → Bool
 turn_told_shut queue entry = outcome_told_shut entry.outcome queue

@@ -35,6 +35,7 @@ pub record Count : Type 0 where
   pub hand : ℕ
   pub steps : ℕ
 
+-- the count of a hand
 abbrev pub count_of : Hand → Count
 count_of hand = record { table = hand.seat.table_id; hand = hand.seat.id; steps = length hand.seat.me.0.steps }
 

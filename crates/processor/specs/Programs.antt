@@ -21,6 +21,7 @@ abbrev pub is_hear : Step → Bool
 is_hear (steps.Hear queue) = true
 is_hear step = false
 
+-- how many steps of a thread hear
 abbrev pub hears_in : PlannedThread → ℕ
 hears_in thread = count_by is_hear thread.steps
 

@@ -39,7 +39,7 @@ pub enum Deed {
         signal: Signal,
         answer: Signalled,
     },
-    /// The stop bit is set, which was clear or not.
+    /// The stop bit is set; it was clear before, or not.
     Stop {
         thread: Element,
         was_clear: bool,
@@ -61,7 +61,7 @@ pub enum Deed {
         answer: Result<Poked, ChainRefusal>,
     },
     Pass,
-    /// The queue is shut, which was open or not. If it is a pipe, the elements that waited to hear, and those that
+    /// The queue is shut; it was open before, or not. If it is a pipe, the elements that waited to hear, and those that
     /// waited for room, are woken.
     Close {
         queue: usize,

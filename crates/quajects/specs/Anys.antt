@@ -39,7 +39,7 @@ held_of (any.Cooked tty) = terminals.held_of tty
 held_of (any.Pump pump) = pumps.held_of pump
 held_of (any.Switch switch) = switches.held_of switch
 
--- the quaject has run as many notes as there are here, modulo 2^64
+-- the quaject has run as many notes as this list has, modulo 2^64
 abbrev pub HasRun : AnyQuaject → List ℕ → Type 0
 HasRun (any.Cooked tty) notes = terminals.HasRun tty notes
 HasRun (any.Pump pump) notes = pumps.HasRun pump notes
@@ -86,8 +86,8 @@ RanAny (any.Pump old) (any.Pump new) answer = pumps.RanPump old new answer
 RanAny (any.Switch old) (any.Switch new) answer = switches.RanSwitch old new answer
 RanAny _ _ answer = ⊥
 
--- The second quaject results from the first by as many runs as there are notes: its numbers and its ends changed by the
--- tries of these runs and by nothing else
+-- The second quaject results from the first by as many runs as this list has notes: its numbers and its ends changed by
+-- the tries of these runs and by nothing else
 abbrev pub MadeOf : AnyQuaject → AnyQuaject → List ℕ → Type 0
 MadeOf = MadeBy SameEnds HasRun RanAny
 

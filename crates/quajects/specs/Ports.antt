@@ -31,6 +31,7 @@ pub record Post : Type 0 where
   pub share : ℕ
   pub shuts : ℕ
 
+-- the post of an end of the queue with this index
 abbrev pub post_of : {n : ℕ} → ℕ → QueueEnd n → Post
 post_of index end = record {
   index = index;
@@ -40,6 +41,7 @@ post_of index end = record {
   shuts = (view_of end).own.shuts;
 }
 
+-- the post of a port, if there is one
 abbrev pub post_at : {n : ℕ} → Option (Port n) → Option Post
 post_at None = None
 post_at (Some port) = Some (post_of port.index port.end)

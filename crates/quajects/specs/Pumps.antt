@@ -62,7 +62,7 @@ IsKept pump = lines_taken (view_of (source_of pump)) ≡ lines_put (view_of (tar
 abbrev pub KeepsSides : Pump → Type 0
 KeepsSides pump = (lines_put (view_of (source_of pump)) ≡ []) × (lines_taken (view_of (target_of pump)) ≡ [])
 
--- the pump has run as many notes as there are here, modulo 2^64
+-- the pump has run as many notes as this list has, modulo 2^64
 abbrev pub HasRun : Pump → List ℕ → Type 0
 HasRun pump notes = notes_of pump ≡ length notes % 2 ^ 64
 
@@ -89,6 +89,6 @@ pub record RanPump (old new : Pump) (answer : Ran) : Type 0 where
   pub noted : notes_of new ≡ (notes_of old + 1) % 2 ^ 64
   pub same : SameEnds old new
 
--- the second pump results from the first by as many runs as there are notes
+-- the second pump results from the first by as many runs as this list has notes
 abbrev pub MadeOf : Pump → Pump → List ℕ → Type 0
 MadeOf = MadeBy SameEnds HasRun RanPump

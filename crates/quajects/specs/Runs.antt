@@ -8,8 +8,8 @@ module _ {Q : Type 0} where
   RanAll ran zero first x = x ≡ first
   RanAll ran (suc n) first x = (between : Q) × (answer : Ran) × RanAll ran n first between × ran between x answer
 
-  -- x results from the first by as many runs as there are notes. It has the first one's ends and counted the notes. Its
-  -- numbers and its ends changed by the tries of these runs and by nothing else
+  -- x results from the first by as many runs as this list has notes. It has the first one's ends and counted the notes.
+  -- Its numbers and its ends changed by the tries of these runs and by nothing else
   pub record MadeBy (same : Q → Q → Type 0) (counted : Q → List ℕ → Type 0) (ran : Q → Q → Ran → Type 0) (first x : Q)
       (notes : List ℕ) : Type 0 where
     pub same_ends : same first x

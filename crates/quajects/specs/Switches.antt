@@ -89,7 +89,7 @@ abbrev pub KeepsSides : Switch → Type 0
 KeepsSides switch = (lines_put (view_of (source_of switch)) ≡ [])
     × (lines_taken (view_of (other_of switch)) ≡ []) × AllByRecursion TookNothing switch.ways
 
--- the switch has run as many notes as there are here, modulo 2^64
+-- the switch has run as many notes as this list has, modulo 2^64
 abbrev pub HasRun : Switch → List ℕ → Type 0
 HasRun switch notes = notes_of switch ≡ length notes % 2 ^ 64
 
@@ -119,6 +119,6 @@ pub record RanSwitch (old new : Switch) (answer : Ran) : Type 0 where
   pub noted : notes_of new ≡ (notes_of old + 1) % 2 ^ 64
   pub same : SameEnds old new
 
--- the second switch results from the first by as many runs as there are notes
+-- the second switch results from the first by as many runs as this list has notes
 abbrev pub MadeOf : Switch → Switch → List ℕ → Type 0
 MadeOf = MadeBy SameEnds HasRun RanSwitch

@@ -90,7 +90,7 @@ abbrev pub KeepsSides : CookedTty → Type 0
 KeepsSides tty = (lines_put (view_of (raw_of tty)) ≡ [])
     × (lines_taken (view_of (line_of tty)) ≡ []) × (lines_taken (view_of (screen_of tty)) ≡ [])
 
--- the tty has run as many notes as there are here, modulo 2^64
+-- the tty has run as many notes as this list has, modulo 2^64
 abbrev pub HasRun : CookedTty → List ℕ → Type 0
 HasRun tty notes = notes_of tty ≡ length notes % 2 ^ 64
 
@@ -124,6 +124,6 @@ pub record RanCooked (old new : CookedTty) (answer : Ran) : Type 0 where
   pub noted : notes_of new ≡ (notes_of old + 1) % 2 ^ 64
   pub same : SameEnds old new
 
--- the second tty results from the first by as many runs as there are notes
+-- the second tty results from the first by as many runs as this list has notes
 abbrev pub MadeOf : CookedTty → CookedTty → List ℕ → Type 0
 MadeOf = MadeBy SameEnds HasRun RanCooked

@@ -19,7 +19,7 @@ fn is_eraser(byte: u8) -> bool
 }
 
 /// The cooked line of the typed bytes of `line`: each erase takes back the byte before it, a kill all before it. An end
-/// of line is appended. `line` is without its own end: a 0x0A in it is a byte as any other.
+/// of line is appended. `line` is without its own end: a 0x0A in it is a byte like any other.
 pub fn cook(line: &[u8], out: &mut ArrayVec<u8, 65>)
     requires short { length line.now ≤ 64 }
     requires empty { out.old.items ≡ [] }

@@ -26,7 +26,7 @@ pub record Began (call : ℕ) (begun : Begun) (v w : View) : Type 0 where
   pub counted : ReadPc begun.element ready begun.number w
 
 -- Why no element is at hand: none was taken; or the stop bit of the one taken was set, and it was parked; or the try to
--- park it was lost, and then it was moved to the ready ring
+-- park it was lost, and then it was sent to the ready ring
 abbrev pub WasIdle : ℕ → Idle → View → View → Type 0
 WasIdle call (idle.NothingReady refusal) v w = TakeAnswer call v ready_ring (Err refusal) w
 WasIdle call (idle.Parked element) v w = (taken : View) × TakeAnswer call v ready_ring (Ok element) taken

@@ -52,7 +52,7 @@ LostWaits call wait element ticket v w zero = w ≡ v
 LostWaits call wait element ticket v w (suc n) = (u : View) × LostWaits call wait element ticket v u n × (seen : ℕ)
     × WaitAnswer call u wait element ticket (Err (moves.Lost seen)) w
 
--- the last try of a wait with a ticket; if the ticket was out of date, the element was then moved to the ready ring
+-- the last try of a wait with a ticket; if the ticket was out of date, the element was then sent to the ready ring
 abbrev pub LastWait : ℕ → View → ℕ → ℕ → ℕ → Waited → View → Type 0
 LastWait call v wait element ticket waited.Waiting w = WaitAnswer call v wait element ticket (Ok tt) w
 LastWait call v wait element ticket waited.Spent w = WaitAnswer call v wait element ticket (Err moves.Spent) w

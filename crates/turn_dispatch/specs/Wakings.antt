@@ -50,8 +50,7 @@ HoldsWoken woken v w = (e : ℕ) → e < ELEMENTS
     → (has w e ≡ (has v e || (is_in woken.taken e && not (is_in woken.ready e))))
     × (is_in woken.taken e ≡ true → has v e ≡ false)
 
--- the answer to a start; an element from its stop cell was moved to the ready ring, or is held if that has no position
--- left
+-- the answer to a start; an element from its stop cell was made ready, or is held if the ring has no position left
 abbrev pub ResumeAnswer : ℕ → ℕ → Result Resumed Lost → View → View → Type 0
 ResumeAnswer call element (Ok resumed.NotStopped) v w = StartAnswer call v element (Ok started.NotStopped) w
 ResumeAnswer call element (Ok resumed.Cleared) v w = StartAnswer call v element (Ok started.Cleared) w

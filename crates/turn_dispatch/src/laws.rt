@@ -1,5 +1,5 @@
-//! The sum of a hand's events after calls of the thread table that add nothing here; and the sum of all events of a
-//! closed table.
+//! The effect of the thread table's calls on the sum of a hand's events, for calls to which this crate adds nothing;
+//! and the sum of all events of a closed table.
 ghost use Rattle.std.specs.Prelude.{◌<◌, ℕ, Bool, List};
 ghost use Rattle.thread_table.specs.declared.layout.TheConstants.{ELEMENTS, PROCESSORS};
 ghost use Rattle.thread_table.specs.declared.hand.Hand.{Hand};

@@ -98,7 +98,7 @@ fn resume<R: Wait>(
     }
 }
 
-/// Clears the stop bit of an element, and makes the element ready if it was in its stop cell, with retries if another
+/// Clears the stop bit of an element, and makes the element ready if it was in its stop cell. It retries if another
 /// hand was first. Lost if another hand changed the state word first: the stop bit was set, and nothing was done.
 pub fn start<R: Wait>(
     rt: &R,

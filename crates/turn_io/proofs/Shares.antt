@@ -45,7 +45,7 @@ said_put room v u w start line items raised is none distinct own c r = put_of ro
     (subst (λ (z : List ℕ). Owns u start z 0) is (subst (λ (z : ℕ). Owns u start items z) none own)) c
     (subst (λ (z : List ℕ). RaisedFrom room start z u w (length z)) is r)
 
--- one more place was raised, since one was left
+-- one more place was raised, because one was left
 pub raised_next : (room : ℕ) (u w : View) (start start' raised i : ℕ) (items items' : List ℕ) (b : Bool) (A B : Type 0) → MatchBool b A ((raised ≡ length items') × B) → MatchBool b (Raised room u start' items' raised w) (w ≡ u)
     → start' ≡ start → items' ≡ items → raised ≡ i → i < length items → Raised room u start items i w
 raised_next room u w start start' raised i items items' true A B p h s e r below = subst (λ (z : ℕ). Raised room u z items i w) s (subst (λ (z : List ℕ). Raised room u start' z i w) e (subst (λ (z : ℕ). Raised room u start' items' z w) r h))
@@ -60,7 +60,7 @@ module _ {n : ℕ} (old new : QueueEnd n) where
   takes_by : (IsHonest of_queues (view_of old) → IsHonest of_queues (view_of new) → TakesInOrder (view_of new)) → TakesInOrder (view_of new)
   takes_by f = order_of (view_of old) (view_of new) (honest_end old) (honest_end new) f
 
-  -- no line was put and none taken, and the queue was shut so often
+  -- no line was put and none taken, and the queue was shut this often
   same_worked : (shuts : ℕ) → (d : Does (view_of old) (record (view_of old).own { shuts = (view_of old).own.shuts + shuts }) (view_of new)) → (TakesInOrder (view_of old) → TakesInOrder (view_of new)) → EndWorked (record idle_queue { shuts = shuts }) old new
   same_worked shuts d took = let runs : (view_of new).own.runs ≡ (view_of old).own.runs = λ k. (d.did k).runs in record {
     did = λ k. record { put = (ap (map line_of) runs ∙ sym (append-nil _)) k; taken = ((λ k. map line_of (d.did k).takes) ∙ sym (append-nil _)) k; shuts = (d.did k).shuts };

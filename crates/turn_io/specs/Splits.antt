@@ -27,7 +27,7 @@ module _ {n : ℕ} where
   IsJoined old new other = queues.TookIn (view_of old) (view_of other) (view_of new)
 
   -- Each end was split. If the old ends had raised all that they claimed, they still have, and they still know which
-  -- queues are shut. The new ends have raised all, since they put nothing
+  -- queues are shut. The new ends have raised all, because they put nothing
   pub record AreSplit (old new born : List (QueueEnd n)) : Type 0 where
     pub each : AllThree IsSplit old new born
     pub raised : All HasRaised old → All HasRaised new

@@ -20,7 +20,7 @@ pub struct Paid {
     owed: Owed,
 }
 
-// Wakes all who wait in a wait queue, if there is one, as a try owes it to them.
+// Wakes all who wait in a wait queue, where there is one, as a try owes it to them.
 pub(crate) fn wake_for<R: Wait>(
     rt: &R,
     threads: &ThreadTable,

@@ -1,4 +1,4 @@
--- What a hand keeps over several steps, and what its events come to.
+-- The parts that a hand keeps over several steps, and the sum of its events.
 use Rattle.processor.proofs.Common.{◌≡◌, inr, ℕ, zero, suc, true, List, [], ◌∷◌, Option, Some, None, false, get_or, set, refl, sym, ap, ◌∙◌, arith, append_assoc, append-nil, View, Keeps, serves, running, Tally, tally, behind, no_events, Adds, NeverFalls}
 use Rattle.turn_dispatch.specs.Holdings.{OnlyAdds, Steady}
 use Rattle.processor.specs.Acts.{Acts, SteadyOn}
@@ -60,7 +60,7 @@ acts_none v = record {
   rises = λ e. omega arith;
 }
 
--- what was put where nothing stood, and then taken off again
+-- an element was put on a processor that had none, and was then taken off again
 pub on_back : (xs : List (Option ℕ)) (p e : ℕ) → get_or xs p None ≡ None → set (set xs p (Some e)) p None ≡ xs
 on_back [] p e none = refl
 on_back (x ∷ xs) zero e none = ap (λ y. y ∷ xs) (sym none)

@@ -1,4 +1,4 @@
--- What the steps of a plan name is among the shared objects.
+-- The objects that the steps of a plan name are among the shared objects.
 use Rattle.processor.proofs.Common.{◌≡◌, ℕ, zero, suc, ◌≤◌, List, [], ◌∷◌, length, Some, arith, le_prop, ∥∥₁_elim, AllByRecursion, BootPlan, PlannedThread, QueueIndex, Small, Large, Step, plan_of, Plan, steps_at, IsPlan, IsProgramOf, many_of, Shared, program, step_of}
 use Rattle.boot_data.specs.declared.plan.Step.TheVariants as steps
 use Rattle.boot_data.specs.PlanLimits.{IsStepOf}

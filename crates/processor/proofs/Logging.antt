@@ -1,4 +1,4 @@
--- What several pieces of a processor's work come to, one behind the other.
+-- The account of several pieces of a processor's work, one after the other.
 use Rattle.processor.proofs.Common.{◌≡◌, ◌||◌, ◌+◌, ◌≤◌, ◌==◌, ℕ, zero, suc, Bool, true, false, List, [], ◌∷◌, ◌++◌, map, refl, sym, ap, subst, ◌∙◌, ⊎_elim, Result, Ok, Err, MatchResult, arith, append-nil, list_any-append, BootPlan, QueueIndex, Small, Large, QueueEnd, queue_account, chain_account, by_index, queue_shares, StaySound, knows_shut_at, Begun, Idle, Shows, Tally, Adds, no_events, nothing_did, did_both, view_of, done_at, Parts, nothing, ◌⊕◌, account, shown_in, seat_parted, NeverFalls, LogEntry, beginning, Climbs, HasDone, Ran, Went, numbers_of, Key, AreAtRest}
 use Rattle.std.specs.List.{All}
 use Rattle.std.proofs.lemmas.Bool.{or_cases}
@@ -26,7 +26,7 @@ use Rattle.processor.proofs.Summing.{accounts_add, dids_add, queue_sums, chain_s
 use mathlib.Core.Option.{some, some-ne-none}
 use lib.ListN.{get_elem?}
 
--- from further below they climb as well
+-- numbers that climb from a bound also climb from a lower one
 climbs_from : (xs : List ℕ) (a b c : ℕ) → a ≤ b → Climbs xs b c → Climbs xs a c
 climbs_from [] a b c low h = omega arith
 climbs_from (x ∷ xs) a b c low h = (let p = h.0 in omega arith, h.1)
@@ -79,7 +79,7 @@ none_done parts = record {
   large = sound_still _ _ refl;
 }
 
--- what a hand and a seat did, and the signals that were shown
+-- the account of a hand and a seat, with the signals that were shown
 abbrev by_hand : Tally → Did → (ℕ → ℕ → Bool) → Account
 by_hand hand meters shown = record nothing { hand = hand; meters = meters; shown = shown }
 
@@ -104,7 +104,7 @@ hand_done hand ticks shown old new r h m s o = record {
 no_ticks : (old new : Parts) → new.meters ≡ old.meters → (account new).meters ≡ did_both (account old).meters nothing_did
 no_ticks old new m = ap (λ z. (seats.view_of z).own) m ∙ sym (dids_add.none_last (account old).meters)
 
--- an element was put behind the free ones, or stayed where it was
+-- an element was added to the free ones, or stayed where it was
 pub retired_done : (e n : ℕ) (moved : Bool) (old new : Parts) → AreAtRest old new → Adds (retired moved e n) (view_of old.hand) (view_of new.hand)
     → new.meters ≡ old.meters → new.signals ≡ old.signals → NeverFalls (view_of old.hand) (view_of new.hand) → HasDone (record nothing { hand = retired moved e n }) old new
 retired_done e n moved old new r h m s up = hand_done (retired moved e n) nothing_did nothing.shown old new r h
@@ -131,7 +131,7 @@ sum_on : (xs ys : List LogEntry) → sum_of (xs ++ ys) ≡ sum_of xs ⊕ sum_of 
 sum_on [] ys = sym (accounts_add.none_first (sum_of ys))
 sum_on (x ∷ xs) ys = ap (λ z. entry_account x ⊕ z) (sum_on xs ys) ∙ sym (accounts_add.regroups (entry_account x) (sum_of xs) (sum_of ys))
 
--- of which queues an end knew that they are shut, of those it knows it still
+-- an end still knows of each queue that it is shut, if it knew before
 knows_still : (more : Account) (a b : Parts) → HasDone more a b → (q : QueueIndex) → knows_shut a q ≡ true → knows_shut b q ≡ true
 knows_still more a b d (Small q) h = d.small.known q h
 knows_still more a b d (Large q) h = d.large.known q h
@@ -161,7 +161,7 @@ turn_ran plan entry a b c t w = record {
   told = λ q h. w.told q (only (turn_told_shut q entry) h);
 }
 
--- WHAT IT LEAVES
+-- THE STATE AFTER IT
 
 no_claims : (runs : List Batch) → map line_of runs ≡ [] → InOrder runs
 no_claims runs e = subst InOrder (sym (none_of runs e)) order_none
@@ -182,7 +182,7 @@ none_taken [] h k d low = absurd (omega arith)
 none_taken (x ∷ xs) h zero d low = no_takings (queues.view_of x) (h 0)
 none_taken (x ∷ xs) h (suc k) d low = none_taken xs (λ q. h (suc q)) k d (omega arith)
 
--- what a station that was fresh has done is what its log says
+-- the work of a fresh station is the work that its log says
 pub leaves : (plan : BootPlan) (log : List LogEntry) (old new : Parts) → IsFresh old → seat_parted new ≡ seat_parted old → Ran plan log old new → Leaves plan log new
 leaves plan log old new f seat r = record {
   planned = r.planned;

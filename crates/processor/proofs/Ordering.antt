@@ -1,4 +1,4 @@
--- What the gate was shown around a try, and turn by turn.
+-- The sights of the gate around a try, and turn by turn.
 use Rattle.processor.proofs.Common.{◌≡◌, ◌+◌, ℕ, suc, List, [], ◌∷◌, ◌++◌, Option, length, refl, ap, arith, subst, ◌∙◌, QueueEnd, QueueIndex, LogEntry, Parts, Shared, ToldTurns, Turn, view_of}
 use Rattle.std.proofs.Math.Nat.{add-zero}
 use Rattle.std.proofs.lemmas.List.{length-append}
@@ -13,7 +13,7 @@ use Rattle.processor.specs.Points.{GateSaw, points_out}
 use Rattle.processor.specs.Sights.{Sights}
 use Rattle.processor.specs.Turns.{CameOf}
 
--- a try between two looks at its queue, behind the reading of a ticket of the wait queue
+-- a try between two looks at its queue, after the reading of a ticket of the wait queue
 pub tried_between : (S : Sights) (wait wait' : Option ℕ) (queue : QueueIndex) (old hand : Hand) (small small' : List (QueueEnd 64)) (large large' : List (QueueEnd 256)) → wait ≡ wait' → count_of hand ≡ behind_ticket wait (count_of old)
     → QueueShown S hand queue small large → QueueShown S hand queue small' large' → QueueStood S (behind_ticket wait' (count_of old)) queue small small' large large'
 tried_between S wait wait' queue old hand small small' large large' is counted before after = record {
@@ -51,7 +51,7 @@ turns_more S T shared p number (first ∷ log) entry old mid new g h g' t turn s
     shift : (a b : ℕ) → a + suc b ≡ suc a + b
     shift a b = omega arith
 
--- what came of turns in order came of them
+-- the result of turns in order is the result of the turns
 came_of : (S : Sights) (shared : Shared) (p : ℕ) (outcome : Outcome) (line : List ℕ) (old new : Parts) → CameInOrder S shared p outcome line old new → CameOf shared p outcome line old new
 came_of S shared p (outcomes.Idle idle) line old new c = c
 came_of S shared p (outcomes.Had begun had) line old new c = (c.0, c.1, c.2)
@@ -61,7 +61,7 @@ told_of S T shared p number [] old new g g' t = t
 told_of S T shared p number (entry ∷ log) old new g g' t =
     (t.0, t.1, (t.2.0, t.2.1, came_of S shared p entry.outcome entry.line t.2.0 t.0 t.2.2), t.3, told_of S T shared p (suc number) log t.0 new t.1 g' t.4)
 
--- the same, where the lists are the same
+-- the fact for equal lists
 pub stood_as : (S : Sights) {count : Count} (queue : QueueIndex) {a a' b b' : List (QueueEnd 64)} {c c' d d' : List (QueueEnd 256)} → a ≡ a' → b ≡ b' → c ≡ c' → d ≡ d' → QueueStood S count queue a b c d → QueueStood S count queue a' b' c' d'
 stood_as S {count = count} queue {a = a} {a' = a'} {b = b} {b' = b'} {c = c} {c' = c'} {d = d} {d' = d'} x y z w stood =
     subst (λ (u : List (QueueEnd 256)). QueueStood S count queue a' b' c' u) w

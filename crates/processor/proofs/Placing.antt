@@ -1,4 +1,4 @@
--- What was done at one queue or at one chain was done at that alone.
+-- The work at one queue or at one chain was at that one alone.
 use Rattle.processor.proofs.Common.{◌≡◌, ℕ, List, sym, ap, subst, ◌∙◌, Small, Large, QueueEnd, StaySound, idle_queue, idle_chain, both_queue, both_chain, at_each, at_one, by_index, queue_account, chain_account, chain_shares, queues_add, by_sizes, nothing_did, did_both, Deed, Parts, account, EndsWorked, DidAt}
 use Rattle.turn_io.specs.Accounts.{AtQueue}
 use Rattle.meters.specs.Handles as meters
@@ -18,7 +18,7 @@ pub did_large : (k : ℕ) (did : AtQueue) (others : List (QueueEnd 64)) (old new
     → DidAt (Large k) did others others old new
 did_large k did others old new h = by_sizes _ _ (λ q. sym (queues_add.none_last (queue_account others q))) (λ q i. h i q)
 
--- what holds of three values holds of the same values
+-- a fact about three values holds for equal values
 pub of_same : {A B C : Type 0} (R : A → B → C → Type 0) {a a' : A} {b b' : B} {c c' : C} → a ≡ a' → b ≡ b' → c ≡ c' → R a b c → R a' b' c'
 of_same R {a' = a'} {b = b} {b' = b'} {c = c} x y z r = subst (R a' b') z (subst (λ w. R a' w c) y (subst (λ w. R w b c) x r))
 

@@ -1,4 +1,4 @@
--- What a gate is told of turns.
+-- The calls of a gate during turns.
 use Rattle.processor.proofs.Common.{◌≡◌, ℕ, suc, List, [], ◌∷◌, ap, ◌∙◌, Turn, Shared, Parts, LogEntry, ToldTurns}
 use Rattle.turn_io.specs.declared.gate.Point.{Point}
 use Rattle.processor.specs.Points.{GateSaw, points_out}

@@ -38,7 +38,7 @@ Later v w = Begins v.seen.object w.seen.object
 pub falls : (v w : View) → ∥ IsHonest w ∥₁ → Later v w → NeverFalls v w
 falls v w told later = λ e. ∥∥₁_elim told le_prop (λ (h : IsHonest w). done_grows v.seen.object w.seen.object later h.allowed e)
 
--- the same of two hands
+-- no number of steps fell between two states of a hand
 pub fallen : (old new : Hand) → Later (view_of old) (view_of new) → NeverFalls (view_of old) (view_of new)
 fallen old new later = falls (view_of old) (view_of new) new.told later
 

@@ -23,7 +23,7 @@ same_laws = record {
   congr = λ a b z h. let p = same_is a b h in ap (λ (k : ℕ). (k == z.0) && (a.1 == z.1)) p.0 ∙ ap (λ (k : ℕ). (b.0 == z.0) && (k == z.1)) p.1;
 }
 
--- the steps of a program that hear, where the first has this number
+-- the steps of a program that hear; the program's first step has this number
 abbrev keys_in : ℕ → ℕ → List Step → List Key
 keys_in thread number [] = []
 keys_in thread number (step ∷ steps) = (if is_hear step then (thread, number) ∷ [] else []) ++ keys_in thread (number + 1) steps
@@ -64,7 +64,7 @@ is_in_keys thread number (suc k) (s ∷ steps) step e h =
     in_second (if is_hear s then (thread, number) ∷ [] else []) (keys_in thread (number + 1) steps) (thread, number + suc k)
     (key_at thread ((number + 1) + k) (number + suc k) (keys_in thread (number + 1) steps) (omega arith) (is_in_keys thread (number + 1) k steps step e h))
 
--- the steps of these programs that hear, where the first thread has this number
+-- the steps of these programs that hear; the first thread has this number
 abbrev keys_of : ℕ → List PlannedThread → List Key
 keys_of number [] = []
 keys_of number (t ∷ ts) = keys_in number 0 t.steps ++ keys_of (number + 1) ts

@@ -5,7 +5,7 @@ use Rattle.std.specs.Int.Bits.{bit_or}
 use Rattle.std.proofs.lemmas.List.{get_or-set_same, get_or-set_other, length-set}
 use Rattle.turn_dispatch.proofs.Delivered.{in_or}
 
--- the first k masks have the signals of both lists, and the others are those of the first
+-- the first k masks have the signals of both lists, and the other masks are those of the first list
 pub record BothUpTo (k : ℕ) (a b all : List ℕ) : Type 0 where
   pub long : length all ≡ 64
   pub below : (e s : ℕ) → e < k → is_in (get_or all e 0) s ≡ (is_in (get_or a e 0) s || is_in (get_or b e 0) s)

@@ -108,7 +108,7 @@ shares_swap a b = λ i. record {
   meters = add_comm a.meters b.meters i;
 }
 
--- what is kept and what is given is all that there was
+-- the parts kept and given make up the whole
 pub shares_parted : (a : Shares) → both_shares (each_share kept a) (each_share given a) ≡ a
 shares_parted a = λ i. record {
   queues = λ q. given_kept (a.queues q) i;

@@ -1,4 +1,4 @@
--- What a seat of the meters did.
+-- The work of a seat of the meters.
 use Rattle.processor.proofs.Common.{◌≡◌, ℕ, List, [], ◌∷◌, Result, sym, ap, ◌∙◌, append-nil, Alarm, tick_to, nothing_did, did_both}
 use Rattle.turn_dispatch.specs.Tendings.{DidTend}
 use Rattle.meters.specs.declared.gauges.AdvanceRefusal.{AdvanceRefusal}
@@ -16,7 +16,7 @@ tended_ticks advanced fired v w h = λ i. record {
   cancelled = (ap (λ (o : Own). o.cancelled) h ∙ sym (append-nil v.own.cancelled)) i;
 }
 
--- what is the seat's own besides, is as it was
+-- the seat's own other parts are unchanged
 pub record Remains (v w : SeatView) : Type 0 where
   pub share : w.member.share ≡ v.member.share
   pub parted : ◌≡◌ {A = ℕ × ℕ} (w.member.splits, w.member.joins) (v.member.splits, v.member.joins)

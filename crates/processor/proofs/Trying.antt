@@ -1,4 +1,4 @@
--- What the try of a step comes to: how it is counted, what its ends did, and what they know.
+-- The result of the try of a step: how it is counted, what its ends did, and what they know.
 use Rattle.processor.proofs.Common.{◌≡◌, ◌+◌, ◌==◌, ◌<◌, ⊎_elim, ℕ, zero, suc, Bool, true, false, cond, List, [], ◌∷◌, ◌++◌, map, length, get_or, set, Some, Result, Ok, Err, refl, sym, ap, subst, ◌∙◌, arith, if◌then◌else◌, eqb-true, eqb_tells, append-nil, QueueIndex, Small, Large, Step, QueueEnd, by_index, OnEnd, knows_shut_at, Counted, CountAnswer, IsNumber, counted_step, Tally, Adds, behind, view_of, View, done_at, Deed, SentOn, Shared, Parts, shown_in, NeverFalls, IsDeedOf, is_done, line_in, heard_by, raised_by, told_shut, FollowsStep, trying, Climbs, EndsWorked, Went, numbers_of, Key, program, step_of, Stepped, Goes, is_last}
 use Rattle.std.proofs.Common.{slice_get}
 use Rattle.std.proofs.Math.Bool.{Bool-set}
@@ -30,7 +30,7 @@ use Rattle.processor.proofs.Logging.{known_done}
 use Rattle.processor.proofs.Rising.{rises_on}
 use Rattle.processor.proofs.Summing.{none_shows}
 
--- what was heard is one line, or none
+-- a hear has one line, or none
 pub line_heard_at : (queue : QueueIndex) (line : List ℕ) (answer : Result (Unit {0}) TakeRefusal) (old new : List (QueueEnd 64)) (old' new' : List (QueueEnd 256))
     → HeardAt queue line answer old new old' new' → IsLineIf answer (room_of queue) line
 line_heard_at (Small k) line (Ok done) old new old' new' h = h.0.does.0
@@ -38,16 +38,16 @@ line_heard_at (Small k) line (Err refusal) old new old' new' h = h.0.does.0
 line_heard_at (Large k) line (Ok done) old new old' new' h = h.0.does.0
 line_heard_at (Large k) line (Err refusal) old new old' new' h = h.0.does.0
 
--- what is kept of a line that was heard
+-- the record of a line that was heard
 pub heard_line : (step : Step) (deed : Deed) (e n : ℕ) (text : List ℕ) → IsDeedOf step deed (line_in step text) → heard_by deed e n text ≡ heard_by deed e n (line_in step text)
 heard_line (steps.Say queue said) (deeds.Hear at answer) e n text d = absurd d
 heard_line step deed e n text d = refl
 
--- a say that was told so found its queue shut
+-- a say with this answer found its queue shut
 found_so : {n : ℕ} (line : List ℕ) (old new : QueueEnd n) → Said {A = Unit {0}} line (Err claims.Closed) old new → end_knows_shut new ≡ true
 found_so {n} line old new s = by_both old new (Bool-set _ _) (λ x y. closed_says (queues.view_of old) (queues.view_of new) x y n _ s)
 
--- and so did a hear
+-- a hear with this answer found its queue shut
 heard_so : {n : ℕ} (line : List ℕ) (old new : QueueEnd n) → Heard {A = Unit {0}} line (Err takes.Closed) old new → end_knows_shut new ≡ true
 heard_so {n} line old new h = by_both old new (Bool-set _ _) (λ x y. (done_says (queues.view_of old) (queues.view_of new) x y (IsBegun n) (IsLine n) n h.1).0)
 
@@ -65,7 +65,7 @@ on_so : {n : ℕ} (R : QueueEnd n → QueueEnd n → Type 0) (k : ℕ) (old new 
 on_so R k old new so o q at = let e = eqb-true q k (if_true (q == k) at) in
     subst (λ (z : ℕ). knows_shut_at new z ≡ true) (sym e) (ap (λ z. knows_shut_at z k) o.now ∙ set_there end_knows_shut old k o.end o.after o.was (so o.end o.after o.does))
 
--- of a queue of which a step was told that it is shut, its end knows it
+-- the end of a queue knows that the queue is shut, if a step was answered so
 told_so : (deed : Deed) (line : List ℕ) (old new : List (QueueEnd 64)) (old' new' : List (QueueEnd 256)) → QueuesDid deed line old new old' new'
     → (queue : QueueIndex) → told_shut deed queue ≡ true → by_index (knows_shut_at new) (knows_shut_at new') queue ≡ true
 told_so (deeds.Say (Small k) says.Over) line old new old' new' d (Small q) at = on_so (Said {A = Unit {0}} line (Err claims.Closed)) k old new (found_so line) d.1.0 q at
@@ -78,7 +78,7 @@ told_so (deeds.Hear (Large k) (hears.Over paid)) line old new old' new' d (Small
 told_so (deeds.Hear (Large k) (hears.Over paid)) line old new old' new' d (Large q) at = on_so (Heard {A = Unit {0}} line (Err takes.Closed)) k old' new' (heard_so line) d.1.0 q at
 told_so deed line old new old' new' d queue at = cc
 
--- a step is counted by its number where it is done
+-- a step is counted by its number if it is done
 counted_so : (call element : ℕ) (done : Bool) (number : ℕ) (answer : Counted) (did after v w : View) → CountAnswer call element done did answer after → IsNumber answer element v w
     → number ≡ done_at v.seen.object element → number < 64 → answer ≡ count_of done number
 counted_so call element true number (counted.Done m) did after v w a is now low = ap counted.Done (is.0 ∙ ap (λ z. z + 1) (sym now))
@@ -108,12 +108,12 @@ gone_done (moveds.Freed true) e n = refl
 gone_done (moveds.Freed false) e n = refl
 gone_done moved e n = refl
 
--- behind the last step no step is left
+-- after the last step no step is left
 over_so : (call : ℕ) (deed : Deed) (done : Bool) (steps e n : ℕ) (moved : Moved) (v w : View) → Goes call deed (is_last done n steps) e moved v w → IsOver moved (n + 1) steps
 over_so call deed done steps e n (moveds.Freed moved) v w g = leb-true steps (n + 1) (split done _ g.2).1
 over_so call deed done steps e n moved v w g = tt
 
--- an element that goes to the free ones did one step more
+-- an element that goes to the free ones did one more step
 gone_so : (call call' : ℕ) (deed : Deed) (done : Bool) (steps e n : ℕ) (moved : Moved) (answer : Counted) (did after u v w : View) → Goes call deed (is_last done n steps) e moved v w
     → CountAnswer call' e done did answer after → IsNumber answer e u v → n ≡ done_at u.seen.object e → n < 64 → gone moved e (done_at v.seen.object e) ≡ gone moved e (n + 1)
 gone_so call call' deed done steps e n (moveds.Freed moved) answer did after u v w g c is now low = ap (gone (moveds.Freed moved) e) (one_more done answer (split done _ g.2).0 c is)
@@ -139,7 +139,7 @@ module _ (shared : Shared) (call call' p e n : ℕ) (step : Step) (sent : SentOn
     over = over_so call' sent.tried.deed (is_done sent.tried.deed) (length (program shared.plan e)) e n sent.moved (view_of mid.hand) (view_of new.hand) goes;
   }
 
-  -- a step that was tried on a processor, and behind which its element moved on
+  -- a step was tried on a processor, and its element moved on after it
   pub tried_went : NeverFalls (view_of old.hand) (view_of mid.hand) → NeverFalls (view_of mid.hand) (view_of new.hand)
       → Adds (behind (raised_by sent.tried.deed) (counted_step sent.tried.counted e (done_at (view_of old.hand).seen.object e))) (view_of old.hand) (view_of mid.hand)
       → Adds (gone sent.moved e (done_at (view_of mid.hand).seen.object e)) (view_of mid.hand) (view_of new.hand)

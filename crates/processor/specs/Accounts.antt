@@ -1,4 +1,4 @@
--- What the ends of a station did, and the shares that they have, each as one sum.
+-- The work of a station's ends, and their shares, each added up to one value.
 use Rattle.std.specs.Prelude.{◌+◌, ◌&&◌, ◌||◌, ℕ, Bool, false, nat_lt, List, [], ◌++◌, slice_index_or}
 use Rattle.boot_data.specs.Hearing.{Line}
 use Rattle.boot_data.specs.declared.plan.QueueIndex.{QueueIndex}
@@ -12,8 +12,8 @@ use Rattle.thread_table.specs.Answers.{is_in}
 use Rattle.thread_table.specs.Handles.{view_of}
 use Rattle.processor.specs.declared.station.Parts.{Parts}
 
--- What was done at each queue and at each chain, what the hand's events come to, what was done at the meters, what was
--- heard, and whether a signal of an element was delivered
+-- An account of work: what was done at each queue, at each chain and at the meters, the tally of the hand's events, and
+-- the lines heard. For each element and signal it has whether the signal was delivered
 pub record Account : Type 0 where
   pub queues : QueueIndex → AtQueue
   pub chains : ℕ → AtChain
@@ -34,7 +34,7 @@ nothing = record {
 }
 
 infixl 10 ◌⊕◌
--- first the one, and then the other
+-- account `a`, followed by account `b`
 abbrev pub ◌⊕◌ : Account → Account → Account
 a ⊕ b = record {
   queues = at_each both_queue a.queues b.queues;
@@ -45,12 +45,12 @@ a ⊕ b = record {
   shown = λ element signal. a.shown element signal || b.shown element signal;
 }
 
--- whether the mask of one of the 64 elements has one of its 16 signals
+-- whether the element is one of 64, the signal one of 16, and the element's mask has the signal
 abbrev pub shown_in : List ℕ → ℕ → ℕ → Bool
 shown_in masks element signal =
     nat_lt element 64 && (nat_lt signal 16 && is_in (slice_index_or masks element 0) signal)
 
--- what the ends of a station did
+-- the account of the work of a station's ends
 abbrev pub account : Parts → Account
 account parts = record {
   queues = by_index (queue_account parts.small.items) (queue_account parts.large.items);
@@ -61,15 +61,15 @@ account parts = record {
   shown = shown_in parts.signals;
 }
 
--- how often the seat of the meters was split, and took in another
+-- how often the seat of the meters was split, and how often another seat was joined to it
 abbrev pub seat_parted : Parts → ℕ × ℕ
 seat_parted parts = ((seats.view_of parts.meters).member.splits, (seats.view_of parts.meters).member.joins)
 
--- all but what was heard
+-- the account without the lines heard
 abbrev pub unheard : Account → Account
 unheard a = record a { heard = [] }
 
--- the shares of each queue, of each chain, of the threads and of the meters
+-- a share of each queue, of each chain, of the threads and of the meters
 pub record Shares : Type 0 where
   pub queues : QueueIndex → ℕ
   pub chains : ℕ → ℕ
@@ -80,7 +80,7 @@ pub record Shares : Type 0 where
 abbrev pub no_shares : Shares
 no_shares = record { queues = λ q. 0; chains = λ q. 0; hand = 0; meters = 0 }
 
--- the shares of two owners together
+-- the shares of two owners, added
 abbrev pub both_shares : Shares → Shares → Shares
 both_shares a b = record {
   queues = λ q. a.queues q + b.queues q;
@@ -89,7 +89,7 @@ both_shares a b = record {
   meters = a.meters + b.meters;
 }
 
--- of each share this part
+-- `part` of each share
 abbrev pub each_share : (ℕ → ℕ) → Shares → Shares
 each_share part a = record {
   queues = λ q. part (a.queues q);
@@ -98,7 +98,7 @@ each_share part a = record {
   meters = part a.meters;
 }
 
--- what shares the ends of a station have
+-- the shares that the ends of a station have
 abbrev pub shares : Parts → Shares
 shares parts = record {
   queues = by_index (queue_shares parts.small.items) (queue_shares parts.large.items);

@@ -1,21 +1,21 @@
--- What a step of a thread leaves to the hand that runs it.
+-- The changes that a step of a thread makes at the hand that runs it, and the parts that it leaves as they were.
 use Rattle.std.specs.Prelude.{◌≡◌, ◌≤◌, ◌<◌, ℕ, true, Some}
 use Rattle.thread_table.specs.Own.{View}
 use Rattle.thread_table.specs.Keeping.{Keeps}
 use Rattle.thread_table.specs.Rules.{done_at, serves, running}
 use Rattle.turn_dispatch.specs.Tallies.{Tally, Adds}
 
--- no element's number of steps fell
+-- no element's number of steps done is lower than before
 abbrev pub NeverFalls : View → View → Type 0
 NeverFalls v w = (e : ℕ) → done_at v.seen.object e ≤ done_at w.seen.object e
 
--- no step was counted of what stands on the hand's processors
+-- no step was counted of an element that is on one of the hand's processors
 abbrev pub SteadyOn : View → View → Type 0
 SteadyOn v w = (p e : ℕ) → e < 64 → serves v p ≡ true → running v p ≡ Some e
     → done_at w.seen.object e ≡ done_at v.seen.object e
 
--- Its processors and its share are as they were, and so is what stands there, of which no step was counted; the hand
--- made events that come to this, and no step is undone
+-- The hand keeps its processors, its share and the elements on its processors, of which no step was counted. Its events
+-- add this tally, and no element's number of steps done fell
 pub record Acts (more : Tally) (v w : View) : Type 0 where
   pub keeps : Keeps v w
   pub adds : Adds more v w

@@ -1,4 +1,4 @@
--- A turn of a processor, as its log has it: what came of it, and what that comes to.
+-- The log entry of a turn of a processor: the result of the turn, and the account of that result.
 use Rattle.std.specs.Prelude.{◌≡◌, ◌≤◌, ◌+◌, ◌&&◌, ℕ, Bool, true, false, nat_lt, List, [], length, Option, Some, None}
 use Rattle.std.specs.Prelude.{Result}
 use Rattle.boot_data.specs.declared.boot_plan.BootPlan.{BootPlan}
@@ -27,22 +27,21 @@ use Rattle.processor.specs.Deeds.{is_done, IsDeedOf}
 use Rattle.processor.specs.Doings.{queues_by, chains_by, ticks_by, raised_by, heard_by, told_shut}
 use Rattle.processor.specs.Programs.{program, step_of}
 
--- what came of tending the alarms: the tick that the clock was moved on to, or why it wasn't; and the alarms that were
--- fired
+-- the result of tending the alarms: the tick to which the clock was advanced, or the refusal; and the alarms fired
 pub record Tended : Type 0 where
   pub advanced : Result ℕ AdvanceRefusal
   pub fired : List Alarm
 
--- What came of a turn: of the alarms, which only processor 0 tends; of an element's turn; and the line that its step was
--- to say, or heard, none where it did neither
+-- The result of a turn: of the alarms, which only processor 0 tends, and of an element's turn. The line is the one that
+-- the step was to say, or heard; it is empty if the step did neither
 pub record LogEntry : Type 0 where
   pub tended : Option Tended
   pub outcome : Outcome
   pub line : List ℕ
 
--- WHAT IT COMES TO
+-- THE ACCOUNT OF A TURN
 
--- the alarms were tended: the clock was moved on, and the signals of those that fired were raised
+-- the account of tending the alarms: the clock's advance, if made, and the fired alarms with their signals
 abbrev pub tending : Option Tended → Account
 tending None = nothing
 tending (Some tended) = record nothing {
@@ -50,7 +49,7 @@ tending (Some tended) = record nothing {
   meters = record nothing_did { advances = tick_to tended.advanced; fired = tended.fired };
 }
 
--- the signals that an element had when its turn began were delivered
+-- the account of a turn's beginning: the signals that the element had were delivered
 abbrev pub beginning : Begun → Account
 beginning begun = record nothing {
   hand = one_delivery begun.element (mask_of begun.delivered);
@@ -58,12 +57,13 @@ beginning begun = record nothing {
       && is_delivered (delivery begun.element (mask_of begun.delivered)) element signal);
 }
 
--- the retirement of the element, by how many steps it had done, where it went to the free elements
+-- the retirement of the element, with its number of steps done, if it went to the free elements
 abbrev pub gone : Moved → ℕ → ℕ → Tally
 gone (moveds.Freed moved) element number = retired moved element number
 gone moved element number = no_events
 
--- the step with this number was tried with this line, counted where it is done, and the element moved on
+-- the account of a tried step: its deed with this line, its count if it is done, and the element's retirement if it was
+-- retired
 abbrev pub trying : ℕ → ℕ → SentOn → List ℕ → Account
 trying element number sent line = record nothing {
   queues = queues_by sent.tried.deed line;
@@ -74,33 +74,34 @@ trying element number sent line = record nothing {
   heard = heard_by sent.tried.deed element number line;
 }
 
--- an element's turn: it was retired, or its step was tried
+-- the account of an element's turn: its retirement, or the try of its step
 abbrev pub having : ℕ → ℕ → Had → List ℕ → Account
 having element number (hads.Ended moved) line = record nothing { hand = retired moved element number }
 having element number (hads.Ran sent) line = trying element number sent line
 
--- the turn of an element, if one was at hand
+-- the account of an element's turn; nothing, if no element was at hand
 abbrev pub outcome_account : Outcome → List ℕ → Account
 outcome_account (outcomes.Idle idle) line = nothing
 outcome_account (outcomes.Had begun had) line = beginning begun ⊕ having begun.element begun.number had line
 
--- what a turn comes to
+-- the account of a turn
 abbrev pub entry_account : LogEntry → Account
 entry_account entry = tending entry.tended ⊕ outcome_account entry.outcome entry.line
 
--- HOW IT FOLLOWS THE PLAN
+-- HOW A TURN FOLLOWS THE PLAN
 
--- a step is counted by its number where it is done, and else it isn't
+-- the count of a step with this number: counted if it is done, and otherwise not
 abbrev pub count_of : Bool → ℕ → Counted
 count_of true number = counted.Done (number + 1)
 count_of false number = counted.Undone
 
--- an element that went to the free ones had no step left
+-- an element sent to the free elements has no step left
 abbrev pub IsOver : Moved → ℕ → ℕ → Type 0
 IsOver (moveds.Freed moved) number steps = steps ≤ number
 IsOver moved number steps = Unit {0}
 
--- a step that was tried is the plan's step of this thread and number, and was counted where it is done
+-- The tried step is the plan's step of this thread with this number, the deed and the line are its result, and it was
+-- counted if it is done. An element sent to the free elements has no step left
 pub record FollowsStep (plan : BootPlan) (element number : ℕ) (sent : SentOn) (line : List ℕ) : Type 0 where
   pub step : Step
   pub is : step_of plan element number ≡ Some step
@@ -108,25 +109,28 @@ pub record FollowsStep (plan : BootPlan) (element number : ℕ) (sent : SentOn) 
   pub counts : sent.tried.counted ≡ count_of (is_done sent.tried.deed) number
   pub over : IsOver sent.moved (number + 1) (length (program plan element))
 
+-- the turn of an element with this number of steps done follows the plan
 abbrev pub HadFollows : BootPlan → ℕ → ℕ → Had → List ℕ → Type 0
 HadFollows plan element number (hads.Ended moved) line = (length (program plan element) ≤ number) × (line ≡ [])
 HadFollows plan element number (hads.Ran sent) line = FollowsStep plan element number sent line
 
+-- the result of an element's turn, if one was at hand, follows the plan
 abbrev pub OutcomeFollows : BootPlan → Outcome → List ℕ → Type 0
 OutcomeFollows plan (outcomes.Idle idle) line = line ≡ []
 OutcomeFollows plan (outcomes.Had begun had) line = HadFollows plan begun.element begun.number had line
 
--- An element whose turn it was had all its steps done, and was retired; or its next step of the plan was tried. Either
--- way an element that went to the free ones has done all its steps
+-- An element that had a turn was sent to the free elements with all its steps done, or its next step of the plan was
+-- tried. In both cases an element sent to the free elements has no step left. A turn without a try has no line
 abbrev pub FollowsPlan : BootPlan → LogEntry → Type 0
 FollowsPlan plan entry = OutcomeFollows plan entry.outcome entry.line
 
--- WHAT IT WAS TOLD
+-- WHICH QUEUES A TURN FOUND SHUT
 
--- whether its say or hear was told that the queue is shut
+-- for each queue: whether the say or hear of an element's turn was answered that the queue is shut
 abbrev pub outcome_told_shut : Outcome → QueueIndex → Bool
 outcome_told_shut (outcomes.Had begun (hads.Ran sent)) = told_shut sent.tried.deed
 outcome_told_shut outcome = λ queue. false
 
+-- whether the say or hear of a turn was answered that this queue is shut
 abbrev pub turn_told_shut : QueueIndex → LogEntry → Bool
 turn_told_shut queue entry = outcome_told_shut entry.outcome queue

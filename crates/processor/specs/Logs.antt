@@ -1,4 +1,4 @@
--- What a processor did, turn by turn, and what that comes to.
+-- The work of a processor, turn by turn, and the account of all its turns.
 use Rattle.std.specs.Prelude.{◌≡◌, ◌≤◌, ◌+◌, ◌==◌, ℕ, Bool, true, List, [], ◌∷◌, map, filter, length}
 use Rattle.std.specs.List.{All, AllByRecursion, list_any}
 use Rattle.boot_data.specs.Hearing.{Key}
@@ -19,16 +19,16 @@ use Rattle.processor.specs.Entries.{LogEntry, entry_account, FollowsPlan, turn_t
 use Rattle.processor.specs.Points.{ToldTurns}
 use Rattle.processor.specs.Stations.{IsUnused}
 
--- what a log comes to: the sum of its turns, in their order
+-- the account of a log: the sum of its turns, in their order
 abbrev pub sum_of : List LogEntry → Account
 sum_of [] = nothing
 sum_of (entry ∷ log) = entry_account entry ⊕ sum_of log
 
--- whether a say or a hear of the log was told that the queue is shut
+-- whether a say or a hear of the log was answered that the queue is shut
 abbrev pub was_shut : List LogEntry → QueueIndex → Bool
 was_shut log queue = list_any (turn_told_shut queue) log
 
--- the numbers of a thread's steps among these, in their order
+-- the numbers of the thread's steps in this list, in the list's order
 abbrev pub numbers_of : ℕ → List Key → List ℕ
 numbers_of thread done = map (λ (key : Key). key.1) (filter (λ (key : Key). thread == key.0) done)
 
@@ -36,19 +36,19 @@ numbers_of thread done = map (λ (key : Key). key.1) (filter (λ (key : Key). th
 abbrev pub numbers_done : List LogEntry → ℕ → List ℕ
 numbers_done log thread = numbers_of thread (sum_of log).hand.done
 
--- These numbers climb from low to high: the first is at least low, each is above the one before it, and all are below
--- high; where there are none, high is at least low
+-- The numbers are strictly increasing, from low (inclusive) to high (exclusive). If there are no numbers, low is at
+-- most high
 abbrev pub Climbs : List ℕ → ℕ → ℕ → Type 0
 Climbs [] low high = low ≤ high
 Climbs (number ∷ numbers) low high = (low ≤ number) × Climbs numbers (number + 1) high
 
--- whether the station's end of the queue knows that it is shut
+-- whether the station's end of the queue knows that the queue is shut
 abbrev pub knows_shut : Parts → QueueIndex → Bool
 knows_shut parts = by_index (knows_shut_at parts.small.items) (knows_shut_at parts.large.items)
 
--- What a piece of a processor's work left: its ends did this in its order, and nothing else; the numbers of a thread's
--- steps that were done climb from as many as the hand had seen done to as many as it has now; and what its ends knew,
--- and claimed and took in order, stays so
+-- A part of a processor's work: the ends did this, in order, and nothing else. The numbers of a thread's steps done
+-- climb from the number that the hand had seen to the number that it sees now. Ends of queues keep what they knew, and
+-- still have claimed and taken in order
 pub record HasDone (more : Account) (old new : Parts) : Type 0 where
   pub did : account new ≡ account old ⊕ more
   pub order : (thread : ℕ) → Climbs (numbers_of thread more.hand.done) (done_at (view_of old.hand).seen.object thread)
@@ -56,19 +56,20 @@ pub record HasDone (more : Account) (old new : Parts) : Type 0 where
   pub small : StaySound old.small.items new.small.items
   pub large : StaySound old.large.items new.large.items
 
--- what came of a piece of a processor's work: it is as the plan has it, its ends did this, and know of each queue that
--- it is shut of which they were told so
+-- The result of a part of a processor's work: it follows the plan, and the ends did this. If an answer was that a queue
+-- is shut, the queue's end knows that
 pub record Went (IsPlanned : Type 0) (more : Account) (was_told : QueueIndex → Bool) (old new : Parts) : Type 0 where
   pub planned : IsPlanned
   pub done : HasDone more old new
   pub told : (queue : QueueIndex) → was_told queue ≡ true → knows_shut new queue ≡ true
 
--- what came of a processor's turns: each is as the plan has it, and its ends did what the log comes to
+-- The result of a processor's turns: each follows the plan, and the ends did the log's sum. If the log has an answer
+-- that a queue is shut, the queue's end knows that
 abbrev pub Ran : BootPlan → List LogEntry → Parts → Parts → Type 0
 Ran plan log old new = Went (AllByRecursion (FollowsPlan plan) log) (sum_of log) (was_shut log) old new
 
--- What a step did at the ends of queues and chains and at the seat, as sums. Each end has the share that it had, and
--- what they knew, and claimed and took in order, stays so
+-- A step did this at the ends of queues and chains and at the seat, as sums. Each of these ends keeps its share. Ends
+-- of queues keep what they knew, and still have claimed and taken in order. The seat was neither split nor joined
 pub record EndsWorked (deed : Deed) (line : List ℕ) (old new : Parts) : Type 0 where
   pub queues : (account new).queues ≡ at_each both_queue (account old).queues (queues_by deed line)
   pub chains : (account new).chains ≡ at_each both_chain (account old).chains (chains_by deed)
@@ -79,15 +80,16 @@ pub record EndsWorked (deed : Deed) (line : List ℕ) (old new : Parts) : Type 0
   pub seat_kept : (shares new).meters ≡ (shares old).meters
   pub seat : seat_parted new ≡ seat_parted old
 
--- the ends of the station have done nothing
+-- The ends of the station have done nothing, and its seat was neither split nor joined. Nothing was heard, and no
+-- signal was delivered
 pub record IsFresh (parts : Parts) : Type 0 where
   pub did : account parts ≡ nothing
   pub seat : seat_parted parts ≡ (0, 0)
   pub unused : IsUnused parts
 
--- What is left of a processor's work on a station that was fresh: all that its ends did is what the log says, each turn
--- as the plan has it, and each end claimed and took in order; and the numbers of a thread's steps that were done climb
--- up to as many as the hand has seen done
+-- The state of a fresh station after its turns: the ends did the log's sum, and each turn follows the plan. The numbers
+-- of a thread's steps done climb from 0 to the number that the hand has seen. Each end of a queue claimed and took in
+-- order, and knows that its queue is shut if the log has that answer. The seat was neither split nor joined
 pub record Leaves (plan : BootPlan) (log : List LogEntry) (parts : Parts) : Type 0 where
   pub planned : AllByRecursion (FollowsPlan plan) log
   pub did : account parts ≡ sum_of log
@@ -97,8 +99,8 @@ pub record Leaves (plan : BootPlan) (log : List LogEntry) (parts : Parts) : Type
   pub small : All ClaimedInOrder parts.small.items × All TookInOrder parts.small.items
   pub large : All ClaimedInOrder parts.large.items × All TookInOrder parts.large.items
 
--- So many turns of the processor p, of which the gate was told, and their log: what came of each, in their order, and
--- what that comes to. On a station that was fresh they leave what the log says
+-- Processor p had this many turns. The log has the result of each, in order, and each was reported to the gate. The
+-- ends did the log's sum. On a fresh station the turns leave what the log says
 pub record HasTurned {G : Type 0} (T : G → ℕ → Point → G → Type 0) (shared : Shared) (p turns : ℕ) (gate gate' : G)
     (old new : Parts) : Type 0 where
   pub log : List LogEntry

@@ -1,4 +1,4 @@
--- A station that a processor can use, and what its turns leave of it as it was.
+-- A station that a processor can use, and the parts of it that its turns leave unchanged.
 use Rattle.std.specs.Prelude.{◌≡◌, ℕ}
 use Rattle.turn_dispatch.specs.Holdings.{IsFree}
 use Rattle.thread_table.specs.Handles.{view_of}
@@ -8,15 +8,15 @@ use Rattle.processor.specs.Accounts.{shares, seat_parted}
 use Rattle.processor.specs.Rooms.{HasRoom}
 use Rattle.processor.specs.Stations.{ArePartsOf, AreSameParts}
 
--- the station is one of these objects and has room for what is heard, and its hand serves the processor, on which
--- nothing stands
+-- The station's ends are of these objects, and it has room for the lines that are heard. Its hand serves the processor,
+-- on which there is no element
 pub record IsManned (shared : Shared) (p : ℕ) (parts : Parts) : Type 0 where
   pub parts_are : ArePartsOf shared parts
   pub free : IsFree p (view_of parts.hand)
   pub room : HasRoom shared.plan parts
 
--- it is so still: the same ends with the same shares, none split or joined at the meters; the hand serves the
--- processors that it served, with the same on them
+-- The station can still be used. It has the same ends with the same shares, and its seat was neither split nor joined.
+-- Its hand serves the same processors, with the same elements on them
 pub record StaysManned (shared : Shared) (p : ℕ) (old new : Parts) : Type 0 where
   pub manned : IsManned shared p new
   pub same : AreSameParts old new

@@ -1,4 +1,4 @@
--- What splitting a station and joining two leave.
+-- The results of splitting a station and of joining two.
 use Rattle.std.specs.Prelude.{◌≡◌, ◌<◌, ◌||◌, ℕ, List, [], ◌∷◌, length, slice_index_or, vec_capacity}
 use Rattle.std.specs.List.{All}
 use Rattle.turn_io.specs.EndLists.{IsDivisible, IsChainDivisible}
@@ -22,8 +22,8 @@ pub record AreDivisible (parts : Parts) : Type 0 where
   pub chains : All IsChainDivisible parts.chains.items
   pub meters : seats.IsDivisible parts.meters
 
--- the lists are empty, and have just the room for an end of each object and for each line that can be heard, as long as
--- it can be
+-- the lists are empty, with room for exactly an end of each object and each line that can be heard, at its greatest
+-- length
 pub record HaveRoom (shared : Shared) (lists : Lists) : Type 0 where
   pub small : (lists.small.items ≡ []) × (vec_capacity lists.small ≡ length shared.queues.small.items)
   pub large : (lists.large.items ≡ []) × (vec_capacity lists.large ≡ length shared.queues.large.items)
@@ -31,7 +31,8 @@ pub record HaveRoom (shared : Shared) (lists : Lists) : Type 0 where
   pub heard : (lists.heard.lines ≡ []) × (lists.heard.room ≡ hear_count shared.plan)
       × (lists.heard.longest ≡ longest_line shared.plan)
 
--- Each end gave a part to a new one, and the hand the processors of the mask. What was heard and signalled is as it was
+-- Each end gave a part to a new end, and the hand gave the processors of the mask. The lines heard and the signals are
+-- unchanged
 pub record AreSplit (processors : ℕ) (old new born : Parts) : Type 0 where
   pub hand : hands.Divided processors (threads.view_of old.hand) (threads.view_of new.hand)
   pub born_hand : hands.IsNewborn processors (threads.view_of old.hand) (threads.view_of new.hand)
@@ -52,8 +53,8 @@ HaveBoth a b both = (element signal : ℕ) → element < 64 → signal < 16
     → is_in (slice_index_or both element 0) signal
     ≡ (is_in (slice_index_or a element 0) signal || is_in (slice_index_or b element 0) signal)
 
--- Each end took in the other's at its place, and has what both had; the signals are those of both. What was heard is as
--- it was
+-- Each end took in the other station's end at its place, and has what both had. The signals are those of both. The
+-- lines heard are unchanged
 pub record AreJoined (old other new : Parts) : Type 0 where
   pub hand : hands.TookIn (threads.view_of old.hand) (threads.view_of other.hand) (threads.view_of new.hand)
   pub small : splits.AreJoined old.small.items other.small.items new.small.items
@@ -64,7 +65,7 @@ pub record AreJoined (old other new : Parts) : Type 0 where
   pub heard : new.heard ≡ old.heard
   pub signals : HaveBoth old.signals other.signals new.signals
 
--- each of the stations was joined, in this order
+-- each of the stations was joined to the first, in this order
 abbrev pub AllJoined : Parts → List Parts → Parts → Type 0
 AllJoined first [] last = last ≡ first
 AllJoined first (station ∷ stations) last =

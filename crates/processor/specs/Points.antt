@@ -1,4 +1,4 @@
--- What a gate is told, where T says of two gates that the first, told this point of this processor, became the second.
+-- The calls of a gate. T says of two gates that the first, called at this point of this processor, became the second.
 use Rattle.std.specs.Prelude.{◌≡◌, ℕ, suc, List, [], ◌∷◌}
 use Rattle.turn_io.specs.declared.gate.Point.{Point}
 use Rattle.turn_io.specs.declared.gate.Point.TheVariants.{Turn, Claimed, Raised, TakeAnswered, Chained}
@@ -13,26 +13,26 @@ use Rattle.processor.specs.declared.tries.SayAnswer.TheVariants as says
 use Rattle.processor.specs.Entries.{LogEntry}
 use Rattle.processor.specs.Turns.{TurnOf}
 
--- the gate was told these points, in their order, and nothing else
+-- the gate was called at these points, in order, and at no others
 abbrev pub GateSaw : {G : Type 0} → (G → ℕ → Point → G → Type 0) → ℕ → List Point → G → G → Type 0
 GateSaw T p [] old new = new ≡ old
 GateSaw {G} T p (point ∷ points) old new = (between : G) × T old p point between × GateSaw T p points between new
 
--- the points of a step, by what came of it: of a say whose line was put that it was claimed and then raised, of a hear
--- that its try was answered, and of a poke that its try was
+-- the points of a step, by its result: `Claimed` and `Raised` of a say whose line was put, `TakeAnswered` of a hear,
+-- and `Chained` of a poke
 abbrev pub points_of : Deed → List Point
 points_of (deeds.Say queue (says.Put paid)) = Claimed ∷ Raised ∷ []
 points_of (deeds.Hear queue answer) = TakeAnswered ∷ []
 points_of (deeds.Poke mover answer) = Chained ∷ []
 points_of deed = []
 
--- the points of an element's turn: those of its step, if it had one
+-- the points of an element's turn: the points of its step, if one was tried
 abbrev pub points_out : Outcome → List Point
 points_out (outcomes.Had begun (hads.Ran sent)) = points_of sent.tried.deed
 points_out outcome = []
 
--- The turns of the log, one behind the other, the first with this number: the gate was told of each its number, and
--- then the points of its step, and nothing else
+-- The turns of the log, one after the other, the first with this number. For each turn the gate was called with the
+-- turn's number, then with the points of its step, and with nothing else
 abbrev pub ToldTurns : {G : Type 0} → (G → ℕ → Point → G → Type 0) → Shared → ℕ → ℕ → List LogEntry → Parts → Parts
     → G → G → Type 0
 ToldTurns T shared p number [] old new gate gate' = (new ≡ old) × (gate' ≡ gate)

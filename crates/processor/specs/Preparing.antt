@@ -12,20 +12,20 @@ use Rattle.processor.specs.Accounts.{Account, nothing, account}
 use Rattle.processor.specs.Programs.{program}
 use Rattle.processor.specs.Stations.{no_signals}
 
--- an element that had done so many steps had no more to do
+-- the retired element had done all steps of its program
 abbrev pub HasDoneAll : BootPlan → Key → Type 0
 HasDoneAll plan retired = length (program plan retired.0) ≤ retired.1
 
--- these free elements were taken, those put behind the free ones, and these alarms set; nothing else was done
+-- the account of a preparation: the takings and retirements of this account, the plan's alarms set, and nothing else
 abbrev pub preparing : BootPlan → Account → Account
 preparing plan did = record nothing {
   hand = record no_events { taken = did.hand.taken; retired = did.hand.retired };
   meters = record nothing_did { set = plan.alarms };
 }
 
--- The first station saw that the free elements with which the table began were all taken, and took 64. It did no step,
--- raised and delivered no signal, put and took no line and no note, and shut nothing; the elements that it put behind
--- the free ones had nothing to do; of the meters it set the plan's alarms, and did nothing else
+-- The first station saw that the free elements with which the table began were all taken, and took 64. It made no step,
+-- raised and delivered no signal, put and took no line and no note, and shut nothing. The elements that it retired had
+-- no step left. At the meters it set the plan's alarms, and did nothing else
 pub record IsPrepared (plan : BootPlan) (first : Parts) : Type 0 where
   pub taken : 64 ≤ (ring_at (elements_after (view_of first.hand).seen.object) 1).taken
   pub did : account first ≡ preparing plan (account first)

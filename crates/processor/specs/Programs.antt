@@ -13,7 +13,7 @@ use Rattle.boot_data.specs.Plans.{steps_at}
 abbrev pub program : BootPlan → ℕ → List Step
 program plan thread = steps_at plan.threads thread
 
--- the step of a thread with this number
+-- the step with this number of the thread's program, if there is one
 abbrev pub step_of : BootPlan → ℕ → ℕ → Option Step
 step_of plan thread number = slice_get (program plan thread) number
 
@@ -21,6 +21,7 @@ abbrev pub is_hear : Step → Bool
 is_hear (steps.Hear queue) = true
 is_hear step = false
 
+-- how many steps of a thread hear
 abbrev pub hears_in : PlannedThread → ℕ
 hears_in thread = count_by is_hear thread.steps
 
@@ -33,11 +34,11 @@ abbrev pub hears_large : Step → Bool
 hears_large (steps.Hear (Large queue)) = true
 hears_large step = false
 
--- one of the thread's steps does
+-- one of the thread's steps hears from a large queue
 abbrev pub one_hears_large : PlannedThread → Bool
 one_hears_large thread = list_any hears_large thread.steps
 
--- the most items of a line that a step of the plan can hear: 256 where one hears from a large queue, else 64
+-- the most items of a line that a step of the plan can hear: 256 if one hears from a large queue, else 64
 abbrev pub longest_line : BootPlan → ℕ
 longest_line plan = if list_any one_hears_large plan.threads then 256 else 64
 

@@ -14,28 +14,28 @@ use Rattle.turn_io.specs.Deeds.{Said, Heard}
 use Rattle.turn_io.specs.EndLists.{OnEnd}
 use Rattle.quajects.specs.declared.world.Queues.{Queues}
 
--- the text and 0x0A, as one line
+-- the text followed by 0x0A, as one line
 abbrev pub said_line : List ℕ → List ℕ
 said_line text = text ++ 10 ∷ []
 
--- the queue is there
+-- a queue with this index exists
 abbrev pub IsThere : Queues → QueueIndex → Type 0
 IsThere queues (Small queue) = queue < length queues.small.items
 IsThere queues (Large queue) = queue < length queues.large.items
 
--- the end of the queue said the line, or was refused so; all other ends are as they were
+-- the queue's end put the line, or was refused with this answer; all other ends are unchanged
 abbrev pub SaidAt : QueueIndex → List ℕ → Result (Unit {0}) ClaimRefusal → List (QueueEnd 64) → List (QueueEnd 64)
     → List (QueueEnd 256) → List (QueueEnd 256) → Type 0
 SaidAt (Small queue) line answer old new others others' = OnEnd queue (Said line answer) old new × (others' ≡ others)
 SaidAt (Large queue) line answer others others' old new = OnEnd queue (Said line answer) old new × (others' ≡ others)
 
--- the end of the queue heard the line, or was refused so; all other ends are as they were
+-- the queue's end took the line, or was refused with this answer; all other ends are unchanged
 abbrev pub HeardAt : QueueIndex → List ℕ → Result (Unit {0}) TakeRefusal → List (QueueEnd 64) → List (QueueEnd 64)
     → List (QueueEnd 256) → List (QueueEnd 256) → Type 0
 HeardAt (Small queue) line answer old new others others' = OnEnd queue (Heard line answer) old new × (others' ≡ others)
 HeardAt (Large queue) line answer others others' old new = OnEnd queue (Heard line answer) old new × (others' ≡ others)
 
--- at the queue this was done, and nothing at the others
+-- this was done at the queue, and nothing at the other queues
 abbrev pub DidAt : QueueIndex → AtQueue → List (QueueEnd 64) → List (QueueEnd 64) → List (QueueEnd 256)
     → List (QueueEnd 256) → Type 0
 DidAt queue did old new old' new' = by_index (queue_account new) (queue_account new')
@@ -45,7 +45,7 @@ abbrev pub waits_in : Option PlannedQueue → Option PipeWaits
 waits_in None = None
 waits_in (Some queue) = queue.waits
 
--- the wait queues of a queue, where it is a pipe
+-- the wait queues of a queue, if it is a pipe
 abbrev pub waits_at : BootPlan → QueueIndex → Option PipeWaits
 waits_at plan (Small queue) = waits_in (slice_get plan.queues queue)
 waits_at plan (Large queue) = None

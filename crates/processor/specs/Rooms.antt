@@ -9,7 +9,7 @@ use Rattle.thread_table.specs.Rules.{done_at}
 use Rattle.processor.specs.declared.station.Parts.{Parts}
 use Rattle.processor.specs.Programs.{AreHears, hear_count, longest_line}
 
--- whose line it is: the thread, and the number of its step
+-- the thread that heard the line, and the number of its step
 abbrev pub key_of : Line → Key
 key_of line = line.0
 
@@ -17,15 +17,15 @@ key_of line = line.0
 abbrev pub IsPast : View → Key → Type 0
 IsPast v key = key.1 < done_at v.seen.object key.0
 
--- The heard lines are those of steps of the plan that hear and are done, none of them twice, and there is room for as
--- many as the plan has, each as long as the longest that it can hear
+-- The heard lines are of steps of the plan that hear and are done, with no step twice. There is room for as many lines
+-- as the plan has such steps, each as long as the longest that it can hear
 pub record HasRoom (plan : BootPlan) (parts : Parts) : Type 0 where
   pub room : hear_count plan ≤ parts.heard.room
   pub longest : longest_line plan ≤ parts.heard.longest
   pub hears : AreHears plan (map key_of parts.heard.lines)
   pub past : AllByRecursion (IsPast (view_of parts.hand)) (map key_of parts.heard.lines)
 
--- there is room for just as many lines as the plan has steps that hear, each as long as the longest that it can hear
+-- there is room for exactly as many lines as the plan has steps that hear, each as long as the longest that it can hear
 pub record HasNoMoreRoom (plan : BootPlan) (parts : Parts) : Type 0 where
   pub room : parts.heard.room ≡ hear_count plan
   pub longest : parts.heard.longest ≡ longest_line plan

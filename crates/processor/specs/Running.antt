@@ -1,4 +1,4 @@
--- What an element's turn on a processor does, and where the element goes behind it.
+-- The work of an element's turn on a processor, and the queue to which the element goes after it.
 use Rattle.std.specs.Prelude.{◌≡◌, ℕ, Bool, true, false, List, Some, None}
 use Rattle.boot_data.specs.declared.boot_plan.BootPlan.{BootPlan}
 use Rattle.event_theory.specs.Marks.{wait_ring}
@@ -17,7 +17,7 @@ use Rattle.processor.specs.declared.station.Parts.{Parts}
 use Rattle.processor.specs.Deeds.{is_done, sleeps_on, wait_of}
 use Rattle.processor.specs.Steps.{HandDid, QueuesDid, ChainsDid, SeatDid}
 
--- the element was put on the processor, its step tried and counted where it is done, and the element taken off
+-- the element was put on the processor, its step was tried, and counted if it is done, and the element was taken off
 pub record Stepped (call : ℕ) (plan : BootPlan) (p element : ℕ) (deed : Deed) (counted : Counted) (v w : View)
     : Type 0 where
   pub on : View
@@ -28,14 +28,14 @@ pub record Stepped (call : ℕ) (plan : BootPlan) (p element : ℕ) (deed : Deed
   pub counts : CountAnswer call element (is_done deed) did counted after
   pub takes : TakesOff call p element after w
 
--- what the step did at all ends but the hand
+-- the effect of the step at all ends except the hand
 pub record EndsDid (shared : Shared) (deed : Deed) (line : List ℕ) (old new : Parts) : Type 0 where
   pub queues : QueuesDid deed line old.small.items new.small.items old.large.items new.large.items
   pub chains : ChainsDid shared.chains.items deed old.chains.items new.chains.items
   pub seat : SeatDid deed (meters.view_of old.meters) (meters.view_of new.meters)
 
--- Where the element went behind its step: with its ticket to those who wait at a pipe; where the step waits, to its
--- wait queue; to the free elements behind its last step, and else to the ready ring
+-- The element was sent on after its step: with its ticket to the wait queue of a pipe; for a step that waits, to the
+-- step's wait queue; after its last step to the free elements; and otherwise to the ready ring
 abbrev pub Goes : ℕ → Deed → Bool → ℕ → Moved → View → View → Type 0
 Goes call deed last element (moveds.Ticketed waited) v w = (ticket : Ticket) × (sleeps_on deed ≡ Some ticket)
     × WaitedAt call ticket.wait element ticket.number waited v w

@@ -1,4 +1,4 @@
--- What a gate is shown: a hand and an end, as they were at one moment.
+-- The pairs that a gate is shown: a hand and an end, as they were at one moment.
 use Rattle.std.specs.Prelude.{◌≡◌, ℕ, List, Some}
 use Rattle.std.specs.List.{slice_get}
 use Rattle.claim_queue.specs.declared.ends.QueueEnd.{QueueEnd}
@@ -9,22 +9,22 @@ use Rattle.quajects.specs.declared.any.AnyQuaject.{AnyQuaject}
 use Rattle.quajects.specs.declared.world.Queues.{Queues}
 use Rattle.thread_table.specs.declared.hand.Hand.{Hand}
 
--- of a hand and an end of each kind, that they were so at one moment
+-- for each kind of end: a hand and an end were in these states at one moment
 pub record Sights : Type 1 where
   pub small : Hand → QueueEnd 64 → Type 0
   pub large : Hand → QueueEnd 256 → Type 0
   pub chain : Hand → ChainEnd AnyQuaject Queues ghosts → Type 0
   pub seat : Hand → MeterSeat → Type 0
 
--- the hand was so, and at the same moment the end with this index was as it is in this list
+-- the hand, and the end of a queue of 64 places with this index in the list, were in these states at one moment
 abbrev pub SmallShown : Sights → Hand → List (QueueEnd 64) → ℕ → Type 0
 SmallShown S hand ends index = (end : QueueEnd 64) × (slice_get ends index ≡ Some end) × S.small hand end
 
--- the same of an end of a queue of 256 places
+-- the hand, and the end of a queue of 256 places with this index in the list, were in these states at one moment
 abbrev pub LargeShown : Sights → Hand → List (QueueEnd 256) → ℕ → Type 0
 LargeShown S hand ends index = (end : QueueEnd 256) × (slice_get ends index ≡ Some end) × S.large hand end
 
--- the same of an end of a chain
+-- the hand, and the end of a chain with this index in the list, were in these states at one moment
 abbrev pub ChainShown : Sights → Hand → List (ChainEnd AnyQuaject Queues ghosts) → ℕ → Type 0
 ChainShown S hand ends index =
     (end : ChainEnd AnyQuaject Queues ghosts) × (slice_get ends index ≡ Some end) × S.chain hand end

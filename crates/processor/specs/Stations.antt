@@ -1,4 +1,4 @@
--- What a station is made of.
+-- The parts of a station.
 use Rattle.std.specs.Prelude.{◌≡◌, ℕ, List, [], ◌∷◌}
 use Rattle.std.specs.List.{repeat}
 use Rattle.turn_io.specs.EndLists.{AreEndsOf, AreSameEnds, AreChainEndsOf, AreSameChainEnds}
@@ -7,16 +7,16 @@ use Rattle.thread_table.specs.Handles as threads
 use Rattle.processor.specs.declared.shared.Shared.{Shared}
 use Rattle.processor.specs.declared.station.Parts.{Parts}
 
--- no signal of any element
+-- the masks of 64 elements, with no signal
 abbrev pub no_signals : List ℕ
 no_signals = repeat 64 (0 ∷ [])
 
--- nothing was heard, and no signal delivered
+-- nothing was heard, and no signal was delivered
 pub record IsUnused (parts : Parts) : Type 0 where
   pub heard : parts.heard.lines ≡ []
   pub signals : parts.signals ≡ no_signals
 
--- the ends are those of the shared objects, in their order, and no end of a chain has a Turn
+-- each end is an end of the shared object at its place, and no end of a chain has a Turn
 pub record ArePartsOf (shared : Shared) (parts : Parts) : Type 0 where
   pub hand : threads.IsHandOf shared.threads parts.hand
   pub small : AreEndsOf shared.queues.small.items parts.small.items
@@ -24,7 +24,7 @@ pub record ArePartsOf (shared : Shared) (parts : Parts) : Type 0 where
   pub chains : AreChainEndsOf shared.chains.items parts.chains.items
   pub meters : meters.IsSeatOf shared.meters parts.meters
 
--- they are the same ends of the same objects
+-- both have the same ends of the same objects
 pub record AreSameParts (old new : Parts) : Type 0 where
   pub hand : threads.IsSameHand old.hand new.hand
   pub small : AreSameEnds old.small.items new.small.items

@@ -1,4 +1,4 @@
--- What the one try of a step did, by the deed that came of it.
+-- The effects of the one try of a step, by the deed that is its result.
 use Rattle.std.specs.Prelude.{◌≡◌, ◌<◌, ℕ, false, List, length, Option}
 use Rattle.boot_data.specs.declared.boot_plan.BootPlan.{BootPlan}
 use Rattle.boot_data.specs.declared.plan.QueueIndex.TheVariants.{Small}
@@ -28,7 +28,7 @@ use Rattle.processor.specs.Pipes.{TicketFor, WokeFor, readers_of, writers_of}
 use Rattle.processor.specs.Queues.{IsThere, SaidAt, HeardAt, waits_at}
 use Rattle.processor.specs.Tries.{said, heard, is_shut, is_over}
 
--- what a step names is there
+-- the queue or chain that a step names exists
 abbrev pub Fits : Queues → ℕ → Step → Type 0
 Fits queues chains (steps.Say queue text) = IsThere queues queue
 Fits queues chains (steps.Hear queue) = IsThere queues queue
@@ -36,19 +36,22 @@ Fits queues chains (steps.Poke mover) = mover < chains
 Fits queues chains (steps.Close queue) = queue < length queues.small.items
 Fits queues chains step = Unit {0}
 
--- those who wait for a line were woken where one was put; what was refused has the ticket that was read before
+-- Elements that wait for a line were woken if the say put one, and otherwise not. A refused say has the ticket that was
+-- read before its try
 abbrev pub WokeBySay : ℕ → Option ℕ → Option Ticket → SayAnswer Paid → View → View → Type 0
 WokeBySay call wait ticket (says.Put paid) v w = WokeFor call wait v paid.woken w
 WokeBySay call wait ticket says.Over v w = w ≡ v
 WokeBySay call wait ticket (says.Refused unsaid) v w = (unsaid.ticket ≡ ticket) × (w ≡ v)
 
--- those who wait for room were woken where a line was taken, or none will come; a refusal has the ticket
+-- Elements that wait for room were woken if the hear took a line, or if no line will come, and otherwise not. A refused
+-- hear has the ticket that was read before its try
 abbrev pub WokeByHear : ℕ → Option ℕ → Option Ticket → HearAnswer Paid → View → View → Type 0
 WokeByHear call wait ticket (hears.Taken paid) v w = WokeFor call wait v paid.woken w
 WokeByHear call wait ticket (hears.Over paid) v w = WokeFor call wait v paid.woken w
 WokeByHear call wait ticket (hears.Refused unheard) v w = (unheard.ticket ≡ ticket) × (w ≡ v)
 
--- By the hand: at a pipe a ticket was read, and those who wait there were woken where the step is done
+-- The effect of a deed at the hand. For a say or a hear at a pipe a ticket was read, and then elements were woken by
+-- the answer. For a shut those who wait to hear were woken first, and then those who wait for room
 abbrev pub HandDid : ℕ → BootPlan → Deed → View → View → Type 0
 HandDid call plan (deeds.Say queue answer) v w = (ticket : Option Ticket) × (u : View)
     × TicketFor (writers_of (waits_at plan queue)) v ticket u
@@ -65,16 +68,17 @@ HandDid call plan (deeds.Close queue was_open readers writers) v w = (u : View)
     × WokeFor call (writers_of (waits_at plan (Small queue))) u writers.woken w
 HandDid call plan deed v w = w ≡ v
 
--- a try that was refused though the queue is open was refused for another reason
+-- a refused say was refused for another reason than that the queue is shut
 abbrev pub IsOpenSay : SayAnswer Paid → Type 0
 IsOpenSay (says.Refused unsaid) = is_shut unsaid.refusal ≡ false
 IsOpenSay answer = Unit {0}
 
+-- a refused hear was refused for another reason than that the queue is shut and has nothing left
 abbrev pub IsOpenHear : HearAnswer Paid → Type 0
 IsOpenHear (hears.Refused unheard) = is_over unheard.refusal ≡ false
 IsOpenHear answer = Unit {0}
 
--- at the ends of the queues, with the line that is said, or that was heard
+-- the effect of a deed at the ends of the queues, with the line said or heard
 abbrev pub QueuesDid : Deed → List ℕ → List (QueueEnd 64) → List (QueueEnd 64) → List (QueueEnd 256)
     → List (QueueEnd 256) → Type 0
 QueuesDid (deeds.Say queue answer) line old new old' new' =
@@ -85,13 +89,13 @@ QueuesDid (deeds.Close queue was_open readers writers) line old new old' new' =
     OnEnd queue (HasShut was_open) old new × (new' ≡ old')
 QueuesDid deed line old new old' new' = (new ≡ old) × (new' ≡ old')
 
--- at the ends of the chains
+-- the effect of a deed at the ends of the chains
 abbrev pub ChainsDid : {Q W : Type 0} {g : Ghosts Q W} → List (ProcChain Q W) → Deed → List (ChainEnd Q W g)
     → List (ChainEnd Q W g) → Type 0
 ChainsDid chains (deeds.Poke mover answer) old new = PokedAt chains mover 0 answer old new
 ChainsDid chains deed old new = new ≡ old
 
--- at the meters
+-- the effect of a deed at the seat of the meters
 abbrev pub SeatDid : Deed → SeatView → SeatView → Type 0
 SeatDid (deeds.Tick gauge amount before) v w = Ticked v gauge amount before w × DidTick gauge amount v w
 SeatDid deed v w = w ≡ v

@@ -29,26 +29,26 @@ use Rattle.processor.specs.Running.{Stepped, EndsDid, Goes}
 abbrev pub heard_lines : Parts → List Line
 heard_lines parts = parts.heard.lines
 
--- whether a step that was tried is done, and was the last of so many
+-- whether a tried step is done, and was the last of this many steps
 abbrev pub is_last : Bool → ℕ → ℕ → Bool
 is_last done number steps = done && nat_le steps (number + 1)
 
--- all ends of queues and chains are as they were, and nothing was heard
+-- all ends of queues and chains are unchanged, and nothing was heard
 pub record AreAtRest (old new : Parts) : Type 0 where
   pub small : new.small ≡ old.small
   pub large : new.large ≡ old.large
   pub chains : new.chains ≡ old.chains
   pub heard : new.heard ≡ old.heard
 
--- an element was taken from the ready ring that wasn't stopped; the signals that were delivered to it are shown
+-- an element that wasn't stopped was taken from the ready ring, and the signals delivered to it were added to its mask
 pub record BegunAt (begun : Begun) (old new : Parts) : Type 0 where
   pub began : Began (call_of old.hand) begun (view_of old.hand) (view_of new.hand)
   pub shows : Shows (delivery begun.element (mask_of begun.delivered)) old.signals new.signals
   pub rest : AreAtRest old new
   pub meters : new.meters ≡ old.meters
 
--- The step of the element was tried on the processor, with what that did at all ends; of a line that was heard the
--- bytes are kept; and the element moved on
+-- The element's step was tried on the processor, with its effect at all ends, and the element moved on. The bytes of a
+-- line that was heard are kept
 pub record RanStep (shared : Shared) (p element number : ℕ) (sent : SentOn) (line : List ℕ) (old new : Parts)
     : Type 0 where
   pub step : Step
@@ -64,20 +64,20 @@ pub record RanStep (shared : Shared) (p element number : ℕ) (sent : SentOn) (l
   pub lines : heard_lines new ≡ heard_lines old ++ heard_by sent.tried.deed element number line
   pub signals : new.signals ≡ old.signals
 
--- no element was at hand
+-- no element was at hand, and all ends except the hand are unchanged
 abbrev pub IdleAt : Idle → Parts → Parts → Type 0
 IdleAt idle old new = WasIdle (call_of old.hand) idle (view_of old.hand) (view_of new.hand)
     × AreAtRest old new × (new.meters ≡ old.meters) × (new.signals ≡ old.signals)
 
--- What came of the turn of an element at hand: all its steps were done, and it was retired; or its step was tried, with
--- this line
+-- the result of the turn of an element at hand: it had no step left and was sent to the free elements, or its step was
+-- tried with this line
 abbrev pub HadTurn : Shared → ℕ → ℕ → ℕ → Had → List ℕ → Parts → Parts → Type 0
 HadTurn shared p element number (hads.Ended moved) line old new = (length (program shared.plan element) ≤ number)
     × Sent (call_of old.hand) 1 element moved (view_of old.hand) (view_of new.hand)
     × AreAtRest old new × (new.meters ≡ old.meters) × (new.signals ≡ old.signals) × (line ≡ [])
 HadTurn shared p element number (hads.Ran sent) line old new = RanStep shared p element number sent line old new
 
--- what came of an element's turn, if one was at hand
+-- the result of an element's turn, if one was at hand
 abbrev pub CameOf : Shared → ℕ → Outcome → List ℕ → Parts → Parts → Type 0
 CameOf shared p (outcomes.Idle idle) line old new = IdleAt idle old new × (line ≡ [])
 CameOf shared p (outcomes.Had begun had) line old new = (mid : Parts) × BegunAt begun old mid
@@ -91,7 +91,7 @@ TendedBy p (Some tended) old new = (p ≡ 0)
     × RaisedAll (call_of old.hand) tended.fired (view_of old.hand) (view_of new.hand)
     × AreAtRest old new × (new.signals ≡ old.signals)
 
--- what came of a turn: of the alarms, and then of an element's turn, with the line that it was to say, or heard
+-- the result of a turn: of the alarms, and then of an element's turn, with the line to be said or the line heard
 abbrev pub TurnOf : Shared → ℕ → LogEntry → Parts → Parts → Type 0
 TurnOf shared p entry old new =
     (mid : Parts) × TendedBy p entry.tended old mid × CameOf shared p entry.outcome entry.line mid new

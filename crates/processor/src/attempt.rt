@@ -1,4 +1,4 @@
-//! The one try of a step, as what its counting asks for.
+//! The one try of a step, in the form that its counting requires.
 //!
 //! The types keep an order: an element is put on its processor, its step is tried, and then the step is counted and the
 //! element goes on. `seat` alone makes a `Seated`, which `do_step` takes by value; `do_step` alone makes an `Attempt`,
@@ -32,15 +32,15 @@ use std::sync::Wait;
 use thread_table::{Hand, ThreadTable};
 use turn_dispatch::put_on;
 
-// That an element is on its processor, and its step was not tried there.
+// Shows that an element is on its processor, and that its step was not tried there.
 #[derive(Drop)]
 pub(crate) struct Seated(());
 
-// That a step was tried.
+// Shows that a step was tried.
 #[derive(Drop)]
 pub(crate) struct WasTried(());
 
-// What came of the one try of a step.
+// The result of the one try of a step.
 #[derive(Drop)]
 pub(crate) struct Attempt {
     deed: Deed,
@@ -48,7 +48,7 @@ pub(crate) struct Attempt {
 }
 
 impl Attempt {
-    // What the step came to, and that it was tried.
+    // The result of the step, and that it was tried.
     pub(crate) fn into_deed(self) -> (Deed, WasTried)
         ensures { result.0 ≡ self.deed }
     {
@@ -57,7 +57,7 @@ impl Attempt {
     }
 }
 
-// Puts an element that the hand holds on a processor, on which nothing stands.
+// Puts an element that the hand holds on a processor that has no element.
 pub(crate) fn seat(
     threads: &ThreadTable,
     hand: &mut Hand,
@@ -80,7 +80,7 @@ pub(crate) fn seat(
     Seated(())
 }
 
-// Tries a step of a thread once, whose element is on its processor. A line that is heard goes into `room.heard`.
+// Tries a thread's step once, with the thread's element on its processor. A line that is heard goes into `room.heard`.
 pub(crate) fn do_step<R: Wait, G: Watch>(
     rt: &R,
     shared: &Shared,

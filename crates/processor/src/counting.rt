@@ -1,7 +1,7 @@
 //! Counting a step that was tried.
 //!
-//! The type keeps an order: a step is counted behind its try, and its element goes on behind both. A `Tried`, with
-//! which the element goes on, has in it what only a try makes; so no `Tried` comes before it.
+//! The type keeps an order: a step is counted after its try, and its element goes on after both. A `Tried`, with which
+//! the element goes on, contains what only a try makes; so no `Tried` exists before the try.
 ghost use Rattle.std.specs.Prelude.{◌≡◌};
 ghost use Rattle.turn_dispatch.specs.Countings.{CountAnswer, IsNumber, SteadyBut, counted_step};
 ghost use Rattle.turn_dispatch.specs.Holdings.{HoldsSame};
@@ -17,7 +17,7 @@ use event_theory::Element;
 use thread_table::{Hand, ThreadTable};
 use turn_dispatch::{Counted, count};
 
-/// What came of a step that was tried on a processor, and of counting it.
+/// The result of a step that was tried on a processor, and of counting the step.
 #[derive(Drop)]
 pub struct Tried {
     deed: Deed,
@@ -26,7 +26,7 @@ pub struct Tried {
 }
 
 impl Tried {
-    // What the step came to.
+    // The result of the step.
     pub(crate) fn deed(&self) -> &Deed
         ensures { result.now ≡ self.now.deed }
     {
@@ -34,7 +34,7 @@ impl Tried {
     }
 }
 
-// Counts one more step of an element that the hand has on a processor, where its try says that it is done.
+// Counts one more step of an element that the hand has on a processor, if its try says that the step is done.
 pub(crate) fn count_step(
     threads: &ThreadTable,
     hand: &mut Hand,

@@ -1,4 +1,4 @@
-//! What comes of the one try of a step.
+//! The result of the one try of a step.
 ghost use Rattle.std.specs.Prelude.{◌≡◌, option_copied};
 
 use crate::ticket::Ticket;
@@ -11,7 +11,7 @@ use thread_table::{Lost, Signalled};
 use turn_dispatch::{Resumed, Woken};
 use turn_io::Poked;
 
-/// What came of the one try of a step, with what that worked on. A step is done unless it was refused.
+/// The result of the one try of a step, with the step's operands. A step is done unless it was refused.
 #[derive(Drop)]
 pub enum Deed {
     /// A line was to be put in the queue.
@@ -39,7 +39,7 @@ pub enum Deed {
         signal: Signal,
         answer: Signalled,
     },
-    /// The stop bit is set, which was clear or not.
+    /// The stop bit is set; it was clear before, or not.
     Stop {
         thread: Element,
         was_clear: bool,
@@ -61,8 +61,8 @@ pub enum Deed {
         answer: Result<Poked, ChainRefusal>,
     },
     Pass,
-    /// The queue is shut, which was open or not. Those who waited to hear, and those who waited for room, are woken,
-    /// where it is a pipe.
+    /// The queue is shut; it was open before, or not. If it is a pipe, the elements that waited to hear, and those that
+    /// waited for room, are woken.
     Close {
         queue: usize,
         was_open: bool,
@@ -93,7 +93,7 @@ impl Deed {
         }
     }
 
-    /// The ticket with which the element is to wait: where a pipe had no room for its line, or no line for it.
+    /// The ticket with which the element is to wait: if a pipe had no room for its line, or no line for it.
     pub fn sleeps_on(&self) -> Option<&Ticket>
         ensures { option_copied result ≡ sleeps_on self.now }
     {
@@ -110,7 +110,7 @@ impl Deed {
         }
     }
 
-    /// The wait queue in which the element is to wait, where its step waits.
+    /// The wait queue in which the element is to wait, if its step waits.
     pub fn waits_in(&self) -> Option<WaitNumber>
         ensures { result ≡ wait_of self.now }
     {

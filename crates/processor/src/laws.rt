@@ -1,5 +1,5 @@
-//! What a plan keeps for its processors: room for each line that is heard, and objects for each step. And what they did
-//! adds up.
+//! The facts that a plan guarantees to its processors: room for each line that is heard, and objects for each step. The
+//! work of the processors adds up.
 ghost use Rattle.std.specs.Prelude.{◌≡◌, ◌≤◌, ℕ, List, length, Some};
 ghost use Rattle.boot_data.specs.Hearing.{Key};
 ghost use Rattle.boot_data.specs.declared.boot_plan.BootPlan.{BootPlan};
@@ -11,20 +11,20 @@ ghost use Rattle.processor.specs.Accounts.{◌⊕◌, nothing, Shares, no_shares
 ghost use Rattle.processor.specs.Programs.{AreHears, hear_count, program, step_of};
 ghost use Rattle.processor.specs.Steps.{Fits};
 
-/// Steps of a plan that hear, none of them twice, are no more than the plan has.
+/// A list of steps of a plan that hear, none of them twice, is no longer than the number of such steps in the plan.
 pub fn hears_are_few()
     ensures { (plan : BootPlan) (keys : List Key) → AreHears plan keys → length keys ≤ hear_count plan }
 {}
 
-/// What a step of the plan names is among the shared objects, and a program has 64 steps at most.
+/// The queue or chain that a step of the plan names is among the shared objects, and a program has at most 64 steps.
 pub fn steps_fit()
     ensures there { (shared : Shared) (thread number : ℕ) (step : Step)
         → step_of shared.plan thread number ≡ Some step → Fits shared.queues (length shared.chains.items) step }
     ensures few { (plan : BootPlan) (thread : ℕ) → length (program plan thread) ≤ 64 }
 {}
 
-/// What is done adds up, and so do shares, which add up in any order. What a split keeps and what it gives are all that
-/// there was.
+/// Work adds up. Shares add up too, in any order. The part that a split keeps and the part that it gives make up the
+/// whole.
 pub fn accounts_add()
     ensures accounts { AddsUp nothing (λ a b. a ⊕ b) }
     ensures shares { AddsUp no_shares both_shares }

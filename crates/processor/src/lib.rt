@@ -1,8 +1,8 @@
 //! A processor: the ends of the kernel's objects that one processor has, and its turns.
 //!
-//! In a turn a processor takes a thread element from the ready ring, delivers its signals, tries the next step of its
-//! program once, counts the step where it is done, and moves the element on. All that a processor does is in the lists
-//! of its ends, and in what it heard and was signalled.
+//! In a turn a processor takes a thread element from the ready ring, delivers its signals, and tries the next step of
+//! its program once. Then it counts the step if it is done, and moves the element on. All that a processor does is in
+//! the lists of its ends, and in what it heard and was signalled.
 #![tactic(auto)]
 
 mod attempt;

@@ -1,4 +1,4 @@
-//! A line said in a queue, or heard from it, whichever of the two lists it stands in, and the room for it.
+//! A line said in a queue of one of the two lists, or heard from it, and the room for the line.
 ghost use Rattle.std.specs.Prelude.{◌≡◌, ◌<◌, ◌≤◌, ℕ, [], length};
 ghost use Rattle.turn_io.specs.Accounts.{StaySound, at_each, at_one, both_queue, idle_queue, put_if, queue_account};
 ghost use Rattle.turn_io.specs.Accounts.{taken_if};
@@ -15,8 +15,8 @@ use claim_queue::{ClaimRefusal, QueueEnd, TakeRefusal};
 use quajects::Queues;
 use turn_io::{Gate, hear, say};
 
-// The lists that the turns of a run use again, so that no turn fills new ones with zeros: one for a line that is heard,
-// and one for a line that is said, or taken from a queue of 64 places.
+// The lists that the turns of a run use again, so that no turn fills new lists with zeros: one for a line that is
+// heard, and one for a line that is said, or taken from a queue of 64 places.
 #[derive(Drop)]
 pub(crate) struct LineRoom {
     pub(crate) heard: ArrayVec<u64, 256>,
@@ -35,7 +35,7 @@ impl LineRoom {
     }
 }
 
-// Makes the list the line that a text is said as.
+// Makes the list the line as which a text is said.
 pub(crate) fn write_line(text: &Text<63>, line: &mut ArrayVec<u64, 64>)
     ensures { line.new.items ≡ said_line text.now }
 {

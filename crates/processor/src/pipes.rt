@@ -1,4 +1,4 @@
-//! Where those wait who wait at a pipe.
+//! The wait queues of a pipe.
 ghost use Rattle.std.specs.Prelude.{◌≡◌};
 ghost use Rattle.processor.specs.Pipes.{readers_of, writers_of};
 ghost use Rattle.processor.specs.Queues.{waits_at};
@@ -7,7 +7,7 @@ use boot_data::BootPlan;
 use boot_data::plan::{PlannedQueue, QueueIndex};
 use event_theory::WaitNumber;
 
-// Where those wait who find nothing to hear, and those who find no room, where the queue is a pipe.
+// The wait queues of those who find nothing to hear, and of those who find no room, if the queue is a pipe.
 pub(crate) fn waits_of(
     plan: &BootPlan,
     queue: QueueIndex,

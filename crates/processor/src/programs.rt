@@ -7,7 +7,7 @@ use boot_data::BootPlan;
 use boot_data::plan::{PlannedThread, QueueIndex, Step};
 use event_theory::Element;
 
-// The program of the thread with this number; of a thread that the plan lacks, no steps.
+// The program of the thread with this number. A thread that the plan lacks has no steps.
 pub(crate) fn program_of(plan: &BootPlan, thread: Element) -> &[Step]
     ensures { result.now ≡ program plan.now thread }
 {
@@ -53,7 +53,7 @@ fn hears_large(steps: &[Step]) -> bool
     })
 }
 
-// Whether a step of one of the threads does.
+// Whether a step of one of the threads hears from a large queue.
 fn one_hears_large(threads: &[PlannedThread]) -> bool
     ensures { result ≡ list_any one_hears_large threads.now }
 {
@@ -62,7 +62,7 @@ fn one_hears_large(threads: &[PlannedThread]) -> bool
         .any(|thread| hears_large(thread.steps.as_slice()))
 }
 
-// The most items of a line that a step of a plan can hear: 256 where one hears from a large queue, else 64.
+// The most items of a line that a step of a plan can hear: 256 if one hears from a large queue, else 64.
 pub(crate) fn longest_line(plan: &BootPlan) -> usize
     ensures exact { result ≡ longest_line plan.now }
     ensures few { result ≤ 256 }

@@ -74,7 +74,7 @@ pub(crate) fn run_step<R: Wait, G: Watch>(
     tried
 }
 
-// Keeps the bytes of a line that was heard. It takes no memory.
+// Keeps the bytes of a line that was heard. It allocates no memory.
 pub(crate) fn keep(lines: &mut HeardLines, deed: &Deed, thread: Element, number: u64, line: &[u64])
     requires room { is_heard deed.now ≡ true → length lines.old.lines < lines.old.room }
     requires few { is_heard deed.now ≡ true → length line.now ≤ lines.old.longest }

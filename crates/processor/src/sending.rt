@@ -1,7 +1,7 @@
-//! Where an element goes behind its step.
+//! The queue to which an element goes after its step.
 //!
-//! The type keeps an order: an element goes on behind the try and the count of its step. A `SentOn`, which tells of the
-//! element's turn, has in it the `Tried` that only the count makes; so no `SentOn` comes before it.
+//! The type keeps an order: an element goes on after the try and the count of its step. A `SentOn`, the result of the
+//! element's turn, contains the `Tried` that only the count makes; so no `SentOn` exists before the count.
 ghost use Rattle.std.specs.Prelude.{◌≡◌, true, option_copied};
 ghost use Rattle.turn_dispatch.specs.Tallies.{Adds};
 ghost use Rattle.thread_table.specs.Handles.{view_of, call_of, IsHandOf, IsSameHand};
@@ -21,7 +21,7 @@ use std::sync::Wait;
 use thread_table::{Hand, ThreadTable};
 use turn_dispatch::{Waited, make_ready, retire, wait_in};
 
-/// Where an element went behind its turn. Where it isn't so, the queue has no position left, and the hand holds the
+/// The queue to which an element went after its turn. On false the queue has no position left, and the hand holds the
 /// element.
 #[derive(Clone, Copy)]
 pub enum Moved {
@@ -35,14 +35,14 @@ pub enum Moved {
     Ticketed(Waited),
 }
 
-/// What came of a step, and where its element went behind it.
+/// The result of a step, and the queue to which its element went after it.
 #[derive(Drop)]
 pub struct SentOn {
     tried: Tried,
     moved: Moved,
 }
 
-// Moves an element on behind its step, by its deed and the ticket with which that has it wait, if with one.
+// Moves an element on after its step, by its deed and by the ticket with which it is to wait, if there is one.
 #[inline(always)]
 fn go_on<R: Wait>(
     rt: &R,
@@ -76,8 +76,8 @@ fn go_on<R: Wait>(
     }
 }
 
-// The same of a step that was tried. What was refused has a call of its own, so that no deed need be written to memory
-// for the ticket in it.
+// Moves an element on after a step that was tried. A refused step has a call of its own, so that no deed need be
+// written to memory for the ticket in it.
 fn move_on<R: Wait>(
     rt: &R,
     threads: &ThreadTable,
@@ -126,7 +126,7 @@ fn move_on<R: Wait>(
     }
 }
 
-// The same, with what came of the step.
+// Moves an element on after its step, and returns the result of the step with it.
 pub(crate) fn send_on<R: Wait>(
     rt: &R,
     threads: &ThreadTable,

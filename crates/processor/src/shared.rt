@@ -1,4 +1,4 @@
-//! What the processors share.
+//! The objects that the processors share.
 ghost use Rattle.turn_io.specs.EndLists.{AreChainsOver};
 ghost use Rattle.processor.specs.Fitting.{HasObjects};
 
@@ -8,7 +8,8 @@ use proc_chain::ProcChain;
 use quajects::{AnyQuaject, Queues};
 use thread_table::ThreadTable;
 
-/// What the processors of a kernel share: its queues, its chains, its thread elements, its meters and its plan.
+/// The objects that the processors of a kernel share: its queues, its chains, its thread elements, its meters and its
+/// plan.
 ///
 /// The small queues are the plan's queues and pipes, in their order, and then each tty's raw queue; the large ones are
 /// each tty's line queue and screen queue. The chains are one for each pump and switch of the plan, in their order, and

@@ -1,8 +1,8 @@
-//! What the gate is shown before and behind a try: the hand and an end at one moment.
+//! The pairs that the gate is shown before and after a try: the hand and an end at one moment.
 //!
-//! The hand's list of steps is the clock of a processor's turn. What a gate was shown is true of any gate, and so of
-//! one that nobody here knows; so that it was shown a hand and an end together says where in the hand's course the end
-//! was so.
+//! The hand's list of steps is the clock of a processor's turn. A fact that a gate was shown holds of any gate, and so
+//! of one that nobody here knows. So the fact that it was shown a hand and an end together says when, in the hand's
+//! list, the end was in that state.
 ghost use Rattle.std.specs.List.{slice_get};
 ghost use Rattle.std.specs.Prelude.{◌≡◌, ◌<◌, Some, length};
 ghost use Rattle.turn_io.specs.EndLists.{AreChainEndsOf, AreEndsOf};
@@ -18,7 +18,7 @@ use proc_chain::{ChainEnd, ProcChain};
 use quajects::AnyQuaject;
 use thread_table::Hand;
 
-// The item with this index, also where the items take no memory.
+// The item with this index, also if the items take no memory.
 fn item_of<E>(items: &[E], index: usize) -> &E
     requires { index < length items.now }
     ensures { slice_get items.now index ≡ Some result.now }
@@ -41,7 +41,7 @@ pub(crate) fn show_small_end<G: Watch>(
     gate.show_small(hand, item_of(ends, index));
 }
 
-// The same of the queues of 256 places.
+// Shows the gate a hand, and the end with this index of the queues of 256 places.
 pub(crate) fn show_large_end<G: Watch>(
     gate: &G,
     hand: &Hand,

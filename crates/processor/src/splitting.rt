@@ -126,14 +126,14 @@ fn joined(a: &[u16; 64], b: &[u16; 64]) -> [u16; 64]
 }
 
 impl Station {
-    /// A station for other processors: its hand serves those of the mask (bit p for processor p), and it has an end of
-    /// each queue and chain and a seat of the meters, all split off from this station's. It has heard nothing and was
-    /// signalled nothing, and has room for just as many heard lines as the plan has hear steps, of 64 bytes each, or of
-    /// 256 where one hears from a large queue. `OutOfMemory` comes only where an allocation was refused; nothing has
+    /// A station for other processors. Its hand serves those of the mask (bit p for processor p). It has an end of each
+    /// queue and chain and a seat of the meters, all split off from this station's. It has heard nothing and was
+    /// signalled nothing. It has room for just as many heard lines as the plan has hear steps, of 64 bytes each, or of
+    /// 256 if one hears from a large queue. `OutOfMemory` is returned only if an allocation was refused; nothing has
     /// changed then.
     ///
-    /// Conditions: the station is one of `shared`, each of its ends has two parts or more of the 2^64 - 1 of its
-    /// object, and its hand serves the processors of the mask, on which nothing stands.
+    /// Conditions: the station is one of `shared`; each of its ends has two parts or more of the 2^64 - 1 of its
+    /// object; and its hand serves the processors of the mask, with no element on any of them.
     pub fn split(
         &mut self,
         alloc: Global,
@@ -161,8 +161,8 @@ impl Station {
         Ok(Station { parts })
     }
 
-    /// Joins the ends of the other station to this one's, which then have all that both had, and its signals. The lines
-    /// that the other heard come back. It takes no memory.
+    /// Joins the ends of the other station to this one's, which then have all that both had, and its signals. Returns
+    /// the lines that the other heard. It allocates no memory.
     ///
     /// Condition: both stations are of `shared`.
     pub fn join(&mut self, shared: &Shared, other: Station) -> HeardLines

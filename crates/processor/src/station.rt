@@ -14,8 +14,8 @@ use quajects::AnyQuaject;
 use std::alloc::Global;
 use thread_table::Hand;
 
-/// What a station is made of, and what its processor heard, as bytes, and was signalled: bit s of number e for signal s
-/// of element e.
+/// The parts of a station: its ends, the lines that its processor heard, as bytes, and the signals that it delivered:
+/// bit s of the number e is set for signal s of element e.
 #[derive(Drop)]
 pub struct Parts {
     pub hand: Hand,
@@ -35,9 +35,9 @@ pub struct Station {
 }
 
 impl Station {
-    /// The station of a processor, which has heard nothing and was signalled nothing, with room for just as many heard
-    /// lines as the plan has hear steps, of 64 bytes each, or of 256 where one hears from a large queue. Where an
-    /// allocation is refused, all ends come back.
+    /// The station of a processor, which has heard nothing and was signalled nothing. It has room for just as many
+    /// heard lines as the plan has hear steps, of 64 bytes each, or of 256 if one hears from a large queue. If an
+    /// allocation is refused, all ends are returned.
     pub fn new(
         alloc: Global,
         shared: &Shared,
@@ -83,14 +83,14 @@ impl Station {
         }
     }
 
-    /// The station of these ends, which has heard and was signalled this. Takes no memory.
+    /// The station of these ends, which has heard and was signalled this. Allocates no memory.
     pub fn from_parts(parts: Parts) -> Station
         ensures { result.parts ≡ parts }
     {
         Station { parts }
     }
 
-    /// Gives the ends away, and what was heard and signalled. Takes no memory.
+    /// Gives the ends away, and what was heard and signalled. Allocates no memory.
     pub fn into_parts(self) -> Parts
         ensures { result ≡ self.parts }
     {

@@ -1,4 +1,4 @@
-//! What the one try of a step does.
+//! The one try of a step.
 ghost use Rattle.std.specs.Prelude.{◌≡◌, [], length};
 ghost use Rattle.thread_table.specs.Handles.{view_of, call_of};
 ghost use Rattle.processor.specs.Acts.{Acts};

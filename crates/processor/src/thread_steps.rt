@@ -52,7 +52,7 @@ pub(crate) fn stop_step(threads: &ThreadTable, hand: &mut Hand, thread: Element)
     threads.stop(hand, thread)
 }
 
-// Clears a stop bit, and makes an element ready that stood in its stop cell.
+// Clears a stop bit, and makes an element ready that was in its stop cell.
 pub(crate) fn start_step<R: Wait>(
     rt: &R,
     threads: &ThreadTable,

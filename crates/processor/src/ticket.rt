@@ -1,9 +1,8 @@
 //! A ticket: the number of notifies of a wait queue at a pipe, as it was before the try of a step there.
 //!
 //! The type keeps an order: the ticket is read, then the pipe is tried, and then the element waits with that ticket. An
-//! element that waits with a ticket read behind the try isn't woken by a notify that came in between. `ticket_for`
-//! alone makes tickets; a try takes one by value, has no hand to read another with, and gives it back where it was
-//! refused.
+//! element that waits with a ticket read after the try isn't woken by a notify that came in between. `ticket_for` alone
+//! makes tickets. A try takes one by value, has no hand to read another with, and returns the ticket if it was refused.
 ghost use Rattle.std.specs.Prelude.{◌≡◌, true};
 ghost use Rattle.turn_dispatch.specs.Sendings.{WaitedAt};
 ghost use Rattle.turn_dispatch.specs.Tallies.{Adds, no_events};
@@ -26,7 +25,7 @@ pub struct Ticket {
     number: u32,
 }
 
-// The ticket of a wait queue, where there is one.
+// The ticket of a wait queue, if there is one.
 pub(crate) fn ticket_for(
     threads: &ThreadTable,
     hand: &mut Hand,

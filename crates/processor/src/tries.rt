@@ -1,9 +1,9 @@
 //! The tries at a queue: to say a line, to hear one, and to shut it.
 //!
-//! The types keep an order. A try takes the ticket that was read before it, and gives it back in what it refuses, which
-//! only a try makes: so the ticket of a refusal was read before its try. A try that put or took a line, found the queue
-//! over or shut it owes a wake, and only a try makes that debt: so those who wait at a pipe are woken behind the try. A
-//! wake in front of it would leave those asleep who come to wait in between.
+//! The types keep an order. A try takes the ticket that was read before it, and returns it in its refusal, which only a
+//! try makes: so the ticket of a refusal was read before its try. A try that put or took a line, found the queue over
+//! or shut it owes a wake, and only a try makes that debt: so those who wait at a pipe are woken after the try. After
+//! an earlier wake those who come to wait in between would stay asleep.
 ghost use Rattle.std.specs.Prelude.{◌≡◌, ◌<◌, ℕ, [], length, option_copied};
 ghost use Rattle.turn_io.specs.Accounts.{StaySound, at_each, at_one, both_queue, idle_queue, put_if, queue_account};
 ghost use Rattle.turn_io.specs.Accounts.{shut_if, taken_if};
@@ -28,21 +28,21 @@ use turn_io::{Gate, shut_queue};
 #[derive(Drop)]
 pub(crate) struct Owed(());
 
-/// A line that was not put though the queue is open, and on a pipe the ticket of those who wait for room.
+/// A line that was not put though the queue is open, and for a pipe the ticket of those who wait for room.
 #[derive(Drop)]
 pub struct Unsaid {
     refusal: ClaimRefusal,
     ticket: Option<Ticket>,
 }
 
-/// That no line was taken though one may still come, and on a pipe the ticket of those who wait for a line.
+/// No line was taken though one may still come, and for a pipe the ticket of those who wait for a line.
 #[derive(Drop)]
 pub struct Unheard {
     refusal: TakeRefusal,
     ticket: Option<Ticket>,
 }
 
-/// What came of a try to say a line: with a wake that is owed, and then with one that was made.
+/// The result of a try to say a line: with a wake that is owed, and then with one that was made.
 #[derive(Drop)]
 pub enum SayAnswer<W> {
     /// The line was put.
@@ -53,7 +53,7 @@ pub enum SayAnswer<W> {
     Refused(Unsaid),
 }
 
-/// What came of a try to hear a line: with a wake that is owed, and then with one that was made.
+/// The result of a try to hear a line: with a wake that is owed, and then with one that was made.
 #[derive(Drop)]
 pub enum HearAnswer<W> {
     /// A line was taken.
@@ -64,8 +64,8 @@ pub enum HearAnswer<W> {
     Refused(Unheard),
 }
 
-// A queue that was shut, which was open or not, and the wakes of those who wait to hear, and for room: owed, and then
-// made.
+// A queue that was shut, whether it was open, and the wakes of those who wait to hear, and of those who wait for room:
+// owed, and then made.
 #[derive(Drop)]
 pub(crate) struct WasShut<W> {
     pub(crate) was_open: bool,
@@ -74,7 +74,7 @@ pub(crate) struct WasShut<W> {
 }
 
 impl Unsaid {
-    // The ticket with which the element is to wait, where the pipe had no room for its line.
+    // The ticket with which the element is to wait, if the pipe had no room for its line.
     pub(crate) fn ticket_if_full(&self) -> Option<&Ticket>
         ensures { option_copied result ≡ if_full self.now.refusal self.now.ticket }
     {
@@ -86,7 +86,7 @@ impl Unsaid {
 }
 
 impl Unheard {
-    // The ticket with which the element is to wait, where the pipe had no line.
+    // The ticket with which the element is to wait, if the pipe had no line.
     pub(crate) fn ticket_if_empty(&self) -> Option<&Ticket>
         ensures { option_copied result ≡ if_empty self.now.refusal self.now.ticket }
     {
@@ -97,14 +97,14 @@ impl Unheard {
     }
 }
 
-// Whether a claim was refused since the queue is shut.
+// Whether a claim was refused because the queue is shut.
 fn is_shut(refusal: &ClaimRefusal) -> bool
     ensures { result ≡ is_shut refusal.now }
 {
     matches!(*refusal, ClaimRefusal::Closed)
 }
 
-// Whether a taking was refused since the queue is shut, and has nothing left.
+// Whether a taking was refused because the queue is shut and has nothing left.
 fn is_over(refusal: &TakeRefusal) -> bool
     ensures { result ≡ is_over refusal.now }
 {

@@ -31,7 +31,7 @@ use std::sync::Wait;
 use turn_dispatch::{Begun, Idle, begin, retire, tend_alarms};
 use turn_io::Point;
 
-// Whether a step that was tried is done, and was the last of so many.
+// Whether a step that was tried is done, and was the last of this many steps.
 fn is_last(done: bool, number: u64, steps: usize) -> bool
     requires { number < 64 }
     ensures { result ≡ is_last done number steps }
@@ -39,7 +39,7 @@ fn is_last(done: bool, number: u64, steps: usize) -> bool
     done && steps as u64 <= number + 1
 }
 
-// The next step of an element at hand, which has so many, is tried, and the element moves on.
+// Tries the next step of an element at hand, whose program has this many steps, and moves the element on.
 fn run_element<R: Wait, G: Watch>(
     rt: &R,
     shared: &Shared,
@@ -124,8 +124,8 @@ fn retire_at<R: Wait>(
     retire(rt, threads, &mut parts.hand, element)
 }
 
-// An element from the ready ring has its turn, if there is one: its next step is tried, or it is retired where it has
-// none left.
+// An element from the ready ring has its turn, if there is one: its next step is tried, or it is retired if it has no
+// step left.
 fn dispatch<R: Wait, G: Watch>(
     rt: &R,
     shared: &Shared,
@@ -159,7 +159,7 @@ fn dispatch<R: Wait, G: Watch>(
     }
 }
 
-// Processor 0 tends the alarms. The list is room for those that are fired.
+// Processor 0 tends the alarms. The list is room for the alarms that are fired.
 fn tend(shared: &Shared, parts: &mut Parts, p: Processor, fired: &mut ArrayVec<Alarm, 16>)
     requires manned { IsManned shared.now p parts.old }
     ensures manned { StaysManned shared.now p parts.old parts.new }
@@ -199,12 +199,12 @@ fn turn<R: Wait, G: Watch>(
     let _ = dispatch(rt, shared, parts, p, room, gate);
 }
 
-/// Exactly so many turns of a processor. In each the gate is called with its number, from 0, processor 0 tends the
-/// alarms, and the oldest element of the ready ring has its turn: one try of its next step. Within a step the gate is
-/// called as `Point` says, and else never. The station comes back, with what its ends did, and what was heard and
-/// signalled.
+/// Exactly this many turns of a processor. In each turn the gate is called with the turn's number, from 0. Then
+/// processor 0 tends the alarms, and the oldest element of the ready ring has its turn: one try of its next step.
+/// Within a step the gate is called as `Point` says, and otherwise never. Returns the station, with what its ends did,
+/// and what was heard and signalled.
 ///
-/// Conditions: the station is one of `shared`, and its hand serves the processor, on which nothing stands.
+/// Conditions: the station is one of `shared`, and its hand serves the processor, which has no element.
 pub fn run<R: Wait, G: Watch>(
     rt: &R,
     shared: &Shared,

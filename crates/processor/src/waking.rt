@@ -1,7 +1,7 @@
 //! Waking those who wait at a pipe.
 //!
-//! The type keeps an order: those who wait are woken behind the try that has news for them. A `Paid`, which a deed
-//! tells, has in it the debt that only a try makes; so no `Paid` comes before its try.
+//! The type keeps an order: those who wait are woken after the try that has news for them. A `Paid`, which a deed
+//! reports, contains the debt that only a try makes; so no `Paid` exists before its try.
 ghost use Rattle.turn_dispatch.specs.Tallies.{no_events};
 ghost use Rattle.thread_table.specs.Handles.{view_of, call_of, IsHandOf, IsSameHand};
 ghost use Rattle.processor.specs.Acts.{Acts};
@@ -13,7 +13,7 @@ use std::sync::Wait;
 use thread_table::{Hand, ThreadTable};
 use turn_dispatch::{Woken, wake};
 
-/// A wake that was owed, and was made where the queue is a pipe.
+/// A wake that was owed, and that was made if the queue is a pipe.
 #[derive(Drop)]
 pub struct Paid {
     woken: Option<Woken>,

@@ -1,6 +1,6 @@
 //! A gate that is shown a hand and an end together.
 //!
-//! Nothing is done there when the code runs: what was shown is for the proofs alone. The types of both values are
+//! The code does nothing there at run time: the shown values are for the proofs alone. The types of both values are
 //! fixed, so that no proof can put another value in the place of one that was shown.
 ghost use Rattle.processor.specs.Sights.{Sights};
 

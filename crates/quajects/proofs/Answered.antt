@@ -1,4 +1,4 @@
--- What a try made of the lines of its end.
+-- The effect of a try on the lines of its end.
 use Rattle.std.proofs.Common.{◌≡◌, ℕ, ◌<◌, Bool, List, [], ◌∷◌, ◌++◌, length, refl, sym, ap, subst, ◌∙◌, if◌then◌else◌, arith}
 use Rattle.std.specs.Prelude.{Result, Ok, Err, MatchResult, MatchBool, is_ok}
 use Rattle.std.proofs.lemmas.List.{append-nil}

@@ -34,7 +34,7 @@ push_if : (t : Bool) (x : ℕ) (s : List ℕ) (b : ℕ) → (if t then x ∷ (s 
 push_if true x s b = refl
 push_if false x s b = refl
 
--- another byte is put behind
+-- another byte is appended
 pub standing_other : (q : List ℕ) (b : ℕ) → is_erase b ≡ false → (standing (q ++ b ∷ []) ≡ standing q ++ b ∷ []) × (unmatched (q ++ b ∷ []) ≡ unmatched q)
 standing_other [] b e = (ap (λ (z : Bool). if not z && true then b ∷ [] else []) e, ap (λ (z : Bool). if z then 1 else 0) e)
 standing_other (x ∷ q) b e = let ih = standing_other q b e in (
@@ -44,7 +44,7 @@ standing_other (x ∷ q) b e = let ih = standing_other q b e in (
   ap (λ (z : ℕ). if is_erase x then suc z else z - 1) ih.1,
 )
 
--- the unmatched erases when one is put behind
+-- the unmatched erases when one is appended
 abbrev pub one_more : List ℕ → ℕ → ℕ
 one_more s u = if is_empty s then suc u else u
 
@@ -58,7 +58,7 @@ erase_if false x [] (suc n) = (refl, omega arith)
 erase_if false x (y ∷ s) zero = (refl, refl)
 erase_if false x (y ∷ s) (suc n) = (refl, refl)
 
--- an erase is put behind
+-- an erase is appended
 pub standing_erase : (q : List ℕ) (b : ℕ) → is_erase b ≡ true → (standing (q ++ b ∷ []) ≡ front (standing q)) × (unmatched (q ++ b ∷ []) ≡ one_more (standing q) (unmatched q))
 standing_erase [] b e = (ap (λ (z : Bool). if not z && true then b ∷ [] else []) e, ap (λ (z : Bool). if z then 1 else 0) e)
 standing_erase (x ∷ q) b e = let ih = standing_erase q b e in let s = erase_if (is_erase x) x (standing q) (unmatched q) in (
@@ -72,7 +72,7 @@ no_more_if : (e : Bool) (u x y k : ℕ) → ((j : ℕ) → u ≤ j → x ≤ y +
 no_more_if true u x y k ih h = let t = ih (k - 1) (omega arith) in omega arith
 no_more_if false u x y k ih h = let t = ih (k + 1) (omega arith) in omega arith
 
--- where at most k erases are unmatched, no stretch from the beginning has more than k erases more than others
+-- if at most k erases are unmatched, no stretch from the beginning has more than k erases more than others
 no_more : (bs : List ℕ) (k : ℕ) → unmatched bs ≤ k → (i : ℕ) → erases (take i bs) ≤ others (take i bs) + k
 no_more [] k h zero = omega arith
 no_more [] k h (suc i) = omega arith
@@ -84,7 +84,7 @@ at_most_if : (e : Bool) (u k n : ℕ) (x y : ℕ → ℕ) → x 0 ≡ 0 → y 0 
 at_most_if true u k n x y x0 y0 ih h = let h0 = h 0 (omega arith) in let t = ih (k - 1) (λ i l. let r = h i l in omega arith) in omega arith
 at_most_if false u k n x y x0 y0 ih h = let t = ih (k + 1) (λ i l. let r = h i l in omega arith) in omega arith
 
--- and the other way round
+-- and conversely
 at_most : (bs : List ℕ) (k : ℕ) → ((i : ℕ) → i ≤ length bs → erases (take i bs) ≤ others (take i bs) + k) → unmatched bs ≤ k
 at_most [] k h = omega arith
 at_most (b ∷ bs) k h = at_most_if (is_erase b) (unmatched bs) k (length bs) (λ i. erases (take i bs)) (λ i. others (take i bs)) refl refl (λ j f. at_most bs j f) (λ i l. h (suc i) (omega arith))
@@ -139,7 +139,7 @@ one_test true b f g = sym (f refl)
 one_test false true f g = g refl
 one_test false false f g = refl
 
--- each stretch that starts here has more other bytes than erases, where this is no erase and none behind is unmatched
+-- each stretch that starts here has more other bytes than erases, if this is no erase and none after it is unmatched
 stands : (b : ℕ) (bs : List ℕ) → outweighs (b ∷ bs) ≡ (is_other b && is_zero (unmatched bs))
 stands b bs = one_test _ _
     (λ h. let f = outweighs_all (length (b ∷ bs)) (b ∷ bs) h in let e = no_erase (is_erase b) (f 0 (omega arith)) in
@@ -180,7 +180,7 @@ front_take (b ∷ []) = refl
 front_take (b ∷ c ∷ s) = ap (λ (z : List ℕ). b ∷ z) (front_take (c ∷ s))
     ∙ (let e : suc (suc (length s)) - 1 ≡ suc (suc (length s) - 1) = omega arith in ap (λ (k : ℕ). take k (b ∷ c ∷ s)) (sym e))
 
--- what one byte more does
+-- the effect of one more byte
 pub cook_kill : (q : List ℕ) (b : ℕ) → is_kill b ≡ true → kept (after_kills (q ++ b ∷ [])) ≡ []
 cook_kill q b h = ap kept (kills_last q b h)
 

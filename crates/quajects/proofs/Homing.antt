@@ -37,7 +37,7 @@ ways_sides [] = tt
 ways_sides (None ∷ ways) = (tt, ways_sides ways)
 ways_sides (Some way ∷ ways) = (way.outlet.only, ways_sides ways)
 
--- its ends are of the types that say it
+-- the types of its ends say that it keeps its sides
 pub sides_of : (x : AnyQuaject) → anys.KeepsSides x
 sides_of (any.Cooked tty) = (tty.raw.only, tty.line.only, tty.screen.only)
 sides_of (any.Pump pump) = (pump.source.only, pump.target.only)
@@ -68,7 +68,7 @@ way_posts [] = refl
 way_posts (None ∷ ways) = ap (λ (z : List (Option Post)). None ∷ z) (way_posts ways)
 way_posts (Some way ∷ ways) = ap (λ (z : List (Option Post)). Some (post_of way.outlet.index way.outlet.end) ∷ z) (way_posts ways)
 
--- the ends of a quaject that is still the first one are those of the first
+-- the posts of a quaject with the same ends as the first one are the first one's posts
 posts_home : (first x : AnyQuaject) (small : List (Option (Port 64))) (large : List (Option (Port 256))) → anys.SameEnds first x → anys.PortsOf x (small, large) → anys.PostsOf first (map post_at small, map post_at large)
 posts_home (any.Cooked f) (any.Cooked x) small large s p = (ap (map post_at) p.0 ∙ ap (λ (z : Post). Some z ∷ None ∷ None ∷ None ∷ None ∷ None ∷ []) s.raw, ap (map post_at) p.1 ∙ ap (λ (z : Post). Some z ∷ Some (post_of x.screen.index x.screen.end) ∷ []) s.line ∙ ap (λ (z : Post). Some (post_of f.line.index f.line.end) ∷ Some z ∷ []) s.screen)
 posts_home (any.Pump f) (any.Pump x) small large s p = (ap (map post_at) p.0 ∙ ap (λ (z : Post). Some z ∷ Some (post_of x.target.index x.target.end) ∷ None ∷ None ∷ None ∷ None ∷ []) s.source ∙ ap (λ (z : Post). Some (post_of f.source.index f.source.end) ∷ Some z ∷ None ∷ None ∷ None ∷ None ∷ []) s.target, ap (map post_at) p.1)
@@ -100,7 +100,7 @@ ports_up (any.Pump pump) small large p = (subst AllUp (sym p.0) (none_put (view_
 ports_up (any.Switch switch) small large p = (subst AllUp (sym p.0) (none_put (view_of switch.source.end).own.runs switch.source.only, (switch.other.raised, ways_up switch.ways)), subst AllUp (sym p.1) tt)
 
 module _ {made : AnyQuaject → List ℕ → Type 0} {fits : AnyQuaject → Type 0} {v : View} {x : AnyQuaject} where
-  -- the same, by the number of notes alone
+  -- the closing of a chain whose notes have this number, with all taken and none left
   closed_as : (first put taken : ℕ) (left : List (Option ℕ)) (n : ℕ) → ClosedNow made fits v first put taken left x → put ≡ n → ClosedNow made fits v first n n [] x
   closed_as first put taken left n c e = subst (λ (z : ℕ). ClosedNow made fits v first z z [] x) e
       (subst (λ (z : ℕ). ClosedNow made fits v first put z [] x) c.all_taken (subst (λ (z : List (Option ℕ)). ClosedNow made fits v first put taken z x) c.none_left c))

@@ -1,4 +1,4 @@
--- The ends of a queue that are joined, one behind the other.
+-- The ends of a queue that are joined, one after the other.
 use Rattle.std.proofs.Common.{◌≡◌, ℕ, zero, suc, ◌+◌, ◌-◌, List, [], ◌∷◌, ◌++◌, map, drop, length, sym, ap, subst, ◌∙◌, arith}
 use Rattle.std.specs.Prelude.{Option, Some, Result, Ok, Err, IfOk, IfErr}
 use Rattle.std.specs.List.{All, flat_map}
@@ -43,7 +43,7 @@ module _ {X : Type 0} (P : X → Type 0) where
 more_lines : {A : Type 0} (f : View → List A) (ends : List View) (v u w : View) → f v ≡ flat_map f ends → f w ≡ f v ++ f u → f w ≡ flat_map f (ends ++ u ∷ [])
 more_lines {A} f ends v u w h e = e ∙ ap (λ (z : List A). z ++ f u) h ∙ ap (λ (z : List A). flat_map f ends ++ z) (sym (append-nil (f u))) ∙ sym (flat_map-append f ends (u ∷ []))
 
--- an end more was joined
+-- one more end was joined
 pub joined_has : (ends : List View) (v u w : View) → HasAll ends v → TookIn v u w → (lines_put w ≡ lines_put v ++ lines_put u) × (lines_taken w ≡ lines_taken v ++ lines_taken u) → HasAll (ends ++ u ∷ []) w
 joined_has ends v u w h j l = record {
   puts = more_lines lines_put ends v u w h.puts l.0;

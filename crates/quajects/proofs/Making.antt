@@ -1,4 +1,4 @@
--- What made a quaject.
+-- The making of a quaject.
 use Rattle.std.proofs.Common.{◌≡◌, ℕ, suc, ◌+◌, ◌%◌, ◌^◌, List, [], ◌∷◌, ◌++◌, length, refl, sym, ap, subst, ◌∙◌, length-append, arith}
 use Rattle.proc_chain.specs.declared.quaject.Ran.{Ran}
 use Rattle.quajects.specs.declared.any.AnyQuaject.{AnyQuaject}
@@ -13,7 +13,7 @@ use Rattle.quajects.specs.Switches as switches
 use Rattle.quajects.specs.Terminals as terminals
 use Rattle.quajects.proofs.Counts.{mod_add}
 
--- a note more
+-- one more note
 count_more : (old new : ℕ) (notes : List ℕ) (note : ℕ) → new ≡ (old + 1) % 2 ^ 64 → old ≡ length notes % 2 ^ 64 → new ≡ length (notes ++ note ∷ []) % 2 ^ 64
 count_more old new notes note r h = r ∙ ap (λ (z : ℕ). (z + 1) % 2 ^ 64) h ∙ mod_add (2 ^ 64) (length notes) 1 ∙ ap (λ (z : ℕ). z % 2 ^ 64) (sym (length-append notes (note ∷ [])))
 
@@ -48,7 +48,7 @@ runs_none (any.Cooked tty) e = e
 runs_none (any.Pump pump) e = e
 runs_none (any.Switch switch) e = e
 
--- of itself, with no note run
+-- the quaject made by no note is the first one
 pub made_of_itself : (x : AnyQuaject) → notes_of x ≡ 0 → MadeOf x x []
 made_of_itself x e = record { same_ends = same_ends x; count = runs_none x e; runs = refl }
 
@@ -80,6 +80,6 @@ counts (any.Switch old) (any.Cooked new) answer notes note r h = absurd r
 counts (any.Switch old) (any.Pump new) answer notes note r h = absurd r
 counts (any.Switch old) (any.Switch new) answer notes note r h = count_more old.notes new.notes notes note r.noted h
 
--- it has run a note more
+-- it has run one more note
 pub any_more : (first old new : AnyQuaject) (answer : Ran) (notes : List ℕ) (note : ℕ) → RanAny old new answer → MadeOf first old notes → MadeOf first new (notes ++ note ∷ [])
 any_more first old new answer notes note r m = made_more first old new answer notes note r (same first old new answer m.same_ends r) (counts old new answer notes note r m.count) m

@@ -1,4 +1,4 @@
--- A note that is told to a chain, after tries that were lost.
+-- A note that is chained after tries that were lost.
 use Rattle.std.proofs.Common.{◌≡◌, ℕ, ◌+◌, ◌≤◌, false, List, [], ◌∷◌, ◌++◌, map, length, refl, sym, ap, subst, ◌∙◌, Ok, Err}
 use Rattle.std.proofs.Math.Logic.{∥∥₁_elim}
 use native.Mathlib.Nat.{ℕ_set}
@@ -56,7 +56,7 @@ tries_more v u w lost head e is l n = let r = subst (λ (z : ChainRefusal). NotC
       },
     )
 
--- some steps behind lost tries
+-- some steps after lost tries
 behind : (F : Did → Did) (v b w : View) (lost : List LostTry) (entries : List (Step GatedQueue)) → WereLost v lost b → Made b entries (F b.own) w → Made v (tried lost ++ entries) (F v.own) w
 behind F v b w lost entries l m = made_on v b w (tried lost) entries v.own (F v.own) l.made (subst (λ (z : Did). Made b entries (F z) w) l.made.did m)
 

@@ -108,7 +108,7 @@ at_get [] i x d e = cc
 at_get (a ∷ l) zero x d e = cc
 at_get (a ∷ l) (suc i) x d e = at_get l i x d e
 
--- the way that was read is the one that is known to stand there
+-- the way that was read is the one that is known to be there
 pub way_read : (ways : List (Option Way)) (i : ℕ) (known way : Way) (d : Option Way) → slice_get ways i ≡ Some (Some known) → slice_index_or ways i d ≡ Some way → known ≡ way
 way_read ways i known way d at is = let e : Some known ≡ Some way = sym (at_get ways i (Some known) d at) ∙ is in cc
 
@@ -200,7 +200,7 @@ none_routed : (p : List ℕ → Bool) (taken puts : List (List ℕ)) (held : Lis
 none_routed p taken puts held et ep eh = ap (filter p) et ∙ ap (λ (z : List ℕ). filter p (held_line z)) (sym eh) ∙ ap (λ (z : List (List ℕ)). z ++ filter p (held_line held)) (sym ep)
 
 module _ {A B : Type 0} (R : A → B → Type 0) where
-  -- what holds of each pair
+  -- the relation holds of each pair
   zip_each : (xs : List A) (ys : List B) → AllZip R xs ys → (i : ℕ) (y : B) → slice_get ys i ≡ Some y → (x : A) × R x y
   zip_each [] [] h i y e = cc
   zip_each [] (b ∷ ys) h i y e = absurd h
@@ -208,7 +208,7 @@ module _ {A B : Type 0} (R : A → B → Type 0) where
   zip_each (a ∷ xs) (b ∷ ys) h zero y e = let same : b ≡ y = cc in (a, subst (R a) same h.0)
   zip_each (a ∷ xs) (b ∷ ys) h (suc i) y e = zip_each xs ys h.1 i y e
 
-  -- and what holds of its first
+  -- the relation holds of each pair, and the property of its first
   zip_holds : (P : A → Type 0) (xs : List A) (ys : List B) → AllZip R xs ys → All P xs → (i : ℕ) (y : B) → slice_get ys i ≡ Some y → (x : A) × R x y × P x
   zip_holds P [] [] h f i y e = cc
   zip_holds P [] (b ∷ ys) h f i y e = absurd h

@@ -1,4 +1,4 @@
--- What no try changes of an end.
+-- The parts of an end that no try changes.
 use Rattle.std.proofs.Common.{◌≡◌, ℕ, List, length, refl, ap, ◌∙◌}
 use Rattle.std.specs.Prelude.{Result, Ok, Err, MatchResult}
 use Rattle.claim_queue.specs.declared.rule.Did.{Did}
@@ -13,7 +13,7 @@ use Rattle.claim_queue.proofs.Answered.{Does, put_own, refused_own, took_own, re
 use Rattle.quajects.specs.Ports.{post_of}
 
 module _ {n : ℕ} (index index' : ℕ) (old new : QueueEnd n) where
-  -- the same end of the same queue, with the same share, that has shut it as often
+  -- the same end of the same queue, with the same share, that has shut the queue equally often
   same_post : (own : Did) → own.shuts ≡ (view_of old).own.shuts → index' ≡ index → IsSameEnd old new → Does (view_of old) own (view_of new) → post_of index' new ≡ post_of index old
   same_post own shuts at end d = λ i. record { index = at i; table = end.0 i; call = end.1 i; share = (d.member i).share; shuts = shut i }
     where

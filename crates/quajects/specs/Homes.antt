@@ -13,7 +13,7 @@ use Rattle.proc_chain.specs.Closings.{ClosedNow}
 use Rattle.quajects.specs.Lines.{counted}
 use Rattle.quajects.specs.Ports.{AllFit, AllUp, post_at}
 
--- these are the ends and the numbers of the quaject, and so many notes were chained and left
+-- this home has the ends and the numbers of the quaject, with this many notes chained and this many left
 pub record IsHome (quaject : AnyQuaject) (chained left : ℕ) (home : Home) : Type 0 where
   pub ports : PortsOf quaject (home.small, home.large)
   pub chained_is : home.chained ≡ chained
@@ -23,9 +23,9 @@ pub record IsHome (quaject : AnyQuaject) (chained left : ℕ) (home : Home) : Ty
   pub put : home.put ≡ counted (all_puts quaject)
   pub held : home.held ≡ length (held_of quaject)
 
--- These are the ends and the numbers of a quaject that has kept its law and its sides, and came of the one that was
--- given to the chain by runs of notes alone. Its ends are that one's, each in its place, each one of the queue that it
--- names, with all raised that it claimed and as many shuts as it had; and as many notes were run as were chained
+-- The home of a quaject that has kept its law and its sides. It results from the quaject given to the chain by runs of
+-- notes alone. Each of its ends is in its place and is one of the queue that it names. The end has raised all that it
+-- claimed, and has shut the queue as often as before. As many notes were run as were chained, and none is left
 pub record CameHome (pact : Pact Queues AnyQuaject) (first : ℕ) (v : View) (home : Home) : Type 0 where
   pub quaject : AnyQuaject
   pub closed : ClosedNow (makes MadeOf pact) (suits Fits pact) v first home.chained home.chained [] quaject
@@ -39,14 +39,15 @@ pub record CameHome (pact : Pact Queues AnyQuaject) (first : ℕ) (v : View) (ho
   pub each : home.notes ≡ home.chained % 2 ^ 64
   pub none_left : home.left ≡ 0
 
--- what came home, with these numbers
+-- the home to which these numbers belong
 abbrev pub home_in : Came → Home
 home_in came = came.home.value
 
+-- the homes to which the numbers in a list belong
 abbrev pub homes_in : List Came → List Home
 homes_in all = map home_in all
 
--- these are the numbers of what came home
+-- these numbers are the numbers of the home
 pub record TellsHome (came : Came) : Type 0 where
   pub chained : came.chained ≡ (home_in came).chained
   pub left : came.left ≡ (home_in came).left

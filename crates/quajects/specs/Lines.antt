@@ -1,8 +1,8 @@
--- What a quaject holds, as a line.
+-- The line that a quaject holds.
 use Rattle.std.specs.Prelude.{◌%◌, ◌^◌, ℕ, List, [], ◌∷◌, length}
 use Rattle.std.specs.List.{concat}
 
--- the line that is held, where one is held
+-- the line that is held, if one is held
 abbrev pub held_line : List ℕ → List (List ℕ)
 held_line [] = []
 held_line (x ∷ xs) = (x ∷ xs) ∷ []

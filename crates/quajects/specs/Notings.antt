@@ -1,4 +1,4 @@
--- How a note was told to a chain: the entries that the end added, all of them, and how their numbers compare.
+-- How a note was chained: all entries that the end added, and how their numbers compare.
 use Rattle.std.specs.Prelude.{◌≡◌, ◌+◌, ◌≤◌, ℕ, List, [], ◌∷◌, ◌++◌, map, take, length}
 use Rattle.std.specs.Prelude.{false, if◌then◌else◌, Result, Ok, Err, is_ok}
 use Rattle.std.specs.List.{AllByRecursion}
@@ -19,9 +19,9 @@ use Rattle.proc_chain.specs.Own.{View, queue_of}
 use Rattle.proc_chain.specs.Shown.{notes_of}
 use Rattle.proc_chain.specs.Turns.{HasOrGave}
 
--- Behind these entries the note was chained, the gate was found Idle, and the Turn was served to its end. The notes run
--- are those taken since the gate was found, so many, in order; at each number of notes taken since then the quaject was
--- made by so many of them, and it came back made by all
+-- After these entries the note was chained, the gate was found Idle, and the Turn was served to its end. The notes run
+-- are those taken since the gate was found Idle, this many, in order. At each number of notes taken since then the
+-- quaject was made by as many notes. The quaject that came back was made by all of them
 pub record IsRun {Q : Type 0} (made : Q → List ℕ → Type 0) (fits : Q → Type 0) (me : Me Q View)
     (before : List (Step GatedQueue)) (note ran : ℕ) (me' : Me Q View) : Type 0 where
   pub link : Link
@@ -39,12 +39,12 @@ pub record IsRun {Q : Type 0} (made : Q → List ℕ → Type 0) (fits : Q → T
       → (x : Q) × made x (take n (notes_of (queue_of me'.0))) × fits x
   pub gave : HasOrGave made fits false me'
 
--- behind these entries the note was chained, and left to the end that has the Turn
+-- after these entries the note was chained, and left to the end that has the Turn
 abbrev pub IsLeft : {Q : Type 0} → Me Q View → List (Step GatedQueue) → ℕ → Me Q View → Type 0
 IsLeft me before note me' = (l : Link) × IsLink me.0.own.runs note l × (FoundIdle l → ⊥)
     × Made me.0 (before ++ linked note l) (with_run me.0.own l.head note) me'.0 × (me'.1 ≡ me.1)
 
--- One try was answered, behind these entries, and where that gave the Turn it was served to the end. Lost is no answer
+-- After these entries one try was answered. If the try gave the Turn, the Turn was served to its end. Lost is no answer
 abbrev pub Notified : {Q : Type 0} → (Q → List ℕ → Type 0) → (Q → Type 0) → Me Q View → List (Step GatedQueue) → ℕ
     → Result Chained ChainRefusal → Me Q View → Type 0
 Notified made fits me before note (Ok (Run turn)) me' = (ran : ℕ) × IsRun made fits me before note ran me'
@@ -55,8 +55,8 @@ Notified made fits me before note (Err (Full head tail)) me' = (m n : Moment Gat
     × Made me.0 (before ++ load head_word head m ∷ load tail_word tail n ∷ []) me.0.own me'.0 × (me'.1 ≡ me.1)
 Notified made fits me before note (Err (Lost head)) me' = ⊥
 
--- After tries that were lost the note was chained, or was refused by a chain that was Full or Spent. A note that was
--- chained is one run more of the end, and a note that was refused is none
+-- After tries that were lost the note was chained, or was refused by a chain that was Full or Spent. A chained note is
+-- one more run of the end, and a refused note is none. The end has the share that it had
 pub record Noted {Q : Type 0} (made : Q → List ℕ → Type 0) (fits : Q → Type 0) (me : Me Q View) (note : ℕ)
     (me' : Me Q View) : Type 0 where
   pub lost : List LostTry

@@ -1,4 +1,4 @@
--- Where a quaject takes and puts lines.
+-- The ends at which a quaject takes and puts lines.
 use Rattle.std.specs.Prelude.{◌≡◌, ℕ, ◌<◌, List, [], ◌∷◌, length, Option, Some, None}
 use Rattle.std.specs.List.{slice_get}
 use Rattle.atomic_table.specs.Seated.{TableId}
@@ -22,8 +22,8 @@ IsUnused v = (v.own.runs ≡ []) × (v.own.takes ≡ [])
 abbrev pub port : {n : ℕ} → ℕ → QueueEnd n → Port n
 port index end = record { index = index; end = end }
 
--- What no try changes at a port: the index of its queue, and its end's table, number and share of the queue; and how
--- often that end has shut it
+-- The parts of a port that no try changes: the index of its queue, and its end's table, number and share of the queue;
+-- and how often that end has shut the queue
 pub record Post : Type 0 where
   pub index : ℕ
   pub table : TableId
@@ -31,6 +31,7 @@ pub record Post : Type 0 where
   pub share : ℕ
   pub shuts : ℕ
 
+-- the post of an end of the queue with this index
 abbrev pub post_of : {n : ℕ} → ℕ → QueueEnd n → Post
 post_of index end = record {
   index = index;
@@ -40,6 +41,7 @@ post_of index end = record {
   shuts = (view_of end).own.shuts;
 }
 
+-- the post of a port, if there is one
 abbrev pub post_at : {n : ℕ} → Option (Port n) → Option Post
 post_at None = None
 post_at (Some port) = Some (post_of port.index port.end)

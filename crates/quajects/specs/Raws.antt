@@ -1,4 +1,4 @@
--- A raw tty: what a caller sees of it, and what the put of a byte was answered.
+-- A raw tty: what a caller sees of it, and the answer to the put of a byte.
 use Rattle.std.specs.Prelude.{ℕ, Bool, true, false, [], ◌∷◌, Ok, Err}
 use Rattle.claim_queue.specs.declared.ends.QueueEnd.{QueueEnd}
 use Rattle.claim_queue.specs.Own.{View}
@@ -6,7 +6,7 @@ use Rattle.claim_queue.specs.declared.claim.ClaimRefusal.{ClaimRefusal}
 use Rattle.claim_queue.specs.Puts.{PutAnswer}
 use Rattle.quajects.specs.declared.raw.RawTty.{RawTty}
 
--- the end that it puts bytes at
+-- the end at which the raw tty puts bytes
 abbrev pub end_of : RawTty → QueueEnd 64
 end_of tty = tty.end
 

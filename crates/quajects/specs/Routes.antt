@@ -1,4 +1,4 @@
--- Which way a line goes.
+-- The way that a line goes.
 use Rattle.std.specs.Prelude.{◌≡◌, ◌≢◌, ℕ, ◌==◌, ◌&&◌, not, Bool, true, false, List, [], ◌∷◌, ◌++◌, Option, Some, None}
 use Rattle.std.specs.Prelude.{map, slice_index, slice_set}
 use Rattle.std.specs.List.{slice_get, filter}
@@ -37,17 +37,17 @@ abbrev pub index_of : Option Way → Option ℕ
 index_of None = None
 index_of (Some way) = Some way.outlet.index
 
--- the end that a way puts lines at
+-- the end at which a way puts lines
 abbrev pub end_of : Option Way → Option (QueueEnd 64)
 end_of None = None
 end_of (Some way) = Some way.outlet.end
 
--- both
+-- the end of a way with the index of its queue
 abbrev pub port_of : Option Way → Option (Port 64)
 port_of None = None
 port_of (Some way) = Some (port way.outlet.index way.outlet.end)
 
--- what no note changes of a way's end
+-- the parts of a way's end that no note changes
 abbrev pub way_post : Option Way → Option Post
 way_post None = None
 way_post (Some way) = Some (post_of way.outlet.index way.outlet.end)
@@ -95,20 +95,20 @@ pub record IsGiven (given : Given) (way : Option Way) : Type 0 where
   pub end : end_of way ≡ given_end given
   pub none : puts_of way ≡ []
 
--- of the lines taken those that are chosen were put here, followed by the one held where it is chosen
+-- the chosen lines of those taken are the lines put here, followed by the held line if it is chosen
 abbrev pub Routed : (List ℕ → Bool) → List (List ℕ) → List ℕ → List (List ℕ) → Type 0
 Routed chosen taken held puts = filter chosen taken ≡ puts ++ filter chosen (held_line held)
 
--- to each way go the lines that begin with its key
+-- the lines that begin with a way's key go to that way
 abbrev pub RoutesEach : List (Option Way) → List (List ℕ) → List ℕ → Type 0
 RoutesEach ways taken held = (i : ℕ) (way : Way) → slice_get ways i ≡ Some (Some way)
     → Routed (begins way.key) taken held (lines_put (view_of way.outlet.end))
 
--- to the other target go the lines that begin with no key
+-- the lines that begin with no key go to the other target
 abbrev pub RoutesRest : List (Option Way) → List (List ℕ) → List ℕ → List (List ℕ) → Type 0
 RoutesRest ways taken held puts = Routed (begins_none (map key_of ways)) taken held puts
 
--- each way's end is one of the queue that it names
+-- each way's end is one of the queue that the way names
 abbrev pub WaysFit : List (ClaimQueue 64) → List (Option Way) → Type 0
 WaysFit queues ways = (i : ℕ) (way : Way) → slice_get ways i ≡ Some (Some way)
     → IsEndAt queues way.outlet.index way.outlet.end
@@ -117,7 +117,7 @@ WaysFit queues ways = (i : ℕ) (way : Way) → slice_get ways i ≡ Some (Some 
 abbrev pub IsNoKey : List (Option Way) → ℕ → Type 0
 IsNoKey ways item = (i : ℕ) (way : Way) → slice_get ways i ≡ Some (Some way) → item ≡ way.key → ⊥
 
--- there was one try to put the line at the way with its first item, and the other ways stay as they were
+-- there was one try to put the line at the way whose key is its first item, and the other ways are unchanged
 pub record TriedWay (old : List (Option Way)) (line : List ℕ) (put : Bool) (new : List (Option Way)) : Type 0 where
   pub number : ℕ
   pub way : Way
@@ -128,8 +128,8 @@ pub record TriedWay (old : List (Option Way)) (line : List ℕ) (put : Bool) (ne
   pub same : post_of outlet.index outlet.end ≡ post_of way.outlet.index way.outlet.end
   pub tried : TriedPut 64 (view_of way.outlet.end) put line (view_of outlet.end)
 
--- The line that is held was tried at the target that its first item chooses, and at no other; it is held on where that
--- was refused. With nothing held no target was tried
+-- If a line was held, there was one try to put it at the target that its first item chooses, and at no other. The line
+-- stays held if the try was refused. If nothing was held, no target was tried
 pub record Switched (ways : List (Option Way)) (other : Outlet 64) (line : List ℕ) (put : Bool) (held : List ℕ)
     (new_ways : List (Option Way)) (new_other : Outlet 64) : Type 0 where
   pub none : line ≡ [] → (put ≡ false) × (new_ways ≡ ways) × (new_other ≡ other)

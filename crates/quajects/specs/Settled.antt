@@ -1,4 +1,4 @@
--- What a closed queue was put and taken, by the lines of all its ends.
+-- The items put in a closed queue and taken from it, by the lines of all its ends.
 use Rattle.std.specs.Prelude.{◌≡◌, ◌-◌, ◌<◌, ℕ, List, ◌∷◌, map, drop, length, Option, Some}
 use Rattle.std.specs.List.{All, flat_map, sum_by}
 use Rattle.claim_queue.specs.declared.ends.QueueEnd.{QueueEnd}
@@ -12,7 +12,7 @@ use Rattle.table_theory.specs.Ledgers.{WereOpen}
 use Rattle.table_theory.specs.Listing.{AllRaised}
 use Rattle.table_theory.specs.Sharing.{IsWhole}
 
--- what these ends know, the one and the others
+-- the views of all these ends
 abbrev pub views_of : {n : ℕ} → QueueEnd n → List (QueueEnd n) → List View
 views_of end others = view_of end ∷ map view_of others
 
@@ -27,15 +27,16 @@ shuts_of v = v.own.shuts
 abbrev pub HasRaised : View → Type 0
 HasRaised v = AllRaised v.own.runs
 
--- what the end claimed, and what it took, with their positions
+-- the runs that the end claimed, with their positions
 abbrev pub runs_of : View → List Batch
 runs_of v = v.own.runs
 
+-- the stretches that the end took, with their positions
 abbrev pub takings_of : View → List Batch
 takings_of v = v.own.takes
 
--- The end has the lines of all these ends, end by end, and their shares; it shut the queue as often as they all did;
--- and it has raised all that it claimed where each of them has
+-- The end has the lines, the runs, the takings and the shares of all these ends, end by end. It shut the queue as often
+-- as they all did. It has raised all that it claimed if each of them has
 pub record HasAll (ends : List View) (w : View) : Type 0 where
   pub puts : lines_put w ≡ flat_map lines_put ends
   pub takes : lines_taken w ≡ flat_map lines_taken ends
@@ -45,8 +46,9 @@ pub record HasAll (ends : List View) (w : View) : Type 0 where
   pub takings : takings_of w ≡ flat_map takings_of ends
   pub raised : All HasRaised ends → HasRaised w
 
--- The queue is closed, and these were all its ends. The items put are the lines that they put, each once; the first of
--- them are the lines that they took, each once; and where each has raised all that it claimed, the others are left
+-- The queue is closed, and these were all its ends. The items put are the lines that the ends put, each once. The first
+-- of the items are the lines that the ends took, each once. The other items are left, if each end has raised all that
+-- it claimed
 pub record SettledNow (ends : List View) (first put taken : ℕ) (left : List (Option ℕ)) : Type 0 where
   pub before : View
   pub has : HasAll ends before
@@ -58,7 +60,7 @@ pub record SettledNow (ends : List View) (first put taken : ℕ) (left : List (O
   pub left_number : length left ≡ put - taken
   pub left_is : All HasRaised ends → left ≡ map Some (drop taken items)
 
--- other ends stand, and this end has all that the others had
+-- other ends of the queue remain, and this end has all that these ends had
 pub record StillOpen (ends : List View) (others : ℕ) (w : View) : Type 0 where
   pub before : View
   pub had : HasAll ends before

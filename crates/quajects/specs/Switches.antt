@@ -16,53 +16,55 @@ use Rattle.quajects.specs.Routes.{Given, given_key, given_index, given_end, key_
 use Rattle.quajects.specs.Routes.{puts_of, TookNothing}
 use Rattle.quajects.specs.Routes.{RoutesEach, RoutesRest, WaysFit, Switched}
 
--- the end that it takes lines at
+-- the end at which the switch takes lines
 abbrev pub source_of : Switch → QueueEnd 64
 source_of switch = switch.source.end
 
--- the end that it puts lines at which begin with no key
+-- the end at which the switch puts the lines that begin with no key
 abbrev pub other_of : Switch → QueueEnd 64
 other_of switch = switch.other.end
 
--- the line that it holds; none where this is empty
+-- the line that the switch holds; empty if it holds none
 abbrev pub held_of : Switch → List ℕ
 held_of switch = switch.held.items
 
--- how many notes it has run, modulo 2^64
+-- how many notes the switch has run, modulo 2^64
 abbrev pub notes_of : Switch → ℕ
 notes_of switch = switch.notes
 
--- the ends of its ways, in their order
+-- the ends of the switch's ways, in their order
 abbrev pub way_ends : Switch → List (Option (QueueEnd 64))
 way_ends switch = map end_of switch.ways
 
--- the end that it takes lines at, with its index
+-- the source end with the index of its queue
 abbrev pub source_port : Switch → Port 64
 source_port switch = port switch.source.index (source_of switch)
 
--- the same, of the target of lines that begin with no key
+-- the end of the other target with the index of its queue
 abbrev pub other_port : Switch → Port 64
 other_port switch = port switch.other.index (other_of switch)
 
--- the same, of the ways
+-- the ends of the ways with the indexes of their queues
 abbrev pub way_ports : Switch → List (Option (Port 64))
 way_ports switch = map port_of switch.ways
 
--- what no note changes of them
+-- the parts of the source end that no note changes
 abbrev pub source_post : Switch → Post
 source_post switch = post_of switch.source.index (source_of switch)
 
+-- the parts of the other target's end that no note changes
 abbrev pub other_post : Switch → Post
 other_post switch = post_of switch.other.index (other_of switch)
 
+-- the parts of the ways' ends that no note changes
 abbrev pub way_posts : Switch → List (Option Post)
 way_posts switch = map way_post switch.ways
 
--- the lines put at all its targets
+-- the lines put at all targets of the switch
 abbrev pub all_puts : Switch → List (List ℕ)
 all_puts switch = lines_put (view_of (other_of switch)) ++ flat_map puts_of switch.ways
 
--- it is over these ends of the queues with these indexes, with these ways; it holds nothing and has run no note
+-- The switch has these ends of the queues with these indexes, and these ways. It holds nothing and has run no note
 pub record IsNew (from : ℕ) (source : QueueEnd 64) (to : ℕ) (other : QueueEnd 64) (given : List Given)
     (switch : Switch) : Type 0 where
   pub from_is : switch.source.index ≡ from
@@ -75,36 +77,37 @@ pub record IsNew (from : ℕ) (source : QueueEnd 64) (to : ℕ) (other : QueueEn
   pub none_held : held_of switch ≡ []
   pub none_run : notes_of switch ≡ 0
 
--- Its law: for each way, of the lines taken those that begin with its key are the lines put there, followed by the one
--- held where it does; and the same for the other target, with the lines that begin with no key
+-- The switch's law. For each way, the lines taken that begin with its key are the lines put there, followed by the held
+-- line if it begins so. For the other target this holds of the lines that begin with no key
 pub record IsKept (switch : Switch) : Type 0 where
   pub each : RoutesEach switch.ways (lines_taken (view_of (source_of switch))) (held_of switch)
   pub rest : RoutesRest switch.ways (lines_taken (view_of (source_of switch))) (held_of switch)
       (lines_put (view_of (other_of switch)))
 
--- it put nothing where it takes lines, and took nothing where it puts them
+-- the switch put nothing at its source, and took nothing at its targets
 abbrev pub KeepsSides : Switch → Type 0
 KeepsSides switch = (lines_put (view_of (source_of switch)) ≡ [])
     × (lines_taken (view_of (other_of switch)) ≡ []) × AllByRecursion TookNothing switch.ways
 
--- it has run so many notes
+-- the switch has run as many notes as this list has, modulo 2^64
 abbrev pub HasRun : Switch → List ℕ → Type 0
 HasRun switch notes = notes_of switch ≡ length notes % 2 ^ 64
 
--- its ends are those of the queues that it names
+-- each end of the switch is one of the queue that it names
 abbrev pub Fits : Queues → Switch → Type 0
 Fits world switch = IsEndAt world.small.items switch.source.index (source_of switch)
     × IsEndAt world.small.items switch.other.index (other_of switch) × WaysFit world.small.items switch.ways
 
--- it has the same ends of the same queues, with the same shares, each of which has shut its queue as often, and the
--- same keys
+-- Both have the same ends of the same queues, with the same shares, and each end has shut its queue equally often. Both
+-- have the same keys
 pub record SameEnds (old new : Switch) : Type 0 where
   pub source : source_post new ≡ source_post old
   pub other : other_post new ≡ other_post old
   pub ways : way_posts new ≡ way_posts old
   pub keys : map key_of new.ways ≡ map key_of old.ways
 
--- With nothing held there was one try to take a line; what was then held was tried at the target that it chooses
+-- If nothing was held, there was one try to take a line. Then there was one try to put the line held, if any, at the
+-- target that it chooses
 pub record RanSwitch (old new : Switch) (answer : Ran) : Type 0 where
   pub line : List ℕ
   pub took : Bool
@@ -116,6 +119,6 @@ pub record RanSwitch (old new : Switch) (answer : Ran) : Type 0 where
   pub noted : notes_of new ≡ (notes_of old + 1) % 2 ^ 64
   pub same : SameEnds old new
 
--- runs of these notes, in order, made it of the first
+-- the second switch results from the first by as many runs as this list has notes
 abbrev pub MadeOf : Switch → Switch → List ℕ → Type 0
 MadeOf = MadeBy SameEnds HasRun RanSwitch

@@ -15,7 +15,7 @@ use Rattle.quajects.specs.Runs.{MadeBy}
 use Rattle.quajects.specs.Ports.{Post, IsEndAt, port, post_of}
 use Rattle.quajects.specs.Cooks.{CookedRaw, TriedLine, TriedScreen}
 
--- the end that it takes raw lines at
+-- the end at which the tty takes raw lines
 abbrev pub raw_of : CookedTty → QueueEnd 64
 raw_of tty = tty.raw.end
 
@@ -27,39 +27,43 @@ line_of tty = tty.line.end
 abbrev pub screen_of : CookedTty → QueueEnd 256
 screen_of tty = tty.screen.end
 
--- all three with the indexes of their queues
+-- the end of the raw queue with the queue's index
 abbrev pub raw_port : CookedTty → Port 64
 raw_port tty = port tty.raw.index (raw_of tty)
 
+-- the end of the line queue with the queue's index
 abbrev pub line_port : CookedTty → Port 256
 line_port tty = port tty.line.index (line_of tty)
 
+-- the end of the screen queue with the queue's index
 abbrev pub screen_port : CookedTty → Port 256
 screen_port tty = port tty.screen.index (screen_of tty)
 
--- what no note changes of them
+-- the parts of the raw queue's end that no note changes
 abbrev pub raw_post : CookedTty → Post
 raw_post tty = post_of tty.raw.index (raw_of tty)
 
+-- the parts of the line queue's end that no note changes
 abbrev pub line_post : CookedTty → Post
 line_post tty = post_of tty.line.index (line_of tty)
 
+-- the parts of the screen queue's end that no note changes
 abbrev pub screen_post : CookedTty → Post
 screen_post tty = post_of tty.screen.index (screen_of tty)
 
--- the cooked line that it holds; none where this is empty
+-- the cooked line that the tty holds; empty if it holds none
 abbrev pub held_of : CookedTty → List ℕ
 held_of tty = tty.held.items
 
--- what it holds is in the line queue already
+-- the held line is in the line queue already
 abbrev pub is_in_line : CookedTty → Bool
 is_in_line tty = tty.in_line
 
--- how many notes it has run, modulo 2^64
+-- how many notes the tty has run, modulo 2^64
 abbrev pub notes_of : CookedTty → ℕ
 notes_of tty = tty.notes
 
--- it is over these ends of the queues with these indexes, holds nothing and has run no note
+-- the tty has these ends of the queues with these indexes, holds nothing and has run no note
 pub record IsNew (raw : ℕ) (raw_end : QueueEnd 64) (line : ℕ) (line_end : QueueEnd 256) (screen : ℕ)
     (screen_end : QueueEnd 256) (tty : CookedTty) : Type 0 where
   pub raw_index : tty.raw.index ≡ raw
@@ -71,9 +75,9 @@ pub record IsNew (raw : ℕ) (raw_end : QueueEnd 64) (line : ℕ) (line_end : Qu
   pub none_held : held_of tty ≡ []
   pub none_run : notes_of tty ≡ 0
 
--- Its law: the cooked lines of the raw lines taken are the lines put in the screen queue, followed by the one held; and
--- they are the lines put in the line queue, followed by the one held where that is not there yet. Nothing is there
--- early: what counts as put in the line queue and not in the screen queue is held
+-- The tty's law. The cooked lines of the raw lines taken are the lines put in the screen queue, followed by the held
+-- line. They are the lines put in the line queue, followed by the held line if it isn't there yet. If the tty counts
+-- its line as put in the line queue, a line is held
 pub record IsKept (tty : CookedTty) : Type 0 where
   pub screens : map cooked (lines_taken (view_of (raw_of tty)))
       ≡ lines_put (view_of (screen_of tty)) ++ held_line (held_of tty)
@@ -81,29 +85,29 @@ pub record IsKept (tty : CookedTty) : Type 0 where
       ≡ lines_put (view_of (line_of tty)) ++ (if is_in_line tty then [] else held_line (held_of tty))
   pub full : is_in_line tty ≡ true → held_of tty ≢ []
 
--- it put nothing where it takes lines, and took nothing where it puts them
+-- the tty put nothing in the raw queue, and took nothing from the line queue and the screen queue
 abbrev pub KeepsSides : CookedTty → Type 0
 KeepsSides tty = (lines_put (view_of (raw_of tty)) ≡ [])
     × (lines_taken (view_of (line_of tty)) ≡ []) × (lines_taken (view_of (screen_of tty)) ≡ [])
 
--- it has run so many notes
+-- the tty has run as many notes as this list has, modulo 2^64
 abbrev pub HasRun : CookedTty → List ℕ → Type 0
 HasRun tty notes = notes_of tty ≡ length notes % 2 ^ 64
 
--- its ends are those of the queues that it names
+-- each end of the tty is one of the queue that it names
 abbrev pub Fits : Queues → CookedTty → Type 0
 Fits world tty = IsEndAt world.small.items tty.raw.index (raw_of tty)
     × IsEndAt world.large.items tty.line.index (line_of tty)
     × IsEndAt world.large.items tty.screen.index (screen_of tty)
 
--- it has the same ends of the same queues, with the same shares, and each has shut its queue as often
+-- both have the same ends of the same queues, with the same shares, and each end has shut its queue equally often
 pub record SameEnds (old new : CookedTty) : Type 0 where
   pub raw : raw_post new ≡ raw_post old
   pub line : line_post new ≡ line_post old
   pub screen : screen_post new ≡ screen_post old
 
--- With nothing held there was one try to take a raw line; what was then held and not in the line queue there was one
--- try to put there; and what was then in the line queue there was one try to put in the screen queue
+-- If nothing was held, there was one try to take a raw line. Then there was one try to put the held line in the line
+-- queue, if it wasn't there. Then there was one try to put it in the screen queue, if it was in the line queue
 pub record RanCooked (old new : CookedTty) (answer : Ran) : Type 0 where
   pub line : List ℕ
   pub in_line : Bool
@@ -120,6 +124,6 @@ pub record RanCooked (old new : CookedTty) (answer : Ran) : Type 0 where
   pub noted : notes_of new ≡ (notes_of old + 1) % 2 ^ 64
   pub same : SameEnds old new
 
--- runs of these notes, in order, made it of the first
+-- the second tty results from the first by as many runs as this list has notes
 abbrev pub MadeOf : CookedTty → CookedTty → List ℕ → Type 0
 MadeOf = MadeBy SameEnds HasRun RanCooked

@@ -1,4 +1,4 @@
--- What one try to take or to put a line was answered, and what a quaject then holds.
+-- The answer to one try to take or to put a line, and what a quaject then holds.
 use Rattle.std.specs.Prelude.{◌≡◌, ◌≢◌, ℕ, Bool, true, false, List, [], length}
 use Rattle.claim_queue.specs.Own.{View}
 use Rattle.claim_queue.specs.declared.claim.ClaimRefusal.{ClaimRefusal}
@@ -18,12 +18,12 @@ abbrev pub TriedPut : ℕ → View → Bool → List ℕ → View → Type 0
 TriedPut room v true line w = (start : ℕ) × IsPut room v start line w
 TriedPut room v false line w = (refusal : ClaimRefusal) × Refused room v (length line) refusal w
 
--- With nothing held there was one try to take a line, which is then held; else the end made no step
+-- If nothing was held, there was one try to take a line, which is then held. Otherwise the end made no step
 pub record Refilled (room : ℕ) (v : View) (held : List ℕ) (took : Bool) (line : List ℕ) (w : View) : Type 0 where
   pub tried : held ≡ [] → TriedTake room v took line w
   pub else : held ≢ [] → (took ≡ false) × (line ≡ held) × (w ≡ v)
 
--- There was one try to put the line that is held, and it is held on where that was refused; with nothing held the end
+-- If a line is held, there was one try to put it, and it stays held if the try was refused. If nothing is held, the end
 -- made no step
 pub record Flushed (room : ℕ) (v : View) (line : List ℕ) (put : Bool) (held : List ℕ) (w : View) : Type 0 where
   pub tried : line ≢ [] → TriedPut room v put line w

@@ -11,11 +11,11 @@ abbrev pub IsFresh : {n : ℕ} → ClaimQueue n → QueueEnd n → Type 0
 IsFresh {n} queue end = IsEndOf queue end × (first_of queue ≡ 0)
     × (view_of end ≡ newcomer (record { first = 0; room = n }))
 
--- there are so many queues, each empty at 0 and with its only end
+-- there are this many queues, each empty at 0 and with its only end
 abbrev pub AreFresh : {n : ℕ} → ℕ → List (ClaimQueue n) → List (QueueEnd n) → Type 0
 AreFresh count queues ends = (length queues ≡ count) × AllZip IsFresh queues ends
 
--- the ends are the only ends of the first so many of the queues, each of which is empty at 0
+-- the ends are the only ends of the first queues of the list, one of each, and each of these queues is empty at 0
 pub record AreFront {n : ℕ} (queues : List (ClaimQueue n)) (ends : List (QueueEnd n)) : Type 0 where
   pub few : length ends ≤ length queues
   pub fresh : (i : ℕ) (queue : ClaimQueue n) (end : QueueEnd n) → slice_get queues i ≡ Some queue

@@ -18,10 +18,10 @@ pub enum AnyQuaject {
     Switch(Switch),
 }
 
-/// The ends of a quaject, in the order of its `new`, and None behind them: those of small queues, and those of large.
+/// The ends of a quaject, in the order of its `new`, followed by None: those of small queues, and those of large.
 pub type Ends = ([Option<QueueEnd<64>>; 6], [Option<QueueEnd<256>>; 2]);
 
-/// The same with the index of each end's queue.
+/// The ends of a quaject with the index of each end's queue.
 pub type Ports = ([Option<Port<64>>; 6], [Option<Port<256>>; 2]);
 
 impl AnyQuaject {
@@ -49,7 +49,7 @@ impl AnyQuaject {
         }
     }
 
-    /// How many items were put, modulo 2^64; of a cooked tty those in its line queue and those in its screen queue.
+    /// How many items were put, modulo 2^64; for a cooked tty, in its line queue and in its screen queue together.
     pub fn put(&self) -> u64
         ensures { result ≡ counted (all_puts self.now) }
     {
@@ -131,7 +131,7 @@ impl Quaject for AnyQuaject {
 
     ghost fits = { Fits };
 
-    /// What its kind does for a note.
+    /// The run of a note, by its kind.
     fn run(&mut self, world: &Queues, note: u16) -> Ran
         requires { Fits world.now self.old }
         ensures fits { Fits world.now self.new }

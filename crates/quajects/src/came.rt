@@ -4,9 +4,9 @@ ghost use Rattle.std.specs.Prelude.{◌≡◌};
 use crate::home::Home;
 use std::snapshot::Snapshot;
 
-/// The numbers of a quaject that came home: so many notes were put in its chain, `left` of them were not run; it ran so
-/// many notes, took and put so many items, and holds so many. For contracts it keeps in mind what came home. It is made
-/// where a `Home` comes apart, and nowhere else, and nobody changes it or makes a second of it.
+/// The numbers of a quaject that came home: this many notes were put in its chain, `left` of them were not run; it ran
+/// this many notes, took and put this many items, and holds this many. For contracts it remembers what came home. It is
+/// made only when a `Home` comes apart, and nobody changes it or makes a second of it.
 #[derive(Drop)]
 pub struct Came {
     pub(crate) chained: u32,

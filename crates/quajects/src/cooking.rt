@@ -18,8 +18,8 @@ fn is_eraser(byte: u8) -> bool
     byte == BACKSPACE || byte == DELETE
 }
 
-/// The line that the typed bytes of `line` stand for: each erase takes back the byte before it, a kill all before it.
-/// An end of line is put behind. `line` is without its own end: a 0x0A in it is a byte as any other.
+/// The cooked line of the typed bytes of `line`: each erase takes back the byte before it, a kill all before it. An end
+/// of line is appended. `line` is without its own end: a 0x0A in it is a byte like any other.
 pub fn cook(line: &[u8], out: &mut ArrayVec<u8, 65>)
     requires short { length line.now ≤ 64 }
     requires empty { out.old.items ≡ [] }
@@ -37,7 +37,7 @@ pub fn cook(line: &[u8], out: &mut ArrayVec<u8, 65>)
     out.push(END);
 }
 
-// The items without an end of line at their end.
+// The items without an end of line as the last one.
 fn body_of(raw: &[u64]) -> &[u64]
     ensures { result.now ≡ without_end raw.now }
 {
@@ -64,7 +64,7 @@ fn typed_bytes(raw: &[u64]) -> ArrayVec<u8, 64>
     bytes
 }
 
-/// The line that a raw line stands for.
+/// The cooked line of a raw line.
 pub(crate) fn cooked_line(raw: &[u64]) -> ArrayVec<u64, 65>
     requires { length raw.now ≤ 64 }
     ensures { result.items ≡ cooked raw.now }

@@ -10,9 +10,9 @@ use crate::ports::Port;
 use proc_chain::{ChainEnd, OpenEnds, ProcChain};
 use std::snapshot::Snapshot;
 
-/// What comes home from a chain: the quaject's ends with the indexes of their queues, in the order of its `new`, and
-/// its numbers. `chained` notes were put in the chain, `left` of them were not run. Only `retire` makes one, nobody
-/// changes it, and it comes apart by one call alone.
+/// The parts that come home from a chain: the quaject's ends with the indexes of their queues, in the order of its
+/// `new`, and its numbers. `chained` notes were put in the chain, `left` of them were not run. Only `retire` makes one,
+/// nobody changes it, and it comes apart by one call alone.
 #[derive(Drop)]
 pub struct Home {
     small: [Option<Port<64>>; 6],
@@ -26,7 +26,7 @@ pub struct Home {
 }
 
 impl Home {
-    /// The ends with the indexes of their queues, and the numbers, which keep in mind what came home.
+    /// The ends with the indexes of their queues, and the numbers, which remember what came home.
     pub fn take_apart(self) -> (Ports, Came)
         ensures ports { (result.0.0 ≡ self.small) × (result.0.1 ≡ self.large) }
         ensures came { home_in result.1 ≡ self }
@@ -59,7 +59,7 @@ type Chain = ProcChain<AnyQuaject>;
 
 type End = ChainEnd<AnyQuaject>;
 
-// What a quaject brings home, where so many notes were chained and left.
+// The home of a quaject, with this many notes chained and this many left.
 fn home_of(quaject: AnyQuaject, chained: u32, left: usize) -> Home
     ensures { IsHome quaject chained left result }
 {
@@ -80,8 +80,8 @@ fn home_of(quaject: AnyQuaject, chained: u32, left: usize) -> Home
     }
 }
 
-/// Closes a chain where every other end has been joined, and gives what comes home. Else the chain and the end come
-/// back, and the number of the others. It takes no memory.
+/// Closes a chain if every other end has been joined, and returns what comes home. Otherwise it returns the chain, the
+/// end, and the number of the other ends. It allocates no memory.
 ///
 /// Conditions: the end is one of the chain, and has no Turn.
 pub fn retire(chain: Chain, end: End) -> Result<Home, (Chain, End, OpenEnds)>

@@ -128,8 +128,8 @@ impl Quaject for Pump {
 
     ghost fits = { Fits };
 
-    /// With nothing held it takes a line from its source; then it puts what is held in its target. Each try is made
-    /// once. `Worked` where a line was taken or put.
+    /// If nothing is held it takes a line from its source; then it puts what is held in its target. Each try is made
+    /// once. Returns `Worked` if a line was taken or put.
     fn run(&mut self, world: &Queues, _note: u16) -> Ran
         requires { Fits world.now self.old }
         ensures fits { Fits world.now self.new }

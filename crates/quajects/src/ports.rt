@@ -1,4 +1,5 @@
-//! Where a quaject takes and puts lines: an end of a queue, which queue it is, and how many items went through.
+//! The ends at which a quaject takes and puts lines: an end of a queue, which queue it is, and how many items went
+//! through.
 ghost use Rattle.std.specs.Prelude.{◌≡◌, [], ◌++◌, ◌∷◌, if◌then◌else◌};
 ghost use Rattle.table_theory.specs.Listing.{AllRaised};
 ghost use Rattle.claim_queue.specs.Claims.{KeepsClaims};
@@ -13,14 +14,14 @@ use arrayvec::ArrayVec;
 use claim_queue::{ClaimQueue, QueueEnd};
 
 /// An end of a queue that came out of a quaject, and the index of that queue. Outside of this crate nobody makes one,
-/// and nobody gets its end: all that is done with it is to join it to another end.
+/// and nobody gets its end: its only use is to be joined to another end.
 #[derive(Drop)]
 pub struct Port<const N: usize> {
     index: usize,
     end: QueueEnd<N>,
 }
 
-/// An end that a quaject takes lines at.
+/// An end at which a quaject takes lines.
 #[derive(Drop)]
 pub struct Intake<const N: usize> {
     pub(crate) index: usize,
@@ -30,7 +31,7 @@ pub struct Intake<const N: usize> {
     ghost only: { lines_put (view_of end) ≡ [] },
 }
 
-/// An end that a quaject puts lines at.
+/// An end at which a quaject puts lines.
 #[derive(Drop)]
 pub struct Outlet<const N: usize> {
     pub(crate) index: usize,
@@ -42,7 +43,7 @@ pub struct Outlet<const N: usize> {
 }
 
 impl<const N: usize> Port<N> {
-    /// The index of the queue that its end is one of.
+    /// The index of the queue to which its end belongs.
     pub fn index(&self) -> usize
         ensures { result ≡ self.now.index }
     {
@@ -94,7 +95,7 @@ impl<const N: usize> Intake<N> {
         }
     }
 
-    /// One try to take a line. True where one was taken.
+    /// One try to take a line. Returns true if one was taken.
     pub(crate) fn try_line(&mut self, queues: &[ClaimQueue<N>], line: &mut ArrayVec<u64, N>) -> bool
         requires at { IsEndAt queues.now self.old.index self.old.end }
         requires empty { line.old.items ≡ [] }
@@ -135,7 +136,7 @@ impl<const N: usize> Outlet<N> {
         }
     }
 
-    /// One try to put a line. True where it was put.
+    /// One try to put a line. Returns true if it was put.
     pub(crate) fn try_line(&mut self, queues: &[ClaimQueue<N>], line: &[u64]) -> bool
         requires at { IsEndAt queues.now self.old.index self.old.end }
         ensures at { IsEndAt queues.now self.new.index self.new.end }

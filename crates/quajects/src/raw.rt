@@ -30,7 +30,7 @@ pub struct RawTty {
     ghost idle: { turn_of chain ≡ false },
 }
 
-// Chains a note, again after Lost, and serves all where it gets the Turn. A chain that is Full or Spent gets no note.
+// Chains a note, retries after Lost, and serves all if it gets the Turn. A chain that is Full or Spent gets no note.
 fn tell<R: Wait>(
     rt: &R,
     queues: &Queues,
@@ -88,7 +88,7 @@ impl RawTty {
         self.overruns
     }
 
-    /// The end of the raw queue, and that of the chain.
+    /// The end of the raw queue, and the end of the chain.
     pub fn into_parts(self) -> (QueueEnd<64>, ChainEnd<AnyQuaject>)
         ensures ends { (result.0 ≡ end_of self) × (result.1 ≡ self.chain) }
         ensures idle { turn_of result.1 ≡ false }
@@ -96,9 +96,9 @@ impl RawTty {
         (self.end, self.chain)
     }
 
-    /// Puts a byte in the raw queue, by `put`, and chains note 0 for it: again after Lost, while a chain that is Full
-    /// or Spent gets none. Where it gets the Turn, it serves all. True where the byte was put; a byte that was
-    /// refused is counted as an overrun, and a note is chained all the same.
+    /// Puts a byte in the raw queue, by `put`, and chains note 0 for it: it retries after Lost, while a chain that is
+    /// Full or Spent gets no note. If it gets the Turn, it serves all. Returns true if the byte was put; a byte that
+    /// was refused is counted as an overrun, and a note is chained all the same.
     ///
     /// Conditions: the index and the end fit the queues, the chain's end is one of the chain, and the queues are the
     /// chain's world.

@@ -1,4 +1,4 @@
-//! Closing a queue whose ends come back from several owners.
+//! Closing a queue whose ends are returned from several owners.
 ghost use Rattle.std.specs.Prelude.{◌≡◌, IfOk, IfErr, MatchResult};
 ghost use Rattle.std.specs.List.{All, sum_by};
 ghost use Rattle.table_theory.specs.Sharing.{IsWhole};
@@ -7,7 +7,7 @@ ghost use Rattle.quajects.specs.Settled.{views_of, share_of, HasAll, SettledNow,
 
 use claim_queue::{ClaimQueue, Closed, OpenEnds, QueueEnd};
 
-// The end then has all that the others had.
+// Joins the other ends to the end, which then has all that they had.
 fn join_all<const N: usize>(queue: &ClaimQueue<N>, end: &mut QueueEnd<N>, others: Vec<QueueEnd<N>>)
     requires end { IsEndOf queue.now end.old }
     requires others { All (IsEndOf queue.now) others.items }
@@ -19,8 +19,8 @@ fn join_all<const N: usize>(queue: &ClaimQueue<N>, end: &mut QueueEnd<N>, others
     }
 }
 
-/// Joins all these ends of a queue, and closes it. Where ends are missing, the queue comes back with the end that the
-/// others were joined to, and the number of those that are missing. It takes no memory.
+/// Joins all these ends of a queue, and closes it. If ends are missing, it returns the queue, the end to which the
+/// others were joined, and the number of missing ends. It allocates no memory.
 ///
 /// Condition: they are ends of this queue.
 pub fn settle<const N: usize>(

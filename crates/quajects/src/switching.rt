@@ -96,9 +96,9 @@ impl Switch {
     ghost use Rattle.quajects.specs.Switches.{source_port, other_port, way_ports, Fits};
     ghost use Rattle.quajects.specs.declared.world.Queues.{Queues};
 
-    /// A switch from the small queue with the index `from`. A line goes to the way whose key is its first item, and to
-    /// the queue with the index `to` where there is none. It holds nothing. Any queue may be the target of several
-    /// ways, and also the source.
+    /// A switch from the small queue with the index `from`. A line goes to the way whose key is its first item. If
+    /// there is no such way, it goes to the queue with the index `to`. The switch holds nothing. Any queue may be the
+    /// target of several ways, and also the source.
     ///
     /// Conditions: no two keys are the same, and the ends have claimed and taken nothing.
     pub fn new(
@@ -157,7 +157,7 @@ impl Switch {
         self.held.len()
     }
 
-    /// The ends, in the order of `new`, and None where there is no way.
+    /// The ends, in the order of `new`, and None for a way that doesn't exist.
     pub fn into_ends(self) -> [Option<QueueEnd<64>>; 6]
         ensures { result ≡ Some (source_of self) ∷ Some (other_of self) ∷ way_ends self }
     {
@@ -172,7 +172,7 @@ impl Switch {
         ]
     }
 
-    // The ends with their indexes, in the order of `new`, and None where there is no way.
+    // The ends with their indexes, in the order of `new`, and None for a way that doesn't exist.
     pub(crate) fn into_ports(self) -> [Option<Port<64>>; 6]
         ensures { result ≡ Some (source_port self) ∷ Some (other_port self) ∷ way_ports self }
     {
@@ -296,8 +296,8 @@ impl Quaject for Switch {
 
     ghost fits = { Fits };
 
-    /// With nothing held it takes a line from its source; then it puts what is held in the target that its first item
-    /// chooses. Each try is made once. `Worked` where a line was taken or put.
+    /// If nothing is held it takes a line from its source; then it puts what is held in the target that its first item
+    /// chooses. Each try is made once. Returns `Worked` if a line was taken or put.
     fn run(&mut self, world: &Queues, _note: u16) -> Ran
         requires { Fits world.now self.old }
         ensures fits { Fits world.now self.new }

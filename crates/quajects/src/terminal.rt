@@ -15,7 +15,7 @@ use claim_queue::{ClaimQueue, QueueEnd};
 use proc_chain::{Quaject, Ran};
 
 /// Cooks the lines of a raw queue, and puts each in a line queue and then in a screen queue, by one claim each. A line
-/// that is not in both is held, and goes on at the next note; no other is taken before.
+/// that is not in both is held, and goes on at the next note; no other line is taken before that.
 #[derive(Drop)]
 pub struct CookedTty {
     raw: Intake<64>,
@@ -139,7 +139,7 @@ impl CookedTty {
         true
     }
 
-    // One try to put what is held in the line queue, where it isn't yet.
+    // One try to put what is held in the line queue, if it isn't there yet.
     fn flush_line(&mut self, queues: &[ClaimQueue<256>]) -> bool
         requires { IsEndAt queues.now self.old.line.index self.old.line.end }
         ensures rest { (self.new.raw ≡ self.old.raw) × (self.new.screen ≡ self.old.screen)
@@ -160,7 +160,7 @@ impl CookedTty {
         true
     }
 
-    // One try to put in the screen queue what is in the line queue.
+    // One try to put what is in the line queue in the screen queue.
     fn flush_screen(&mut self, queues: &[ClaimQueue<256>]) -> bool
         requires { IsEndAt queues.now self.old.screen.index self.old.screen.end }
         ensures rest { (self.new.raw ≡ self.old.raw) × (self.new.line ≡ self.old.line)
@@ -189,8 +189,8 @@ impl Quaject for CookedTty {
 
     ghost fits = { Fits };
 
-    /// With nothing held it takes a raw line, and holds the cooked one; then it puts what is held in the line queue,
-    /// and once that is done in the screen queue. Each try is made once. `Worked` where a line was taken or put.
+    /// If nothing is held it takes a raw line, and holds the cooked one; then it puts what is held in the line queue,
+    /// and once that is done in the screen queue. Each try is made once. Returns `Worked` if a line was taken or put.
     fn run(&mut self, world: &Queues, _note: u16) -> Ran
         requires { Fits world.now self.old }
         ensures fits { Fits world.now self.new }

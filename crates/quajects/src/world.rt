@@ -6,16 +6,16 @@ use claim_queue::{ClaimQueue, QueueEnd};
 use event_theory::OutOfMemory;
 use std::alloc::Global;
 
-/// What the quajects work on, and do not own: the small queues, and the large ones, which are the line and screen
-/// queues of ttys. A queue goes by its index in one of the two lists.
+/// The queues on which the quajects work, and which they do not own: the small queues, and the large ones, which are
+/// the line and screen queues of ttys. A queue is named by its index in one of the two lists.
 #[derive(Drop)]
 pub struct Queues {
     pub small: Vec<ClaimQueue<64>>,
     pub large: Vec<ClaimQueue<256>>,
 }
 
-/// A small queue with two wait queues of the thread table: `readers`, where those wait that find nothing to take, and
-/// `writers`, where those wait that find no room.
+/// A small queue with two wait queues of the thread table: `readers`, for those that find nothing to take, and
+/// `writers`, for those that find no room.
 #[derive(Clone, Copy, Debug, PartialEq, Eq, Drop)]
 pub struct Pipe {
     pub index: usize,
@@ -25,7 +25,7 @@ pub struct Pipe {
 
 type Made<const N: usize> = (Vec<ClaimQueue<N>>, Vec<QueueEnd<N>>);
 
-// So many empty queues at 0, each with its only end.
+// This many empty queues at 0, each with its only end.
 fn queues_of<const N: usize>(alloc: Global, count: usize) -> Result<Made<N>, OutOfMemory>
     requires { (1 ≤ N) × (N ≤ 256) }
     ensures { IfOk result (λ r. AreFresh count r.0.items r.1.items) }
@@ -41,8 +41,8 @@ fn queues_of<const N: usize>(alloc: Global, count: usize) -> Result<Made<N>, Out
 }
 
 impl Queues {
-    /// So many empty queues of 64 places and of 256 places, each with 0 as its first position, and the only end of
-    /// each, in the order of the queues. `OutOfMemory` comes only where an allocation was refused.
+    /// This many empty queues of 64 places and of 256 places, each with 0 as its first position. Also the only end of
+    /// each, in the order of the queues. `OutOfMemory` is returned only if an allocation was refused.
     pub fn new(
         alloc: Global,
         small: usize,

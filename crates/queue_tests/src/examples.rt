@@ -7,7 +7,7 @@ use proc_chain::{Chained, ProcChain, Quaject, Ran, Served};
 use quajects::{Pump, Queues};
 use std::test::*;
 
-/// Adds what its notes say, each with what the world says.
+/// Adds the numbers of its notes, each with the number of the world.
 #[derive(Drop)]
 struct Adder {
     sum: u64,

@@ -1,4 +1,4 @@
-//! Queues with their ends, notes that are chained until there is room for them, and what is told of a refusal.
+//! Queues with their ends, notes that are chained until there is room for them, and the words of a refusal.
 ghost use Rattle.std.specs.Prelude.{◌≡◌, ◌≤◌, false, true};
 ghost use Rattle.claim_queue.specs.Handles as queues;
 ghost use Rattle.proc_chain.specs.Handles.{turn_of, world_of, IsEndOf};
@@ -81,7 +81,7 @@ pub(crate) fn turn_for<R: Abort, Q: Quaject>(
     }
 }
 
-/// Chains the note, again after Lost and Full, and serves where it got a Turn.
+/// Chains the note, retries after Lost and Full, and serves if it got a Turn.
 pub(crate) fn chain_one<R: Wait, Q: Quaject>(
     rt: &R,
     chain: &ProcChain<Q>,
@@ -105,7 +105,7 @@ pub(crate) fn chain_one<R: Wait, Q: Quaject>(
     }
 }
 
-/// Whether a refusal is told in these words.
+/// Whether a refusal is reported in these words.
 pub(crate) fn is_told<T: Copy + Display>(alloc: Global, refusal: T, words: &str) -> bool {
     format!(in alloc; "{refusal}").is_ok_and(|text| text.as_str() == words)
 }

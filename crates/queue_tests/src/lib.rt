@@ -1,5 +1,5 @@
-//! The tests of `claim_queue`, `proc_chain`, `quajects` and `turn_io`, in a crate of their own: beside a library they
-//! would prove it once more, and each crate of tests links all that it stands on.
+//! The tests of `claim_queue`, `proc_chain`, `quajects` and `turn_io`, in a crate of their own: in the crate of a
+//! library they would prove it once more, and each crate of tests links all its dependencies.
 #![tactic(auto)]
 
 #[cfg(test)]

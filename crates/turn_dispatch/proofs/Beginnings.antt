@@ -11,7 +11,7 @@ use Rattle.turn_dispatch.proofs.Calm.{Goes, Bridges, goes_after, goes_before, ri
 use Rattle.turn_dispatch.proofs.Looks.{take_looks, took_goes, took_holds, parked_goes, park_looks, runs_looks, deliver_goes, counts_looks}
 use Rattle.turn_dispatch.proofs.Sends.{sent_goes, sent_holds}
 
--- the element is held that the hand holds more
+-- the hand holds the element that it holds more than before
 here : (b : Bool) (e : ℕ) → (b || e == e) ≡ true
 here true e = refl
 here false e = ⊎_elim (λ same. same.0) (λ other. absurd (other.1 refl)) (eqb_tells e e)
@@ -25,7 +25,7 @@ took_has call ring element v w t = more_has element v w (took_holds call ring el
 more_same : (element : ℕ) (u v w : View) → HoldsMore element u v → w.own.held ≡ v.own.held → HoldsMore element u w
 more_same element u v w h same = (h.0, λ e. ap (λ xs. get_or xs e false) same ∙ h.1 e)
 
--- an element that was held more, and then no more
+-- the hand held one element more, and then gave it up
 out : (h b : Bool) → (b ≡ true → h ≡ false) → (if b then false else (h || b)) ≡ h
 out h true fresh = sym (fresh refl)
 out true false fresh = refl
@@ -41,7 +41,7 @@ back element u v w a b e = b e ∙ (ap (λ (h : Bool). if e == element then fals
 pub more_grows : (element : ℕ) (u v w : View) → HoldsMore element u v → Bridges u v w
 more_grows element u v w h e low held still = h.1 e ∙ ap (λ (b : Bool). b || e == element) held
 
--- what a turn that has an element begins with
+-- the beginning of a turn that has an element
 pub awake_is : (call element : ℕ) (v w : View) → Awake call element v w → Goes no_events v w × HoldsMore element v w
 awake_is call element v w a =
     let l = runs_looks call element a.taken w a.runs in
@@ -64,7 +64,7 @@ lost_is : (element : ℕ) (lost : Lost) (ready : Bool) (u v w : View) → HoldsM
 lost_is element lost true u v w a b = back element u v w a b
 lost_is element lost false u v w a b = (a.0, λ e. b e ∙ a.1 e)
 
--- what a turn that has none begins with
+-- the beginning of a turn that has none
 pub idle_is : (call : ℕ) (why : Idle) (v w : View) → WasIdle call why v w → Goes no_events v w × IdleHolds why v w
 idle_is call (idle.NothingReady refusal) v w a = let l = take_looks call 0 v w refusal a in (l.0, λ e. ap (λ xs. get_or xs e false) l.1)
 idle_is call (idle.Parked element) v w a =

@@ -1,4 +1,4 @@
--- What a hand keeps over several steps, what they add, and that no step is counted of what it has.
+-- The parts that a hand keeps over several steps, what the steps add, and that none of its elements is counted a step.
 use Rattle.turn_dispatch.proofs.Common.{inl, inr, ∥∥₁_elim, ℕ_set, append-nil, Made, View, steps_in, MayStep, done_at, has, IsHonest, quiet, counted_done, IsFree, OnlyAdds, Steady, Tally, tally, behind, no_events, Adds}
 use Rattle.std.proofs.Common.{◌≡◌, ℕ, ◌+◌, ◌<◌, true, false, List, [], ◌++◌, get_or, Some, None, refl, sym, ap, ◌∙◌, arith}
 use Rattle.thread_table.specs.Entries.{Step, Acts, IsCalm}
@@ -7,18 +7,18 @@ use Rattle.thread_table.specs.Rules.{serves, running}
 use Rattle.turn_dispatch.specs.Holdings.{IsOn}
 use Rattle.turn_dispatch.proofs.Tallies.{adds_on, adds_before, adds_more, told_steps, told_more}
 
--- the hand has made a step, and no step was counted of what it has before and after but by the hand
+-- the hand has made a step, and only the hand counted steps of what it has before and after
 pub record Calm (v w : View) : Type 0 where
   pub fresh : w.own.fresh ≡ true
   pub calm : IsCalm v w
 
--- its processors are as they were, and the events come to this
+-- its processors are unchanged, and its events add this
 pub record Goes (more : Tally) (v w : View) : Type 0 where
   pub keeps : Keeps v w
   pub adds : Adds more v w
   pub calm : Calm v w
 
--- what the hand holds before and after, it holds in between
+-- the hand holds in between each element that it holds before and after
 abbrev pub Bridges : View → View → View → Type 0
 Bridges u v w = (e : ℕ) → e < 64 → has u e ≡ true → has w e ≡ true → has v e ≡ true
 
@@ -47,14 +47,14 @@ goes_on s t u v w a b bridge = record {
   calm = record { fresh = b.calm.fresh; calm = calm_on u v w a.keeps b.keeps a.calm.fresh a.calm.calm b.calm.calm bridge };
 }
 
--- the same, behind what adds nothing, and before it
+-- several steps, if the first ones add nothing, and if the last ones add nothing
 pub goes_after : (t : Tally) (u v w : View) → Goes no_events u v → Goes t v w → Bridges u v w → Goes t u w
 goes_after t u v w a b bridge = goes_on no_events t u v w a b bridge
 
 pub goes_before : (t : Tally) (u v w : View) → Goes t u v → Goes no_events v w → Bridges u v w → Goes t u w
 goes_before t u v w a b bridge = let g = goes_on t no_events u v w a b bridge in record { keeps = g.keeps; adds = adds_before t u v w a.adds b.adds; calm = g.calm }
 
--- where what the hand holds is the same on one side
+-- if the hand holds the same elements on one side
 pub left : (u v w : View) → v.own.held ≡ u.own.held → Bridges u v w
 left u v w same e low held still = ap (λ xs. get_or xs e false) same ∙ held
 
@@ -78,7 +78,7 @@ looks_none v up = (
 pub looks_on : (u v w : View) → Looks u v → Looks v w → Looks u w
 looks_on u v w a b = (goes_before no_events u v w a.0 b.0 (left u v w a.1), b.1 ∙ a.1)
 
--- what entries leave
+-- the hand after entries
 pub acts_goes : (more : Tally) (v w now : View) (entries : List Step) (l : List Made) → Keeps v now → now.own.made ≡ v.own.made ++ l → tally l ≡ more → Acts v entries now w → Goes more v w
 acts_goes more v w now entries l k grew is a = record {
   keeps = record {
@@ -112,7 +112,7 @@ steps_more more v w e up adds calm low may after =
 pub done_is : (v : View) (e : ℕ) → ∥ IsHonest v ∥₁ → done_at v.seen.object e ≡ steps_in e v.seen.object
 done_is v e told = ∥∥₁_elim told (ℕ_set (done_at v.seen.object e) (steps_in e v.seen.object)) (λ (h : IsHonest v). counted_done v.seen.object h.allowed e)
 
--- where no step was counted
+-- if no step was counted
 pub steady_by : (more : Tally) (v w : View) → ((e : ℕ) → told_steps e more ≡ 0) → v.own.fresh ≡ true → ∥ IsHonest v ∥₁ → ∥ IsHonest w ∥₁ → Adds more v w → IsCalm v w → Steady v w
 steady_by more v w none up before behind adds calm e low may after =
     let s = steps_more more v w e up adds calm low may after in
@@ -124,11 +124,11 @@ steady_by more v w none up before behind adds calm e low may after =
 pub steady : (more : Tally) (v w : View) → ((e : ℕ) → told_steps e more ≡ 0) → v.own.fresh ≡ true → ∥ IsHonest v ∥₁ → ∥ IsHonest w ∥₁ → Goes more v w → Steady v w
 steady more v w none up before behind g = steady_by more v w none up before behind g.adds g.calm.calm
 
--- all that the hand had, and the events
+-- the hand keeps all that it had, and its events add this
 pub only : (more : Tally) (v w : View) → ((e : ℕ) → told_steps e more ≡ 0) → v.own.fresh ≡ true → ∥ IsHonest v ∥₁ → ∥ IsHonest w ∥₁ → Goes more v w → w.own.held ≡ v.own.held → OnlyAdds more v w
 only more v w none up before behind g same = record { keeps = g.keeps; holds = λ e. ap (λ xs. get_or xs e false) same; adds = g.adds; steady = steady more v w none up before behind g }
 
--- what stands on a processor stays there
+-- a free processor stays free, and an element on a processor stays there
 pub still_free : (p : ℕ) (v w : View) → Keeps v w → IsFree p v → IsFree p w
 still_free p v w k f = (ap (λ xs. get_or xs p false) k.serves ∙ f.0, ap (λ xs. get_or xs p None) k.on ∙ f.1)
 

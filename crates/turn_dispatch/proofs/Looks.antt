@@ -1,4 +1,4 @@
--- What each answer of the table leaves to the hand, and adds.
+-- The parts that each answer of the table leaves to the hand, and what the answer adds.
 use Rattle.turn_dispatch.proofs.Common.{append-nil, View, Lost, Signalled, TakeAnswer, MoveAnswer, WaitAnswer, SignalAnswer, ReadPc, HoldsMore, IsHonest, quiet, mask_of, OnlyAdds, tally, no_events, one_signal, one_delivery}
 use Rattle.std.proofs.Common.{◌≡◌, ◌≢◌, ⊎_elim, ℕ, zero, suc, Bool, true, false, [], ◌∷◌, Result, Ok, Err, refl, sym}
 use Rattle.event_theory.specs.declared.event.Event.TheVariants as events

@@ -1,4 +1,4 @@
--- What one event adds to a tally.
+-- The contribution of one event to a tally.
 use Rattle.turn_dispatch.proofs.Common.{Made, step_by, taking_by}
 use Rattle.std.specs.Prelude.{ℕ, List}
 use Rattle.turn_dispatch.specs.Tallies.{signal_by, delivery_by, retiring_by}

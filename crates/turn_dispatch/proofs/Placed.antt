@@ -7,7 +7,7 @@ use Rattle.turn_dispatch.specs.Holdings.{KeepsBut}
 use Rattle.turn_dispatch.proofs.Calm.{steady_by}
 use Rattle.turn_dispatch.proofs.Tallies.{adds_more}
 
--- what a step on a processor leaves: this stands on the processors
+-- the hand after a step on a processor: these elements are on the processors
 pub record Placed (on : List (Option ℕ)) (v w : View) : Type 0 where
   pub keeps : KeepsBut on v w
   pub adds : Adds no_events v w

@@ -30,7 +30,7 @@ raised_goes call (a ∷ rest) v w up all =
 pub raised_only : (call : ℕ) (alarms : List Alarm) (v w : View) → v.own.fresh ≡ true → ∥ IsHonest v ∥₁ → ∥ IsHonest w ∥₁ → RaisedAll call alarms v w → OnlyAdds (signals_for alarms) v w
 raised_only call alarms v w up before behind all = let g = raised_goes call alarms v w up all in only (signals_for alarms) v w (λ e. refl) up before behind g.0 g.1
 
--- what the seat lists
+-- the seat's own lists
 pub tended_own : (advanced : Result ℕ AdvanceRefusal) (fired : List Alarm) (v u w : SeatView) → MatchResult advanced (λ clock. DidAdvance clock v u) (λ refusal. DidNothing v u) → DidFire fired u w → DidTend advanced fired v w
 tended_own (Ok clock) fired v u w a b = b ∙ ap (λ (o : Own). let x : Own = record o { fired = o.fired ++ fired } in x) a
 tended_own (Err refusal) fired v u w a b = b ∙ (ap (λ (o : Own). let x : Own = record o { fired = o.fired ++ fired } in x) a ∙ nothing)

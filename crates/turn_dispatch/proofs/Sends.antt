@@ -1,4 +1,4 @@
--- Moves, tried again where they were lost.
+-- Moves, retried when lost.
 use Rattle.turn_dispatch.proofs.Common.{inl, ∥∥₁_elim, ℕ_set, ◌==◌, View, MoveAnswer, WaitAnswer, steps_in, made_in, done_at, has, thread_at, IsHonest, counted_done, elements_of, LostTries, Sent, HoldsUnless, LostWaits, retired, Tally, tally, no_events}
 use Rattle.std.proofs.Common.{◌≡◌, ◌≢◌, ℕ, zero, suc, ◌+◌, ◌<◌, Bool, true, false, List, [], ◌∷◌, get_or, Ok, Err, refl, sym, ap, ◌∙◌, subst, arith}
 use Rattle.std.specs.Prelude.{if◌then◌else◌}
@@ -43,11 +43,11 @@ pub sent_goes : (call ring element : ℕ) (moved : Bool) (v w : View) → ring �
 sent_goes call ring element moved v w other up s = let t = tries_look call ring element s.lost v s.before up s.tries in
     goes_after no_events v s.before w t.0 (last_goes call ring element moved s.before w other s.last) (left v s.before w t.1)
 
--- the events behind which an element was moved were allowed
+-- the events after which an element was moved were allowed
 claim_allowed : (call ring element : ℕ) (event : Event) (word : ℕ) (v w : View) → IsHonest w → (m : MovedBy call v ring element event word w) → IsAllowed m.2.object
 claim_allowed call ring element event word v w h m = let all = adds_real v w _ h m.7.adds in all.1.0.lawful
 
--- what was retired had done as many steps as the hand had seen
+-- a retired element had done as many steps as the hand had seen
 retired_number : (call element : ℕ) (v w : View) → ∥ IsHonest w ∥₁ → (m : MoveAnswer call v 1 element (Ok tt) w) → (thread_at (state_after m.1.2.object).elements element).done ≡ steps_in element v.seen.object
 retired_number call element v w told m = ∥∥₁_elim told (ℕ_set _ _) (λ (h : IsHonest w).
     ap (λ (z : Elements). (thread_at z element).done) (sym (elements_of m.1.2.object))
@@ -57,7 +57,7 @@ retired_last : (call element : ℕ) (moved : Bool) (v w : View) → ∥ IsHonest
 retired_last call element true v w told m = moved_goes call 1 element (claim_event call 1 element) m.0 (one_retired element (steps_in element v.seen.object)) v w m.1 (ap (one_retired element) (retired_number call element v w told m))
 retired_last call element false v w told m = (move_looks call 1 element v w moves.Spent m).0
 
--- what is retired counts no step
+-- a retirement counts no step
 pub retires_none : (moved : Bool) (element number e : ℕ) → told_steps e (retired moved element number) ≡ 0
 retires_none true element number e = refl
 retires_none false element number e = refl

@@ -1,4 +1,4 @@
--- What all events of a closed table come to.
+-- The sum of all events of a closed table.
 pub mod Moves
 pub mod Steps
 pub mod Signals

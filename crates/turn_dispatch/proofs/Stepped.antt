@@ -12,19 +12,19 @@ use Rattle.turn_dispatch.proofs.Calm.{Goes, acts_goes, acts_held, steps_more, st
 use Rattle.turn_dispatch.proofs.Looks.{counts_looks}
 use Rattle.turn_dispatch.proofs.Tallies.{told_steps}
 
--- what a hand has, it has still where that is the same
+-- a hand still has an element, if what it has is unchanged
 same_may : (v w : View) (e : ℕ) → w.own.held ≡ v.own.held → w.own.serves ≡ v.own.serves → w.own.on ≡ v.own.on → MayStep v e → MayStep w e
 same_may v w e held serve stand (inl h) = inl (ap (λ xs. get_or xs e false) held ∙ h)
 same_may v w e held serve stand (inr h) = inr (h.0, ap (λ xs. get_or xs h.0 false) serve ∙ h.1, ap (λ xs. get_or xs h.0 None) stand ∙ h.2)
 
--- what a counted step comes to
+-- the tally of a counted step
 pub record StepIs (call element number : ℕ) (v w : View) : Type 0 where
   pub adds : Adds (one_step element (done_at v.seen.object element)) v w
   pub number_is : number ≡ done_at v.seen.object element + 1
   pub done_is : done_at w.seen.object element ≡ number
   pub steady : SteadyBut element v w
 
--- one more step of the element, where its own event counted it
+-- one more step of the element, if its own event counted it
 done_more : (e call number : ℕ) (past : List Event) → steps_in e (past ++ events.Done call e ∷ []) ≡ steps_in e past + told_steps e (one_step e number)
 done_more e call number past = sum_by-append (λ (event : Event). cond (is_done e event) 1 0) past (events.Done call e ∷ [])
 

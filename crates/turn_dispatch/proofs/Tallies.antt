@@ -1,4 +1,4 @@
--- What events come to, one behind the other.
+-- The sum of events, one after the other.
 use Rattle.turn_dispatch.proofs.Common.{cond, ◌==◌, flat_map-append, append-nil, sum_by-append, is_done, Made, View, Tally, tally, behind, no_events, Adds, step_by}
 use Rattle.std.proofs.Common.{◌≡◌, ◌+◌, ℕ, List, [], ◌∷◌, ◌++◌, refl, sym, ap, ◌∙◌, subst, arith}
 use Rattle.std.specs.Prelude.{count_by, flat_map}
@@ -43,18 +43,18 @@ adds_none v w same = ap tally same ∙ sym (behind_none (tally v.own.made))
 pub adds_on : (a b : Tally) (u v w : View) → Adds a u v → Adds b v w → Adds (behind a b) u w
 adds_on a b u v w x y = y ∙ (ap (λ (t : Tally). behind t b) x ∙ behind_more (tally u.own.made) a b)
 
--- what comes before an addition of nothing, and behind it
+-- an addition of nothing, before another addition or after it
 pub adds_after : (a : Tally) (u v w : View) → Adds no_events u v → Adds a v w → Adds a u w
 adds_after a u v w x y = adds_on no_events a u v w x y
 
 pub adds_before : (a : Tally) (u v w : View) → Adds a u v → Adds no_events v w → Adds a u w
 adds_before a u v w x y = subst (λ (t : Tally). Adds t u w) (behind_none a) (adds_on a no_events u v w x y)
 
--- what events come to that are listed behind those before
+-- the sum of events that are listed after those before
 pub adds_more : (a : Tally) (v w : View) (l : List Made) → w.own.made ≡ v.own.made ++ l → tally l ≡ a → Adds a v w
 adds_more a v w l grew is = ap tally grew ∙ (tally_more v.own.made l ∙ ap (behind (tally v.own.made)) is)
 
--- the steps of an element that a tally tells
+-- the steps of an element that a tally reports
 abbrev pub told_steps : ℕ → Tally → ℕ
 told_steps e t = count_by (λ (p : ℕ × ℕ). p.0 == e) t.done
 
@@ -65,7 +65,7 @@ one_told e (events.Done call element) number = sum_by-cons (λ (p : ℕ × ℕ).
     plus_none n = omega arith
 one_told e event number = refl
 
--- they are those that the list tells
+-- they are those that the list reports
 pub told_by : (e : ℕ) (made : List Made) → steps_by e made ≡ told_steps e (tally made)
 told_by e [] = refl
 told_by e (m ∷ ms) =
@@ -75,7 +75,7 @@ told_by e (m ∷ ms) =
     let d = told_by e ms in
     omega arith
 
--- so the list tells as many more as were added
+-- so the list reports as many more as were added
 pub told_more : (e : ℕ) (a : Tally) (v w : View) → Adds a v w → steps_by e w.own.made ≡ steps_by e v.own.made + told_steps e a
 told_more e a v w adds =
     let b : told_steps e (tally w.own.made) ≡ told_steps e (tally v.own.made) + told_steps e a = ap (told_steps e) adds ∙ sum_by-append (λ (p : ℕ × ℕ). cond (p.0 == e) 1 0) (tally v.own.made).done a.done in

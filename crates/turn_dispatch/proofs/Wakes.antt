@@ -30,7 +30,7 @@ woke_goes call wait mask v w a =
     two : (n : ℕ) → suc (suc n) ≡ n + 2
     two n = omega arith
 
--- what one element leaves
+-- the state after one element
 unless : (b : Bool) → (b && not true) ≡ false
 unless true = refl
 unless false = refl
@@ -55,7 +55,7 @@ one_is call n true r u w up s = (sent_goes call 0 n r u w (λ z. omega arith) up
 one_is call n false r u w up s = subst (λ (z : View). Goes no_events u z × ((e : ℕ) → e < 64 → has z e ≡ (if e == n then (has u e && not false) else has u e))) (sym s.0)
     ((looks_none u up).0, λ e below. either_way (e == n) (has u e))
 
--- what the elements below a number leave
+-- the state after the elements below a number
 pub record ReadyTo (k : Woken) (v : View) (n : ℕ) (w : View) : Type 0 where
   pub goes : Goes no_events v w
   pub past : (e : ℕ) → e < 64 → e < n → has w e ≡ (has v e && not (is_in k.taken e && is_in k.ready e))
@@ -112,7 +112,7 @@ all_again call taken ready ready' v w (suc n) same s = (
 add_one : (n : ℕ) → n + 1 ≡ suc n
 add_one n = omega arith
 
--- what the loop keeps
+-- the loop's invariant
 pub record Sending (call taken ready n : ℕ) (v w : View) : Type 0 where
   pub sent : AllReady call (record { taken = taken; ready = ready }) v n w
   pub above : (m : ℕ) → n ≤ m → is_in ready m ≡ false
@@ -146,7 +146,7 @@ sending_ready call call' taken ready n v u w low same s member sent = rw (one_bi
   above = λ m past. ap (λ k. eqb k 1) (bit_set_other ready n m (λ is. omega arith)) ∙ s.above m (omega arith);
 })
 
--- the next element of the mask is held still
+-- the hand still holds the next element of the mask
 pub still_held : (call taken ready n : ℕ) (v w : View) → n < 64 → v.own.fresh ≡ true → CanWake taken v → Sending call taken ready n v w → is_in taken n ≡ true → has w n ≡ true
 still_held call taken ready n v w low up can s member = (ready_to call (record { taken = taken; ready = ready }) v w n (omega arith) up can s.sent).next n low (omega arith) ∙ can n low member
 

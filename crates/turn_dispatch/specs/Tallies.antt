@@ -1,5 +1,5 @@
--- What the events in a hand's list come to: the steps that it counted, the signals that it made pending and that it
--- delivered, the elements that it put behind the free ones, and its takings of free elements.
+-- The sum of the events in a hand's list: the steps counted, the signals raised and delivered, the elements added to
+-- the free ones, and the takings of free elements.
 use Rattle.std.specs.Prelude.{◌≡◌, ◌==◌, ◌&&◌, ℕ, zero, suc, Bool, List, [], ◌∷◌, ◌++◌, map, slice_index_or}
 use Rattle.std.specs.Prelude.{flat_map}
 use Rattle.std.specs.List.{list_any}
@@ -12,7 +12,7 @@ use Rattle.thread_table.specs.Own.{View}
 use Rattle.thread_table.specs.Answers.{signals_in}
 use Rattle.thread_table.specs.Retiring.{taking_by}
 
--- the step that an event counts: its element, and how many that had done before
+-- the step that an event counts: its element, and that element's number of steps done before
 abbrev pub step_by : Event → ℕ → List (ℕ × ℕ)
 step_by (events.Done call element) number = (element, number) ∷ []
 step_by event number = []
@@ -27,7 +27,7 @@ abbrev pub delivery_by : Event → List ℕ → List (ℕ × List ℕ)
 delivery_by (events.Deliver call element) signals = (element, signals) ∷ []
 delivery_by event signals = []
 
--- the element that an event puts behind the free ones, and how many steps it had done
+-- the element that an event adds to the free ones, with its number of steps done
 abbrev pub retiring_by : Event → ℕ → List (ℕ × ℕ)
 retiring_by (events.Claim call names.Free items) number = (slice_index_or items 0 0, number) ∷ []
 retiring_by event number = []
@@ -41,6 +41,7 @@ pub record Tally : Type 0 where
   pub retired : List (ℕ × ℕ)
   pub taken : List ℕ
 
+-- the tally of a list of events
 abbrev pub tally : List Made → Tally
 tally made = record {
   done = flat_map (λ (m : Made). step_by m.event m.number) made;
@@ -50,10 +51,11 @@ tally made = record {
   taken = flat_map (λ (m : Made). taking_by m.event) made;
 }
 
+-- the tally of no events
 abbrev pub no_events : Tally
 no_events = record { done = []; signalled = []; delivered = []; retired = []; taken = [] }
 
--- one tally behind another
+-- one tally followed by another
 abbrev pub behind : Tally → Tally → Tally
 behind t more = record {
   done = t.done ++ more.done;
@@ -72,7 +74,7 @@ one_signal element signal = record no_events { signalled = (element, signal) ∷
 abbrev pub one_retired : ℕ → ℕ → Tally
 one_retired element number = record no_events { retired = (element, number) ∷ [] }
 
--- what a delivery of a mask tells: no event where the mask is empty
+-- the delivery of a mask's signals to an element; no event if the mask is empty
 abbrev pub delivery : ℕ → ℕ → List (ℕ × List ℕ)
 delivery element zero = []
 delivery element (suc mask) = (element, signals_in (suc mask)) ∷ []
@@ -84,7 +86,7 @@ one_delivery element mask = record no_events { delivered = delivery element mask
 abbrev pub signals_for : List Alarm → Tally
 signals_for alarms = record no_events { signalled = map (λ (alarm : Alarm). (alarm.element, alarm.signal)) alarms }
 
--- what the hand's list comes to grew by so much
+-- the tally of the hand's list grew by this tally
 abbrev pub Adds : Tally → View → View → Type 0
 Adds more v w = tally w.own.made ≡ behind (tally v.own.made) more
 

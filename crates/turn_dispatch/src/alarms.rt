@@ -22,9 +22,9 @@ fn raise_signals(threads: &ThreadTable, hand: &mut Hand, alarms: &[Alarm])
     }
 }
 
-/// Makes one try to move the clock on by one tick, fires the alarms that are due then, and raises the signal of each of
-/// them at its element, in their order. Gives the tick that the clock was moved on to, or why it wasn't; the list then
-/// has the alarms that were fired, and nothing else.
+/// Makes one try to advance the clock by one tick and fires the alarms that are due then. It raises the signal of each
+/// of them at its element, in their order. Returns the tick to which the clock was advanced, or the refusal; the list
+/// then has the alarms that were fired, and nothing else.
 pub fn tend_alarms(
     threads: &ThreadTable,
     hand: &mut Hand,

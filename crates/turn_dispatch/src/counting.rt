@@ -10,18 +10,18 @@ ghost use Rattle.turn_dispatch.specs.Tallies.{Adds};
 use event_theory::Element;
 use thread_table::{Hand, Spent, ThreadTable};
 
-/// What came of counting a step.
+/// The result of counting a step.
 #[derive(Clone, Copy, Debug, PartialEq, Eq)]
 pub enum Counted {
     /// The step isn't done, and isn't counted.
     Undone,
-    /// One more step is counted: this is now the number of those done.
+    /// One more step is counted: this is now the number of steps done.
     Done(u64),
     /// The element has done 4,294,967,295 steps. No more is counted.
     Spent,
 }
 
-/// Counts one more step of an element that the hand holds or has on a processor, where the step is done.
+/// Counts one more step of an element that the hand holds or has on a processor, if the step is done.
 pub fn count(threads: &ThreadTable, hand: &mut Hand, element: Element, done: bool) -> Counted
     requires table { IsHandOf threads.now hand.old }
     requires mine { MayStep (view_of hand.old) element }

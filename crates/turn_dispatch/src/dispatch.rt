@@ -18,8 +18,8 @@ use thread_table::{Hand, Lost, NextRefusal, ThreadTable};
 #[derive(Clone, Copy, Debug, PartialEq, Eq)]
 pub struct Begun {
     pub element: Element,
-    /// The signals that were delivered, bit s for signal s. Lost where another hand changed the state word first, and
-    /// then none was.
+    /// The signals that were delivered, bit s for signal s. Lost if another hand changed the state word first, and then
+    /// none was delivered.
     pub delivered: Result<u16, Lost>,
     /// How many steps the element has done.
     pub number: u64,
@@ -30,10 +30,10 @@ pub struct Begun {
 pub enum Idle {
     /// None was taken from the ready ring.
     NothingReady(NextRefusal),
-    /// The element's stop bit was set, and it stands in its stop cell.
+    /// The element's stop bit was set, and the element is in its stop cell.
     Parked(Element),
-    /// The element's stop bit was set, but another hand changed the state word first, so the element was made ready.
-    /// Where it is not `ready`, the ready ring has no position left, and the hand holds the element.
+    /// The element's stop bit was set, but another hand changed the state word first, so the element was made ready. If
+    /// it is not `ready`, the ready ring has no position left, and the hand holds the element.
     ParkLost {
         element: Element,
         lost: Lost,
@@ -89,11 +89,11 @@ fn deliver(
     delivered
 }
 
-/// Begins a turn: takes the oldest element of the ready ring, parks it where its stop bit is set, and else delivers its
-/// signals, which are joined to the element's mask in `signals`, and finds how many steps it has done. The hand then
-/// holds it beside what it held.
+/// Begins a turn: takes the oldest element of the ready ring and parks it if its stop bit is set. Otherwise it delivers
+/// the element's signals, which are added to the element's mask in `signals`, and reads how many steps the element has
+/// done. The hand then holds the element in addition to what it held.
 ///
-/// An element whose park was lost is made ready, and that is tried again where another hand was first.
+/// An element whose park was lost is made ready, with retries if another hand was first.
 pub fn begin<R: Wait>(
     rt: &R,
     threads: &ThreadTable,

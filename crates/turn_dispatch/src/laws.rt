@@ -1,5 +1,5 @@
-//! What the calls of the thread table add to what a hand's events come to, where nothing is added here; and what all
-//! events of a closed table come to.
+//! The effect of the thread table's calls on the sum of a hand's events, for calls to which this crate adds nothing;
+//! and the sum of all events of a closed table.
 ghost use Rattle.std.specs.Prelude.{◌<◌, ℕ, Bool, List};
 ghost use Rattle.thread_table.specs.declared.layout.TheConstants.{ELEMENTS, PROCESSORS};
 ghost use Rattle.thread_table.specs.declared.hand.Hand.{Hand};
@@ -13,8 +13,8 @@ ghost use Rattle.turn_dispatch.specs.Holdings.{OnlyAdds, IsFree};
 ghost use Rattle.turn_dispatch.specs.Settlings.{Settles, IsNamed, NoneOn, place_of};
 ghost use Rattle.turn_dispatch.specs.Tallies.{tally, no_events, one_signal};
 
-/// A stop, a signal and the reading of a ticket leave to a hand all that it has, and no step is counted of it; a signal
-/// adds one signal.
+/// A stop, a signal and the reading of a ticket leave to a hand all that it has, and count no step of its elements. A
+/// signal adds one signal.
 pub fn calls_only_add()
     ensures stops { (call element : ℕ) (was : Bool) (old new : Hand)
         → StoppedNow call (view_of old) element was (view_of new) → OnlyAdds no_events (view_of old) (view_of new) }
@@ -25,9 +25,9 @@ pub fn calls_only_add()
         → OnlyAdds no_events (view_of old) (view_of new) }
 {}
 
-/// The hand that closed a table lists all its events, and what they come to is what the closing tells of each element:
-/// its steps, its signals, and whether it is among the free. It tells of no processor and of no wait queue that there
-/// isn't; and of no processor at all where the hand serves them all and has no element on one.
+/// The hand that closed a table lists all its events, and what they come to is what the closing reports of each
+/// element: its steps, its signals, and whether it is among the free. It names only processors and wait queues that
+/// exist. It names no processor if the hand serves them all and has no element on one.
 pub fn hands_settle()
     ensures settles { (call : ℕ) (v : View) (stands : List Place) (pcs pending : List ℕ) (stops : ℕ)
         → ClosedNow call v stands pcs pending stops → Settles (tally v.own.made) stands pcs pending }

@@ -1,10 +1,10 @@
-//! What a turn of a processor does with a thread element: it takes one from the ready ring, parks it or delivers its
-//! signals, puts it on the processor, counts its step, takes it off and moves it on; and what else its steps do with
-//! thread elements: they wake, start, and tend the alarms.
+//! The work of a processor's turn at a thread element. The turn takes one from the ready ring, parks it or delivers its
+//! signals, puts it on the processor, counts its step, takes it off and moves it on. Also the work of its steps at
+//! other thread elements: they wake, start, and tend the alarms.
 //!
 //! Each function here is a sequence of the calls of `thread_table` and `meters` with one hand and one seat. Moves are
-//! tried again where another hand was first. Each contract says step by step what was done and why it wasn't, what the
-//! hand has then, and what the events in the hand's list come to.
+//! retried if another hand was first. Each contract says step by step what was done and why it wasn't. It also says
+//! what the hand has then, and what the events in the hand's list come to.
 #![tactic(auto)]
 
 mod alarms;

@@ -1,4 +1,4 @@
-//! Moves of an element that the hand holds, tried again where another hand was first.
+//! Moves of an element that the hand holds, retried if another hand was first.
 ghost use Rattle.std.specs.Prelude.{◌≡◌, true};
 ghost use Rattle.thread_table.specs.Layout.{ready_ring, free_ring, wait_ring};
 ghost use Rattle.thread_table.specs.Answers.{MoveAnswer};
@@ -21,12 +21,12 @@ enum Target {
     Wait(WaitNumber),
 }
 
-/// What came of a wait with a ticket.
+/// The result of a wait with a ticket.
 #[derive(Clone, Copy, Debug, PartialEq, Eq)]
 pub enum Waited {
     /// The element is in the wait queue.
     Waiting,
-    /// The wait queue's number of notifies is this one, not the ticket, so the element was made ready. Where it is not
+    /// The wait queue's number of notifies is this one, not the ticket, so the element was made ready. If it is not
     /// `ready`, the ready ring has no position left, and the hand holds the element.
     Moved { mark: u32, ready: bool },
     /// The wait queue has no position left, and the hand holds the element.
@@ -53,7 +53,7 @@ fn try_send(
     }
 }
 
-// Tries till no other hand was first.
+// Retries until no other hand was first.
 fn send<R: Wait>(
     rt: &R,
     threads: &ThreadTable,
@@ -77,10 +77,10 @@ fn send<R: Wait>(
     unreachable!()
 }
 
-/// Puts an element that the hand holds into the ready ring, and tries again where another hand was first. False where
-/// the ring has no position left: the hand then holds the element still.
+/// Puts an element that the hand holds into the ready ring, and retries if another hand was first. Returns false if the
+/// ring has no position left: the hand then still holds the element.
 ///
-/// Condition: the hand holds the element, which `Hand::holds` tells.
+/// Condition: the hand holds the element, which `Hand::holds` reports.
 pub fn make_ready<R: Wait>(rt: &R, threads: &ThreadTable, hand: &mut Hand, element: Element) -> bool
     requires table { IsHandOf threads.now hand.old }
     requires held { has (view_of hand.old) element ≡ true }
@@ -94,7 +94,7 @@ pub fn make_ready<R: Wait>(rt: &R, threads: &ThreadTable, hand: &mut Hand, eleme
     send(rt, threads, hand, &Target::Ready, element)
 }
 
-/// Puts an element that the hand holds behind the free elements, as `make_ready` does into the ready ring.
+/// Adds an element that the hand holds to the free elements, as `make_ready` adds one to the ready ring.
 pub fn retire<R: Wait>(rt: &R, threads: &ThreadTable, hand: &mut Hand, element: Element) -> bool
     requires table { IsHandOf threads.now hand.old }
     requires held { has (view_of hand.old) element ≡ true }
@@ -109,7 +109,7 @@ pub fn retire<R: Wait>(rt: &R, threads: &ThreadTable, hand: &mut Hand, element: 
     send(rt, threads, hand, &Target::Free, element)
 }
 
-/// Puts an element that the hand holds into a wait queue, as `make_ready` does into the ready ring.
+/// Puts an element that the hand holds into a wait queue, as `make_ready` puts one into the ready ring.
 pub fn wait_in<R: Wait>(
     rt: &R,
     threads: &ThreadTable,
@@ -129,7 +129,7 @@ pub fn wait_in<R: Wait>(
     send(rt, threads, hand, &Target::Wait(wait), element)
 }
 
-// Tries till no other hand was first, and makes the element ready where the ticket is no more good.
+// Retries until no other hand was first, and makes the element ready if the ticket is out of date.
 fn wait_or_ready<R: Wait>(
     rt: &R,
     threads: &ThreadTable,
@@ -157,8 +157,8 @@ fn wait_or_ready<R: Wait>(
     unreachable!()
 }
 
-/// Puts an element that the hand holds into a wait queue, if its number of notifies is the ticket still, and tries
-/// again where another hand put an element first. Where the number is another, the element is made ready.
+/// Puts an element that the hand holds into a wait queue, if the ticket is still its number of notifies. It retries if
+/// another hand put an element first. If the number is another, the element is made ready.
 pub fn wait_at<R: Wait>(
     rt: &R,
     threads: &ThreadTable,

@@ -10,7 +10,7 @@ ghost use Rattle.turn_dispatch.specs.Tallies.{Adds, no_events};
 use event_theory::{Element, Processor};
 use thread_table::{Hand, ThreadTable};
 
-/// Puts an element that the hand holds on a processor that it serves, on which nothing stands, by one step.
+/// Puts an element that the hand holds on a processor that it serves and that has no element, by one step.
 pub fn put_on(threads: &ThreadTable, hand: &mut Hand, processor: Processor, element: Element)
     requires table { IsHandOf threads.now hand.old }
     requires held { has (view_of hand.old) element ≡ true }
@@ -29,7 +29,7 @@ pub fn put_on(threads: &ThreadTable, hand: &mut Hand, processor: Processor, elem
     };
 }
 
-/// Takes the element off a processor that the hand serves, on which one stands, by one step. The hand then holds it.
+/// Takes the element off a processor that the hand serves and that has one, by one step. The hand then holds it.
 pub fn take_off(threads: &ThreadTable, hand: &mut Hand, processor: Processor) -> Element
     requires table { IsHandOf threads.now hand.old }
     requires mine { serves (view_of hand.old) processor ≡ true }

@@ -17,25 +17,26 @@ use thread_table::{Hand, Lost, Started, ThreadTable};
 pub struct Woken {
     /// Those that were taken from the wait queue.
     pub taken: u64,
-    /// Those of them that are in the ready ring. The hand holds the others, since the ring has no position left.
+    /// Those of them that are in the ready ring. The hand holds the others, because the ring has no position left.
     pub ready: u64,
 }
 
-/// What came of a start.
+/// The result of a start.
 #[derive(Clone, Copy, Debug, PartialEq, Eq)]
 pub enum Resumed {
     /// The stop bit was clear.
     NotStopped,
-    /// The stop bit was cleared. The element didn't stand in its stop cell.
+    /// The stop bit was cleared. The element wasn't in its stop cell.
     Cleared,
-    /// The stop bit was cleared, and the element, which stood in its stop cell, is in the ready ring.
+    /// The stop bit was cleared, and the element, which was in its stop cell, is in the ready ring.
     Ready,
-    /// The stop bit was cleared, and the hand holds the element, which stood in its stop cell, since the ready ring has
+    /// The stop bit was cleared, and the hand holds the element, which was in its stop cell, because the ready ring has
     /// no position left.
     Held,
 }
 
-// Makes each element of a mask ready, which the hand holds, the lowest number first. Gives the mask of those that are.
+// Makes each element of a mask ready, which the hand holds, the lowest number first. Returns the mask of those that
+// are.
 fn ready_all<R: Wait>(rt: &R, threads: &ThreadTable, hand: &mut Hand, taken: u64) -> u64
     requires table { IsHandOf threads.now hand.old }
     requires held { CanWake taken (view_of hand.old) }
@@ -72,7 +73,7 @@ pub fn wake<R: Wait>(rt: &R, threads: &ThreadTable, hand: &mut Hand, wait: WaitN
     Woken { taken, ready }
 }
 
-// Clears the stop bit, and makes the element ready where the hand then holds it.
+// Clears the stop bit, and makes the element ready if the hand then holds it.
 fn resume<R: Wait>(
     rt: &R,
     threads: &ThreadTable,
@@ -97,9 +98,8 @@ fn resume<R: Wait>(
     }
 }
 
-/// Clears the stop bit of an element, and makes it ready where it stood in its stop cell, which is tried again where
-/// another hand was first. Lost where another hand changed the state word first: the stop bit was set, and nothing was
-/// done.
+/// Clears the stop bit of an element, and makes the element ready if it was in its stop cell. It retries if another
+/// hand was first. Lost if another hand changed the state word first: the stop bit was set, and nothing was done.
 pub fn start<R: Wait>(
     rt: &R,
     threads: &ThreadTable,
@@ -117,7 +117,7 @@ pub fn start<R: Wait>(
     resume(rt, threads, hand, element)
 }
 
-// The element of this number, where it is in the mask.
+// The element with this number, if it is in the mask.
 fn member(mask: u64, number: u8) -> Option<Element>
     requires { number < ELEMENTS }
     ensures { IsMember mask number result }

@@ -1,4 +1,4 @@
--- What the calls on ends say of the account.
+-- The effect of the calls on ends at the account.
 use Rattle.turn_io.proofs.Common.{◌≡◌, ℕ, zero, suc, ◌+◌, ◌<◌, List, [], ◌∷◌, ◌++◌, map, length, get_or, set, refl, sym, ap, ◌∙◌, fun_ext, map-set_same, length-append, map-append, QueueEnd, nothing_did, did_both, ChainEnd, Ghosts, notes_taken, EndWorked, ChainEndWorked, idle_queue, both_queue, idle_chain, both_chain, no_stake, both_stakes, lines_of, at_each, HasRaised, end_knows_shut, AllThree, IsSplit, IsJoined, IsChainSplit, IsChainJoined}
 use Rattle.claim_queue.specs.declared.rule.Did as queues
 use Rattle.proc_chain.specs.declared.rule.Did.{Did}
@@ -23,7 +23,7 @@ module _ {n : ℕ} where
   share_of (x ∷ xs) zero = refl
   share_of (x ∷ xs) (suc q) = share_of xs q
 
-  -- and all else of the ends is as it was
+  -- and the rest of the ends is unchanged
   pub sound_at : (ends : List (QueueEnd n)) (q : ℕ) (end after : QueueEnd n) (more : AtQueue) → q < length ends → end ≡ get_or ends q end → EndWorked more end after → StaySound ends (set ends q after)
   sound_at ends q end after more below is w = record {
     shares = fun_ext (λ i. share_of (set ends q after) i ∙ (ap (λ (z : List ℕ). get_or z i 0) (map-set_same end_share ends q after end (w.share ∙ ap end_share is)) ∙ sym (share_of ends i)));

@@ -54,7 +54,7 @@ each_adds h = record {
 pub lines_add : (a b : Did) → lines_of (did_both a b) ≡ both_queue (lines_of a) (lines_of b)
 lines_add a b = λ i. record { put = map-append line_of a.runs b.runs i; taken = map-append line_of a.takes b.takes i; shuts = a.shuts + b.shuts }
 
--- what is the same at the small queues and at the large is the same
+-- two functions that agree at the small queues and at the large ones are equal
 pub by_sizes : {A : Type 0} (f g : QueueIndex → A) → ((q : ℕ) → f (Small q) ≡ g (Small q)) → ((q : ℕ) → f (Large q) ≡ g (Large q)) → f ≡ g
 by_sizes f g small large = fun_ext same
   where

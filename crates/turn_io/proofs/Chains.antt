@@ -7,7 +7,7 @@ use Rattle.turn_io.specs.Deeds.{HasPoked, PokedAt}
 use Rattle.turn_io.specs.EndLists.{AreChainsOver}
 use Rattle.turn_io.proofs.Places.{same_at, as_long, same_ends, on_end, all_still}
 
--- what holds of each holds of the one that is used
+-- a fact about each end holds of the one that is used
 one_of : {A : Type 0} (P : A → Type 0) (xs : List A) (q : ℕ) (x : A) → All P xs → q < length xs → x ≡ get_or xs q x → P x
 one_of P xs q x h below is = subst P (sym is) (h q x below)
 

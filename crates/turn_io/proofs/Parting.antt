@@ -1,4 +1,4 @@
--- What a split and a join of all ends of a list say together.
+-- The joint result of a split and of a join of all ends of a list.
 use Rattle.turn_io.proofs.Common.{◌≡◌, ℕ, zero, suc, true, false, List, [], ◌∷◌, ◌++◌, sym, ap, subst, Batch, AllRaised, QueueEnd, honest_end, still_shut, end_knows_shut, HasRaised, AllThree, IsSplit, IsJoined, AreJoined}
 use Rattle.std.proofs.Math.Logic.{∥∥₁_elim}
 use Rattle.std.proofs.Math.Bool.{Bool-set}

@@ -25,7 +25,7 @@ module _ {E : Type 0} (ends : List E) (i : ℕ) (end after : E) (is : end ≡ ge
   pub on_end : (Does : E → E → Type 0) → i < length ends → Does end after → OnEnd i Does ends (set ends i after)
   on_end Does below does = record { end = end; after = after; was = slice_get-get_or ends i end below ∙ ap Some (sym is); does = does; now = refl }
 
--- what an end has more, in a measure, the list has more at its place
+-- the increase of an end, in a measure, is the increase of the list at the end's place
 module _ {E A B : Type 0} (F : E → A) (d : A) (m : A → B) (op : B → B → B) (u : B) (right : (b : B) → op b u ≡ b) where
   chosen : (b c : Bool) (x : B) → b ≡ c → (if b then x else u) ≡ (if c then x else u)
   chosen b c x e = ap (λ (z : Bool). if z then x else u) e
@@ -41,7 +41,7 @@ module _ {E A B : Type 0} (F : E → A) (d : A) (m : A → B) (op : B → B → 
       grown_at es i end after x (omega arith) is more q ∙ ap (op (m (get_or (map F es) q d))) (sym (chosen (eqb (suc q) (suc i)) (eqb q i) x (eqb-suc-suc q i)))
 
 module _ {E : Type 0} (P : E → Type 0) where
-  -- what holds of each end holds still, where it still holds of the one that was used
+  -- a property of each end still holds, if it still holds of the end that was used
   pub all_still : (ends : List E) (i : ℕ) (end after : E) → i < length ends → end ≡ get_or ends i end → (P end → P after) → All P ends → All P (set ends i after)
   all_still [] i end after below is f h k d l = absurd (omega arith)
   all_still (e ∷ es) zero end after below is f h zero d l = f (subst P (sym is) (h zero d (omega arith)))
@@ -49,7 +49,7 @@ module _ {E : Type 0} (P : E → Type 0) where
   all_still (e ∷ es) (suc i) end after below is f h zero d l = h zero d (omega arith)
   all_still (e ∷ es) (suc i) end after below is f h (suc k) d l = all_still es i end after (omega arith) is f (λ k d l. h (suc k) d (omega arith)) k d (omega arith)
 
--- what each end knows it still does, where the one that was used does
+-- each end still knows what it knew, if the end that was used does
 pub known_still : {E : Type 0} (f : E → Bool) (ends : List E) (i : ℕ) (end after : E) → i < length ends → end ≡ get_or ends i end → (f end ≡ true → f after ≡ true)
     → (q : ℕ) → get_or (map f ends) q false ≡ true → get_or (map f (set ends i after)) q false ≡ true
 known_still f [] i end after below is h q k = absurd (omega arith)

@@ -1,4 +1,4 @@
--- What the answers of a queue say of the lines, the share and the shuts of an end.
+-- The answers of a queue, in terms of the lines, the share and the shuts of an end.
 use Rattle.turn_io.proofs.Common.{◌≡◌, ◌<◌, ◌≤◌, ℕ, zero, suc, ◌+◌, take, Bool, true, false, refl, List, [], ◌∷◌, map, length, sym, ap, subst, ◌∙◌, arith, Result, length-map, QueueEnd, Owns, RaisedFrom, Batch, Part, AllRaised, honest_end, still_shut, Heard, EndWorked, idle_queue}
 use Rattle.std.proofs.Common.{Ok}
 use Rattle.std.specs.Prelude.{Err, IfOk, MatchBool, drop}
@@ -31,7 +31,7 @@ use Rattle.table_theory.proofs.Saying.{passes_split}
 use Rattle.table_theory.proofs.Reaching.{passes_since}
 use Rattle.turn_io.specs.Accounts.{shut_if}
 
--- what has no lines is no stretches
+-- stretches that have no lines are none
 pub none_of : (stretches : List Batch) → map line_of stretches ≡ [] → stretches ≡ []
 none_of [] e = refl
 none_of (x ∷ xs) e = absurd cc
@@ -45,7 +45,7 @@ said_put room v u w start line items raised is none distinct own c r = put_of ro
     (subst (λ (z : List ℕ). Owns u start z 0) is (subst (λ (z : ℕ). Owns u start items z) none own)) c
     (subst (λ (z : List ℕ). RaisedFrom room start z u w (length z)) is r)
 
--- a place more was raised, since one was left
+-- one more place was raised, because one was left
 pub raised_next : (room : ℕ) (u w : View) (start start' raised i : ℕ) (items items' : List ℕ) (b : Bool) (A B : Type 0) → MatchBool b A ((raised ≡ length items') × B) → MatchBool b (Raised room u start' items' raised w) (w ≡ u)
     → start' ≡ start → items' ≡ items → raised ≡ i → i < length items → Raised room u start items i w
 raised_next room u w start start' raised i items items' true A B p h s e r below = subst (λ (z : ℕ). Raised room u z items i w) s (subst (λ (z : List ℕ). Raised room u start' z i w) e (subst (λ (z : ℕ). Raised room u start' items' z w) r h))
@@ -60,7 +60,7 @@ module _ {n : ℕ} (old new : QueueEnd n) where
   takes_by : (IsHonest of_queues (view_of old) → IsHonest of_queues (view_of new) → TakesInOrder (view_of new)) → TakesInOrder (view_of new)
   takes_by f = order_of (view_of old) (view_of new) (honest_end old) (honest_end new) f
 
-  -- no line was put and none taken, and the queue was shut so often
+  -- no line was put and none taken, and the queue was shut this often
   same_worked : (shuts : ℕ) → (d : Does (view_of old) (record (view_of old).own { shuts = (view_of old).own.shuts + shuts }) (view_of new)) → (TakesInOrder (view_of old) → TakesInOrder (view_of new)) → EndWorked (record idle_queue { shuts = shuts }) old new
   same_worked shuts d took = let runs : (view_of new).own.runs ≡ (view_of old).own.runs = λ k. (d.did k).runs in record {
     did = λ k. record { put = (ap (map line_of) runs ∙ sym (append-nil _)) k; taken = ((λ k. map line_of (d.did k).takes) ∙ sym (append-nil _)) k; shuts = (d.did k).shuts };
@@ -71,7 +71,7 @@ module _ {n : ℕ} (old new : QueueEnd n) where
     known = still_shut old new d.steps d.adds;
   }
 
-  -- the same, where it was not shut
+  -- an end that put and took no line, and didn't shut the queue
   none_worked : Does (view_of old) (view_of old).own (view_of new) → (TakesInOrder (view_of old) → TakesInOrder (view_of new)) → EndWorked idle_queue old new
   none_worked d took = same_worked 0 (record { steps = d.steps; adds = d.adds; did = d.did ∙ (λ k. record (view_of old).own { shuts = none_more (view_of old).own.shuts (view_of old).own.shuts refl k }); member = d.member }) took
 

@@ -1,4 +1,4 @@
--- What a poke tells.
+-- The meaning of the answer to a poke.
 use Rattle.turn_io.proofs.Common.{◌≡◌, ℕ, ◌+◌, List, [], ◌∷◌, ◌++◌, map, length, sym, ap, ◌∙◌, arith, length-append, length-map, map-append, Part, ChainRefusal, ChainEnd, Ghosts, me_of, notes_taken, ChainEndWorked, idle_chain}
 use Rattle.std.proofs.lemmas.List.{append-nil}
 use Rattle.proc_chain.specs.declared.rule.Did.{Did}
@@ -13,18 +13,18 @@ use Rattle.quajects.specs.Notings.{IsRun, IsLeft}
 none_more : (a b : ℕ) → a ≡ b → a ≡ b + 0
 none_more a b e = omega arith
 
--- a note more was put
+-- one more note was put
 one_more : (d : Did) (position note : ℕ) → map line_of (with_run d position note).runs ≡ map line_of d.runs ++ alone note ∷ []
 one_more d position note = map-append line_of d.runs _
 
--- a note that was refused: the end did nothing, and its place among the ends stays
+-- a note that was refused: the end did nothing, and keeps its place among the ends
 refused_did : (v w : View) (r : ChainRefusal) → NotChained v r w → (w.own ≡ v.own) × (w.member ≡ v.member)
 refused_did v w Spent h = (h.3.did, h.3.member)
 refused_did v w (Full head tail) h = (h.4.did, h.4.member)
 refused_did v w (Lost head) h = (h.8.did, h.8.member)
 
 module _ {Q W : Type 0} {g : Ghosts Q W} (old new : ChainEnd Q W g) where
-  -- a note was chained, and so many were run
+  -- a note was chained, and this many were run
   pub ran_worked : (made : Q → List ℕ → Type 0) (fits : Q → Type 0) (note notes : ℕ) → IsRun made fits (me_of old) [] note notes (me_of new) → ChainEndWorked (record { notes = alone note ∷ []; ran = notes }) old new
   ran_worked made fits note notes i = record {
     did = λ k. record {

@@ -13,7 +13,7 @@ module _ {A B C : Type 0} (R : A → B → C → Type 0) where
   three_push (a ∷ xs) (b ∷ ys) [] x y z h r = absurd h
   three_push (a ∷ xs) (b ∷ ys) (c ∷ zs) x y z h r = (h.0, three_push xs ys zs x y z h.1 r)
 
-  -- what holds of the three ends at each place holds at each number, where it holds of nothing
+  -- a relation of the three ends at each place holds at each number, if it holds of the default
   pub at_three : {D : Type 0} (F : A → D) (G : B → D) (H : C → D) (rel : D → D → D → Type 0) (d : D) → rel d d d → ((x : A) (y : B) (z : C) → R x y z → rel (F x) (G y) (H z)) → (xs : List A) (ys : List B) (zs : List C) → AllThree R xs ys zs
       → (q : ℕ) → rel (get_or (map F xs) q d) (get_or (map G ys) q d) (get_or (map H zs) q d)
   at_three F G H rel d n f [] [] [] h q = n
@@ -59,7 +59,7 @@ module _ {A B C : Type 0} (R : A → B → C → Type 0) where
   all_third T f (a ∷ xs) (b ∷ ys) (c ∷ zs) h zero d l = f a b c h.0
   all_third T f (a ∷ xs) (b ∷ ys) (c ∷ zs) h (suc k) d l = all_third T f xs ys zs h.1 k d (omega arith)
 
--- the first i ends are changed, each with its third, and the others are as they were
+-- the first i ends are changed, each with its third, and the others are unchanged
 pub record AsFar {E : Type 0} (R : E → E → E → Type 0) (old now third : List E) (i : ℕ) : Type 0 where
   pub done : AllThree R (take i old) (take i now) third
   pub rest : (k : ℕ) (d : E) → i ≤ k → get_or now k d ≡ get_or old k d
@@ -90,7 +90,7 @@ module _ {E : Type 0} (R : E → E → E → Type 0) where
   walked old now third i all w = let long = w.long in
       subst (λ (z : List E). AllThree R z now third) (take_all i old all) (subst (λ (z : List E). AllThree R (take i old) z third) (take_all i now (omega arith)) w.done)
 
-  -- what holds of each end holds of the next
+  -- a fact about each end holds of the next
   pub next_holds : (P : E → Type 0) (old now third : List E) (i : ℕ) (end : E) → i < length now → end ≡ get_or now i end → All P old → AsFar R old now third i → P end
   next_holds P old now third i end below is all w = let long = w.long in subst P (sym (is ∙ w.rest i end (omega arith))) (all i end (omega arith))
 
@@ -103,7 +103,7 @@ pub tables_more : {E O D : Type 0} (f : E → D) (g : O → D) (ends new : List 
 tables_more f g ends new objects i end object e more same below is =
     ap (map f) more ∙ (map-append f ends (end ∷ []) ∙ ((λ k. e k ++ same k ∷ []) ∙ (sym (map-append g (take i objects) (object ∷ [])) ∙ ap (map g) (ap (λ z. take i objects ++ z ∷ []) is ∙ sym (take_more objects i object below)))))
 
--- the element behind the first ones
+-- the element after the first ones
 pub next_of : {E : Type 0} (first rest all : List E) (x : E) → first ++ (x ∷ rest) ≡ all → (x ≡ get_or all (length first) x) × (length first < length all)
 next_of first rest all x e = subst (λ z. (x ≡ get_or z (length first) x) × (length first < length z)) e (here first, below first)
   where

@@ -1,5 +1,5 @@
--- What ends did at queues and chains, as a sum: the lines, the shuts and the notes, whatever end did them, and by how
--- many steps. A queue is named by the plan's index.
+-- The work of ends at queues and chains, as a sum: the lines, the shuts and the notes, regardless of which end did them
+-- and by how many steps. A queue is named by the plan's index.
 use Rattle.std.specs.Prelude.{◌≡◌, ◌==◌, ◌+◌, ℕ, if◌then◌else◌, Bool, List, [], ◌++◌, map, length, slice_index_or}
 use Rattle.std.specs.Prelude.{◌∷◌, Result, Ok, Err, is_ok, true}
 use Rattle.std.specs.List.{All}
@@ -22,7 +22,7 @@ use Rattle.turn_io.specs.declared.poking.Poked.TheVariants.{Ran, Left}
 use Rattle.turn_io.specs.EndLists.{HasRaised, ClaimedInOrder, TookInOrder, end_knows_shut, end_share, knows_shut_at}
 use Rattle.turn_io.specs.EndLists.{chain_end_share}
 
--- what was done at one queue: the lines put, the lines taken, and how often it was shut
+-- the work at one queue: the lines put, the lines taken, and how often it was shut
 pub record AtQueue : Type 0 where
   pub put : List (List ℕ)
   pub taken : List (List ℕ)
@@ -32,11 +32,11 @@ pub record AtQueue : Type 0 where
 abbrev pub idle_queue : AtQueue
 idle_queue = record { put = []; taken = []; shuts = 0 }
 
--- first the one, and then the other
+-- the work `a` at a queue, followed by the work `b`
 abbrev pub both_queue : AtQueue → AtQueue → AtQueue
 both_queue a b = record { put = a.put ++ b.put; taken = a.taken ++ b.taken; shuts = a.shuts + b.shuts }
 
--- what was done at one chain: the notes chained, each in a list of its own, and how many were run
+-- the work at one chain: the notes chained, each in a list of its own, and how many were run
 pub record AtChain : Type 0 where
   pub notes : List (List ℕ)
   pub ran : ℕ
@@ -45,11 +45,11 @@ pub record AtChain : Type 0 where
 abbrev pub idle_chain : AtChain
 idle_chain = record { notes = []; ran = 0 }
 
--- first the one, and then the other
+-- the work `a` at a chain, followed by the work `b`
 abbrev pub both_chain : AtChain → AtChain → AtChain
 both_chain a b = record { notes = a.notes ++ b.notes; ran = a.ran + b.ran }
 
--- what an end has of its object: what it did there, and its share
+-- the stake of an end in its object: its work there, and its share
 pub record Stake (D : Type 0) : Type 0 where
   pub did : D
   pub share : ℕ
@@ -58,19 +58,19 @@ pub record Stake (D : Type 0) : Type 0 where
 abbrev pub no_stake : {D : Type 0} → D → Stake D
 no_stake none = record { did = none; share = 0 }
 
--- what two ends have together
+-- the stakes of two ends, added
 abbrev pub both_stakes : {D : Type 0} → (D → D → D) → Stake D → Stake D → Stake D
 both_stakes add a b = record { did = add a.did b.did; share = a.share + b.share }
 
--- what a split leaves to an end
+-- the stake that an end keeps after a split
 abbrev pub keep : {D : Type 0} → Stake D → Stake D
 keep stake = record stake { share = kept stake.share }
 
--- what a split gives to the new end, which did nothing
+-- the stake that a split gives to the new end, which did nothing
 abbrev pub give : {D : Type 0} → D → Stake D → Stake D
 give none stake = record { did = none; share = given stake.share }
 
--- an end's runs and takings, as lines
+-- the work of an end of a queue, with its runs and takings as lines
 abbrev pub lines_of : Did → AtQueue
 lines_of did = record { put = map line_of did.runs; taken = map line_of did.takes; shuts = did.shuts }
 
@@ -78,11 +78,11 @@ lines_of did = record { put = map line_of did.runs; taken = map line_of did.take
 abbrev pub notes_of : View → AtChain
 notes_of v = record { notes = notes_put v; ran = length (notes_taken v) }
 
--- what an end of a queue has
+-- the stake of an end of a queue
 abbrev pub stake : {n : ℕ} → QueueEnd n → Stake Did
 stake end = record { did = (view_of end).own; share = (view_of end).member.share }
 
--- what the end of the queue q has
+-- the stake of the end of the queue q
 abbrev pub stakes : {n : ℕ} → List (QueueEnd n) → ℕ → Stake Did
 stakes ends q = slice_index_or (map stake ends) q (no_stake nothing_did)
 
@@ -90,15 +90,15 @@ stakes ends q = slice_index_or (map stake ends) q (no_stake nothing_did)
 abbrev pub queue_shares : {n : ℕ} → List (QueueEnd n) → ℕ → ℕ
 queue_shares ends q = (stakes ends q).share
 
--- what the end of the queue q did there
+-- the work of the end of the queue q
 abbrev pub queue_account : {n : ℕ} → List (QueueEnd n) → ℕ → AtQueue
 queue_account ends q = lines_of (stakes ends q).did
 
--- what an end of a chain has
+-- the stake of an end of a chain
 abbrev pub chain_stake : {Q W : Type 0} {g : Ghosts Q W} → ChainEnd Q W g → Stake AtChain
 chain_stake end = record { did = notes_of (chains.view_of end); share = (chains.view_of end).member.share }
 
--- what the end of the chain q has
+-- the stake of the end of the chain q
 abbrev pub chain_stakes : {Q W : Type 0} {g : Ghosts Q W} → List (ChainEnd Q W g) → ℕ → Stake AtChain
 chain_stakes ends q = slice_index_or (map chain_stake ends) q (no_stake idle_chain)
 
@@ -106,24 +106,24 @@ chain_stakes ends q = slice_index_or (map chain_stake ends) q (no_stake idle_cha
 abbrev pub chain_shares : {Q W : Type 0} {g : Ghosts Q W} → List (ChainEnd Q W g) → ℕ → ℕ
 chain_shares ends q = (chain_stakes ends q).share
 
--- what the end of the chain q did there
+-- the work of the end of the chain q
 abbrev pub chain_account : {Q W : Type 0} {g : Ghosts Q W} → List (ChainEnd Q W g) → ℕ → AtChain
 chain_account ends q = (chain_stakes ends q).did
 
--- the sum at each place
+-- the sum of two functions at each place
 abbrev pub at_each : {I A : Type 0} → (A → A → A) → (I → A) → (I → A) → I → A
 at_each add f g q = add (f q) (g q)
 
--- this at the one place, and the rest at any other
+-- x at this index, and the rest at any other index
 abbrev pub at_one : {A : Type 0} → A → ℕ → A → ℕ → A
 at_one rest index x q = if q == index then x else rest
 
--- by the index of a queue: the one for the small queues, and the other for the large
+-- by the index of a queue: the one function for the small queues, and the other for the large ones
 abbrev pub by_index : {A : Type 0} → (ℕ → A) → (ℕ → A) → QueueIndex → A
 by_index small large (Small q) = small q
 by_index small large (Large q) = large q
 
--- this at the queue with the one index, and the rest at any other
+-- x at the queue with this index, and the rest at any other queue
 abbrev pub only : {A : Type 0} → A → QueueIndex → A → QueueIndex → A
 only rest (Small index) x = by_index (at_one rest index x) (λ q. rest)
 only rest (Large index) x = by_index (λ q. rest) (at_one rest index x)
@@ -133,36 +133,36 @@ abbrev pub room_of : QueueIndex → ℕ
 room_of (Small q) = 64
 room_of (Large q) = 256
 
--- how many notes were run
+-- how many notes were run, by the answer to a poke
 abbrev pub notes_run : Result Poked ChainRefusal → ℕ
 notes_run (Ok (Ran notes)) = notes
 notes_run (Ok Left) = 0
 notes_run (Err refusal) = 0
 
--- the line was put, where the answer is Ok
+-- the line was put, if the answer is Ok
 abbrev pub put_if : {A E : Type 0} → Result A E → List ℕ → AtQueue
 put_if answer line = record idle_queue { put = if is_ok answer then line ∷ [] else [] }
 
--- the line was taken, where the answer is Ok
+-- the line was taken, if the answer is Ok
 abbrev pub taken_if : {A E : Type 0} → Result A E → List ℕ → AtQueue
 taken_if answer line = record idle_queue { taken = if is_ok answer then line ∷ [] else [] }
 
--- the queue was shut, where it was open
+-- the queue was shut, if it was open
 abbrev pub shut_if : Bool → AtQueue
 shut_if was_open = record idle_queue { shuts = if was_open then 1 else 0 }
 
--- the note was chained, where the answer is Ok, and so many notes were run
+-- the note was chained, if the answer is Ok, and the answer's number of notes was run
 abbrev pub chained_if : Result Poked ChainRefusal → ℕ → AtChain
 chained_if answer note = record { notes = if is_ok answer then alone note ∷ [] else []; ran = notes_run answer }
 
--- a sum that is associative, and has this unit on both sides
+-- the sum is associative, and has this unit on both sides
 pub record AddsUp {A : Type 0} (none : A) (add : A → A → A) : Type 0 where
   pub regroups : (a b c : A) → add (add a b) c ≡ add a (add b c)
   pub none_first : (a : A) → add none a ≡ a
   pub none_last : (a : A) → add a none ≡ a
 
--- The end did this more. It has the share that it had, has raised all that it claimed, claimed and took in order, and
--- knows that its queue is shut, where it did
+-- The end did this in addition, and has the share that it had. If it had raised all that it claimed, it still has; if
+-- it had claimed in order, or taken in order, it still has; and if it knew that its queue is shut, it still knows
 pub record EndWorked {n : ℕ} (more : AtQueue) (old new : QueueEnd n) : Type 0 where
   pub did : lines_of (view_of new).own ≡ both_queue (lines_of (view_of old).own) more
   pub share : end_share new ≡ end_share old
@@ -171,13 +171,13 @@ pub record EndWorked {n : ℕ} (more : AtQueue) (old new : QueueEnd n) : Type 0 
   pub took : TookInOrder old → TookInOrder new
   pub known : end_knows_shut old ≡ true → end_knows_shut new ≡ true
 
--- the end of a chain did this more, and has the share that it had
+-- the end of a chain did this in addition, and has the share that it had
 pub record ChainEndWorked {Q W : Type 0} {g : Ghosts Q W} (more : AtChain) (old new : ChainEnd Q W g) : Type 0 where
   pub did : notes_of (chains.view_of new) ≡ both_chain (notes_of (chains.view_of old)) more
   pub share : chain_end_share new ≡ chain_end_share old
 
--- What a step leaves at the ends of a list as it was: each has the share that it had, has raised all that it claimed,
--- claimed and took in order, and knows that its queue is shut, where it did
+-- The ends of a list stay sound: each has the share that it had. If all had raised all that they claimed, had claimed
+-- in order, or had taken in order, they still have. Each that knew that its queue is shut still knows
 pub record StaySound {n : ℕ} (old new : List (QueueEnd n)) : Type 0 where
   pub shares : queue_shares new ≡ queue_shares old
   pub raised : All HasRaised old → All HasRaised new

@@ -1,4 +1,4 @@
--- What one step of a thread did at one end, by what it was answered.
+-- The effect of one step of a thread at one end, by the answer to the step.
 use Rattle.std.specs.Prelude.{◌≡◌, ℕ, Bool, List, [], length, Some, Result, Ok, Err}
 use Rattle.std.specs.List.{slice_get}
 use Rattle.atomic_table.specs.Table.{Me}
@@ -35,12 +35,12 @@ module _ {n : ℕ} where
   Heard line (Err refusal) old new =
       (line ≡ []) × RefusedTake (IsBegun n) (IsLine n) n (view_of old) refusal (view_of new)
 
-  -- the queue is shut, and was open where the answer says so
+  -- the queue is shut, and the answer is whether it was open
   abbrev pub HasShut : Bool → QueueEnd n → QueueEnd n → Type 0
   HasShut was_open old new = ShutNow (view_of old) was_open (view_of new)
 
--- The note was chained by one try, and where that gave the Turn, it was served to its end, so many notes being run; or
--- it was left to another; or the try was refused
+-- By one try the note was chained, and the Turn that the try gave was served to its end, with this many notes run. Or
+-- the note was chained and left to another end, or the try was refused
 abbrev pub ToldOnce : {Q : Type 0} → (Q → List ℕ → Type 0) → (Q → Type 0) → Me Q View → ℕ → Result Poked ChainRefusal
     → Me Q View → Type 0
 ToldOnce made fits me note (Ok (Ran notes)) me' = IsRun made fits me [] note notes me'
@@ -48,13 +48,13 @@ ToldOnce made fits me note (Ok Left) me' = IsLeft me [] note me'
 ToldOnce made fits me note (Err refusal) me' = NotChained me.0 refusal me'.0 × (me'.1 ≡ me.1)
 
 module _ {Q W : Type 0} {g : Ghosts Q W} where
-  -- the end of this chain told it the note, by one try
+  -- the end of this chain made one try to chain the note, with this answer
   abbrev pub HasPoked : ProcChain Q W → ℕ → Result Poked ChainRefusal → ChainEnd Q W g → ChainEnd Q W g → Type 0
   HasPoked chain note answer old new =
       ToldOnce (makes g.made_by (chain_ends.pact_of chain)) (suits g.fits (chain_ends.pact_of chain))
       (chain_ends.me_of old) note answer (chain_ends.me_of new)
 
-  -- the end of the chain with this index told it the note, and the other ends did nothing
+  -- the end of the chain with this index made one try to chain the note, and the other ends did nothing
   pub record PokedAt (list : List (ProcChain Q W)) (index note : ℕ) (answer : Result Poked ChainRefusal)
       (old new : List (ChainEnd Q W g)) : Type 0 where
     pub chain : ProcChain Q W

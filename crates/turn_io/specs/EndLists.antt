@@ -1,4 +1,4 @@
--- Lists of ends beside the lists of their objects: each object has one end there, in the same order.
+-- Lists of ends that match lists of objects: one end of each object, in the same order.
 use Rattle.std.specs.Prelude.{◌≡◌, ℕ, Bool, false, List, [], map, Some, slice_set, slice_index_or}
 use Rattle.std.specs.List.{All, slice_get}
 use Rattle.atomic_table.specs.Seated.{TableId}
@@ -14,7 +14,7 @@ use Rattle.proc_chain.specs.declared.ends.ChainEnd.{ChainEnd}
 use Rattle.proc_chain.specs.Handles as chains
 use Rattle.proc_chain.specs.Notes.{notes_put, notes_taken}
 
--- one end of the list did this, and the others nothing
+-- the end with this index did this, and the other ends nothing
 pub record OnEnd {E : Type 0} (index : ℕ) (Does : E → E → Type 0) (old new : List E) : Type 0 where
   pub end : E
   pub after : E
@@ -57,11 +57,11 @@ module _ {n : ℕ} where
   abbrev pub HasRaised : QueueEnd n → Type 0
   HasRaised end = AllRaised (queues.view_of end).own.runs
 
-  -- the end claimed its runs one behind the other
+  -- the end claimed its runs one after the other
   abbrev pub ClaimedInOrder : QueueEnd n → Type 0
   ClaimedInOrder end = ClaimsInOrder (queues.view_of end)
 
-  -- the end took its lines one behind the other
+  -- the end took its lines one after the other
   abbrev pub TookInOrder : QueueEnd n → Type 0
   TookInOrder end = TakesInOrder (queues.view_of end)
 
@@ -72,7 +72,7 @@ module _ {n : ℕ} where
   abbrev pub AreEndsOf : List (ClaimQueue n) → List (QueueEnd n) → Type 0
   AreEndsOf queues ends = map end_table ends ≡ map queue_table queues
 
-  -- they are the same ends of the same queues
+  -- both are the same ends of the same queues
   abbrev pub AreSameEnds : List (QueueEnd n) → List (QueueEnd n) → Type 0
   AreSameEnds old new = AreSame end_table end_call old new
 
@@ -80,7 +80,7 @@ module _ {n : ℕ} where
   abbrev pub share_at : List (QueueEnd n) → ℕ → ℕ
   share_at ends q = slice_index_or (map end_share ends) q 0
 
-  -- whether the end of the queue q knows that it is shut
+  -- whether the end of the queue q knows that the queue is shut
   abbrev pub knows_shut_at : List (QueueEnd n) → ℕ → Bool
   knows_shut_at ends q = slice_index_or (map end_knows_shut ends) q false
 
@@ -120,7 +120,7 @@ module _ {Q W : Type 0} {g : Ghosts Q W} where
     pub tables : map chain_end_table ends ≡ map chain_table list
     pub idle : All IsIdle ends
 
-  -- they are the same ends of the same chains
+  -- both are the same ends of the same chains
   abbrev pub AreSameChainEnds : List (ChainEnd Q W g) → List (ChainEnd Q W g) → Type 0
   AreSameChainEnds old new = AreSame chain_end_table chain_end_call old new
 

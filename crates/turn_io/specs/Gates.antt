@@ -1,9 +1,10 @@
--- What a gate is told, where T says of two gates that the first, told this point of this processor, became the second.
+-- The calls of a gate. T says of two gates that the first, called at this point of this processor, became the second.
 use Rattle.std.specs.Prelude.{◌≡◌, ℕ, Result, Ok, Err}
 use Rattle.turn_io.specs.declared.gate.Point.{Point}
 use Rattle.turn_io.specs.declared.gate.Point.TheVariants.{Claimed, Raised}
 
--- a say whose line was put told that it was claimed, and then that it was raised; a refused one told nothing
+-- for a say whose line was put, the gate was called when it was claimed, and then when it was raised; for a refused
+-- say, never
 abbrev pub ToldOfSay : {G A E : Type 0} → (G → ℕ → Point → G → Type 0) → ℕ → Result A E → G → G → Type 0
 ToldOfSay {G} T p (Ok done) old new = (between : G) × T old p Claimed between × T between p Raised new
 ToldOfSay T p (Err refusal) old new = new ≡ old

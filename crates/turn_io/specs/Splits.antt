@@ -1,4 +1,4 @@
--- What splitting and joining all ends of a list leave.
+-- The results of splitting and of joining all ends of a list.
 use Rattle.std.specs.Prelude.{◌≡◌, ℕ, true, List, [], ◌∷◌}
 use Rattle.std.specs.List.{All}
 use Rattle.claim_queue.specs.declared.ends.QueueEnd.{QueueEnd}
@@ -10,7 +10,7 @@ use Rattle.proc_chain.specs.Handles as chain_ends
 use Rattle.proc_chain.specs.Endings as chains
 use Rattle.turn_io.specs.EndLists.{HasRaised, knows_shut_at}
 
--- R holds of the elements of three lists, place by place
+-- three lists have the same length, and R holds of their elements at each place
 abbrev pub AllThree : {A B C : Type 0} → (A → B → C → Type 0) → List A → List B → List C → Type 0
 AllThree R [] [] [] = Unit {0}
 AllThree R (x ∷ xs) (y ∷ ys) (z ∷ zs) = R x y z × AllThree R xs ys zs
@@ -26,16 +26,16 @@ module _ {n : ℕ} where
   abbrev pub IsJoined : QueueEnd n → QueueEnd n → QueueEnd n → Type 0
   IsJoined old new other = queues.TookIn (view_of old) (view_of other) (view_of new)
 
-  -- Each end was split. The old ends have raised what they had, and know of the shut queues that they knew of; the new
-  -- ones have raised all, since they put nothing
+  -- Each end was split. If the old ends had raised all that they claimed, they still have, and they still know which
+  -- queues are shut. The new ends have raised all, because they put nothing
   pub record AreSplit (old new born : List (QueueEnd n)) : Type 0 where
     pub each : AllThree IsSplit old new born
     pub raised : All HasRaised old → All HasRaised new
     pub known : (q : ℕ) → knows_shut_at old q ≡ true → knows_shut_at new q ≡ true
     pub born_raised : All HasRaised born
 
-  -- Each end was joined to the one at its place, which has raised what both had, and knows of the shut queues that
-  -- either knew of
+  -- Each end was joined to the end at its place. If both lists had raised all that they claimed, the result has. It
+  -- knows a queue to be shut if either list knew it
   pub record AreJoined (old others new : List (QueueEnd n)) : Type 0 where
     pub each : AllThree IsJoined old new others
     pub raised : All HasRaised old → All HasRaised others → All HasRaised new

@@ -12,8 +12,8 @@ use proc_chain::{ChainEnd, ProcChain};
 use quajects::AnyQuaject;
 use std::alloc::Global;
 
-/// A new end of each chain, in the order of the chains and without a Turn, split off from the one in the list. They go
-/// into `born`, which is empty and has room for them, so it takes no memory.
+/// A new end of each chain, in the order of the chains and without a Turn, split off from the one in the list. The new
+/// ends go into `born`, which is empty and has room for them, so it allocates no memory.
 ///
 /// Conditions: the ends are those of the chains, in their order, without a Turn, and each has two parts or more of its
 /// chain's 2^64 - 1.
@@ -40,8 +40,8 @@ pub fn split_chain_ends_into(
     born
 }
 
-/// The same, with a list made for them. `OutOfMemory` comes only where its allocation was refused, before any end is
-/// split; nothing has changed then.
+/// A new end of each chain, as above, in a list made for them. `OutOfMemory` is returned only if its allocation was
+/// refused, before any end is split; nothing has changed then.
 pub fn split_chain_ends(
     alloc: Global,
     chains: &[ProcChain<AnyQuaject>],
@@ -61,8 +61,8 @@ pub fn split_chain_ends(
     Ok(split_chain_ends_into(chains, ends, born))
 }
 
-/// Joins each of the other ends to the one of the same chain in the list, which then has all that both had. It takes no
-/// memory.
+/// Joins each of the other ends to the one of the same chain in the list, which then has all that both had. It
+/// allocates no memory.
 ///
 /// Condition: both lists are ends of the chains, in their order, without a Turn.
 pub fn join_chain_ends(

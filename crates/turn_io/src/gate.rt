@@ -2,7 +2,7 @@
 ghost use Rattle.std.specs.Prelude.{ℕ};
 ghost use Rattle.turn_io.specs.declared.gate.Point.{Point};
 
-/// Where a processor is in its turn.
+/// The point of its turn that a processor has reached.
 #[derive(Clone, Copy, Debug, PartialEq, Eq, Drop)]
 pub enum Point {
     /// The turn with this number, from 0, begins.
@@ -17,9 +17,9 @@ pub enum Point {
     Chained,
 }
 
-/// What is called between the parts of a turn, with the number of the processor.
+/// A gate is called between the parts of a turn, with the number of the processor.
 pub trait Gate {
-    // The first gate was told this point of this processor, and became the second.
+    // The first gate was called at this point of this processor, and became the second.
     ghost told: { Self → ℕ → Point → Self → Type 0 };
 
     fn between(&mut self, p: u8, point: Point)

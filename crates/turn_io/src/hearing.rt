@@ -36,8 +36,8 @@ fn hear_line<const N: usize, G: Gate>(
 }
 
 /// One try to take a line from the queue with this index, as `ClaimQueue::try_take_line` makes it: 1 to N items, which
-/// are appended to `line`. The list stays empty where the try is refused, for any reason of that call. The gate is
-/// called with `TakeAnswered` behind the try, whatever it answered.
+/// are appended to `line`. The list stays empty if the try is refused, for any reason of that call. The gate is called
+/// with `TakeAnswered` after the try, whatever the answer.
 ///
 /// Conditions: the ends are those of the queues, in their order, the index is one of theirs, and the list is empty.
 pub fn hear<const N: usize, G: Gate>(
@@ -73,8 +73,8 @@ fn shut_end<const N: usize>(queue: &ClaimQueue<N>, end: &mut QueueEnd<N>) -> boo
     queue.shut(end)
 }
 
-/// Shuts the queue with this index for claims, for good; what was put can still be taken. True where it was open, which
-/// one end alone is ever told.
+/// Shuts the queue with this index for claims, for good; items that were put can still be taken. Returns true if the
+/// queue was open, which is returned to one end only.
 ///
 /// Conditions: the ends are those of the queues, in their order, and the index is one of theirs.
 pub fn shut_queue<const N: usize>(

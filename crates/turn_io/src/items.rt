@@ -3,7 +3,7 @@ ghost use Rattle.std.specs.Borrow.{sem};
 ghost use Rattle.std.specs.Prelude.{◌≡◌, ◌<◌, length, slice_index_or};
 ghost use Rattle.std.specs.Slice.{slice_follows_item};
 
-/// The item with this index, as `&mut items[index]` is, also where the items take no memory.
+/// The item with this index, as `&mut items[index]` is, also if the items take no memory.
 ///
 /// Condition: the index is one of the list.
 pub fn item_at<T>(items: &mut [T], index: usize) -> &mut T

@@ -1,4 +1,4 @@
-//! What is done at queues and chains, and what ends have of them, adds up.
+//! The work at queues and chains, and the stakes of ends in them, add up.
 ghost use Rattle.std.specs.Prelude.{◌≡◌};
 ghost use Rattle.boot_data.specs.declared.plan.QueueIndex.{QueueIndex};
 ghost use Rattle.claim_queue.specs.declared.rule.Did.{Did};
@@ -6,8 +6,8 @@ ghost use Rattle.claim_queue.specs.Own.{nothing_did, did_both};
 ghost use Rattle.turn_io.specs.Accounts.{AddsUp, Stake, at_each, both_chain, both_queue, both_stakes, idle_chain};
 ghost use Rattle.turn_io.specs.Accounts.{idle_queue, lines_of, no_stake};
 
-/// What is done at a queue, at a chain and at all queues adds up, and so does what the ends of an object have. What two
-/// ends of a queue did together is the lines of the one and those of the other.
+/// The work at a queue, at a chain and at all queues adds up, and so do the stakes of an object's ends. The lines of
+/// two ends of a queue together are the lines of the one and the lines of the other.
 pub fn accounts_add()
     ensures queue { AddsUp idle_queue both_queue }
     ensures queues { AddsUp (λ (q : QueueIndex). idle_queue) (at_each both_queue) }

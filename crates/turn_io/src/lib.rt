@@ -1,5 +1,6 @@
-//! What one step of a thread does at the ends of queues and chains: it says a line, hears one, shuts a queue or pokes a
-//! quaject. A processor has one end of each queue and of each chain, in a list beside that of the queues or chains.
+//! The effect of one step of a thread at the ends of queues and chains: it says a line, hears one, shuts a queue or
+//! pokes a quaject. A processor has one end of each queue and of each chain, in a list beside that of the queues or
+//! chains.
 #![tactic(auto)]
 
 mod chain_splitting;

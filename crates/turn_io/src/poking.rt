@@ -16,10 +16,10 @@ use std::sync::Wait;
 /// The note that a poke chains.
 const POKED: u16 = 0;
 
-/// What came of a note that was chained.
+/// The result of a note that was chained.
 #[derive(Clone, Copy, Debug, PartialEq, Eq, Drop)]
 pub enum Poked {
-    /// The end got the Turn and served it to its end; so many notes were run.
+    /// The end got the Turn and served it to its end; this many notes were run.
     Ran { notes: u64 },
     /// Another end has the Turn, and runs the note.
     Left,
@@ -57,9 +57,9 @@ fn poke_end<R: Wait, G: Gate>(
     }
 }
 
-/// One try to chain note 0 at the chain with this index; where it gives the Turn, that is served to its end. The gate
-/// is called with `Chained` behind the try, whatever it answered, and before a Turn is served. Any refusal of
-/// `ProcChain::try_chain` may come, Lost too; no note is chained then, and it isn't tried again.
+/// One try to chain note 0 at the chain with this index; if it gives the Turn, the Turn is served to its end. The gate
+/// is called with `Chained` after the try, whatever the answer, and before a Turn is served. Any refusal of
+/// `ProcChain::try_chain` is possible, Lost too; no note is chained then, and the try isn't repeated.
 ///
 /// Conditions: the ends are those of the chains, in their order, without a Turn; the index is one of theirs; and the
 /// queues are the world of each chain.

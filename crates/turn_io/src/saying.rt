@@ -52,9 +52,9 @@ fn say_line<const N: usize, G: Gate>(
     }
 }
 
-/// One try to put a line in the queue with this index: one claim, and where it wins all its raises. The gate is called
-/// with `Claimed` behind the claim and with `Raised` behind the last raise, and not at all where the claim was refused.
-/// Any refusal of `ClaimQueue::try_claim` may come; nothing is put then.
+/// One try to put a line in the queue with this index: one claim, and if it wins all its raises. The gate is called
+/// with `Claimed` after the claim and with `Raised` after the last raise, and not at all if the claim was refused. Any
+/// refusal of `ClaimQueue::try_claim` is possible; nothing is put then.
 ///
 /// Conditions: the ends are those of the queues, in their order, and the index is one of theirs.
 pub fn say<const N: usize, G: Gate>(

@@ -11,8 +11,8 @@ use claim_queue::{ClaimQueue, QueueEnd};
 use event_theory::OutOfMemory;
 use std::alloc::Global;
 
-/// A new end of each queue, in the order of the queues, split off from the one in the list. They go into `born`, which
-/// is empty and has room for them, so it takes no memory.
+/// A new end of each queue, in the order of the queues, split off from the one in the list. The new ends go into
+/// `born`, which is empty and has room for them, so it allocates no memory.
 ///
 /// Conditions: the ends are those of the queues, in their order, and each has two parts or more of its queue's
 /// 2^64 - 1.
@@ -39,8 +39,8 @@ pub fn split_ends_into<const N: usize>(
     born
 }
 
-/// The same, with a list made for them. `OutOfMemory` comes only where its allocation was refused, before any end is
-/// split; nothing has changed then.
+/// A new end of each queue, as above, in a list made for them. `OutOfMemory` is returned only if its allocation was
+/// refused, before any end is split; nothing has changed then.
 pub fn split_ends<const N: usize>(
     alloc: Global,
     queues: &[ClaimQueue<N>],
@@ -60,8 +60,8 @@ pub fn split_ends<const N: usize>(
     Ok(split_ends_into(queues, ends, born))
 }
 
-/// Joins each of the other ends to the one of the same queue in the list, which then has all that both had. It takes no
-/// memory.
+/// Joins each of the other ends to the one of the same queue in the list, which then has all that both had. It
+/// allocates no memory.
 ///
 /// Condition: both lists are ends of the queues, in their order.
 pub fn join_ends<const N: usize>(

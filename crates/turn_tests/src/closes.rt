@@ -82,7 +82,7 @@ fn whole_pump<R: Abort>(rt: &R, alloc: Global) -> Result<Whole, OutOfMemory> {
     })
 }
 
-/// What was said at the one end is heard at the other, and the two are one end at the close.
+/// A line that was said at the one end is heard at the other, and the two are one end at the close.
 #[test]
 fn closes_queues(rt: HostRuntime) -> Result<(), Fail> {
     let Shared {

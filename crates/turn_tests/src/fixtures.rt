@@ -1,4 +1,4 @@
-//! What the tests of several modules make.
+//! The objects that the tests of several modules make.
 
 pub(crate) mod lists;
 pub(crate) mod pumps;

@@ -1,5 +1,5 @@
-//! Turns of processors over plans that are read from boot scripts: what a report doesn't tell, and what no script can
-//! bring about. What it does tell, the program's own boots show.
+//! Turns of processors over plans that are read from boot scripts: what a report doesn't contain, and what no script
+//! can bring about. The program's own boots show what a report contains.
 ghost use Rattle.std.specs.Prelude.{◌≡◌};
 ghost use Rattle.thread_table.specs.Handles.{view_of, IsHandOf};
 ghost use Rattle.meters.specs.Handles.{IsSeatOf};
@@ -32,7 +32,8 @@ use std::test::*;
 use thread_table::{Hand, Place, Places, ThreadTable};
 use turn_io::NoGate;
 
-/// Where a thread is, how many of its steps are done, and its signals: those that were delivered, and those pending.
+/// The state of a thread: its place, how many of its steps are done, and its signals: those that were delivered, and
+/// those pending.
 #[derive(Clone, Copy, Debug, PartialEq, Eq)]
 struct State {
     place: Place,
@@ -62,7 +63,7 @@ fn ended(done: u64) -> State {
     at(Place::Free, done)
 }
 
-/// The same with these signals.
+/// A thread's state with these signals.
 fn signalled(state: State, delivered: u16, pending: u16) -> State {
     State {
         place: state.place,
@@ -83,7 +84,7 @@ say q x
 hear q
 ";
 
-/// The station, whose hand serves this processor, on which nothing stands.
+/// The station, whose hand serves this processor, with no element on it.
 fn freed<R: Abort>(rt: &R, station: Station, p: Processor) -> Station
     ensures same { result.parts ≡ station.parts }
     ensures free { IsFree p (view_of result.parts.hand) }
@@ -107,7 +108,7 @@ fn told(station: Station, element: usize) -> (Station, usize, u16)
     (Station::from_parts(parts), heard, mask)
 }
 
-/// What there is once the turns are over, with the small queues and an end of each.
+/// The objects after the turns, with the small queues and an end of each.
 #[derive(Drop)]
 struct AtEnd {
     places: Places,
@@ -162,7 +163,7 @@ fn processor<R: Abort>(rt: &R, number: u8) -> Processor {
     p
 }
 
-/// Runs so many turns of the processor with this number, alone, over the plan of a script.
+/// Runs this many turns of the processor with this number, alone, over the plan of a script.
 fn booted<R: Abort + Wait>(rt: &R, alloc: Global, script: &[u8], number: u8, turns: u32) -> AtEnd {
     let plan = plan_of(rt, alloc, script);
     let p = processor(rt, number);

@@ -1,4 +1,4 @@
-//! Queues with an end of each, a pump over two of them, and a gate that keeps what it is told.
+//! Queues with an end of each, a pump over two of them, and a gate that keeps the points at which it is called.
 ghost use Rattle.std.specs.Prelude.{◌≡◌, ◌≤◌, ◌<◌, length, IfOk};
 ghost use Rattle.std.specs.List.{All};
 ghost use Rattle.claim_queue.specs.Handles.{view_of};
@@ -146,7 +146,7 @@ pub(crate) fn make_pump(alloc: Global) -> Result<Pumped, OutOfMemory> {
     })
 }
 
-/// A gate that keeps the points that it is told, in their order, while there is memory.
+/// A gate that keeps the points at which it is called, in their order, while there is memory.
 #[derive(Drop)]
 pub(crate) struct Recorder {
     pub(crate) points: Vec<(u8, Point)>,
@@ -257,7 +257,7 @@ pub(crate) fn pokes_it<R: Wait>(
     poke(rt, world, chains, ends, 0, 0, &mut NoGate)
 }
 
-/// What is answered at a point: whether 64 items more are put, whether a line is taken then, and how long it is.
+/// The answers at a point: whether 64 more items are put, whether a line is taken then, and how long it is.
 pub(crate) type Seen = (
     Point,
     Result<(), ClaimRefusal>,
@@ -268,8 +268,8 @@ pub(crate) type Seen = (
 /// As many items as a small queue has places.
 pub(crate) const SIXTY_FOUR: &[u64] = &[7; 64];
 
-/// A gate that tries at each point, at other ends, to put as many items as a queue has places and then to take a line,
-/// and keeps what it is answered. So it tells how far a step is when the gate is called.
+/// A gate that tries at each point, at other ends, to put as many items as a queue has places and then to take a line.
+/// It keeps the answers, which show how far a step is when the gate is called.
 #[derive(Drop)]
 pub(crate) struct Watcher<'a> {
     pub(crate) queues: &'a [ClaimQueue<64>],
@@ -298,7 +298,7 @@ impl<'a> Gate for Watcher<'a> {
     }
 }
 
-/// A gate that pokes the first of the chains at other ends, and keeps what it is answered.
+/// A gate that pokes the first of the chains at other ends, and keeps the answers.
 #[derive(Drop)]
 pub(crate) struct Poker<'a, R: Wait> {
     pub(crate) rt: &'a R,

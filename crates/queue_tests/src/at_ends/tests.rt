@@ -134,7 +134,7 @@ fn pokes(rt: HostRuntime) {
     assert!(rt; gate.points.as_slice() == points.as_slice());
 }
 
-/// Pokes so often, and gives the number of notes that were left to another end.
+/// Pokes this often, and returns the number of notes that were left to another end.
 fn left_to_another<R: Wait>(
     rt: &R,
     world: &Queues,
@@ -155,7 +155,7 @@ fn left_to_another<R: Wait>(
     left
 }
 
-/// Another end has the Turn: 31 notes more are left to it, the next finds the chain full, and it runs all 32.
+/// Another end has the Turn: 31 more notes are left to it, the next finds the chain full, and it runs all 32.
 #[test]
 fn left_and_full(rt: HostRuntime) {
     let Pumped {
@@ -205,7 +205,7 @@ fn gate_before_the_turn(rt: HostRuntime) {
     assert!(rt; gate.poked.as_slice() == left.as_slice());
 }
 
-/// What is said at the other ends is heard at these, and all ends are joined again.
+/// A line that is said at the other ends is heard at these, and all ends are joined again.
 #[test]
 fn splits_and_joins(rt: HostRuntime) {
     let TwoQueues { queues, ends } = two_queues::<_, 64>(&rt, rt.alloc());
@@ -249,7 +249,7 @@ fn chain_ends_split_and_joined(rt: HostRuntime) {
     assert!(rt; poked == Ok(Poked::Ran { notes: 1 }));
 }
 
-/// Splits the ends and joins them again. Where an allocation is refused all stays as it was, and the ends go on.
+/// Splits the ends and joins them again. If an allocation is refused, the ends are unchanged, and go on.
 fn ends_split_or_not<R: Abort>(
     rt: &R,
     alloc: Global,
@@ -265,7 +265,7 @@ fn ends_split_or_not<R: Abort>(
     }
 }
 
-/// The same of the ends of chains.
+/// Splits the ends of chains and joins them again. If an allocation is refused, the ends are unchanged, and go on.
 fn chain_ends_split_or_not<R: Abort>(rt: &R, alloc: Global, chains: &[Chain], ends: &mut Vec<End>)
     requires { AreChainEndsOf chains.now ends.old.items × All IsChainDivisible ends.old.items }
     ensures { AreChainEndsOf chains.now ends.new.items }

@@ -74,7 +74,7 @@ type Chain = ProcChain<Mover>;
 
 type End = ChainEnd<Mover>;
 
-/// Chains the note, and serves where it got the Turn.
+/// Chains the note, and serves if it got the Turn.
 fn chain_one<R: Abort>(rt: &R, chain: &Chain, end: &mut End, pair: &Pair, note: u16) -> u32
     requires { IsEndOf chain.now end.old × (turn_of end.old ≡ false) × (world_of chain.now ≡ pair.now) }
     ensures { IsEndOf chain.now end.new × (turn_of end.new ≡ false) }
@@ -106,7 +106,7 @@ fn new_mover<R: Abort>(rt: &R, alloc: Global) -> (Pair, (QueueEnd<8>, QueueEnd<8
     (Pair { from, to }, (producing.mine, consuming.mine), mover)
 }
 
-/// Three notes are chained, each of which runs at once, and the mover comes back.
+/// Three notes are chained, each of which runs at once, and the mover is returned.
 fn move_thrice<R: Abort>(rt: &R, alloc: Global, pair: &Pair, mover: Mover) -> Mover
     requires notes { mover.notes ≡ 0 }
     requires mover { queues.IsEndOf pair.now.from mover.source × queues.IsEndOf pair.now.to mover.target }
@@ -136,7 +136,7 @@ fn close_both<R: Abort>(rt: &R, pair: Pair, producer: QueueEnd<8>, consumer: Que
     assert!(rt; (moved.put, moved.taken, moved.left.as_slice()) == (4, 3, [Some(10)].as_slice()));
 }
 
-/// Two lines are put, three notes chained, and the queues closed with the ends that come back.
+/// Two lines are put, three notes chained, and the queues closed with the ends that are returned.
 #[test]
 fn moved_lines(rt: HostRuntime) {
     let (pair, (mut producer, mut consumer), mover) = new_mover(&rt, rt.alloc());

@@ -19,10 +19,10 @@ type Chain = ProcChain<Waiter>;
 
 type End = ChainEnd<Waiter>;
 
-/// How often the first run looks for the other thread's word. That comes after a fraction of these looks, or never.
+/// How often the first run looks for the other thread's word. The word comes after a fraction of these looks, or never.
 const LOOKS: u32 = 50_000_000;
 
-/// Its first run waits until another thread says, through a queue, what became of the place of its note.
+/// A quaject whose first run waits until another thread reports, through a queue, what became of the place of its note.
 #[derive(Drop)]
 struct Waiter {
     end: QueueEnd<1>,
@@ -65,7 +65,7 @@ fn wait_for<R: Wait>(rt: &R, queue: &Queue, end: &mut QueueEnd<1>)
     }
 }
 
-/// Whether the note is refused as Full. It serves where it got a Turn.
+/// Whether the note is refused as Full. It serves if it got a Turn.
 fn is_full<R: Wait>(rt: &R, chain: &Chain, end: &mut End, queue: &Queue, note: u16) -> bool
     requires { IsEndOf chain.now end.old × (turn_of end.old ≡ false) × (world_of chain.now ≡ queue.now) }
     ensures { IsEndOf chain.now end.new × (turn_of end.new ≡ false) }
@@ -103,8 +103,7 @@ fn serve_two_and_all<R: Wait>(rt: &R, chain: &Chain, end: &mut End, queue: &Queu
     }
 }
 
-/// Chains the first note, fills the chain with others, says so, and serves two notes and then all. What comes back is
-/// the ends.
+/// Chains the first note, fills the chain with others, says so, and serves two notes and then all. Returns the ends.
 fn serve_full<R: Abort + Wait>(
     rt: &R,
     chain: &Chain,
@@ -129,8 +128,8 @@ fn serve_full<R: Abort + Wait>(
     (server, filler)
 }
 
-/// Waits for the word to start, chains a note as soon as there is room, finds whether there is room for another, and
-/// says that it has. What comes back is the end, and whether there was none.
+/// Waits for the word to start, and chains a note as soon as there is room. It finds whether there is room for another,
+/// and says that it has. Returns the end, and whether there was none.
 fn chain_more<R: Wait>(
     rt: &R,
     chain: &Chain,
@@ -205,7 +204,7 @@ fn close_heard<R: Abort>(rt: &R, chain: Chain, server: End, filler: End, end: En
     assert!(rt; (closed.taken, waiter.runs, waiter.heard) == (33, 33, true));
 }
 
-/// 32 notes fill the chain. While the first one runs, one note more finds room, and a second finds none.
+/// 32 notes fill the chain. While the first one runs, one more note finds room, and a second finds none.
 #[test]
 fn places_come_free_one_by_one(rt: HostRuntime) {
     let (queue, heard) = queue_with_two(&rt, rt.alloc(), 0);

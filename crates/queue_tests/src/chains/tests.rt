@@ -49,7 +49,7 @@ fn empty_keeper() -> Keeper
     }
 }
 
-/// What an end does at a chain, and how it is answered.
+/// An act of an end at a chain, and the answer to it.
 enum Act {
     /// It chains the note, and has the Turn.
     Run(u16),
@@ -57,11 +57,11 @@ enum Act {
     Left(&'static [u16]),
     /// The note is refused.
     Refused(u16, ChainRefusal),
-    /// It serves up to the limit, which is used up when so many notes are run.
+    /// It serves up to the limit, which is used up when this many notes are run.
     More { limit: u32, ran: u32 },
-    /// It serves up to the limit, and its Turn is spent when so many notes are run.
+    /// It serves up to the limit, and its Turn is spent when this many notes are run.
     Done { limit: u32, ran: u32 },
-    /// It serves all, so many notes.
+    /// It serves all, this many notes.
     All { ran: u64 },
 }
 
@@ -71,7 +71,7 @@ enum By {
     B,
 }
 
-/// What the ends A and B do, then what A does with all that both had, and the notes that are run, in order.
+/// The acts of the ends A and B, then A's acts with all that both had, and the notes that are run, in order.
 struct Script {
     first: u32,
     acts: &'static [(By, Act)],
@@ -79,8 +79,8 @@ struct Script {
     notes: &'static [u16],
 }
 
-/// Chains the note, with this answer: whether it got a Turn. What comes back is the Turn that one of the ends has, and
-/// whether the answer came.
+/// Chains the note, with this answer: whether it got a Turn. Returns the Turn that one of the ends has, and whether the
+/// answer came.
 fn chains<R: Abort>(
     rt: &R,
     chain: &Chain,
@@ -118,7 +118,7 @@ fn leaves<R: Abort>(rt: &R, chain: &Chain, end: &mut End, notes: &[u16]) -> bool
     all
 }
 
-/// The Turn, where the end is the one that has it.
+/// The Turn, if the end is the one that has it.
 fn own<R: Abort>(rt: &R, end: &End, held: Option<Turn>) -> Turn
     ensures { turn_of end.now ≡ true }
 {
@@ -128,7 +128,7 @@ fn own<R: Abort>(rt: &R, end: &End, held: Option<Turn>) -> Turn
     }
 }
 
-/// Serves up to the limit: the Turn that is left, and whether so many notes were run.
+/// Serves up to the limit: the Turn that is left, and whether this many notes were run.
 fn serves<R: Abort>(
     rt: &R,
     chain: &Chain,
@@ -148,7 +148,7 @@ fn serves<R: Abort>(
     }
 }
 
-/// One act. What comes back is the Turn that one of the ends has, and whether the answers came.
+/// One act. Returns the Turn that one of the ends has, and whether the answers came.
 fn does<R: Abort + Wait>(
     rt: &R,
     chain: &Chain,
@@ -224,7 +224,7 @@ fn does_by<R: Abort + Wait>(
     }
 }
 
-/// The acts of two ends, of which one at the most has the Turn. What comes back is that Turn.
+/// The acts of two ends, of which one at the most has the Turn. Returns that Turn.
 fn plays_both<R: Abort + Wait>(
     rt: &R,
     chain: &Chain,
@@ -327,7 +327,7 @@ const LAST_POSITION: Script = Script {
     notes: &[1],
 };
 
-/// Where the chain is both spent and full, it says Spent.
+/// If the chain is both spent and full, the answer is Spent.
 const SPENT_AND_FULL: Script = Script {
     first: 4_294_967_263,
     acts: &[],
@@ -414,7 +414,7 @@ fn open_ends(rt: HostRuntime) {
     closes(&rt, chain, a, None, &[]);
 }
 
-/// Where all ends are joined, the chain is closed: that no other answer comes is proved, not tried.
+/// If all ends are joined, the chain is closed: that no other answer comes is proved, not tried.
 fn split_and_joined(alloc: Global, world: &u16) -> Result<ChainClosed<Keeper>, OutOfMemory> {
     let (chain, mut a) = match Chain::new(alloc, 7, empty_keeper(), world) {
         Ok(made) => made,
@@ -440,7 +440,7 @@ fn joined_ends_close(rt: HostRuntime) {
 
 const ONE_NOTE: [Act; 2] = [Act::Run(1), Act::Done { limit: 2, ran: 1 }];
 
-/// Where an allocation is refused the quaject comes back, and a later try makes a chain of it.
+/// If an allocation is refused, the quaject is returned, and a later try makes a chain of it.
 #[test]
 fn memory_may_be_wanting(rt: HostRuntime) {
     let world = 3u16;
@@ -467,7 +467,7 @@ const TOLD: &[(ChainRefusal, &str)] = &[
     (ChainRefusal::Lost { head: 41 }, "lost, head 41"),
 ];
 
-/// Each refusal is told in its words, with its numbers.
+/// Each refusal is reported in its words, with its numbers.
 #[test]
 fn refusals_are_told(rt: HostRuntime) {
     for (refusal, words) in TOLD {

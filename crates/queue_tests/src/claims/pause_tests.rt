@@ -1,4 +1,4 @@
-//! What another end does between the steps of a claim or a take.
+//! The acts of another end between the steps of a claim or a take.
 ghost use Rattle.std.specs.Prelude.{◌≡◌, true};
 ghost use Rattle.claim_queue.specs.Handles.{IsEndOf};
 
@@ -38,8 +38,8 @@ enum Call {
     Take(Result<u64, TakeRefusal>),
 }
 
-/// What an end does before its call and behind it, what another does in the pause, and that one behind all. The call
-/// comes to its exchange.
+/// The acts of an end before its call and after it, of another end in the pause, and of that other end after all these.
+/// The call reaches its exchange.
 struct Script {
     before: &'static [Act],
     call: Call,
@@ -83,8 +83,8 @@ fn plays<R: Abort + Wait>(rt: &R, alloc: Global, script: &Script) {
     does(rt, held.queue, &mut held.end, script.other);
 }
 
-/// A call that is refused before its exchange, at a queue whose first position is `first`: what its end does before, and
-/// what another would do in the pause, and does behind the call.
+/// A call that is refused before its exchange, at a queue whose first position is `first`: the acts of its end before
+/// it, and the acts of another end, planned for the pause and made after the call.
 struct Early {
     first: u32,
     before: &'static [Act],
@@ -108,7 +108,7 @@ fn does_not_pause<R: Abort + Wait>(rt: &R, alloc: Global, early: &Early) {
     does(rt, held.queue, &mut held.end, early.pause);
 }
 
-/// Another end puts two items first: what stands behind the run is put and taken behind it.
+/// Another end puts two items first: the items after the run are put and taken after it.
 const LOST_HEAD: Script = Script {
     before: &[],
     call: Call::Claim(&[1], ClaimRefusal::Lost { head: 2 }),

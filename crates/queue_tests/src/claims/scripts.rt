@@ -1,4 +1,4 @@
-//! What ends do at a queue of four places, as tables, and what plays them.
+//! The acts of ends at a queue of four places, as tables, and the code that plays them.
 ghost use Rattle.claim_queue.specs.Handles.{IsDivisible, IsEndOf};
 
 use crate::fixtures::close_queue;
@@ -10,10 +10,10 @@ use std::sync::Wait;
 
 pub(crate) type Four = ClaimQueue<4>;
 
-/// What an end does at a queue of four places, and how it is answered.
+/// An act of an end at a queue of four places, and the answer to it.
 pub(crate) enum Act {
     Put(&'static [u64], Result<u32, ClaimRefusal>),
-    /// It puts the items, and tries again where the head is lost.
+    /// It puts the items, and retries when the head is lost.
     PutAgain(&'static [u64], Result<u32, ClaimRefusal>),
     Take(Result<u64, TakeRefusal>),
     /// It takes a line, of these items.
@@ -24,7 +24,8 @@ pub(crate) enum Act {
     Look(u32, u32, u32, bool),
 }
 
-/// What one end does at a queue alone, and what the queue has then: how many items were put and taken, and those left.
+/// The acts of one end alone at a queue, and the queue's state after them: how many items were put and taken, and those
+/// left.
 pub(crate) struct Script {
     pub(crate) first: u32,
     pub(crate) acts: &'static [Act],

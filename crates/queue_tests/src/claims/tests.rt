@@ -164,7 +164,7 @@ fn runs_that_never_fit(rt: HostRuntime) {
     plays(&rt, rt.alloc(), &RUNS_THAT_NEVER_FIT);
 }
 
-/// So it is in a queue that had items, and is empty again.
+/// This also holds of a queue that had items, and is empty again.
 #[test]
 fn runs_that_never_fit_again(rt: HostRuntime) {
     plays(&rt, rt.alloc(), &RUNS_THAT_NEVER_FIT_AGAIN);
@@ -208,7 +208,7 @@ fn dropped_claim(rt: HostRuntime) {
     closes(&rt, queue, end, (0, 3, 0), &[Some(7), None, None]);
 }
 
-/// While a claim has nothing raised, an item behind it is put, and none is taken.
+/// While a claim has nothing raised, an item after it is put, and none is taken.
 const BEHIND_A_CLAIM: [Act; 2] = [
     Act::Put(&[3], Ok(2)),
     Act::Take(Err(TakeRefusal::Empty { at: 0 })),
@@ -300,7 +300,7 @@ fn shut_over_a_claim(rt: HostRuntime) {
     assert!(rt; (was_open, none) == (true, Err(TakeRefusal::Empty { at: 0 })));
 }
 
-/// Where all ends are joined, the queue is closed: that no other answer comes is proved, not tried.
+/// If all ends are joined, the queue is closed: that no other answer comes is proved, not tried.
 fn split_and_joined(alloc: Global) -> Result<Closed<4>, OutOfMemory> {
     let (queue, mut a) = Four::new(alloc, 7)?;
     let b = queue.split(&mut a);
@@ -321,7 +321,7 @@ fn joined_ends_close(rt: HostRuntime) {
     assert!(rt; (closed.first, closed.put, closed.taken, closed.left.len()) == (7, 0, 0, 0));
 }
 
-/// Where an allocation is refused there is no queue, and a later try makes one.
+/// If an allocation is refused, there is no queue, and a later try makes one.
 #[test]
 fn memory_may_be_wanting(rt: HostRuntime) {
     let mut made = false;
@@ -360,7 +360,7 @@ const TAKINGS_TOLD: &[(TakeRefusal, &str)] = &[
     (TakeRefusal::Closed, "the queue is shut and empty"),
 ];
 
-/// Each refusal is told in its words, with its numbers.
+/// Each refusal is reported in its words, with its numbers.
 #[test]
 fn refusals_are_told(rt: HostRuntime) {
     for (refusal, words) in CLAIMS_TOLD {

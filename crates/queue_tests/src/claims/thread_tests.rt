@@ -16,7 +16,7 @@ const LINES: u64 = 20_000;
 
 type Lines = ClaimQueue<64>;
 
-/// What a taker had: how often each line came, and whether each came whole and in its producer's order.
+/// The lines of a taker: how often each line came, and whether each came whole and in its producer's order.
 #[derive(Drop)]
 struct Had {
     times: Vec<u64>,
@@ -40,7 +40,7 @@ fn line_of(producer: u64, line: u64) -> ArrayVec<u64, 64> {
     items
 }
 
-/// Puts the line, again where the queue is full.
+/// Puts the line, with retries while the queue is full.
 fn put_line<R: Wait>(rt: &R, queue: &Lines, end: &mut QueueEnd<64>, items: &[u64])
     requires { IsEndOf queue.now end.old }
     ensures { IsEndOf queue.now end.new }

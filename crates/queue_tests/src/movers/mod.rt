@@ -1,5 +1,5 @@
-//! The tests of `quajects`. What pumps, switches and ttys do for a script's pokes and typed bytes, the program's boots
-//! show.
+//! The tests of `quajects`. The program's own boots show what pumps, switches and ttys do for a script's pokes and
+//! typed bytes.
 
 mod fixtures;
 mod pump_tests;

@@ -10,7 +10,7 @@ use std::alloc::Global;
 use std::process::Abort;
 use std::test::*;
 
-/// What is done at a pump and its two queues.
+/// An act at a pump and its two queues.
 enum Act {
     /// The items are put in its source, or in its target.
     Put(&'static [u64]),
@@ -19,11 +19,11 @@ enum Act {
     Take(&'static [u64]),
     /// A note is run, and works or not.
     Note(bool),
-    /// The pump has run so many notes, has taken and put so many items, and holds so many.
+    /// The pump has run this many notes, has taken and put this many items, and holds this many.
     Is(u64, u64, u64, usize),
 }
 
-/// A note works exactly where there is a line.
+/// A note works exactly if there is a line.
 const WITH_AND_WITHOUT_A_LINE: &[Act] = &[
     Act::Note(false),
     Act::Is(1, 0, 0, 0),
@@ -35,11 +35,11 @@ const WITH_AND_WITHOUT_A_LINE: &[Act] = &[
     Act::Take(&[104, 105, 10]),
 ];
 
-/// What fills a small queue.
+/// Items that fill a small queue.
 const FULL: &[u64] = &[7; 64];
 
-/// A line that finds the target full is held, and goes first at a later note; the line behind it stays in the source until
-/// then.
+/// A line that finds the target full is held, and goes first at a later note; the line after it stays in the source
+/// until then.
 const HELD_UNTIL_THERE_IS_ROOM: &[Act] = &[
     Act::Fill(FULL),
     Act::Put(&[104, 105, 10]),
@@ -71,7 +71,7 @@ fn numbers(pump: &Pump) -> (u64, u64, u64, usize) {
     (pump.notes(), pump.taken(), pump.put(), pump.held())
 }
 
-/// What the ends of the queues and the pump do, in this order.
+/// The acts of the ends of the queues and of the pump, in this order.
 fn does<R: Abort>(
     rt: &R,
     queues: &Queues,

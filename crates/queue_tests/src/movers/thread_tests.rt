@@ -162,7 +162,8 @@ fn type_four<R: Threads + Wait + Sync>(
     )
 }
 
-/// What was heard of each thread's bytes: the number that comes next, at the least.
+/// The bytes heard so far: for each thread the lowest number that its next byte may have, how many bytes were heard,
+/// and whether each came in order.
 #[derive(Drop)]
 struct Hearing {
     next: [u64; 4],
@@ -211,7 +212,7 @@ fn hear_rest(queues: &Queues, device: &mut QueueEnd<64>, hearing: &mut Hearing)
     }
 }
 
-/// What is heard of all bytes, in the line queue and in the raw queue.
+/// Hears all bytes, in the line queue and in the raw queue.
 fn heard(queues: &Queues, reader: QueueEnd<256>, rest: QueueEnd<64>) -> Hearing
     requires { IsEndAt queues.now.large.items 0 reader × IsEndAt queues.now.small.items 0 rest }
 {
@@ -226,7 +227,7 @@ fn heard(queues: &Queues, reader: QueueEnd<256>, rest: QueueEnd<64>) -> Hearing
     hearing
 }
 
-/// How many bytes the two were refused.
+/// How many bytes were refused at the two ttys.
 fn overruns(one: &RawTty, other: &RawTty) -> u64 {
     one.overruns().wrapping_add(other.overruns())
 }

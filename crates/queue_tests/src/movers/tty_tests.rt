@@ -13,7 +13,7 @@ use std::process::Abort;
 use std::sync::Wait;
 use std::test::*;
 
-/// What is done at a cooked tty and its queues.
+/// An act at a cooked tty and its queues.
 enum Act {
     /// The items are typed in the raw queue.
     Type(&'static [u64]),
@@ -25,15 +25,15 @@ enum Act {
     TakeScreen(&'static [u64]),
     /// A note is run, and works or not.
     Note(bool),
-    /// The tty has taken and put so many items, and holds so many.
+    /// The tty has taken and put this many items, and holds this many.
     Is(u64, u64, usize),
 }
 
-/// What fills a line queue or a screen queue.
+/// Items that fill a line queue or a screen queue.
 const FULL: &[u64] = &[7; 256];
 
-/// A full line queue, and then a full screen queue: the cooked line is held, goes to the line queue at a later note, and
-/// then to the screen queue, once each. The line behind it follows.
+/// A full line queue, and then a full screen queue: the cooked line is held, goes to the line queue at a later note,
+/// and then to the screen queue, once each. The line after it follows.
 const HELD_UNTIL_THERE_IS_ROOM: &[Act] = &[
     Act::PutLine(FULL),
     Act::Type(&[120, 10]),
@@ -65,7 +65,7 @@ fn runs(queues: &Queues, tty: &mut CookedTty) -> bool
     matches!(tty.run(queues, 0), Ran::Worked)
 }
 
-/// What the ends of the queues and the tty do, in this order.
+/// The acts of the ends of the queues and of the tty, in this order.
 fn does<R: Abort>(
     rt: &R,
     queues: &Queues,

@@ -1,4 +1,5 @@
--- The free elements, where no more were taken than there were at first: those that events put there are left, once each, and do no step.
+-- The free elements, if no more were taken than there were at first: those that events put there are left, once each,
+-- and do no step.
 use Rattle.turn_dispatch.proofs.Common.{eq-eqb, map, drop, sum_by, AllByRecursion, result_unwrap_or, dite, dec_lt, Reaches, step, effect, empty_queue, left, claim, claim_element, done, is_on, in_list, Refusal, change_at, Thread, new_thread, slice_get, wait_ring, Place, StandsAt, is_left, ◌==◌, ◌&&◌, ◌||◌, concat, flat_map-append, is_done, TooLong, Full, then_ok, test_ok, change_ok, all_append, taking_by, done_at, elements_after, ring_at, first_runs, takings_in, plus, many_cons, many_more, find_it, some_count, range_in, counted_done, elements_of, lawful_after}
 use Rattle.thread_table.proofs.Common.{◌≡◌, ⊎_elim, ℕ, ◌+◌, ◌≤◌, Bool, true, false, not, eqb_tells, List, [], ◌∷◌, ◌++◌, ◌∙◌, length, get_or, refl, sym, ap, subst, arith, Option, None, Some, Ok, Result, count_by, flat_map, list_any, append_assoc, map-append, length-append, State, Event, Hold, Elements, IsLawfulElements, Queue, Run, flat, holds, is_put, appearances, UnknownName, eqb, nat_tests, nat_lt, ◌≢◌, suc, zero, in_cell, sum_by-cons, if◌then◌else◌, ◌-◌, range_with_len, ◌<◌}
 use Rattle.thread_table.specs.declared.places.Place.TheVariants as places
@@ -22,7 +23,7 @@ use Rattle.thread_table.proofs.Schedule.Schedules.{allowed_before}
 abbrev pub first_item : List ℕ → ℕ
 first_item items = get_or items 0 0
 
--- the elements that events put behind the free ones, in the order of the events
+-- the elements that events added to the free ones, in the order of the events
 abbrev pub freed : List Event → List ℕ
 freed es = map first_item (flat_map retired_by es)
 
@@ -70,7 +71,7 @@ firsts : (runs : List (List ℕ)) → AllByRecursion IsOne runs → concat runs 
 firsts [] one = refl
 firsts (items ∷ runs) one = λ i. one_item items one.0 i ++ firsts runs one.1 i
 
--- the elements that are free: some of the first, and behind them those that events put there
+-- the elements that are free: some of the first, followed by those that events put there
 pub left_is : (past : List Event) → IsAllowed past → takings_in past ≤ 64 → left (ring_at (elements_after past) 1) ≡ drop (takings_in past) (concat first_runs) ++ freed past
 unfolding IsAllowed
 left_is past allowed few =
@@ -81,7 +82,7 @@ left_is past allowed few =
     let long : length (concat first_runs) ≡ 64 = refl in
     (λ i. drop (told.1 i) (items i)) ∙ drop-append-le (takings_in past) (concat first_runs) (freed past) (omega arith)
 
--- of the first 64, which go in the order of their numbers, those from the number of takings on are left
+-- the elements left of the first 64, which go in the order of their numbers: those from the number of takings on
 drop_range : (k a n : ℕ) → drop k (range_with_len a n) ≡ range_with_len (a + k) (n - k)
 drop_range zero a n = let x : a ≡ a + 0 = omega arith in let y : n ≡ n - 0 = omega arith in λ i. range_with_len (x i) (y i)
 drop_range (suc k) a zero = let y : 0 ≡ 0 - suc k = omega arith in ap (range_with_len (a + suc k)) y
@@ -98,14 +99,14 @@ first_gone x k low = ap (in_list x) (drop_range k 0 64) ∙ (counted_so x (range
 pub first_still : (x k : ℕ) → k ≤ x → x < 64 → in_list x (drop k (concat first_runs)) ≡ 1
 first_still x k high low = ap (in_list x) (drop_range k 0 64) ∙ (counted_so x (range_with_len (0 + k) (64 - k)) ∙ range_in (0 + k) (64 - k) x (omega arith) (omega arith))
 
--- AN ELEMENT STANDS AT ONE PLACE
+-- AN ELEMENT IS AT ONE PLACE
 
 cell_at : (ts : List Thread) (y : ℕ) → (get_or ts y new_thread).parked ≡ true → in_cell (slice_get ts y) ≡ 1
 cell_at [] y is = absurd (cc)
 cell_at (t ∷ ts) zero is = ap (λ b. if b then 1 else 0) is
 cell_at (t ∷ ts) (suc y) is = cell_at ts y is
 
--- one part of a sum, and two, where the default isn't counted
+-- one part of a sum, and two, if the default isn't counted
 one_sum : {X : Type 0} (f : X → ℕ) (xs : List X) (i : ℕ) (d : X) → f d ≡ 0 → f (get_or xs i d) ≤ sum_by f xs
 one_sum f [] i d none = omega arith
 one_sum f (x ∷ xs) zero d none = let c = sum_by-cons f x xs in omega arith
@@ -142,14 +143,14 @@ module _ (x : ℕ) (e : Elements) where
           both true b = omega arith
           both false b = omega arith
 
-  -- so one that is free is in nobody's hands
+  -- so a free element is in nobody's hands
   in_no_hands : (call : ℕ) → IsLawfulElements e → 1 ≤ in_list x (left (ring_at e 1)) → (holds call x e || list_any (is_put call x) e.processors) ≡ true → ⊥
   in_no_hands call lawful free may = let a = few_places lawful in let b = in_ring in ⊎_elim
       (λ held. let h = held_counts call x e.held held in omega arith)
       (λ put. let p = put_counts call e.processors put in omega arith)
       (or_cases (holds call x e) (list_any (is_put call x) e.processors) may)
 
-  -- and nowhere else
+  -- a free element is at no other place
   module _ (call : ℕ) (lawful : IsLawfulElements e) (free : is_left x (ring_at e 1) ≡ true) where
     few : 1 ≤ in_list x (left (ring_at e 1)) × appearances x e ≤ 1
     few = (some_count (λ item. item == x) (left (ring_at e 1)) free, few_places lawful)
@@ -167,7 +168,7 @@ module _ (x : ℕ) (e : Elements) where
     only_free places.Stopped h = let c = cell_at e.threads x h in let r = in_ring in let f = few.0 in let o = few.1 in absurd (omega arith)
     only_free places.Held h = let t = held_counts call x e.held h in let r = in_ring in let f = few.0 in let o = few.1 in absurd (omega arith)
 
--- and does no step
+-- a free element does no step
 done_may : (call x : ℕ) (s t : Elements) → done call x s ≡ Ok t → (holds call x s || list_any (is_put call x) s.processors) ≡ true
 done_may call x s t ok =
     let a = then_ok (change_at x _ s.threads) _ t ok in
@@ -210,7 +211,7 @@ after_one past event = after_last begun past event
 takings_more : (a b : List Event) → takings_in (a ++ b) ≡ takings_in a + takings_in b
 takings_more a b = ap length (flat_map-append taking_by a b) ∙ length-append (flat_map taking_by a) (flat_map taking_by b)
 
--- an element does no more step once it is put behind the free ones
+-- an element does no more step once it is added to the free ones
 module _ (call : ℕ) (items : List ℕ) where
   abbrev put : Event
   put = events.Claim call names.Free items

@@ -1,4 +1,4 @@
--- What the list of the only hand comes to, by the events of the schedule and the states that they found.
+-- The sum of the only hand's list, by the events of the schedule and the states that they found.
 use Rattle.turn_dispatch.proofs.Common.{map, sum_by, result_unwrap_or, step, first_state, Reaches, ELEMENTS, Made, moves, made_in, AreMade, plus, many_cons, many_more}
 use Rattle.thread_table.proofs.Common.{◌≡◌, ℕ, Bool, List, [], ◌∷◌, ◌++◌, ◌∙◌, refl, sym, ap, arith, flat_map, count_by, sum_by-cons, sum_by-IsPermutation, State, Result, Event}
 use Rattle.event_theory.specs.declared.event.Event.TheVariants as events
@@ -12,16 +12,16 @@ abbrev pub Move : Type 0
 Move = Event × State
 
 module _ {B : Type 0} (f : Made → List B) where
-  -- what is told of an event and the state that it found
+  -- the report of an event and of the state that it found
   abbrev pub by_move : Move → List B
   by_move m = f (made_in m.0 m.1)
 
-  -- where each event tells at most one that passes a test
+  -- each event reports at most one item that passes a test
   pub each_one : (p : B → Bool) (q : Move → Bool) → ((event : Event) (s : State) → count_by p (f (made_in event s)) ≡ plus (q (event, s))) → (ms : List Move) → count_by p (flat_map by_move ms) ≡ count_by q ms
   each_one p q one [] = refl
   each_one p q one (m ∷ ms) = let a = many_more p (by_move m) (flat_map by_move ms) in let b = one m.0 m.1 in let c = many_cons q m ms in let d = each_one p q one ms in omega arith
 
-  -- the list of a hand leaves out the joins, which tell nothing
+  -- the list of a hand leaves out the joins, which report nothing
   module _ (none : (call other : ℕ) (s : State) → f (made_in (events.Join call other) s) ≡ []) where
     by_moves : (s : State) (es : List Event) → flat_map f (numbered s es) ≡ flat_map by_move (moves s es)
     by_moves s [] = refl
@@ -34,7 +34,7 @@ module _ {B : Type 0} (f : Made → List B) where
       summed [] = refl
       summed (m ∷ l) = let a = many_more p (f m) (flat_map f l) in let b = summed l in let c = sum_by-cons (λ m. count_by p (f m)) m l in omega arith
 
-      -- of the only hand's list as many pass a test as of the schedule
+      -- the same number of items of the only hand's list pass a test as of the schedule
       pub of_schedule : (past : List Event) (l : List Made) → AreMade past (l ∷ []) → count_by p (flat_map f l) ≡ count_by p (flat_map by_move (moves (first_state ELEMENTS) past))
       unfolding begun
       of_schedule past l made = summed l

@@ -1,4 +1,5 @@
--- There are as many elements, element queues and processors after a schedule as before: so places that are told are places that there are.
+-- There are as many elements, element queues and processors after a schedule as before: so each place that is reported
+-- exists.
 use Rattle.turn_dispatch.proofs.Common.{dite, dec_lt, get_or-eq_default, Reaches, effect, first_state, is_on, claim_element, done, claim, change_at, Refusal, empty_queue, Thread, ◌==◌, ◌||◌, wait_ring, TooLong, Full, then_ok, test_ok, change_ok, ELEMENTS, Place, ClosedNow, StandsAt, is_left, View, elements_after, elements_of, reached, IsFree, place_of}
 use Rattle.thread_table.proofs.Common.{◌≡◌, ℕ, ◌<◌, Bool, true, List, [], ◌∷◌, ◌++◌, ◌∙◌, length, get_or, refl, sym, ap, subst, arith, Some, None, option_map, Result, Ok, Err, length-set, length-map, get_or_from_slice_get, State, in_elements, counted, Event, hold, Elements, let_go, raise_element, take_element, deliver, take_first, at, ◌>>=◌, if◌then◌else◌, join_queue, raise, false}
 use Rattle.std.specs.Prelude.{nat_le, nat_lt}
@@ -13,7 +14,7 @@ use Rattle.thread_table.specs.declared.places.Place.TheVariants as places
 use Rattle.thread_table.specs.Schedules.{state_after, IsAllowed}
 use Rattle.turn_dispatch.specs.Settlings.{IsNamed, NoneOn}
 
--- what comes of it, if it goes, is so
+-- the result, if there is one, has the property
 abbrev Gives : {A : Type 0} → (A → Type 0) → Result A Refusal → Type 0
 Gives {A} P said = (t : A) → said ≡ Ok t → P t
 
@@ -117,7 +118,7 @@ as_many s (e ∷ es) t h = let a = then_ok (effect e s) _ h.0 h.1 in
 pub sizes_are : (past : List Event) → IsAllowed past → sizes (elements_after past) ≡ (64, 18, 8)
 sizes_are past allowed = ap sizes (elements_of past) ∙ as_many (first_state ELEMENTS) past (state_after past) (reached past allowed)
 
--- a place where an element stands is one that there is
+-- the place of an element exists
 named : (call x : ℕ) (e : Elements) → sizes e ≡ (64, 18, 8) → (place : Place) → StandsAt call x e place → IsNamed place
 named call x e long (places.Processor p) at = dite (dec_lt p 8) (λ low. low)
     (λ over. let many = ap (λ (z : ℕ × ℕ × ℕ). z.2) long in
@@ -131,7 +132,7 @@ module _ (call : ℕ) (v : View) (stands : List Place) (pcs pending : List ℕ) 
   pub all_named : (x : ℕ) → x < ELEMENTS → IsNamed (place_of stands x)
   all_named x low = let past : List Event = v.seen.object in named call x (elements_after past) (sizes_are past c.allowed) (place_of stands x) (c.places x low)
 
-  -- none stands on a processor where the hand has none on its own and serves them all
+  -- no element is on a processor if the hand has none on its own and serves them all
   pub none_on : ((p : ℕ) → p < PROCESSORS → IsFree p v) → NoneOn stands
   none_on empty x p low at =
       let e : Elements = elements_after v.seen.object in

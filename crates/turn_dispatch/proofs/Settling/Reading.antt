@@ -1,4 +1,5 @@
--- What is read off where a table's events settle: for the crates above, which know the events as those of a first hand and the rest.
+-- The consequences if a table's events settle: for the crates above, which know the events as those of a first hand and
+-- the rest.
 use Rattle.turn_dispatch.proofs.Common.{eq-eqb, dite, dec_lt, ◌==◌, ◌&&◌, ◌||◌, ELEMENTS, Place, is_in, ClosedNow, View, plus, many_cons, many_more, by_bool, any_is, is_less, same_pair, IsOnceWhere, is_free, place_of, has_done, Tally, tally, behind, is_delivered}
 use Rattle.thread_table.proofs.Common.{◌≡◌, ⊎_elim, ℕ, ◌<◌, ◌≤◌, Bool, true, false, eqb_tells, List, [], ◌∷◌, ◌++◌, ◌∙◌, length, get_or, refl, sym, ap, arith, count_by, list_any}
 use Rattle.std.specs.Prelude.{if◌then◌else◌, nat_lt}
@@ -7,7 +8,7 @@ use Rattle.turn_dispatch.proofs.Settling.Retired.{retired_settle}
 use Rattle.turn_dispatch.proofs.Settling.Signals.{signals_settle}
 use Rattle.turn_dispatch.proofs.Settling.Steps.{steps_settle}
 
--- what all events of a closed table come to
+-- the sum of all events of a closed table
 pub closed_settles : (call : ℕ) (v : View) (stands : List Place) (pcs pending : List ℕ) (stops : ℕ) → ClosedNow call v stands pcs pending stops → Settles (tally v.own.made) stands pcs pending
 closed_settles call v stands pcs pending stops closed = record {
   steps = λ x n. steps_settle x n call v stands pcs pending stops closed;
@@ -28,7 +29,7 @@ module _ (x : ℕ) where
       let one : plus (same_pair (x, r.1) r) ≡ 1 = ⊎_elim (λ t. λ i. plus (eq-eqb x r.0 (sym t.1) i && eq-eqb r.1 r.1 refl i)) (λ f. absurd (cc)) (eqb_tells r.0 x) in (r.1, omega arith))
       (λ isnt. let s = with_some rs (sym (ap (λ z. z || list_any is_of rs) isnt) ∙ any) in let c = many_cons (same_pair (x, s.0)) r rs in (s.0, omega arith))
 
-  -- where a pair is, its element is
+  -- if a pair is there, its element is
   of_pair : (n : ℕ) (rs : List (ℕ × ℕ)) → list_any (same_pair (x, n)) rs ≡ true → list_any is_of rs ≡ true
   of_pair n [] any = absurd (cc)
   of_pair n (r ∷ rs) any = by_bool (is_of r)
@@ -68,7 +69,7 @@ module _ (first rest : Tally) (stands : List Place) (pcs pending : List ℕ) (s 
         let taken : nat_lt x (length (first.taken ++ rest.taken)) ≡ true = is_less x (length (first.taken ++ rest.taken)) (omega arith) in
         c ∙ (s.retired (omega arith) x n low ∙ ap (λ (b : Bool). if b && is_free (place_of stands x) && (n == get_or pcs x 0) then 1 else 0) taken)
 
-    -- after the steps that are told
+    -- after the steps that are reported
     pub retired_last : is_free (place_of stands x) ≡ true → list_any (same_pair (x, get_or pcs x 0)) rest.retired ≡ true
     retired_last free = let n : ℕ = get_or pcs x 0 in
         let o : count_by (same_pair (x, n)) rest.retired ≡ 1 = once n ∙ (λ i. if free i && eq-eqb n n refl i then 1 else 0) in

@@ -1,4 +1,4 @@
--- An element was retired once, after all its steps, where it is free at the end.
+-- An element was retired once, after all its steps, if it is free at the end.
 use Rattle.turn_dispatch.proofs.Common.{drop, AllByRecursion, result_unwrap_or, dite, dec_lt, step, first_state, in_list, left, cases_lt, ◌==◌, ◌&&◌, concat, moves, all_append, ELEMENTS, Place, Made, ClosedNow, StandsAt, is_left, made_in, AreMade, View, taking_by, done_at, elements_after, ring_at, thread_at, first_runs, takings_in, plus, many_cons, by_bool, any_is, some_count, is_less, many_more, elements_of, lawful_after, same_pair, IsOnceWhere, is_free, place_of, tally, le-ltb}
 use Rattle.thread_table.proofs.Common.{◌≡◌, ⊎_elim, ℕ, ◌+◌, ◌<◌, ◌≤◌, Bool, true, false, eqb_tells, List, [], ◌∷◌, ◌++◌, ◌∙◌, length, refl, sym, ap, subst, arith, count_by, flat_map, append_assoc, State, Event, Elements, nat_lt}
 use Rattle.std.specs.Prelude.{if◌then◌else◌}
@@ -15,7 +15,7 @@ use Rattle.turn_dispatch.proofs.Settling.Steps.{turned}
 
 -- AS MANY STEPS AS AT THE END
 
--- it had done as many as it has done at the end
+-- the number is the element's number of steps done at the end
 abbrev IsLast : List Event → ℕ × ℕ → Type 0
 IsLast past r = r.1 ≡ done_at past r.0
 
@@ -38,7 +38,7 @@ all_last (e ∷ es) front allowed few =
 
 -- HOW OFTEN
 
--- the number, where the test holds
+-- the number, if the test holds
 abbrev when : Bool → ℕ → ℕ
 when b k = if b then k else 0
 
@@ -60,7 +60,7 @@ module _ (x : ℕ) where
   abbrev is_of : ℕ × ℕ → Bool
   is_of r = r.0 == x
 
-  -- where all are told with one number, a pair with this is there as often as its element, and no other
+  -- if all are reported with one number, a pair with this number is there as often as its element, and no other pair
   module _ (n : ℕ) (past : List Event) where
     abbrev is_at : Bool
     is_at = n == done_at past x
@@ -77,7 +77,7 @@ module _ (x : ℕ) where
         let e = when_both (is_of r) is_at in let f = when_more is_at (plus (is_of r)) (count_by is_of rs) in
         let g : when is_at (count_by is_of (r ∷ rs)) ≡ when is_at (plus (is_of r) + count_by is_of rs) = ap (when is_at) d in omega arith
 
-  -- the element was put there as often as it is told
+  -- the element was put there as often as is reported
   put_told : (s : State) (es : List Event) → count_by is_of (flat_map (by_move retired_by) (moves s es)) ≡ in_list x (freed es)
   put_told s [] = refl
   put_told s (events.Claim call names.Free items ∷ es) = let e : Event = events.Claim call names.Free items in let t : State = result_unwrap_or (step e s) s in
@@ -125,7 +125,7 @@ module _ (x n call : ℕ) (v : View) (stands : List Place) (pcs pending : List �
   abbrev told : List (ℕ × ℕ)
   told = flat_map (by_move retired_by) (moves (first_state ELEMENTS) past)
 
-  -- it is among the free once where it is told so, and else not
+  -- the element is among the free once if it is reported there, and otherwise not
   abbrev frees : List ℕ
   frees = left (ring_at (elements_after past) 1)
 
@@ -140,7 +140,7 @@ module _ (x n call : ℕ) (v : View) (stands : List Place) (pcs pending : List �
       let z : true ≡ false = sym (ap is_free free) ∙ other in absurd (cc))
       (λ no. let none : in_list x frees ≡ 0 = omega (arith, no) in none ∙ ap (λ b. when b 1) (sym other)))
 
-  -- so it was put there once where it was taken of the first and is free
+  -- so it was put there once if it was taken of the first and is free
   once_put : count_by (is_of x) told ≡ when (nat_lt x many && is_free (place_of stands x)) 1
   once_put = let put = put_told x (first_state ELEMENTS) past in let once = once_free in
       let parts : in_list x frees ≡ in_list x (drop many (concat first_runs)) + in_list x (freed past) = ap (in_list x) (left_is past c.allowed few) ∙ many_more (λ item. item == x) (drop many (concat first_runs)) (freed past) in

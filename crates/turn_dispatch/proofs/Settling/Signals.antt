@@ -79,7 +79,7 @@ module _ (x n : ℕ) where
       (λ is. let a = accounts f.front u c.reached in let b : plus (is_pending x n u) ≡ 1 = ap plus is in omega arith)
       (λ isnt. let b : plus (made_pending x n (f.it, u)) ≡ 1 = ap (λ (z : Bool). plus (z && not (is_pending x n u))) f.passes ∙ ap (λ (z : Bool). plus (true && not z)) isnt in omega arith)
 
-  -- some are signals where some were delivered or it is pending
+  -- some are signals if some were delivered or it is pending
   either : (signals made delivered : ℕ) (pending : Bool) → made ≤ signals → (0 < signals → 0 < made) → made ≡ delivered + plus pending
       → nat_lt 0 signals ≡ (nat_lt 0 delivered || pending)
   either signals made delivered true low up is = is_less 0 signals (omega arith) ∙ sym (or-true (nat_lt 0 delivered))

@@ -1,4 +1,4 @@
-//! What another processor does at a point of this one's turn.
+//! The acts of another processor at a point of this one's turn.
 ghost use Rattle.std.specs.Prelude.{◌≡◌, ◌<◌, length};
 ghost use Rattle.thread_table.specs.Handles.{IsHandOf};
 ghost use Rattle.turn_io.specs.EndLists.{AreEndsOf};
@@ -12,7 +12,8 @@ use std::test::*;
 use turn_dispatch::wake;
 use turn_io::{Gate, Point, say, shut_queue};
 
-/// A gate that says a line in the first queue, or shuts it, and wakes those who wait to hear, behind each try of a hear.
+/// A gate that acts after each try of a hear: it says a line in the first queue, or shuts it, and wakes those who wait
+/// to hear.
 #[derive(Drop)]
 struct Sayer<'r, 's, R: Wait> {
     rt: &'r R,
@@ -55,7 +56,7 @@ impl<'r, 's, R: Wait> Gate for Sayer<'r, 's, R> {
     }
 }
 
-/// There is a queue.
+/// Makes sure that a queue exists.
 fn must_have_a_queue<R: Abort>(rt: &R, shared: &Shared)
     ensures { 0 < length shared.now.queues.small.items }
 {
@@ -64,7 +65,7 @@ fn must_have_a_queue<R: Abort>(rt: &R, shared: &Shared)
     }
 }
 
-/// So many turns of the one station's processor, while the other station's ends say or shut. Both stations come back.
+/// This many turns of the one station's processor, while the other station's ends say or shut. Returns both stations.
 fn run_beside<R: Abort + Wait>(
     rt: &R,
     shared: &Shared,
@@ -125,7 +126,7 @@ thread a
 hear p
 ";
 
-/// What there is once processor 0 had so many turns.
+/// The objects after this many turns of processor 0.
 fn heard_beside<R: Abort + Wait>(rt: &R, alloc: Global, turns: u32, shuts: bool) -> AtEnd {
     let plan = plan_of(rt, alloc, HEARS);
     let (p, q) = (processor(rt, 0), processor(rt, 1));
@@ -135,8 +136,9 @@ fn heard_beside<R: Abort + Wait>(rt: &R, alloc: Global, turns: u32, shuts: bool)
     close_all(rt, shared, one.into_parts())
 }
 
-/// A line that is said behind a hear's try, and before its element waits, wakes nobody. But the ticket has moved, so the
-/// element is ready again, and hears the line in its next turn. What is kept of the line is the low 8 bits of each item.
+/// A line that is said after a hear's try, and before its element waits, wakes nobody. But the ticket is then out of
+/// date, so the element is ready again, and hears the line in its next turn. The low 8 bits of each item of the line
+/// are kept.
 #[test]
 fn said_before_the_wait(rt: HostRuntime) {
     let once = heard_beside(&rt, rt.alloc(), 1, false);
@@ -147,7 +149,7 @@ fn said_before_the_wait(rt: HostRuntime) {
     check_lines(&rt, &twice.heard, &[(0, 0, b"z\n")]);
 }
 
-/// The same where the pipe is shut: the element hears nothing in its next turn, and its step is done.
+/// The pipe is shut after a hear's try: the element hears nothing in its next turn, and its step is done.
 #[test]
 fn shut_before_the_wait(rt: HostRuntime) {
     let once = heard_beside(&rt, rt.alloc(), 1, true);

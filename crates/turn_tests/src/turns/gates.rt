@@ -1,4 +1,4 @@
-//! What a gate is told, and what others find when it is told.
+//! The calls of a gate, and what others find at each call.
 ghost use Rattle.thread_table.specs.Handles.{IsHandOf};
 ghost use Rattle.meters.specs.Handles.{IsSeatOf};
 
@@ -11,7 +11,7 @@ use thread_table::NextRefusal;
 use turn_dispatch::make_ready;
 use turn_io::{Gate, Point};
 
-/// A gate that keeps the points that it is told, in their order, while there is memory.
+/// A gate that keeps the points at which it is called, in their order, while there is memory.
 #[derive(Drop)]
 struct Recorder {
     points: Vec<(u8, Point)>,
@@ -25,8 +25,8 @@ impl Gate for Recorder {
     }
 }
 
-/// The gate is told each turn, with its number, and what stands between the parts of a say and behind the try of a
-/// hear; a turn with no thread at hand is told too.
+/// The gate is called for each turn, with its number, between the parts of a say, and after the try of a hear. It is
+/// also called for a turn with no thread at hand.
 #[test]
 fn turns_are_told(rt: HostRuntime) {
     let plan = plan_of(&rt, rt.alloc(), SAID);
@@ -51,8 +51,8 @@ fn turns_are_told(rt: HostRuntime) {
     check_states(&rt, &ended, &[at(Place::Free, 2)]);
 }
 
-/// A gate that takes the first ready element at each point, with another hand, and makes it ready again. It keeps what it
-/// was answered, while there is memory.
+/// A gate that takes the first ready element at each point, with another hand, and makes it ready again. It keeps the
+/// answers, while there is memory.
 #[derive(Drop)]
 struct Taker<'r, 's, R: Wait> {
     rt: &'r R,
@@ -76,8 +76,8 @@ impl<'r, 's, R: Wait> Gate for Taker<'r, 's, R> {
     }
 }
 
-/// When a turn is told its element is in the ready ring still, and the one of the turn before is there again; within a
-/// step it is not.
+/// When the gate is called for a turn, the turn's element is still in the ready ring. The element of the turn before is
+/// there again; within a step it is not.
 #[test]
 fn turns_are_told_before_the_taking(rt: HostRuntime) {
     let plan = plan_of(&rt, rt.alloc(), SAID);
@@ -101,7 +101,7 @@ fn turns_are_told_before_the_taking(rt: HostRuntime) {
     assert!(rt; gate.taken.as_slice() == taken.as_slice());
 }
 
-/// A gate that cancels the alarm with the turn's number in each turn, at another seat, and keeps what it was answered.
+/// A gate that cancels the alarm with the turn's number in each turn, at another seat, and keeps the answers.
 #[derive(Drop)]
 struct Canceller<'s> {
     meters: &'s Meters,
@@ -138,7 +138,8 @@ pass
 pass
 ";
 
-/// When a turn is told the alarms of its tick haven't fired: each can still be cancelled, and then doesn't.
+/// When the gate is called for a turn, the alarms of its tick haven't fired: each can still be cancelled, and then
+/// doesn't.
 #[test]
 fn turns_are_told_before_the_alarms(rt: HostRuntime) {
     let plan = plan_of(&rt, rt.alloc(), TWO_ALARMS);

@@ -1,10 +1,10 @@
-//! A station where memory is refused.
+//! A station when memory is refused.
 
 use super::*;
 use crate::fixtures::scripts::plan_if_given;
 use std::test::*;
 
-/// Boots once, and says whether there was memory.
+/// Boots once, and returns whether there was memory.
 fn boots<R: Abort + Wait>(rt: &R, alloc: Global, p: Processor) -> bool {
     let Some(plan) = plan_if_given(rt, alloc, SAID) else {
         return false;
@@ -23,7 +23,7 @@ fn boots<R: Abort + Wait>(rt: &R, alloc: Global, p: Processor) -> bool {
     true
 }
 
-/// Where an allocation is refused a boot has no memory, or goes on with the ends that came back; others go on.
+/// If an allocation is refused, a boot has no memory, or goes on with the ends that were returned; others go on.
 #[test]
 fn memory_may_be_wanting(rt: HostRuntime) {
     let p = processor(&rt, 0);

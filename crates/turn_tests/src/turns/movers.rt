@@ -36,8 +36,9 @@ fn split_pump<R: Abort>(rt: &R, alloc: Global, at: u32) -> (Ways, ChainEnd<AnyQu
     (ways, other)
 }
 
-/// What the processors share of a plan with two queues and a pump from the first to the second, whose chain begins at
-/// this position; the station of this one, with an element ready for each thread; and another end of the chain.
+/// The objects that the processors of a plan share, with two queues and a pump from the first to the second, whose
+/// chain begins at this position; the station of this one, with an element ready for each thread; and another end of
+/// the chain.
 fn stand_pumped<R: Abort + Wait>(
     rt: &R,
     alloc: Global,
@@ -70,7 +71,7 @@ hear out
 hear out
 ";
 
-/// A chain at its last position takes one note more. The next poke is refused for good, and its step is tried in each
+/// A chain at its last position takes one more note. The next poke is refused for good, and its step is tried in each
 /// turn of its thread.
 #[test]
 fn pokes_past_the_last_position(rt: HostRuntime) {
@@ -122,8 +123,8 @@ poke p
 poke p
 ";
 
-/// While another end has the Turn and hasn't served it, a thread's pokes are left to it, 31 behind the end's own note.
-/// The next is refused, since the chain is full, and its step is tried again, and done once the notes are served.
+/// While another end has the Turn and hasn't served it, a thread's pokes are left to it, 31 after the end's own note.
+/// The next is refused, because the chain is full. Its step is tried again, and is done once the notes are served.
 #[test]
 fn pokes_of_a_full_chain(rt: HostRuntime) {
     let plan = plan_of(&rt, rt.alloc(), MANY_POKES);

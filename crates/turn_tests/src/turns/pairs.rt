@@ -10,7 +10,7 @@ use std::test::*;
 use std::thread;
 use std::thread::Threads;
 
-/// The turns of each processor while the other has its turns, and of one alone behind them.
+/// The turns of each processor while the other has its turns, and the turns of one alone after them.
 const TURNS: u32 = 10_000;
 
 /// Four threads say four lines each in a pipe that has room for four, and four others hear four each.
@@ -93,8 +93,8 @@ fn times(heard: &HeardLines, line: &[u8]) -> usize {
     times
 }
 
-/// Whatever the schedule was, each step is done once, and each line that was said is heard once. What the two left is
-/// done by one of them alone.
+/// For every schedule each step is done once, and each line that was said is heard once. One of them alone does what
+/// the two left.
 #[test]
 fn two_processors(rt: HostRuntime) {
     let plan = plan_of(&rt, rt.alloc(), SAYERS);

@@ -9,7 +9,7 @@ use super::stands::{first_station, make_queues, readied};
 use super::*;
 use std::test::*;
 
-/// A station for one processor more, split off this one, on which nothing stands.
+/// A station for one more processor, split off this one, with no element on the processor.
 fn split_for<R: Abort>(
     rt: &R,
     alloc: Global,
@@ -30,8 +30,8 @@ fn split_for<R: Abort>(
     (station, freed(rt, other, q))
 }
 
-/// What two processors of a plan share that has no ttys, pumps and switches, and the station of each: an element is ready
-/// for each thread.
+/// The objects that two processors of a plan without ttys, pumps and switches share, and the station of each: an
+/// element is ready for each thread.
 pub(super) fn stand_two<R: Abort + Wait>(
     rt: &R,
     alloc: Global,
@@ -83,8 +83,8 @@ signal b 4
 tick g 2
 ";
 
-/// What two stations did is in one once they are joined: the line that the one said and the other heard, the signal that
-/// the other delivered, and the ticks of both. What the other heard comes back; and all closes.
+/// The work of two stations is in one once they are joined: the line that the one said and the other heard, the signal
+/// that the other delivered, and the ticks of both. The line that the other heard is returned; and all closes.
 #[test]
 fn split_and_joined(rt: HostRuntime) {
     let plan = plan_of(&rt, rt.alloc(), BOTH);

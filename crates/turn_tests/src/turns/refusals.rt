@@ -27,8 +27,8 @@ fn late_queue(alloc: Global) -> Result<Ways, OutOfMemory> {
     })
 }
 
-/// Runs so many turns of processor 0 over a plan and these queues, and compares the states of the first threads. The
-/// element queues begin at the one position, and the clock at the other tick.
+/// Runs this many turns of processor 0 over a plan and these queues, and compares the states of the first threads. The
+/// element queues begin at this position, and the clock at this tick.
 fn check_on<R: Abort + Wait>(
     rt: &R,
     alloc: Global,
@@ -51,7 +51,7 @@ fn check_on<R: Abort + Wait>(
     ended
 }
 
-/// The same over a script, with queues at 0.
+/// Runs this many turns of processor 0 over a script, with queues at 0, and compares the states of the first threads.
 fn check_late<R: Abort + Wait>(
     rt: &R,
     alloc: Global,
@@ -104,8 +104,8 @@ const NO_STEP: &[u8] = b"synthesis 1
 thread a
 ";
 
-/// Where the free elements have no position left, an element that is to be retired stays in the hand, whether it had a
-/// turn or no step.
+/// If the free elements have no position left, an element that is to be retired stays in the hand. It doesn't matter
+/// whether it had a turn or no step.
 #[test]
 fn held_in_place_of_retired(rt: HostRuntime) {
     check_late(&rt, rt.alloc(), ONE_STEP, LAST, 1, &[held(1)]);
@@ -119,7 +119,7 @@ thread a
 hear q
 ";
 
-/// The ready ring has 64 positions: one in which the element was first made ready, and one for each of 63 turns. Behind
+/// The ready ring has 64 positions: one in which the element was first made ready, and one for each of 63 turns. After
 /// the next turn the element stays in the hand.
 #[test]
 fn held_in_place_of_ready(rt: HostRuntime) {

@@ -1,4 +1,4 @@
-//! What the processors of a plan share, and a first station of it, over queues and chains that a test makes.
+//! The objects that the processors of a plan share, and a first station, over queues and chains that a test makes.
 ghost use Rattle.std.specs.Prelude.{◌≡◌, ◌≤◌, [], length, IfOk};
 ghost use Rattle.std.specs.List.{All};
 ghost use Rattle.thread_table.specs.Handles.{view_of, IsHandOf, IsSameHand};
@@ -17,7 +17,7 @@ use proc_chain::{ChainEnd, ProcChain};
 use quajects::AnyQuaject;
 use turn_dispatch::make_ready;
 
-/// Takes so many free elements, and makes each ready.
+/// Takes this many free elements, and makes each ready.
 fn ready_first<R: Wait>(rt: &R, threads: &ThreadTable, hand: &mut Hand, count: usize)
     requires { IsHandOf threads.now hand.old }
     ensures { IsSameHand hand.old hand.new }
@@ -41,7 +41,7 @@ fn set_all(meters: &Meters, seat: &mut MeterSeat, alarms: &[Alarm])
     }
 }
 
-/// The hand serves the processor, on which nothing stands.
+/// The hand serves the processor, which has no element.
 pub(super) fn must_be_free<R: Abort>(rt: &R, hand: &Hand, p: Processor)
     ensures { IsFree p (view_of hand.now) }
 {
@@ -68,7 +68,7 @@ pub(super) struct Ways {
     ghost over: { AreChainsOver queues chains.items },
 }
 
-/// So many queues of 64 places at 0, and the only end of each.
+/// This many queues of 64 places at 0, and the only end of each.
 fn fresh_queues(
     alloc: Global,
     count: usize,
@@ -81,7 +81,7 @@ fn fresh_queues(
     Ok((queues, small, large))
 }
 
-/// The same, and no chain.
+/// This many queues of 64 places at 0, the only end of each, and no chain.
 pub(super) fn make_queues(alloc: Global, count: usize) -> Result<Ways, OutOfMemory>
     ensures small { IfOk result (λ w. All IsDivisible w.small.items) }
     ensures large { IfOk result (λ w. All IsDivisible w.large.items) }
@@ -97,7 +97,7 @@ pub(super) fn make_queues(alloc: Global, count: usize) -> Result<Ways, OutOfMemo
     })
 }
 
-/// The plan has so many queues, and so many pumps and switches, and no tty.
+/// The plan has this many queues, this many pumps and switches, and no tty.
 fn must_have<R: Abort>(rt: &R, plan: &BootPlan, queues: usize, movers: usize)
     ensures { (length plan.now.queues ≡ queues) × (length plan.now.ttys ≡ 0) × (length plan.now.movers ≡ movers) }
 {
@@ -122,8 +122,8 @@ struct Ends {
     seat: MeterSeat,
 }
 
-/// The station of a processor, which has heard nothing. Where memory is refused all ends come back, and are tried once
-/// more.
+/// The station of a processor, which has heard nothing. If memory is refused, all ends are returned, and the call is
+/// retried once.
 fn station_of(alloc: Global, shared: &Shared, ends: Ends) -> Result<Station, OutOfMemory>
     ensures hand { IfOk result (λ s. s.parts.hand ≡ ends.hand) }
     ensures small { IfOk result (λ s. s.parts.small ≡ ends.small) }
@@ -160,8 +160,8 @@ fn station_of(alloc: Global, shared: &Shared, ends: Ends) -> Result<Station, Out
     }
 }
 
-/// What the processors of a plan share that has no ttys, over these queues and chains, where the element queues begin at
-/// the one position and the clock at the other tick; and a first station, with nothing done.
+/// The objects that the processors of a plan without ttys share, over these queues and chains, with the element queues
+/// at this position and the clock at this tick; and a first station, with nothing done.
 pub(super) fn first_station<R: Abort>(
     rt: &R,
     alloc: Global,
@@ -236,7 +236,7 @@ pub(super) fn readied<R: Abort + Wait>(
     Station::from_parts(parts)
 }
 
-/// What the processors of a plan share that has no ttys, pumps and switches, and the station of this one.
+/// The objects that the processors of a plan without ttys, pumps and switches share, and the station of this one.
 pub(super) fn stand<R: Abort + Wait>(
     rt: &R,
     alloc: Global,

@@ -11,7 +11,7 @@ use Rattle.boot_objects.proofs.Lent.{came_back}
 use Rattle.boot_objects.proofs.Whole.{homes_fit}
 use Rattle.turn_tests.proofs.closes.retires_a_pump.Goals as goal
 
--- an end that was the only one is so still
+-- an end that was the only one is still the only one
 only_still : {Q W : Type 0} {g : Ghosts Q W} (old new : List (ChainEnd Q W g)) → length new ≡ length old → ((q : ℕ) → chain_shares new q ≡ chain_shares old q) → All IsOnlyEnd old → All IsOnlyEnd new
 only_still old [] e s h k d l = absurd (omega arith)
 only_still [] (y ∷ ys) e s h k d l = absurd (omega arith)

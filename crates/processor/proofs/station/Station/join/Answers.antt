@@ -3,7 +3,7 @@ use Rattle.turn_io.specs.Splits.{AreJoined, AreChainsJoined}
 use Rattle.processor.proofs.Summing.{joined_account, joined_shares}
 use Rattle.processor.proofs.station.Station.join.Goals as goal
 
--- what holds of three lists holds of the same lists
+-- a fact about three lists holds for equal lists
 of_same : {E : Type 0} (R : List E → List E → List E → Type 0) (a a' b b' c c' : List E) → a ≡ a' → b ≡ b' → c ≡ c' → R a b c → R a' b' c'
 of_same R a a' b b' c c' x y z r = subst (λ w. R w b' c') x (subst (λ w. R a w c') y (subst (R a b) z r))
 

@@ -12,12 +12,12 @@ use thiserror::Error;
 
 /// An element is on the processor.
 #[derive(Clone, Copy, Debug, PartialEq, Eq, Error)]
-#[error("an element stands on the processor")]
+#[error("an element is on the processor")]
 pub struct ProcessorBusy;
 
 /// No element is on the processor.
 #[derive(Clone, Copy, Debug, PartialEq, Eq, Error)]
-#[error("no element stands on the processor")]
+#[error("no element is on the processor")]
 pub struct ProcessorEmpty;
 
 impl ThreadTable {

@@ -514,8 +514,8 @@ fn refusals_are_told(rt: HostRuntime) {
     }
     let lost = Lost { seen: 65_536 };
     assert!(rt; is_told(alloc, lost, "another hand changed the state word to 65536"));
-    assert!(rt; is_told(alloc, ProcessorBusy, "an element stands on the processor"));
-    assert!(rt; is_told(alloc, ProcessorEmpty, "no element stands on the processor"));
+    assert!(rt; is_told(alloc, ProcessorBusy, "an element is on the processor"));
+    assert!(rt; is_told(alloc, ProcessorEmpty, "no element is on the processor"));
     assert!(rt; is_told(alloc, Spent, "the element's steps are spent"));
     let open = OpenEnds { others: 3 };
     assert!(rt; is_told(alloc, open, "3 other ends are not joined"));

@@ -1,5 +1,5 @@
--- What the takings and moves of elements add to the hand's own list of events, how many takings of free elements there
--- were behind them, and how many elements the hand holds.
+-- The effect of takings and moves of elements on the hand's own list of events, on the number of takings of free
+-- elements, by all hands, before them, and on the number of elements held.
 use Rattle.boot_threads.proofs.Common.{◌≡◌, ℕ, zero, suc, ◌+◌, ◌<◌, ◌≤◌, Bool, true, false, List, [], ◌∷◌, ◌++◌, length, get_or, Ok, refl, ap, arith, ◌≢◌, ◌-◌, sym, subst, ◌∙◌, true≢false, eq-eqb, or_left, or_right, le_prop, ∥∥₁_elim, filter, if◌then◌else◌, Result, Err, Event, MoveAnswer, claim_event, free_taken, ring_of, move_by, moves_in, claims, own_takings, many_held, Moved, TookFree, PutInto, HoldsFrom, range_with_len, eqb_tells, append_assoc, append-nil, map-append, flat_map-append, Made, has, HoldsSame}
 use Rattle.std.proofs.Common.{set, ⊎_elim}
 use Rattle.std.specs.Prelude.{◌==◌}

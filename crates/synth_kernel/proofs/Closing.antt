@@ -1,4 +1,4 @@
--- What the ends that closed all had done, but for what the devices did.
+-- The work of the ends that closed all, except the work of the devices.
 use Rattle.synth_kernel.proofs.Common.{◌≡◌, ℕ, zero, suc, ◌+◌, List, [], ◌∷◌, map, length, Option, Some, refl, ap, ◌∙◌, arith, slice_get, BootPlan, TookRaws, Parts, RawTty}
 use Rattle.std.proofs.Common.{◌<◌, ◌==◌, Bool, false, ne_eqb}
 use Rattle.std.specs.Prelude.{if◌then◌else◌, slice_index_or}

@@ -1,4 +1,4 @@
--- Where all steps were done, the lines said are those of the plan.
+-- If all steps were done, the lines said are those of the plan.
 use Rattle.boot_laws.proofs.Common.{◌≡◌, ◌≢◌, ⊎_elim, ℕ, zero, suc, ◌+◌, ◌<◌, Bool, true, false, eqb, eq-eqb, ne_eqb, List, [], ◌∷◌, ◌++◌, map, length, refl, sym, ap, ◌∙◌, subst, arith, Option, Some, None, append_assoc, append-nil, flat_map, count_by, IsPermutation, if◌then◌else◌, ◌&&◌, ◌||◌, ◌==◌, nat_lt, not, range_with_len, AllByRecursion, list_any-append, leb_tells, flat_map-append, dite, dec_lt, BootPlan, PlannedThread, QueueIndex, Small, Step, Report, Place, AtQueue, idle_queue, only, put_if, shut_if, taken_if, Deed, SayAnswer, Paid, is_done, IsDeedOf, queues_by, told_shut, LogEntry, FollowsPlan, entry_account, turn_told_shut, sum_of, was_shut, Key, same_key, program, step_of, said_line, Line, said, heard, PlaceAgrees, ClosedTables, IsReport, IsNeverShut, total_of, by_bool, plus, many_cons, many_more}
 use Rattle.std.proofs.Common.{slice_get}
 use Rattle.std.proofs.lemmas.List.Sorted.{IsPermutation-refl, IsPermutation-trans, IsPermutation-append_comm, IsPermutation-append_left, IsPermutation-append_right}
@@ -31,7 +31,7 @@ module _ {A B : Type 0} (f : A → List B) where
       subst (λ z. IsPermutation z (f x ++ flat_map f (front ++ back))) (sym from)
       (subst (λ z. IsPermutation ((a ++ f x) ++ c) z) to (IsPermutation-append_left c (a ++ f x) (f x ++ a) (IsPermutation-append_comm a (f x))))
 
-  -- lists in which each entry stands equally often give the same
+  -- lists in which each entry is equally often give the same
   same_gives : (same : A → A → Bool) → ((a b : A) → same a b ≡ true → a ≡ b) → ((a : A) → same a a ≡ true)
       → (xs ys : List A) → ((x : A) → count_by (same x) xs ≡ count_by (same x) ys) → IsPermutation (flat_map f ys) (flat_map f xs)
   same_gives same tells itself [] [] h = IsPermutation-refl []

@@ -147,9 +147,9 @@ ports_unshut ports (home ∷ homes) q all = ap (λ (f : ℕ → Stake Did). (f q
 
 -- A BOOT THAT WAS SHUT DOWN
 
--- what was had when a boot was shut down, and what closing gave: the objects, the logs of the processors, the first
--- station, theirs, and the one to which they were joined; the raw ttys of the devices, what those did, what all were
--- joined to, and what came of closing that
+-- A boot that was shut down: its objects, the logs of its processors, the first station, the processors' stations, and
+-- the station of all of them joined; the raw ttys of the devices and the devices' work; the parts of all ends joined,
+-- and the result of closing these parts
 pub record Shutdown : Type 0 where
   pub shared : Shared
   pub logs : List (List LogEntry)
@@ -161,9 +161,9 @@ pub record Shutdown : Type 0 where
   pub parts : Parts
   pub ended : Unmade
 
--- The stations were joined, and the first freed the other elements; nothing stands on a processor then. The raw ttys of
--- the devices were joined to that, and all was closed. The chains were given the quajects of the plan, over ends that
--- had done nothing
+-- The stations were joined, and the first had freed the other elements; no element is on a processor then. The raw ttys
+-- of the devices were joined to the last station, and all was closed. The chains were given the quajects of the plan,
+-- over ends that had done nothing
 pub record IsShutDown (shut : Shutdown) : Type 0 where
   pub worked : WereJoined shut.shared.plan shut.logs shut.first shut.stations shut.last
   pub spare : FreedSpare shut.shared.plan (account shut.first)

@@ -78,7 +78,7 @@ ways_took_none number [] h = refl
 ways_took_none number (None ∷ ways) h = ways_took_none number ways h.1
 ways_took_none number (Some way ∷ ways) h = idle lines_taken way.outlet.index number way.outlet.end (ends_at number (map port_of ways)) h.0 ∙ ways_took_none number ways h.1
 
--- the first end took these, and those behind it took nothing
+-- the first end took these, and the ends after it took nothing
 first_took : (index number : ℕ) (end : QueueEnd 64) (rest : List (QueueEnd 64)) → of_ends lines_taken rest ≡ []
     → of_ends lines_taken (at_one [] index (end ∷ []) number ++ rest) ≡ at_one [] index (lines_taken (view_of end)) number
 first_took index number end rest none = of_next lines_taken index number end rest
@@ -159,7 +159,7 @@ home_put_none number many (any.Switch switch) home h k low b = ap (of_ports runs
     ∙ (elsewhere runs_of switch.other.index number (switches.other_of switch) (ends_at number (switches.way_ports switch)) (λ e. let c = b.1 in omega arith)
     ∙ ways_put_none number many switch.ways low b.2))
 
--- where each quaject's small queues are among the first so many, none of their ends put in one behind those
+-- if each quaject's small queues are among the first so many, no end of a quaject put in a queue after those
 pub homes_put_none : (number many : ℕ) (homes : List Home) (chains : List closed.Chain) → AllZip ChainEnded homes chains → many ≤ number
     → AllByRecursion (λ (chain : closed.Chain). IsBelow many chain.quaject) chains → of_ends runs_of (flat_map (home_at (Small number)) homes) ≡ []
 homes_put_none number many homes chains z far below = of_homes runs_of (home_at (Small number)) homes ∙ each homes chains z below

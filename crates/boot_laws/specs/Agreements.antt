@@ -57,9 +57,8 @@ PlaceAgrees place steps all retired = retired ≡ false
 abbrev pub was_retired : ℕ → List (List LogEntry) → Bool
 was_retired thread logs = list_any (λ (key : Key). key.0 == thread) (total_of logs).hand.retired
 
--- The thread's steps were done in order, and its element is at a place that fits them. A signal was shown exactly if
--- the processors delivered it to the thread. A signal was shown or is pending exactly if a done step or a fired alarm
--- raised it
+-- The thread's steps were done in order, and its element's place fits them. A signal was shown exactly if the
+-- processors delivered it. It was shown or is pending exactly if a done step or a fired alarm raised it
 pub record ThreadAgrees (plan : BootPlan) (thread : ℕ) (t : closed.Thread) (logs : List (List LogEntry)) : Type 0 where
   pub ran : StepsAgree plan thread t.steps logs
   pub place : PlaceAgrees t.place t.steps (length (program plan thread)) (was_retired thread logs)
@@ -116,7 +115,7 @@ put_in index chain = flat_map (λ target. only [] target.0 target.1 index) (targ
 
 -- TTYS
 
--- it is a cooked tty over these three queues
+-- the quaject is a cooked tty over these three queues
 abbrev pub IsTty : ℕ → ℕ → ℕ → AnyQuaject → Type 0
 IsTty raw line screen (any.Cooked tty) = (tty.raw.index ≡ raw) × (tty.line.index ≡ line) × (tty.screen.index ≡ screen)
 IsTty raw line screen quaject = ⊥
@@ -151,16 +150,15 @@ abbrev pub routes_of : Option Way → List (ℕ × ℕ)
 routes_of None = []
 routes_of (Some way) = (way.key, way.outlet.index) ∷ []
 
--- it is the pump or switch of the plan, over its queues and with its keys
+-- the quaject is the pump or switch of the plan, over its queues and with its keys
 abbrev pub IsMover : Mover → AnyQuaject → Type 0
 IsMover (movers.Pump from to) (any.Pump pump) = (pump.source.index ≡ from) × (pump.target.index ≡ to)
 IsMover (movers.Switch from other ways) (any.Switch switch) = (switch.source.index ≡ from)
     × (switch.other.index ≡ other) × (flat_map routes_of switch.ways ≡ map (λ way. (way.key, way.to)) ways)
 IsMover mover quaject = ⊥
 
--- The pump or switch is the plan's, and was run only by its notes. It kept its law: the lines taken are the lines put,
--- each where it belongs, and the line held. The notes run and the notes left are, by number, the notes that the done
--- pokes chained
+-- The plan's pump or switch was run only by its notes. The lines taken are those put, each where it belongs, and the
+-- line held. The notes run and left are together as many as the done pokes chained
 pub record MoverAgrees (mover : ℕ) (planned : Mover) (m : closed.Chain) (logs : List (List LogEntry)) : Type 0 where
   pub its : IsMover planned m.quaject
   pub made : MadeOfNew m.quaject
@@ -174,7 +172,7 @@ abbrev pub GaugesAgree : List ℕ → List (List LogEntry) → Type 0
 GaugesAgree gauges logs = (gauge value : ℕ) → slice_get gauges gauge ≡ Some value
     → value ≡ amount_on gauge (total_of logs).meters.ticks % u64_values
 
--- each alarm of the plan is fired or left, as often as it was set; the fired alarms are those that the processors fired
+-- each alarm of the plan is fired or left, as often as the plan sets it; the processors fired the fired alarms
 pub record AlarmsAgree (plan : BootPlan) (c : ClosedTables) (logs : List (List LogEntry)) : Type 0 where
   pub each : (alarm : Alarm) → times alarm plan.alarms ≡ times alarm c.fired + times alarm c.left
   pub by : c.fired ≡ (total_of logs).meters.fired

@@ -70,8 +70,8 @@ thread_of told signals thread = record {
   shown = slice_index_or signals thread 0;
 }
 
--- The work done comes to the closed table's places, steps and pending signals. No element is on a processor. At most 64
--- threads are closed, each as the table reports it, with the signals that were shown
+-- The work done comes to the table's places, steps and pending signals, and to the signals shown. No element is on a
+-- processor. At most 64 threads are closed, each as the table and the signals have it
 pub record ThreadsEnded (did : Account) (c : ClosedTables) : Type 0 where
   pub told : Places
   pub signals : List ℕ
@@ -93,9 +93,8 @@ pub record AreCovered (first : ℕ) (places : List Cell) (by : List (List (List 
   pub order : List (Owned Batch)
   pub listed : IsListed first places order ((joined own ++ others) ∷ [])
 
--- The queue is closed, and its ends were the processors' ends and these others. The claims of all ends cover all its
--- places. Their takings cover the places that were taken, the first of all. No more items are left than the queue has
--- places
+-- The queue is closed; its ends were the processors' ends and these others. Their claims cover all its places, their
+-- takings the first places, which were taken. No more items are left than the queue has places
 pub record QueueEnded (index : QueueIndex) (by_each : List Account) (others : List (QueueEnd (room_of index)))
     (q : closed.Queue) : Type 0 where
   pub first : ℕ
@@ -146,8 +145,7 @@ pub record MoverEnded (number : ℕ) (p : PlannedMover) (did : Account) (m : clo
 
 -- METERS
 
--- the gauges are the sums of the ticks, modulo 2^64; each alarm that was set was fired or cancelled or is left;
--- `c.fired` are the alarms fired
+-- the gauges sum the ticks, modulo 2^64; each alarm set was fired, was cancelled or is left; `c.fired` are those fired
 pub record MetersEnded (did : Account) (c : ClosedTables) : Type 0 where
   pub gauges : (gauge value : ℕ) → slice_get c.gauges gauge ≡ Some value
       → value ≡ amount_on gauge did.meters.ticks % u64_values

@@ -19,7 +19,7 @@ use Rattle.boot_laws.specs.Lines.{Says}
 use Rattle.boot_laws.specs.Saying.{IsLeftOpen, IsNeverShut}
 use Rattle.boot_laws.specs.Totals.{total_of}
 
--- it is a queue or pipe of the plan, or a line or screen queue, not a raw queue
+-- the queue is a queue or pipe of the plan, or a line or screen queue, not a raw queue
 abbrev pub IsNoRaw : BootPlan → QueueIndex → Type 0
 IsNoRaw plan (Small q) = q < length plan.queues
 IsNoRaw plan (Large q) = Unit {0}
@@ -52,7 +52,7 @@ pub record TablesAgree (plan : BootPlan) (c : ClosedTables) (logs : List (List L
 abbrev pub IsBefore : Line → Line → Type 0
 IsBefore a b = (a.0.0 < b.0.0) ⊎ ((a.0.0 ≡ b.0.0) × (a.0.1 < b.0.1))
 
--- the lines are in strict order of thread and step
+-- the lines are in strictly ascending order of thread and step
 abbrev pub AreSorted : List Line → Type 0
 AreSorted lines = (i j : ℕ) (a b : Line) → slice_get lines i ≡ Some a → slice_get lines j ≡ Some b → i < j
     → IsBefore a b
@@ -61,7 +61,7 @@ AreSorted lines = (i j : ℕ) (a b : Line) → slice_get lines i ≡ Some a → 
 abbrev pub IsUpTo : Line → Line → Type 0
 IsUpTo a b = (a.0.0 < b.0.0) ⊎ ((a.0.0 ≡ b.0.0) × (a.0.1 ≤ b.0.1))
 
--- the lines are in order of thread and step
+-- the lines are in ascending order of thread and step
 abbrev pub Ascend : List Line → Type 0
 Ascend lines = (i j : ℕ) (a b : Line) → slice_get lines i ≡ Some a → slice_get lines j ≡ Some b → i < j → IsUpTo a b
 

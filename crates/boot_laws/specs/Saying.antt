@@ -44,7 +44,6 @@ abbrev pub IsNeverClosed : BootPlan → QueueIndex → Type 0
 IsNeverClosed plan (Small q) = (thread number : ℕ) → step_of plan thread number ≡ Some (steps.Close q) → ⊥
 IsNeverClosed plan (Large q) = Unit {0}
 
--- a thread in this state has ended
 abbrev pub is_ended : ThreadState → Bool
 is_ended states.Ended = true
 is_ended state = false

@@ -64,7 +64,7 @@ next_at xs x ys all e = ap (λ z. slice_get z (length xs)) (sym e) ∙ here xs
     here [] = refl
     here (z ∷ zs) = here zs
 
--- the same at other numbers
+-- the joins of raw ttys at equal indexes
 pub took_at : (raw raw' chain chain' : ℕ) (ttys : List RawTty) (a b : Parts) → raw' ≡ raw → chain' ≡ chain → TookRaws raw' chain' ttys a b → TookRaws raw chain ttys a b
 took_at raw raw' chain chain' ttys a b e e' h = subst (λ (z : ℕ). TookRaws z chain ttys a b) e (subst (λ (z : ℕ). TookRaws raw' z ttys a b) e' h)
 

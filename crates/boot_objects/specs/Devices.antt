@@ -31,9 +31,8 @@ pub record IsAtWork (queues : List (ClaimQueue 64)) (chains : List (ProcChain An
       → IsEndOf c device.tty.chain
   pub idle : IsIdle device.tty.chain
 
--- The device puts into the small queue with the index `raw`, at an end that has put and taken nothing. It chains notes
--- in the chain with the index `chain`, at an end that has chained and run nothing. The device has refused no byte and
--- shut nothing. Its line has 64 places, and is empty
+-- The device puts into small queue `raw`, at an unused end, and chains in chain `chain`, at an end that chained and ran
+-- nothing. It has refused no byte and shut nothing. Its line has 64 places, and is empty
 pub record IsDevice (queues : List (ClaimQueue 64)) (chains : List (ProcChain AnyQuaject Queues)) (raw chain : ℕ)
     (device : Device) : Type 0 where
   pub raw_is : device.tty.index ≡ raw
@@ -48,7 +47,7 @@ pub record IsDevice (queues : List (ClaimQueue 64)) (chains : List (ProcChain An
   pub input : IsNewIn 64 device.input
   pub output : IsNewOut 64 device.output
 
--- it is the device of the tty with this number
+-- the device is that of the tty with this number
 abbrev pub IsDeviceOf : BootPlan → Queues → List (ProcChain AnyQuaject Queues) → ℕ → Device → Type 0
 IsDeviceOf plan queues chains tty device =
     IsDevice queues.small.items chains (raw_queue (length plan.queues) tty) (length plan.movers + tty) device
@@ -72,7 +71,7 @@ module _ {g : Ghosts AnyQuaject Queues} where
     pub takes : chain_end_takes end ≡ []
     pub gave : Gave 1 (at_one 0 index (chain_end_share end)) (chain_shares old) (chain_shares new)
 
-  -- it is the device with these indexes, and its ends were split off from the stocks
+  -- the device has these indexes, and its ends were split off from the stocks
   pub record MadeDevice (queues : List (ClaimQueue 64)) (chains : List (ProcChain AnyQuaject Queues)) (raw chain : ℕ)
       (small small' : List (QueueEnd 64)) (ends ends' : List (ChainEnd AnyQuaject Queues g)) (device : Device)
       : Type 0 where
@@ -82,7 +81,7 @@ module _ {g : Ghosts AnyQuaject Queues} where
     pub gave : Gave 1 (λ q. (device_shares device).queues (Small q)) (shares small) (shares small')
     pub chain_gave : Gave 1 (device_shares device).chains (chain_shares ends) (chain_shares ends')
 
-  -- they are the devices of the first `many` ttys of the plan, and their ends were split off from the stocks
+  -- these are the devices of the first `many` ttys of the plan, and their ends were split off from the stocks
   pub record MadeDevices (plan : BootPlan) (queues : Queues) (chains : List (ProcChain AnyQuaject Queues)) (many : ℕ)
       (small small' : List (QueueEnd 64)) (ends ends' : List (ChainEnd AnyQuaject Queues g)) (made : List Device)
       : Type 0 where

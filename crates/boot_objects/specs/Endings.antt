@@ -16,10 +16,9 @@ use Rattle.thread_table.specs.Closings.{ClosedNow}
 use Rattle.thread_table.specs.Handles.{view_of, call_of}
 use Rattle.thread_table.specs.Rules.{has}
 
--- The chains were closed, and their quajects came home, with their numbers. The queues' ends gained the ends of the
--- quajects. Then the queues, the thread table and the meters were closed, each by its last end, which is in these
--- parts. If the hand holds no element, no element is held at the close. The lines heard, the signals and the plan are
--- as they were
+-- The chains were closed, and their quajects came home with their numbers. The queues' ends gained the quajects' ends.
+-- Then the queues, the thread table and the meters were closed, each by its last end, one of these parts. If the hand
+-- holds no element, none is held at the close. All else is as it was
 pub record AllClosed (shared : Shared) (parts : Parts) (ended : Unmade) : Type 0 where
   pub its : ArePartsOf shared parts
   pub last : ended.last.value ≡ parts

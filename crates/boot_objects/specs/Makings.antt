@@ -62,8 +62,7 @@ abbrev pub IsGivenOpen : Given → Type 0
 IsGivenOpen None = Unit {0}
 IsGivenOpen (Some given) = end_shuts given.2 ≡ 0
 
--- the way is the plan's, with an end of its queue that was split off and has done nothing; if the plan has no way, none
--- was made
+-- the way is the plan's, with a split-off end of its queue that has done nothing; if the plan has none, none was made
 pub record GaveWay (world : Queues) (way : Option Way) (old new : List (QueueEnd 64)) (given : Given) : Type 0 where
   pub stock : IsStock world.small.items new
   pub key : given_key given ≡ way_key way
@@ -84,7 +83,7 @@ pub record GaveWays (world : Queues) (ways : List Way) (old new : List (QueueEnd
   pub fit : All (IsGivenFit world.small.items) given
   pub gave : Gave 4 (givens_share given) (shares old) (shares new)
 
--- it is the pump or switch of the plan, over ends that were split off and have done nothing
+-- the quaject is the pump or switch of the plan, over ends that were split off and have done nothing
 pub record MadeMover (world : Queues) (mover : Mover) (old new : List (QueueEnd 64)) (quaject : AnyQuaject)
     : Type 0 where
   pub stock : IsStock world.small.items new
@@ -97,8 +96,7 @@ pub record AreQueuesOf (plan : BootPlan) (queues : Queues) : Type 0 where
   pub small : length queues.small.items ≡ raw_queue (length plan.queues) (length plan.ttys)
   pub large : length queues.large.items ≡ line_queue (length plan.ttys)
 
--- it is a quaject of this kind, over split-off ends that have done nothing; its shares are no more than so many splits
--- give
+-- the quaject is of this kind, over split-off ends that have done nothing; at most so many splits give its shares
 pub record MadeQuaject (world : Queues) (IsKind : AnyQuaject → Type 0) (small_splits large_splits : ℕ)
     (small small' : List (QueueEnd 64)) (large large' : List (QueueEnd 256)) (quaject : AnyQuaject) : Type 0 where
   pub small_stock : IsStock world.small.items small'
@@ -108,7 +106,7 @@ pub record MadeQuaject (world : Queues) (IsKind : AnyQuaject → Type 0) (small_
   pub small_gave : Gave small_splits (λ q. (quaject_shares quaject).queues (Small q)) (shares small) (shares small')
   pub large_gave : Gave large_splits (λ q. (quaject_shares quaject).queues (Large q)) (shares large) (shares large')
 
--- they are the first `many` quajects of the plan, over ends that were split off and have done nothing
+-- these are the first `many` quajects of the plan, over ends that were split off and have done nothing
 pub record MadeQuajects (world : Queues) (plan : BootPlan) (many : ℕ) (small small' : List (QueueEnd 64))
     (large large' : List (QueueEnd 256)) (made : List AnyQuaject) : Type 0 where
   pub small_stock : IsStock world.small.items small'

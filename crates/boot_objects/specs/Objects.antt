@@ -32,7 +32,7 @@ use Rattle.boot_objects.specs.Stocks.{CanGive, IsStock, IsChainStock, shares, ch
 use Rattle.boot_objects.specs.Shares.{device_shares, all_shares, quajects_of, opening_shares, end_shares}
 use Rattle.boot_objects.specs.Shares.{AreAllEnds, AreWhole}
 
--- they are the quajects of the plan, each over ends of these queues that have done nothing
+-- these are the quajects of the plan, each over ends of these queues that have done nothing
 pub record AreQuajectsOf (plan : BootPlan) (world : Queues) (quajects : List AnyQuaject) : Type 0 where
   pub number : length quajects ≡ length plan.movers + length plan.ttys
   pub kinds : (i : ℕ) (x : AnyQuaject) → slice_get quajects i ≡ Some x → IsPlannedAt plan i x

@@ -16,8 +16,7 @@ use Rattle.quajects.specs.declared.world.Queues.{Queues}
 use Rattle.quajects.specs.Anys.{Fits, HasShutNothing, all_taken, all_puts, held_of, notes_of}
 use Rattle.quajects.specs.Routes.{key_of, index_of}
 
--- the ends of the quaject are ends of the queues that it names; it has taken, put and shut nothing, holds nothing and
--- has run no note
+-- the quaject's ends are of the queues that it names; it has taken, put and shut nothing, holds nothing and ran no note
 pub record IsReady (world : Queues) (quaject : AnyQuaject) : Type 0 where
   pub fits : Fits world quaject
   pub none_taken : all_taken quaject ≡ []
@@ -45,8 +44,7 @@ pub record IsPump (from to : ℕ) (pump : Pump) : Type 0 where
   pub from_is : pump.source.index ≡ from
   pub to_is : pump.target.index ≡ to
 
--- the switch takes from the queue `from`; each of these keys, four at most, leads to its queue; other lines go to
--- `other`
+-- the switch takes from `from`; each of these keys, at most four, leads to its queue, and other lines go to `other`
 pub record IsSwitch (from other : ℕ) (ways : List Way) (switch : Switch) : Type 0 where
   pub few : length ways ≤ 4
   pub from_is : switch.source.index ≡ from
@@ -60,24 +58,24 @@ pub record IsCooked (raw tty : ℕ) (cooked : CookedTty) : Type 0 where
   pub line_is : cooked.line.index ≡ line_queue tty
   pub screen_is : cooked.screen.index ≡ screen_queue tty
 
--- it is the pump or switch of the plan
+-- the quaject is this pump or switch of the plan
 abbrev pub IsMover : Mover → AnyQuaject → Type 0
 IsMover (mover.Pump from to) (any.Pump pump) = IsPump from to pump
 IsMover (mover.Switch from other ways) (any.Switch switch) = IsSwitch from other ways switch
 IsMover _ _ = ⊥
 
--- it is the cooked tty of this tty
+-- the quaject is the cooked tty of this tty
 abbrev pub IsTty : ℕ → ℕ → AnyQuaject → Type 0
 IsTty raw tty (any.Cooked cooked) = IsCooked raw tty cooked
 IsTty raw tty _ = ⊥
 
--- it is the planned pump or switch; if none is planned, the cooked tty, whose raw queue is after so many queues and
--- pipes
+-- the quaject is the planned pump or switch; if none is planned, it is this tty's cooked tty, after so many small
+-- queues
 abbrev pub IsPlanned : ℕ → ℕ → Option PlannedMover → AnyQuaject → Type 0
 IsPlanned queues tty (Some planned) quaject = IsMover planned.mover quaject
 IsPlanned queues tty None quaject = IsTty (raw_queue queues tty) tty quaject
 
--- it is the quaject of the plan with this number: the pumps and switches come first, and then the cooked ttys
+-- the quaject is the one of the plan with this number: the pumps and switches come first, and then the cooked ttys
 abbrev pub IsPlannedAt : BootPlan → ℕ → AnyQuaject → Type 0
 IsPlannedAt plan number quaject =
     IsPlanned (length plan.queues) (number - length plan.movers) (slice_get plan.movers number) quaject

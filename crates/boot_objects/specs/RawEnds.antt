@@ -23,7 +23,7 @@ raw_notes chain [] k = no_stake idle_queue
 raw_notes chain (tty ∷ ttys) k = both_stakes both_queue
     (at_one (no_stake idle_queue) chain (note_stake tty.chain) k) (raw_notes (chain + 1) ttys k)
 
--- they are the raw ttys of the plan's ttys, in their order
+-- these are the raw ttys of the plan's ttys, in their order
 abbrev pub AreRawsOf : Shared → List RawTty → Type 0
 AreRawsOf shared ttys = (k : ℕ) (tty : RawTty) → slice_get ttys k ≡ Some tty
     → IsRawAt shared (raw_queue (length shared.plan.queues) k) (length shared.plan.movers + k) tty

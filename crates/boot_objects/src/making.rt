@@ -17,7 +17,7 @@ use processor::{Shared, Station};
 use std::alloc::Global;
 use thread_table::ThreadTable;
 
-/// What the processors of a kernel share, the station of the first of them, and the devices of its ttys.
+/// The shared objects of a kernel's processors, the station of the first processor, and the devices of the ttys.
 #[derive(Drop)]
 pub struct Objects {
     pub shared: Shared,

@@ -100,7 +100,7 @@ state_of (Some place) = told place
 abbrev pub state_at : List Place → ℕ → ThreadState
 state_at stands thread = state_of (slice_get stands thread)
 
--- a number of steps, or 2^32 - 1 where there are more
+-- a number of steps, or 2^32 - 1 if there are more
 abbrev pub few : ℕ → ℕ
 few steps = if nat_lt steps u32_values then steps else u32_max
 
@@ -120,7 +120,7 @@ thread_line ended number thread = record {
 abbrev pub name_of : PlannedThread → List ℕ
 name_of thread = thread.name
 
--- the line of what was heard, with the name of its thread
+-- a heard line, with the name of its thread
 abbrev pub heard_line : List PlannedThread → Line → NamedLine
 heard_line threads heard = named_line (map name_of threads) heard
 

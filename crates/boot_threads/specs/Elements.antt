@@ -77,8 +77,7 @@ abbrev pub placing : ℕ → ℕ → List Event
 placing call threads = claims call ready_ring (range_with_len 0 threads)
     ++ claims call free_ring (range_with_len threads (64 - threads))
 
--- the hand of this number put the first `threads` elements, at most 64, into the ready ring and the others into the
--- free ring; it holds none of the 64
+-- the hand put the first `threads` elements, at most 64, in the ready ring and the rest in the free ring; it holds none
 pub record Prepared (call threads : ℕ) (v w : View) : Type 0 where
   pub few : threads ≤ 64
   pub moved : Moved (placing call threads) v w

@@ -44,8 +44,7 @@ pub record IsPosted {G : Type 0} (shared : Shared) (p turns : ℕ) (gate : G) (o
   pub kept_are : shares new ≡ each_share kept (shares old)
   pub given_are : shares station.parts ≡ each_share given (shares old)
 
--- each gate has such a work, for the processors from the number p on; each station is split off from what the last
--- split left
+-- each gate has such a work, for the processors from p on; each station is split off from what the last split left
 abbrev pub ArePosted : {G : Type 0} → Shared → ℕ → ℕ → List G → Parts → Parts → List (Work G) → Type 0
 ArePosted shared p turns [] old new [] = new ≡ old
 ArePosted shared p turns (gate ∷ gates) old new (work ∷ works) =

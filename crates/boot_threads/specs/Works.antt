@@ -44,8 +44,7 @@ pub record IsServable (shared : Shared) (chain : ℕ) (tty : RawTty) : Type 0 wh
   pub raw : IsEndAt shared.queues.small.items tty.index (end_of tty)
   pub chain_end : IsEndOf its tty.chain
 
--- the device popped so many bytes, and interrupted the raw tty with each; the tty's ends are of the same queue and
--- chain, without a Turn
+-- a device popped so many bytes, each an interrupt of the raw tty, which keeps its queue and chain and has no Turn
 pub record HasServed (shared : Shared) (chain count : ℕ) (line : LineOut) (tty : RawTty) (line' : LineOut)
     (tty' : RawTty) : Type 0 where
   pub its : ProcChain AnyQuaject Queues

@@ -21,7 +21,7 @@ count_of pool = pool.count
 abbrev pub room_of : Pool → ℕ
 room_of pool = queues.room_of pool.queue
 
--- it is a holder of buffers of this pool
+-- the holder is an end of the pool's queue, and knows the pool's first batch
 abbrev pub IsHolderOf : Pool → Holder → Type 0
 IsHolderOf pool holder = queues.IsEndOf pool.queue holder.end × IsStocked pool.count (view_of holder)
     × ListsFirst pool.count (view_of holder)

@@ -5,7 +5,6 @@ use Rattle.std.specs.Prelude.{ℕ, ◌+◌, ◌%◌, Bool, List, map, filter, no
 abbrev pub is_first : ℕ → Bool
 is_first note = nat_lt note 256
 
--- the byte that a note encodes
 abbrev pub byte_of : ℕ → ℕ
 byte_of note = note % 256
 

@@ -8,7 +8,6 @@ pub record Text : Type 0 where
   pub lines : List (List ℕ)
   pub begun : List ℕ
 
--- a text with these ended lines and this line begun
 abbrev pub text : List (List ℕ) → List ℕ → Text
 text lines line = record { lines = lines; begun = line }
 

@@ -168,14 +168,14 @@ pub record IsRun (Did : BootPlan → ClosedTables → List (List LogEntry) → T
 abbrev pub Says : Option (List ℕ) → BootPlan → Type 0
 Says read plan = IfSome read (λ bytes. text_plan bytes ≡ Ok (plan_of plan))
 
--- the bytes read parse as a plan, and the answer and the output are those of a boot of this plan
+-- a boot of some plan gave the answer and the output; the bytes read, if the reader reports them, parse as this plan
 pub record IsBoot (Did : BootPlan → ClosedTables → List (List LogEntry) → Type 0) (read : Option (List ℕ))
     (ended : Ended) (old new : Option (List ℕ)) : Type 0 where
   pub plan : BootPlan
   pub says : Says read plan
   pub run : IsRun Did plan ended old new
 
--- the bytes read parse as a plan, and the answer is that of a boot of this plan
+-- a boot of some plan gave the answer; the bytes read, if the reader reports them, parse as this plan
 pub record IsBootAnswer (Did : BootPlan → ClosedTables → List (List LogEntry) → Type 0) (read : Option (List ℕ))
     (ended : Ended) : Type 0 where
   pub plan : BootPlan

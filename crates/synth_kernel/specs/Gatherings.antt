@@ -35,13 +35,12 @@ served_in (Ok (worked.Processed one) ∷ backs) = served_in backs
 served_in (Ok (worked.Served line tty) ∷ backs) = record { line = line; tty = tty } ∷ served_in backs
 served_in (Err lost ∷ backs) = served_in backs
 
--- whether each thread was started and gave a result
+-- whether each thread gave a result
 abbrev pub all_there : {G : Type 0} → List (Back G) → Bool
 all_there [] = true
 all_there (Ok back ∷ backs) = all_there backs
 all_there (Err lost ∷ backs) = false
 
--- the raw tty that a device gave back
 abbrev pub tty_of : Served → RawTty
 tty_of served = served.tty
 
@@ -61,9 +60,8 @@ pub record HaveRoomFor {G : Type 0} (backs : List (Back G)) (lists : Lists G) : 
   pub gates : (lists.gates.items ≡ []) × (length (processed_in backs) ≤ vec_capacity lists.gates)
   pub told : (lists.told.items ≡ []) × (length (served_in backs) ≤ vec_capacity lists.told)
 
--- Each thread gave a result. The processors' stations were joined to the first station, the result of which is
--- `gathered.station`. The lines that they heard are in `gathered`, and so are their gates, the raw ttys and the totals
--- of the devices, in their order
+-- Each thread gave a result. The stations were joined to the first, which became `gathered.station`. The lines that
+-- they heard, their gates, the raw ttys and the devices' totals are in `gathered`, in order
 pub record IsGathered {G : Type 0} (shared : Shared) (first : Station) (backs : List (Back G))
     (inputs : List LineIn) (gathered : Gathered G) : Type 0 where
   pub all : all_there backs ≡ true

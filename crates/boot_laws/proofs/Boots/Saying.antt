@@ -22,7 +22,7 @@ use Rattle.boot_laws.proofs.Totals.{all_of, all_planned}
 use Rattle.boot_laws.proofs.Undone.{none_in, no_program}
 
 module _ {A B : Type 0} (f : A → List B) where
-  -- where an entry goes to the front, what it gives does
+  -- if an entry moves to the front, its results move to the front
   to_front : (front : List A) (x : A) (back : List A) → IsPermutation (flat_map f (front ++ x ∷ back)) (f x ++ flat_map f (front ++ back))
   to_front front x back =
       let a : List B = flat_map f front in let c : List B = flat_map f back in
@@ -129,7 +129,7 @@ module _ (says : Step → List (List ℕ)) (plan : BootPlan) where
       let ih = lines_of_keys (a + 1) threads (λ i. let f : a + suc i ≡ a + 1 + i = omega arith in h (suc i) ∙ ap (program plan) f) in
       flat_map-append line_at (map (λ n. (a, n)) (range_with_len 0 (length t.steps))) (keys_from (a + 1) threads) ∙ (λ k. first k ++ ih k)
 
-  -- where each step was done once, what the done steps say is what the plan says
+  -- if each step was done once, the done steps say what the plan says
   pub all_done : (done : List Key) → ((x n : ℕ) → count_by (same_key (x, n)) done ≡ (if nat_lt n (length (program plan x)) then 1 else 0))
       → IsPermutation (flat_map line_at done) (flat_map (λ (t : PlannedThread). flat_map says t.steps) plan.threads)
   all_done done once = subst (IsPermutation (flat_map line_at done)) (lines_of_keys 0 plan.threads (λ i. let e : i ≡ 0 + i = omega arith in ap (program plan) e))

@@ -34,7 +34,7 @@ module _ {E : Type 0} (f : View → List E) where
   of_one true end = append-nil (f (view_of end))
   of_one false end = refl
 
-  -- with one more, where it is of the queue
+  -- with one more end, if it is an end of the queue
   pub of_next : {n : ℕ} (index number : ℕ) (end : QueueEnd n) (rest : List (QueueEnd n)) → of_ends (at_one [] index (end ∷ []) number ++ rest) ≡ at_one [] index (f (view_of end)) number ++ of_ends rest
   of_next index number end rest = of_more (at_one [] index (end ∷ []) number) rest ∙ ap (λ z. z ++ of_ends rest) (of_one (number == index) end)
 
@@ -48,7 +48,7 @@ module _ {E : Type 0} (f : View → List E) where
   of_homes ends [] = refl
   of_homes ends (home ∷ homes) = of_more (ends home) (flat_map ends homes) ∙ ap (λ z. of_ends (ends home) ++ z) (of_homes ends homes)
 
-  -- the devices' ends list nothing, where each lists nothing
+  -- the devices' ends list nothing, if each lists nothing
   pub devices_none : (index : QueueIndex) (raw : ℕ) (ends : List (QueueEnd 64)) → AllByRecursion (λ (end : QueueEnd 64). f (view_of end) ≡ []) ends → of_ends (device_at index raw ends) ≡ []
   devices_none (Large q) raw ends h = refl
   devices_none (Small q) raw [] h = refl

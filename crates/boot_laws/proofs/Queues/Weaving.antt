@@ -72,8 +72,7 @@ module _ (first : ℕ) (places : List Cell) (by : List (List (List ℕ))) (rest 
         (ap (λ z. joined c.own ++ z) (sym (joined_each rest)) ∙ sym (joined_both c.own (each_alone rest))) (all_append Ascending c.own (each_alone rest) c.ascend (each_ascends rest))));
   }
 
-  -- if the processors have none of the places, and the others' stretches ascend, the items are those lines, one after
-  -- the other
+  -- if the processors have no place, and the others' stretches ascend, the items are those lines, one after the other
   pub alone : joined c.own ≡ [] → (l : List Batch) → rest ≡ l → Ascending l → map item_of places ≡ concat (map line_of l)
   alone none l is up = sym whole ∙ ap (λ z. concat (map line_of z)) (one_order (map entry_of c.order) l
       (in_lists (l ∷ []) ((λ k. none k ++ is k) ∙ sym (append-nil l)) (up, tt)))

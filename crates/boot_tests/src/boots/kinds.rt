@@ -3,8 +3,7 @@
 use super::*;
 
 /// The steps of v are last, since they name y, which is stopped before its first turn. The thread x hears before v
-/// does, and w is left waiting. Three of the alarms fire and are shown, one fires while its thread waits, and one is
-/// left.
+/// does, and w is left waiting. Three alarms fire and are shown, one fires while its thread waits, and one is left.
 const SCRIPT: &str = "synthesis 3
 queue a
 pipe b 0 1

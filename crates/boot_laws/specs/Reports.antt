@@ -61,7 +61,6 @@ AreSorted lines = (i j : ℕ) (a b : Line) → slice_get lines i ≡ Some a → 
 abbrev pub IsUpTo : Line → Line → Type 0
 IsUpTo a b = (a.0.0 < b.0.0) ⊎ ((a.0.0 ≡ b.0.0) × (a.0.1 ≤ b.0.1))
 
--- the lines are in ascending order of thread and step
 abbrev pub Ascend : List Line → Type 0
 Ascend lines = (i j : ℕ) (a b : Line) → slice_get lines i ≡ Some a → slice_get lines j ≡ Some b → i < j → IsUpTo a b
 

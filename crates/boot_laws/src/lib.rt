@@ -31,11 +31,10 @@ pub fn queues_agree()
         → QueueEnded index done.by_each others q → QueueAgrees index q logs }
 {}
 
-/// Each step of a closed thread is in the logs once if its number is below the number of the thread's steps done, and
-/// else never. In each log the thread's steps are in their order. No thread's element was freed before the turns. Then
-/// a thread's element is free exactly if a log retired it, and the thread has done all its steps. No element is on a
-/// processor. A signal was shown exactly if the logs delivered it. A signal was shown or is pending exactly if a step
-/// or an alarm of the logs raised it.
+/// Each step of a closed thread is in the logs once if its number is below the thread's number of steps done, else
+/// never. In each log the thread's steps are in their order. If no thread's element was freed before the turns, it is
+/// free exactly if a log retired it, with all its steps done. No element is on a processor. A signal was shown exactly
+/// if the logs delivered it. A signal was shown or is pending exactly if a step or an alarm of the logs raised it.
 pub fn threads_agree()
     ensures { (plan : BootPlan) (logs : List (List LogEntry)) (done : Done) (c : ClosedTables) (thread : ℕ)
         (t : closed.Thread) → WorkedTogether plan logs done → FreedSpare plan done.before

@@ -31,8 +31,8 @@ pub record IsAtWork (queues : List (ClaimQueue 64)) (chains : List (ProcChain An
       → IsEndOf c device.tty.chain
   pub idle : IsIdle device.tty.chain
 
--- The device puts into small queue `raw`, at an unused end, and chains in chain `chain`, at an end that chained and ran
--- nothing. It has refused no byte and shut nothing. Its line has 64 places, and is empty
+-- The device puts lines into small queue `raw` at an unused end, and notes into chain `chain` at an end that chained
+-- and ran nothing. It has refused no byte and shut nothing. Its line has 64 places, and is empty
 pub record IsDevice (queues : List (ClaimQueue 64)) (chains : List (ProcChain AnyQuaject Queues)) (raw chain : ℕ)
     (device : Device) : Type 0 where
   pub raw_is : device.tty.index ≡ raw

@@ -19,8 +19,8 @@ use std::alloc::Global;
 /// How many bytes a device's line has room for.
 const LINE_BYTES: usize = 64;
 
-/// The device of a tty, the index of the tty's chain, and the two ends of the line from which the device pops the bytes
-/// typed.
+/// The device of a tty, the index of the tty's chain, and the two ends of the line from which the device pops typed
+/// bytes.
 #[derive(Drop)]
 pub struct Device {
     pub chain: usize,
@@ -50,8 +50,8 @@ fn split_chain_at(chains: &[Chain], stock: &mut Vec<End>, index: usize) -> End
     split_one(&chains[index], &mut stock[index])
 }
 
-// A device that puts in the small queue with the index `raw` and chains notes in the chain with the index `chain`, with
-// a new line.
+// A device that puts in the small queue with the index `raw` and chains notes in the chain with the index `chain`. Its
+// line is new.
 fn make_device(
     alloc: Global,
     queues: &[ClaimQueue<64>],
@@ -80,8 +80,8 @@ fn make_device(
     })
 }
 
-/// The device of each tty of the plan, in order, over ends that are split off the first ends of the ttys' raw queues
-/// and chains. `OutOfMemory` is returned only if an allocation was refused.
+/// The device of each tty of the plan, in order, over ends split off the first ends of the ttys' raw queues and chains.
+/// `OutOfMemory` is returned only if an allocation was refused.
 ///
 /// Conditions: the queues and chains are those that the plan asks for, each with its end. Each end can be split eight
 /// times: a plan has two ttys at most.

@@ -1,4 +1,4 @@
-//! The facts that a boot establishes at its end, from which a report needs more than the numbers.
+//! The facts that a boot establishes at its end give what its report needs besides the numbers.
 ghost use Rattle.std.specs.Prelude.{◌≡◌, ◌+◌, ◌≤◌, ℕ, List, length, Some};
 ghost use Rattle.std.specs.List.{slice_get};
 ghost use Rattle.boot_data.specs.declared.boot_plan.BootPlan.{BootPlan};

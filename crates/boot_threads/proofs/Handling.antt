@@ -1,5 +1,5 @@
--- Takings and moves of elements: what they add to the hand's own list of events, how many takings of free elements
--- there were after them, and how many elements the hand holds.
+-- Takings and moves of elements: their events in the hand's own list; the number of takings of free elements that the
+-- hand has seen; and the number of elements that it holds.
 use Rattle.boot_threads.proofs.Common.{◌≡◌, ℕ, zero, suc, ◌+◌, ◌<◌, ◌≤◌, Bool, true, false, List, [], ◌∷◌, ◌++◌, length, get_or, Ok, refl, ap, arith, ◌≢◌, ◌-◌, sym, subst, ◌∙◌, true≢false, eq-eqb, or_left, or_right, le_prop, ∥∥₁_elim, filter, if◌then◌else◌, Result, Err, Event, MoveAnswer, claim_event, free_taken, ring_of, move_by, moves_in, claims, own_takings, many_held, Moved, TookFree, PutInto, HoldsFrom, range_with_len, eqb_tells, append_assoc, append-nil, map-append, flat_map-append, Made, has, HoldsSame}
 use Rattle.std.proofs.Common.{set, ⊎_elim}
 use Rattle.std.specs.Prelude.{◌==◌}

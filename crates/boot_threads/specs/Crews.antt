@@ -9,7 +9,7 @@ module _ {S J : Type 0} where
   abbrev pub Tells : S → J → JobPromise S J → Type 0
   Tells shared job told = (told.shared.value ≡ shared) × (told.job.value ≡ job)
 
--- a relation: a thread with this promise was joined and gave this back. The types are fixed: a relation that ranges
+-- A relation: a thread with this promise was joined and gave this back. The types are fixed: a relation that ranges
 -- over types can't distinguish two values of a type
 abbrev pub Runs : Type 0 → Type 0 → Type 0 → Type 1
 Runs S J B = JobPromise S J → B → Type 0

@@ -30,8 +30,8 @@ fn next_byte<R: Wait>(rt: &R, line: &mut LineOut) -> u8
 /// with each byte, in their order. Each byte is put in the raw queue as a line of its own or counted as an overrun. For
 /// each byte, note 0 is chained, as `RawTty::interrupt` says.
 ///
-/// Conditions: the raw tty's end and index fit the queues, its chain's end is an end of the chain, and the queues are
-/// the chain's world.
+/// Conditions: the raw tty's end and index fit the queues. Its chain's end is an end of the chain. The queues are the
+/// chain's world.
 pub fn serve_device<R: Wait>(
     rt: &R,
     queues: &Queues,

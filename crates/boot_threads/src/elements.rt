@@ -103,9 +103,9 @@ fn put_all<R: Wait>(rt: &R, threads: &ThreadTable, hand: &mut Hand, ring: Ring, 
     }
 }
 
-/// Takes all free elements. Puts the first `count` elements into the ready ring, one for each thread in the order of
-/// the script, and the others into the free ring. Each try is repeated if another hand was first. The hand holds no
-/// element afterwards.
+/// Takes all free elements. Puts the first `count` elements into the ready ring, one for each thread in script order,
+/// and the others into the free ring. Each try is repeated if another hand was first. The hand holds no element
+/// afterwards.
 ///
 /// Condition: there are 64 threads at most.
 pub fn prepare<R: Wait>(rt: &R, threads: &ThreadTable, hand: Hand, count: u8) -> Hand

@@ -115,9 +115,9 @@ pub fn devices_come_back<R: Witness<Shared, Worked<G>, Work<G>>, G: Gate + Drop>
         × IsDeviceBack shared t p device input line tty }
 {}
 
-/// Each processor gave its station back, with the work that its log says on it, and its gate observed each turn of the
-/// log. Once all stations are joined to what the first had kept, the result has the shares that the first station had.
-/// It has done the work of all, and serves all processors; no element is on a processor.
+/// Condition: each processor gave its station back. Then each left on the station what its log says, and its gate
+/// observed each turn of the log. Once all stations are joined to what the first had kept, the result has the shares
+/// that the first station had. It has done the work of all, and serves all processors; no element is on a processor.
 pub fn stations_come_together<R: Witness<Shared, Worked<G>, Work<G>>, G: Gate + Drop>()
     ensures { (shared : Shared) (turns : ℕ) (gates : List G) (old new last : Parts) (posts works : List (Work G))
         (devices : List Device) (backs : List (Back G)) (came : List (Processed G))

@@ -32,7 +32,7 @@ impl<S, B, J: Job<S, B>> Promise<B> for JobPromise<S, J> {
     ghost kept_by = { λ told back. J.gives told.shared.value told.job.value back };
 }
 
-/// Joins threads of jobs of one kind, and is given the threads that could not be started. Every handle for threads is a
+/// Joins threads of jobs of one kind, and is informed of those that could not be started. Every handle for threads is a
 /// witness.
 ///
 /// `ran`, `refused` and `shown` are for contracts alone. Code that is generic over a witness knows of them only what a

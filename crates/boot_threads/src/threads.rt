@@ -50,8 +50,8 @@ where
 /// the results, in the order of the works, and the lines. If a thread can't be started, its substitute is returned and
 /// the others go on. Nothing is typed for a device that was not started. It takes no memory: all lists have room.
 ///
-/// Conditions: the works are first those of so many processors, and then those of the devices, one for each tty in the
-/// order of the plan. The lines are the other ends of the devices' lines. Each work may be done.
+/// Conditions: the works of so many processors are first, followed by those of the devices, one for each tty in plan
+/// order. The lines are the other ends of the devices' lines. Each work may be done.
 pub fn run_kernel<R, G>(
     rt: &R,
     shared: &Shared,

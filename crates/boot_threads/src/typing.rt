@@ -43,9 +43,9 @@ fn type_line<R: Wait, H, N>(rt: &R, device: &Result<H, N>, line: LineIn, tty: &P
     }
 }
 
-/// Types the bytes of each tty into its line, one tty after the other, each byte with retries if no place of the line
-/// is free. Nothing is typed if the tty's device was not started. The lines come back in `typed`, which is empty and
-/// has room for them, so it takes no memory.
+/// Types the bytes of each tty into its line, one tty after the other. Each byte is retried if no place of the line is
+/// free. Nothing is typed if the tty's device was not started. The lines come back in `typed`, which is empty and has
+/// room for them, so it takes no memory.
 ///
 /// Conditions: there is a device and a line for each tty, in their order.
 pub fn type_all<R: Wait, H, N>(

@@ -22,7 +22,7 @@ use Rattle.synth_kernel.specs.declared.ready.Ready.{Ready}
 use Rattle.synth_kernel.specs.declared.ready.Room.{Room}
 
 -- The lists are empty. They have room for the results of so many processors and of the plan's devices, for the answers
--- of closing all objects, and for the report
+-- of closing all, and for the report
 pub record HasPlaces {G : Type 0} (shared : Shared) (processors : ℕ) (room : Room G) : Type 0 where
   pub backs : (room.backs.items ≡ []) × (processors + length shared.plan.ttys ≤ vec_capacity room.backs)
   pub typed : (room.typed.items ≡ []) × (length shared.plan.ttys ≤ vec_capacity room.typed)

@@ -63,7 +63,7 @@ pub(crate) fn no_gates(alloc: Global, processors: u8) -> Result<Vec<NoGate>, Out
 ///
 /// After a fault other than `Write` nothing was written. `Memory` is returned only if the text is valid: an allocation
 /// was refused, or a thread could not be started. `Read` is returned only if the last call on the reader returned an
-/// error other than an interruption, or after 131,072 calls. `Write` is returned only if the last call on the writer
+/// error other than an interruption, or at 131,072 calls. `Write` is returned only if the last call on the writer
 /// returned an error.
 ///
 /// Condition: there are 1 to 8 processors.

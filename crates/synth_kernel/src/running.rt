@@ -25,7 +25,7 @@ pub(crate) struct Stopped<G> {
 }
 
 /// Runs a thread for each work, types the ttys' bytes meanwhile, and gathers the results. `OutOfMemory` is returned
-/// only if an allocation for the list of threads was refused, before the first starts, or if a thread could not be
+/// only if the allocation of the list of threads was refused, before the first starts, or a thread could not be
 /// started.
 ///
 /// Condition: all is ready for so many processors.

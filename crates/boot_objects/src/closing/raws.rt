@@ -22,8 +22,8 @@ fn join_raw(shared: &Shared, parts: &mut Parts, raw: usize, chain: usize, tty: R
     join_chain_at(chains, parts.chains.as_mut_slice(), chain, chain_end);
 }
 
-/// Joins the ends of all ttys' raw ttys, as the devices gave them back, to the ends of their raw queues and chains in
-/// the parts. The ends in the parts then have what all had. It takes no memory.
+/// Joins the ends of all ttys' raw ttys, as devices gave them back, to the ends of their raw queues and chains in the
+/// parts. The ends in the parts then have what all had. It takes no memory.
 ///
 /// Conditions: the parts are those of the shared objects, and the raw ttys are those of the plan's ttys, in their
 /// order.

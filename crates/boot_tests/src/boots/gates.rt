@@ -9,9 +9,9 @@ use turn_io::{Gate, Point};
 /// How often a held processor looks whether it may go on.
 const LOOKS: u32 = 10_000_000;
 
-/// Counts in one cell how often its processor is at one point, and holds the processor at another point until another
-/// cell has counted so many. It gives up after many looks, and records that. It counts the turns that have the next
-/// number and are its processor's.
+/// Counts in one cell how often its processor is at one point. Holds the processor at another point until another cell
+/// has counted so many. It gives up after many looks, and records that. It counts the turns that have the next number
+/// and are its processor's.
 #[derive(Drop)]
 struct Hold<'a> {
     p: u8,
@@ -89,8 +89,8 @@ fn boot_held<R: Threads + Wait + Sync + Abort>(
     }
 }
 
-/// The gates of two processors. The second is held until the first is at the first point, and the first is held there
-/// until the second is at the other point.
+/// The gates of two processors. The second is held until the first is at the first point. The first is held there until
+/// the second is at the other point.
 fn pair<'a>(
     alloc: Global,
     points: (Point, Point),

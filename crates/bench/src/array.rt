@@ -102,7 +102,7 @@ pub fn pair<R: Threads + Wait + Clock + Sync>(
     watch.stop(rt, sum)
 }
 
-/// Pushes the items of that many lines in two threads, each a half of them, and pops them in two others.
+/// Pushes the items of that many lines in two threads and pops them in two others, a half of them in each thread.
 pub fn four<R: Threads + Wait + Clock + Sync>(
     rt: &R,
     alloc: Global,

@@ -1,4 +1,4 @@
-//! The same loops over the kit's `ArrayQueue`, which pushes and pops item by item.
+//! The measured loops over the kit's `ArrayQueue`, which pushes and pops item by item.
 use crate::fault::Fault;
 use crate::measure::{Measured, Watch};
 use crate::waits::wait_a_little;
@@ -42,7 +42,7 @@ pub fn alone<R: Wait + Clock>(
     watch.stop(rt, sum)
 }
 
-/// Pushes an item, again while the queue is full.
+/// Pushes an item. Retries while the queue is full.
 pub fn push_one<R: Wait, T: Copy>(rt: &R, queue: &ArrayQueue<T>, item: T) {
     let backoff = Backoff::new();
     for _ in rt.forever() {
@@ -102,7 +102,7 @@ pub fn pair<R: Threads + Wait + Clock + Sync>(
     watch.stop(rt, sum)
 }
 
-/// Pushes the items of that many lines in two threads and pops them in two others, each thread a half of them.
+/// Pushes the items of that many lines in two threads and pops them in two others, a half of them in each thread.
 pub fn four<R: Threads + Wait + Clock + Sync>(
     rt: &R,
     alloc: Global,

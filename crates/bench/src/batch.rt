@@ -1,5 +1,5 @@
-//! The same loops over the batch queue, whose batches are the lines. A line is put by `try_put`. It is taken by
-//! `try_take`, into a buffer of the line's length.
+//! The measured loops over the batch queue, whose batches are the lines. A line is put by `try_put`, and taken by
+//! `try_take` into a buffer of the line's length.
 ghost use Rattle.std.specs.Prelude.{◌≡◌, ◌<◌, ◌≤◌};
 ghost use Rattle.std.specs.Thread.{IsSync};
 ghost use Rattle.batch_queue.specs.Handles.{IsEndOf};
@@ -221,7 +221,7 @@ fn take_two<R: Threads + Wait + Sync>(
     )
 }
 
-/// Puts that many lines in two threads and takes them in two others, each thread a half of them.
+/// Puts that many lines in two threads and takes them in two others, a half of them in each thread.
 pub fn four<R: Threads + Wait + Clock + Sync>(
     rt: &R,
     alloc: Global,

@@ -9,12 +9,12 @@ use std::thread::Threads;
 use std::time::Duration;
 use synth_kernel::boot_on;
 
-// How many turns each processor has where turns are measured.
+// The number of turns of each processor when turns are measured.
 fn turns_each(script: Script, processors: u8) -> u32 {
     (script.turns() / processors.max(1) as u64).min(1_000_000) as u32
 }
 
-// The time of a boot with so many turns on each processor, and what its report counts.
+// The time of a boot with so many turns on each processor, and the counts of its report.
 fn time_of<R: Threads + Wait + Clock + Sync>(
     rt: &R,
     alloc: Global,
@@ -49,7 +49,7 @@ pub fn measure_setup<R: Threads + Wait + Clock + Sync>(
     Ok(Done { time, count: 1 })
 }
 
-/// Measures a boot of the same with turns, once.
+/// Measures a boot of a script on so many processors, 1 to 8, with turns, once.
 pub fn measure_turns<R: Threads + Wait + Clock + Sync>(
     rt: &R,
     alloc: Global,
@@ -66,7 +66,7 @@ pub fn measure_turns<R: Threads + Wait + Clock + Sync>(
     Ok(Done { time, count })
 }
 
-// How many things were done that are measured: turns with a step done, lines heard, or, where no step can be done, all
+// The number of measured things that were done: turns with a step done, lines heard, or, if no step can be done, all
 // turns.
 fn done_of(script: Script, counted: Counted, turns: u64) -> Result<u64, Fault> {
     let talked = counted.said.wrapping_add(counted.heard);
@@ -81,7 +81,7 @@ fn done_of(script: Script, counted: Counted, turns: u64) -> Result<u64, Fault> {
     Ok(count)
 }
 
-// How many are done where one processor makes all turns: then each step is done at its first try.
+// The number of measured things if one processor makes all turns: then each step is done at its first try.
 fn wanted_of(script: Script, turns: u64) -> u64 {
     match script {
         Script::Pass | Script::Listen => turns,

@@ -18,7 +18,7 @@ type Chain = ProcChain<Runner>;
 
 type End = ChainEnd<Runner>;
 
-/// The world of the measured quaject, in which there is nothing.
+/// The world of the measured quaject, which is empty.
 #[derive(Drop)]
 pub struct Nothing;
 
@@ -35,7 +35,7 @@ impl Quaject for Runner {
     }
 }
 
-// Chains the note, again after Lost and Full, and serves where it got a Turn.
+// Chains the note, with retries after Lost and Full, and serves if it got a Turn.
 fn chain_one<R: Wait>(rt: &R, chain: &Chain, end: &mut End, world: &Nothing, note: u16)
     requires { IsEndOf chain.now end.old × (turn_of end.old ≡ false) × (world_of chain.now ≡ world.now) }
     ensures { IsEndOf chain.now end.new × (turn_of end.new ≡ false) }
@@ -127,7 +127,7 @@ fn chain_two<R: Threads + Wait + Sync>(
     )
 }
 
-/// Chains that many notes in two threads, each a half of them, which also run them.
+/// Chains that many notes in two threads, each a half of them. The threads also run the notes.
 pub fn pair<R: Threads + Wait + Clock + Sync>(
     rt: &R,
     alloc: Global,

@@ -172,7 +172,7 @@ fn take_two<R: Threads + Wait + Sync>(
     )
 }
 
-/// Puts that many lines in two threads and takes them in two others, each thread a half of them.
+/// Puts that many lines in two threads and takes them in two others, a half of them in each thread.
 pub fn four<R: Threads + Wait + Clock + Sync>(
     rt: &R,
     alloc: Global,

@@ -1,17 +1,17 @@
-//! Why a run has ended early.
+//! The reasons why a run ends early.
 use event_theory::OutOfMemory;
 use std::alloc::{AllocError, AllocFailed};
 use std::io;
 use std::io::ErrorKind;
 use thiserror::Error;
 
-/// Why a run has ended early.
+/// The reason why a run has ended early.
 #[derive(Debug, Drop, Error)]
 pub enum Fault {
-    /// The words are none that the program has.
+    /// The program has no such words.
     #[error("other words than those of a command")]
     Words,
-    /// There was no memory for what is measured, or a thread could not be started.
+    /// Out of memory for what is measured, or a thread could not be started.
     #[error("no memory")]
     Memory,
     /// The clock could not be read.
@@ -20,13 +20,13 @@ pub enum Fault {
     /// Standard output did not take a row.
     #[error("a row can't be written")]
     Write,
-    /// What was done doesn't add up to what was to be measured.
+    /// The work done doesn't add up to the work that was to be measured.
     #[error("something else was done than was to be measured")]
     Miscount,
 }
 
 impl Fault {
-    /// Why the words could not be read: one of them is not text, or there was no memory.
+    /// The reason why the words could not be read: one of them is not text, or there was no memory.
     pub fn of_words(error: io::Error) -> Fault {
         if error.kind() == ErrorKind::OutOfMemory {
             Fault::Memory
@@ -35,12 +35,12 @@ impl Fault {
         }
     }
 
-    /// Why a row could not be written.
+    /// The reason why a row could not be written.
     pub fn of_row(_: io::Error) -> Fault {
         Fault::Write
     }
 
-    /// Why the clock could not be read.
+    /// The reason why the clock could not be read.
     pub fn of_clock(_: io::Error) -> Fault {
         Fault::Clock
     }

@@ -1,4 +1,4 @@
-//! The figures that are measured: what each is called, how it is told, and how often it is measured.
+//! The figures that are measured: their names, their units, and the number of measurements.
 use crate::boots::{measure_setup, measure_turns};
 use crate::fault::Fault;
 use crate::measure::Done;
@@ -12,10 +12,10 @@ use std::rt::Clock;
 use std::sync::Wait;
 use std::thread::Threads;
 
-/// Of so many measurements the shortest, the middle one and the longest are told.
+/// The number of measurements, of which the shortest, the middle one and the longest are reported.
 const REPEATS: usize = 15;
 
-/// What several measurements gave, in tenths of a nanosecond for each thing that was done.
+/// The results of several measurements, in tenths of a nanosecond for each thing that was done.
 #[derive(Clone, Copy)]
 pub struct Spread {
     pub shortest: u128,
@@ -23,7 +23,7 @@ pub struct Spread {
     pub longest: u128,
 }
 
-/// What is measured, with the number of a row.
+/// The measured task, with the number of a row.
 #[derive(Clone, Copy)]
 pub enum Task {
     /// Lines of so many items.
@@ -34,28 +34,28 @@ pub enum Task {
     Passes,
     /// Boots of a script on so many processors, with no turn.
     Setup(Script),
-    /// Boots of the same with turns.
+    /// Boots of a script on so many processors, with turns.
     Turns(Script),
     /// A list of so many KiB of events.
     Replay,
 }
 
-/// How a figure is told, with the word for what is done.
+/// The unit in which a figure is reported, with the word for what is done.
 pub enum Unit {
-    /// Nanoseconds for each.
+    /// Nanoseconds for each thing.
     Each(&'static str),
-    /// How many in a second.
+    /// The number of things in a second.
     Rate(&'static str),
 }
 
-/// A figure. Its row has the name, the number, and what was measured.
+/// A figure. Its row has the name, the number, and the results.
 pub struct Figure {
     pub name: &'static str,
     pub task: Task,
     pub unit: Unit,
 }
 
-// One measurement. It is a fault where something else was done than is to be measured.
+// One measurement. It is a fault if something else was done than is to be measured.
 fn measure<R: Threads + Wait + Clock + Sync>(
     rt: &R,
     alloc: Global,

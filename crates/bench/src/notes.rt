@@ -1,4 +1,4 @@
-//! Notes and who runs them: a chain's quaject, or a thread that pops them from the kit's `ArrayQueue`.
+//! Notes, and their runner: a chain's quaject, or a thread that pops them from the kit's `ArrayQueue`.
 use crate::array::{pop_one, push_one};
 use crate::chains;
 use crate::fault::Fault;
@@ -10,7 +10,7 @@ use std::sync::Wait;
 use std::thread;
 use std::thread::Threads;
 
-/// How many notes each measurement hands over.
+/// The number of notes that each measurement hands over.
 const NOTES: u64 = 400_000;
 
 /// The number of places of a chain, and so of the queue beside it.
@@ -45,12 +45,12 @@ pub fn note_of(number: u64) -> u16 {
     (number % 1_000) as u16 + 1
 }
 
-/// How notes are handed over.
+/// The ways in which notes are handed over.
 #[derive(Clone, Copy)]
 pub enum Notes {
     /// One thread chains and runs them.
     ChainAlone,
-    /// Two threads chain them, and run them where they have the Turn.
+    /// Two threads chain them, and run them if they have the Turn.
     ChainPair,
     /// One thread pushes and pops them.
     ArrayAlone,
@@ -110,7 +110,7 @@ fn sum_to(notes: u64) -> u64 {
     sum
 }
 
-/// Measures them once.
+/// Measures the notes once.
 pub fn measure_notes<R: Threads + Wait + Clock + Sync>(
     rt: &R,
     alloc: Global,

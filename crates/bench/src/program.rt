@@ -1,4 +1,4 @@
-//! The commands of the program, and how it prints the rows.
+//! The commands of the program, and the printing of the rows.
 use crate::fault::Fault;
 use crate::figures::{Figure, Spread, Unit, spread_of};
 use crate::measure::{Tenths, each_second};
@@ -17,8 +17,8 @@ fn print_usage<R: Print>(rt: &R) -> Result<(), Fault> {
     ).map_err(Fault::of_row)
 }
 
-// Prints the row of a figure, which is so many tenths of a nanosecond for each thing done. The most of a rate is that of
-// the shortest time.
+// Prints the row of a figure, which is so many tenths of a nanosecond for each thing done. The maximum of a rate is the
+// rate at the shortest time.
 fn print_figure<R: Print>(
     rt: &R,
     figure: &Figure,
@@ -79,7 +79,7 @@ fn print_rows<R: Threads + Wait + Clock + Print + Sync>(
     Ok(())
 }
 
-// Prints the rows that the word names, and tells whether there are any.
+// Prints the rows that the word names, and returns whether there are any.
 fn print_named<R: Threads + Wait + Clock + Print + Sync>(
     rt: &R,
     alloc: Global,
@@ -95,8 +95,8 @@ fn print_named<R: Threads + Wait + Clock + Print + Sync>(
     Ok(any)
 }
 
-/// Measures and prints a row for each figure that the one word names. With no word the commands are printed, and with
-/// others too, which is a fault.
+/// Measures and prints a row for each figure that the one word names. Without a word the commands are printed. With
+/// other words they are printed too, and it is a fault.
 pub fn run_command<R: Threads + Wait + Clock + Print + Sync>(
     rt: &R,
     alloc: Global,

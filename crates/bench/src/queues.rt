@@ -10,21 +10,21 @@ use std::rt::Clock;
 use std::sync::Wait;
 use std::thread::Threads;
 
-/// How many items each measurement puts and takes: whole lines of 1, of 16 and of 64 items.
+/// The number of items that each measurement puts and takes: whole lines of 1, of 16 and of 64 items.
 const ITEMS: u64 = 960_000;
 
-/// How many threads put and take.
+/// The numbers of threads that put and take.
 #[derive(Clone, Copy)]
 pub enum Course {
     /// One thread puts and takes.
     Alone,
-    /// One puts, and another takes.
+    /// One thread puts, and another takes.
     Pair,
-    /// Two put, and two others take.
+    /// Two threads put, and two others take.
     Four,
 }
 
-/// Which queue is measured.
+/// The queue that is measured.
 #[derive(Clone, Copy)]
 pub enum Structure {
     ClaimQueue,
@@ -32,7 +32,7 @@ pub enum Structure {
     ArrayQueue,
 }
 
-// The time of so many lines, and the sum of what was taken.
+// The time of so many lines, and the sum of the items taken.
 fn time_lines<R: Threads + Wait + Clock + Sync>(
     rt: &R,
     alloc: Global,

@@ -1,4 +1,4 @@
-//! The ready ring of the thread table: elements are passed round it by several processors.
+//! The ready ring of the thread table: several processors pass elements around it.
 ghost use Rattle.std.specs.Prelude.{◌≡◌, ◌+◌, ◌*◌, ◌≤◌, IfSome, IfOk, All};
 ghost use Rattle.table_theory.specs.declared.shares.TheConstants.{MOST_GIVEN};
 ghost use Rattle.table_theory.specs.Sharing.{kept};
@@ -15,10 +15,10 @@ use std::sync::Wait;
 use std::thread::Threads;
 use thread_table::{Hand, ThreadTable};
 
-/// How many elements stand in the ring.
+/// The number of elements in the ring.
 const ELEMENTS: u8 = 64;
 
-/// How many passes each processor makes.
+/// The number of passes of each processor.
 const PASSES: u64 = 100_000;
 
 /// A processor that is to make passes, and the hand that serves it.
@@ -50,7 +50,7 @@ fn take_first<R: Wait>(rt: &R, table: &ThreadTable, hand: &mut Hand) -> Element
     unreachable!()
 }
 
-// Puts the element behind all others of the ring. False where the hand doesn't hold it.
+// Puts the element last in the ring. Returns false if the hand doesn't hold it.
 fn put_last<R: Wait>(rt: &R, table: &ThreadTable, hand: &mut Hand, element: Element) -> bool
     requires { IsHandOf table.now hand.old }
     ensures { IsSameHand hand.old hand.new }
@@ -105,7 +105,7 @@ impl Job<ThreadTable, Passed> for Passer {
     }
 }
 
-// A passer with one processor of the first hand's, which has to serve it and to have nothing there.
+// A passer with one processor of the first hand's. The first hand must serve the processor, and have no element on it.
 fn part(table: &ThreadTable, hand: &mut Hand, processor: Processor) -> Option<Passer>
     requires table { IsHandOf table.now hand.old }
     requires parts { IsDivisible hand.old }
@@ -154,7 +154,7 @@ fn parts(
     Ok(passers)
 }
 
-// How many elements stand in the ring, which no other hand uses meanwhile.
+// The number of elements in the ring, while no other hand uses the ring.
 fn count_ready(table: &ThreadTable, hand: Hand) -> u8
     requires { IsHandOf table.now hand }
 {
@@ -189,7 +189,7 @@ pub fn measure_passes<R: Threads + Wait + Clock + Sync>(
     measured.done(wanted, wanted)
 }
 
-// How many passes were made by all processors.
+// The number of passes of all processors.
 fn sum_of(backs: Vec<Result<Passed, NotStarted<ThreadTable, Passer>>>) -> u64 {
     let mut sum = 0u64;
     for back in backs {

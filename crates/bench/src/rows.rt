@@ -7,7 +7,7 @@ use crate::scripts::Script;
 
 /// Rows that are printed together: for each number a row of each figure.
 pub struct Rows {
-    /// The word that names them.
+    /// The word that names the rows.
     pub word: &'static str,
     pub numbers: &'static [u8],
     pub figures: &'static [Figure],

@@ -1,17 +1,17 @@
-//! The boot scripts that are measured, and what their reports count.
+//! The boot scripts that are measured, and the counts of their reports.
 use boot_script::parse_number;
 use std::alloc::{AllocError, Global};
 
-/// How many threads each script has.
+/// The number of threads of each script.
 pub const THREADS: u64 = 64;
 
-/// How many steps a thread can have.
+/// The maximum number of steps of a thread.
 const STEPS: u64 = 64;
 
-/// How many items the line `hi` has with its end.
+/// The number of items of the line `hi` with its end.
 const ITEMS: u64 = 3;
 
-/// What the threads of a script do.
+/// The work of the threads of a script.
 #[derive(Clone, Copy)]
 pub enum Script {
     /// Each thread has 64 steps that do nothing.
@@ -22,12 +22,12 @@ pub enum Script {
     Listen,
 }
 
-/// What a report counts.
+/// The counts of a report.
 #[derive(Clone, Copy)]
 pub struct Counted {
     /// The threads that it lists.
     pub threads: u64,
-    /// The steps that they have done.
+    /// The steps that the threads have done.
     pub steps: u64,
     /// The lines that were put in all queues.
     pub said: u64,
@@ -50,7 +50,7 @@ impl Script {
         Ok(text)
     }
 
-    // The step of one thread, which it has again and again.
+    // The step of one thread, which the thread repeats.
     fn step(self, alloc: Global, thread: u64) -> Result<String, AllocError> {
         match self {
             Script::Pass => "pass\n".to_string(alloc),
@@ -59,7 +59,7 @@ impl Script {
         }
     }
 
-    // How many steps a thread has.
+    // The number of steps of a thread.
     fn steps(self) -> u64 {
         match self {
             Script::Pass | Script::Talk => STEPS,
@@ -76,7 +76,7 @@ impl Script {
         Ok(())
     }
 
-    /// How many turns do all steps of all threads, where each is done at its first try.
+    /// The number of turns that do all steps of all threads, if each is done at its first try.
     pub fn turns(self) -> u64 {
         match self {
             Script::Pass | Script::Talk => THREADS * STEPS,
@@ -85,7 +85,7 @@ impl Script {
     }
 }
 
-// The step of a thread that talks: those of even numbers say, and those of odd numbers hear.
+// The step of a thread that talks: a thread with an even number says, and one with an odd number hears.
 fn talked(alloc: Global, thread: u64) -> Result<String, AllocError> {
     let queue = thread / 2 % 8;
     if thread % 2 == 0 {
@@ -95,7 +95,7 @@ fn talked(alloc: Global, thread: u64) -> Result<String, AllocError> {
     }
 }
 
-// The number in this place of a line, where one stands there.
+// The number in this place of a line, or 0 if there is none.
 fn number_at(line: &[u8], place: usize) -> u64 {
     match line.split(|byte| *byte == b' ').nth(place) {
         Some(word) => parse_number(word, u64::MAX).unwrap_or(0),
@@ -103,7 +103,7 @@ fn number_at(line: &[u8], place: usize) -> u64 {
     }
 }
 
-/// What a report counts, of threads and of queues of the line `hi`.
+/// The counts of a report, by its lines of threads and of queues of the line `hi`.
 pub fn counts_of(report: &[u8]) -> Counted {
     let mut counted = Counted {
         threads: 0,

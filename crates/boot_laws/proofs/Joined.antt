@@ -1,4 +1,4 @@
--- What stations that were joined, one behind the other, have and did.
+-- The shares and the work of stations that were joined, one after the other.
 use Rattle.boot_laws.proofs.Common.{◌≡◌, ℕ, zero, suc, List, [], ◌∷◌, ◌++◌, map, refl, sym, ap, ◌∙◌, append_assoc, append-nil, flat_map, subst, slice_index_or, Some, AllZip, AllByRecursion, BootPlan, Parts, Account, account, ◌⊕◌, LogEntry, FollowsPlan, Leaves, sum_of, AreJoined, AllJoined, heard_lines, Done, WorkedTogether, total_of}
 use Rattle.std.specs.List.{slice_get}
 use Rattle.thread_table.specs.Handles.{view_of}
@@ -31,7 +31,7 @@ zip_maps R f g h (x ∷ xs) (y ∷ ys) z = λ k. h x y z.0 k ∷ zip_maps R f g 
 
 -- JOINS
 
--- what each join puts one behind the other, all joins do
+-- what each join appends, all joins append in sequence
 pub joined_lists : {E : Type 0} (f : Parts → List E) → ((a b c : Parts) → AreJoined a b c → f c ≡ f a ++ f b)
     → (first : Parts) (stations : List Parts) (last : Parts) → AllJoined first stations last → f last ≡ f first ++ flat_map f stations
 joined_lists f one first [] last j = ap f j ∙ sym (append-nil (f first))

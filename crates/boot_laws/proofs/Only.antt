@@ -27,7 +27,7 @@ if_off : {A : Type 0} (rest x : A) (b : Bool) → (if b then true else false) �
 if_off rest x true h = absurd (cc)
 if_off rest x false h = refl
 
--- where it isn't the queue, it is the rest
+-- at any other queue it is the rest
 pub only_off : {A : Type 0} (rest x : A) (queue index : QueueIndex) → only false queue true index ≡ false → only rest queue x index ≡ rest
 only_off rest x (Small a) (Small b) h = if_off rest x (b == a) h
 only_off rest x (Small a) (Large b) h = refl

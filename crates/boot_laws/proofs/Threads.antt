@@ -87,7 +87,7 @@ module _ (plan : BootPlan) (logs : List (List LogEntry)) (done : Done) (w : Work
   settled : Settles (behind begun (total_of logs).hand) e.told.places e.told.pcs e.told.pending
   settled = subst (λ (t : Tally). Settles t e.told.places e.told.pcs e.told.pending) (ap (λ (a : Account). a.hand) (all_did plan logs done w)) e.settles
 
-  -- each step of an element was done once, up to as many as the table tells
+  -- each step of an element was done once, up to the number of steps in the table
   pub once : (x n : ℕ) → x < 64 → count_by (same_key (x, n)) (total_of logs).hand.done ≡ (if nat_lt n (slice_index_or e.told.pcs x 0) then 1 else 0)
   once x n low = steps_of_rest begun (total_of logs).hand e.told.places e.told.pcs e.told.pending settled x low refl n
 

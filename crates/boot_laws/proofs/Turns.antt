@@ -17,8 +17,8 @@ use Rattle.processor.specs.Accounts.{nothing}
 use Rattle.processor.specs.Doings.{chains_by, ticks_by}
 use Rattle.processor.specs.Entries.{beginning, having, IsOver}
 
--- No free element was taken; what was shown of an element is what was delivered to it; no alarm was set or cancelled; and
--- each note stands in a list of its own
+-- No free element was taken; what was shown of an element is what was delivered to it; no alarm was set or cancelled;
+-- and each note is in a list of its own
 pub record Works (a : Account) : Type 0 where
   pub taken : a.hand.taken ≡ []
   pub shown : (element signal : ℕ) → nat_lt element 64 ≡ true → nat_lt signal 16 ≡ true → a.shown element signal ≡ is_delivered a.hand.delivered element signal
@@ -115,7 +115,7 @@ all_work [] = rests
 all_work (entry ∷ log) = both (entry_account entry) (sum_of log)
     (both (tending entry.tended) (outcome_account entry.outcome entry.line) (tended entry.tended) (came entry.outcome entry.line)) (all_work log)
 
--- what was put behind the free elements had done all its steps
+-- each element that was put into the free ring had done all its steps
 module _ (plan : BootPlan) where
   retired_done : (moved : Bool) (element number : ℕ) → length (program plan element) ≤ number → AllByRecursion (HasDoneAll plan) (retired moved element number).retired
   retired_done true element number h = (h, tt)

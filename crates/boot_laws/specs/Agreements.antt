@@ -1,4 +1,4 @@
--- How the closed tables agree with the plan and with what the processors did.
+-- Agreement of the closed tables with the plan and with the work of the processors.
 use Rattle.std.specs.Prelude.{◌≡◌, ◌≤◌, ◌<◌, ◌+◌, ◌%◌, ◌==◌, ◌||◌, ℕ, Bool, true, false, nat_lt}
 use Rattle.std.specs.Prelude.{if◌then◌else◌, List, [], ◌∷◌, ◌++◌, length, map, take}
 use Rattle.std.specs.Prelude.{flat_map, Option, Some, None, count_by}
@@ -38,27 +38,27 @@ use Rattle.boot_laws.specs.Totals.{total_of}
 
 -- THREADS
 
--- The steps done are the first so many of the thread's program, each done once, whichever processor did it; and those
--- that one processor did, it did in their order
+-- The steps done are the first `steps` of the thread's program, each done once, by any processor. Each processor did
+-- its steps of the thread in their order
 pub record StepsAgree (plan : BootPlan) (thread steps : ℕ) (logs : List (List LogEntry)) : Type 0 where
   pub prefix : steps ≤ length (program plan thread)
   pub once : (number : ℕ) → count_by (same_key (thread, number)) (total_of logs).hand.done
       ≡ (if nat_lt number steps then 1 else 0)
   pub order : AllByRecursion (λ log. Climbs (numbers_done log thread) 0 steps) logs
 
--- A thread's element is among the free ones exactly where a processor retired it, and it has then done all its steps;
--- none stands on a processor
+-- A free element was retired by a processor, and its thread has done all its steps. An element at any other place was
+-- not retired. No element is on a processor
 abbrev pub PlaceAgrees : Place → ℕ → ℕ → Bool → Type 0
 PlaceAgrees places.Free steps all retired = (steps ≡ all) × (retired ≡ true)
 PlaceAgrees (places.Processor p) steps all retired = ⊥
 PlaceAgrees place steps all retired = retired ≡ false
 
--- whether the processors put the thread's element behind the free ones
+-- whether a processor put the thread's element into the free ring
 abbrev pub was_retired : ℕ → List (List LogEntry) → Bool
 was_retired thread logs = list_any (λ (key : Key). key.0 == thread) (total_of logs).hand.retired
 
--- Its steps were done in order, and its element is where they leave it. A signal was shown exactly where the processors
--- delivered it to the thread; and it was shown, or is pending, exactly where a done step or a fired alarm raised it
+-- The thread's steps were done in order, and its element's place fits them. A signal was shown exactly if the
+-- processors delivered it. It was shown or is pending exactly if a done step or a fired alarm raised it
 pub record ThreadAgrees (plan : BootPlan) (thread : ℕ) (t : closed.Thread) (logs : List (List LogEntry)) : Type 0 where
   pub ran : StepsAgree plan thread t.steps logs
   pub place : PlaceAgrees t.place t.steps (length (program plan thread)) (was_retired thread logs)
@@ -68,16 +68,16 @@ pub record ThreadAgrees (plan : BootPlan) (thread : ℕ) (t : closed.Thread) (lo
 
 -- QUEUES
 
--- The items are lines one behind the other: those of each of the lists in the list's order, and the others wherever
--- they are, each line once
+-- The items are these lines in some order, joined, each line once. The lines of each of the lists are in the list's
+-- order; the others may be anywhere
 pub record IsWoven (items : List ℕ) (lists : List (List (List ℕ))) (others : List (List ℕ)) : Type 0 where
   pub order : List (List ℕ)
   pub whole : concat order ≡ items
   pub woven : Interleaves order (lists ++ map (λ line. line ∷ []) others)
 
--- The lines that each processor put are those of its log, and so are the lines that it took; cut by claim, the items
--- put are the lines put, each once, and cut by taking, the items taken are the lines taken, each once: those of each
--- processor stand in both in the order of its log. No more is left than the queue has places
+-- Each processor put and took the lines of its log. Cut by claim, the items put are the lines put, each once. Cut by
+-- taking, the items taken are the lines taken, each once. In both, each processor's lines are in the order of its log.
+-- No more items are left than the queue has places
 pub record QueueAgrees (index : QueueIndex) (q : closed.Queue) (logs : List (List LogEntry)) : Type 0 where
   pub behind : q.taken ≤ length q.items
   pub within : length q.items ≤ q.taken + room_of index
@@ -92,7 +92,7 @@ source_of (any.Cooked tty) = tty.raw.index
 source_of (any.Pump pump) = pump.source.index
 source_of (any.Switch switch) = switch.source.index
 
--- the lines that it took from the queue
+-- the lines that the quaject of this chain took from the queue
 abbrev pub taken_from : QueueIndex → closed.Chain → List (List ℕ)
 taken_from index chain = only [] (Small (source_of chain.quaject)) (all_taken chain.quaject) index
 
@@ -109,18 +109,18 @@ targets (any.Pump pump) = (Small pump.target.index, lines_put (view_of (pumps.ta
 targets (any.Switch switch) =
     (Small switch.other.index, lines_put (view_of (switches.other_of switch))) ∷ flat_map way_target switch.ways
 
--- the lines that it put in the queue
+-- the lines that the quaject of this chain put in the queue
 abbrev pub put_in : QueueIndex → closed.Chain → List (List ℕ)
 put_in index chain = flat_map (λ target. only [] target.0 target.1 index) (targets chain.quaject)
 
 -- TTYS
 
--- it is a cooked tty over these three queues
+-- the quaject is a cooked tty over these three queues
 abbrev pub IsTty : ℕ → ℕ → ℕ → AnyQuaject → Type 0
 IsTty raw line screen (any.Cooked tty) = (tty.raw.index ≡ raw) × (tty.line.index ≡ line) × (tty.screen.index ≡ screen)
 IsTty raw line screen quaject = ⊥
 
--- the runs of so many notes as it counts, and nothing else, made the quaject of one that had done nothing
+-- so many notes as the quaject counts, and nothing else, made it from a quaject that had done nothing
 pub record MadeOfNew (quaject : AnyQuaject) : Type 0 where
   pub first : AnyQuaject
   pub none_taken : all_taken first ≡ []
@@ -133,8 +133,8 @@ pub record MadeOfNew (quaject : AnyQuaject) : Type 0 where
   pub made : MadeOf first quaject notes
   pub all : notes_of quaject ≡ length notes
 
--- The device popped what the plan types; the raw items put are these bytes, in their order, without those refused; and
--- the cooked tty, which its notes alone ran, kept its law
+-- The device popped the bytes that the plan types. The items put in the raw queue are these bytes, in their order,
+-- without the refused ones. The cooked tty is over the tty's queues, was run only by its notes, and kept its law
 pub record TtyAgrees (queues tty : ℕ) (p : PlannedTty) (t : closed.Chain) (d : closed.Device) (raw : closed.Queue)
     : Type 0 where
   pub typed : d.popped ≡ p.typed
@@ -150,15 +150,15 @@ abbrev pub routes_of : Option Way → List (ℕ × ℕ)
 routes_of None = []
 routes_of (Some way) = (way.key, way.outlet.index) ∷ []
 
--- it is the pump or switch of the plan, over its queues and with its keys
+-- the quaject is the pump or switch of the plan, over its queues and with its keys
 abbrev pub IsMover : Mover → AnyQuaject → Type 0
 IsMover (movers.Pump from to) (any.Pump pump) = (pump.source.index ≡ from) × (pump.target.index ≡ to)
 IsMover (movers.Switch from other ways) (any.Switch switch) = (switch.source.index ≡ from)
     × (switch.other.index ≡ other) × (flat_map routes_of switch.ways ≡ map (λ way. (way.key, way.to)) ways)
 IsMover mover quaject = ⊥
 
--- its notes alone ran it; the lines that it took are those that it put, each where it belongs, and the one held; and
--- the notes that it ran and those left in its chain are, by number, those that the done pokes chained
+-- The plan's pump or switch was run only by its notes. The lines taken are those put, each where it belongs, and the
+-- line held. The notes run and left are together as many as the done pokes chained
 pub record MoverAgrees (mover : ℕ) (planned : Mover) (m : closed.Chain) (logs : List (List LogEntry)) : Type 0 where
   pub its : IsMover planned m.quaject
   pub made : MadeOfNew m.quaject
@@ -172,7 +172,7 @@ abbrev pub GaugesAgree : List ℕ → List (List LogEntry) → Type 0
 GaugesAgree gauges logs = (gauge value : ℕ) → slice_get gauges gauge ≡ Some value
     → value ≡ amount_on gauge (total_of logs).meters.ticks % u64_values
 
--- the alarms of the plan are fired or left, each once, and the processors fired those fired
+-- each alarm of the plan is fired or left, as often as the plan sets it; the processors fired the fired alarms
 pub record AlarmsAgree (plan : BootPlan) (c : ClosedTables) (logs : List (List LogEntry)) : Type 0 where
   pub each : (alarm : Alarm) → times alarm plan.alarms ≡ times alarm c.fired + times alarm c.left
   pub by : c.fired ≡ (total_of logs).meters.fired

@@ -1,4 +1,4 @@
--- All that a boot knows at its end.
+-- The facts that a boot establishes at its end.
 use Rattle.std.specs.Prelude.{◌≡◌, ◌<◌, ℕ, true, List, ◌++◌, length, flat_map, Some, IsPermutation}
 use Rattle.std.specs.List.{slice_get, AllByRecursion, AllZip}
 use Rattle.boot_data.specs.declared.boot_plan.BootPlan.{BootPlan}
@@ -22,8 +22,8 @@ use Rattle.boot_laws.specs.Endings.{MetersEnded, home_at, device_at}
 use Rattle.boot_laws.specs.Lines.{Says}
 use Rattle.boot_laws.specs.Reports.{Ascend}
 
--- what was done; what came home of the pumps and switches, and behind them of the cooked ttys; and the ends of raw
--- queues that the devices had
+-- the work done; the quajects that came home, the pumps and switches first and then the cooked ttys; and the devices'
+-- ends of raw queues
 pub record Boot : Type 0 where
   pub done : Done
   pub homes : List Home
@@ -34,9 +34,9 @@ abbrev pub others_at : BootPlan → Boot → (index : QueueIndex) → List (Queu
 others_at plan boot index =
     device_at index (length plan.queues) boot.raws ++ flat_map (home_at index) boot.homes
 
--- The processors did what their logs say, behind the preparing of the threads, and then all was closed. Where a log was
--- told that a queue is shut, a processor shut it. What was heard, by thread and by step, is in the report, which says
--- what the closing showed
+-- After the threads were prepared, the processors did what their logs say. Then all objects were closed. If a log
+-- reports that a queue is shut, a processor shut it. The lines heard, in order of thread and step, are in the report,
+-- which says the numbers of the closed tables
 pub record BootEnded (plan : BootPlan) (logs : List (List LogEntry)) (boot : Boot) (c : ClosedTables)
     (heard : List Line) (r : Report) : Type 0 where
   pub worked : WorkedTogether plan logs boot.done

@@ -1,4 +1,4 @@
--- What the closing of a boot's tables showed, as plain data.
+-- Results of closing a boot's tables, as plain data.
 use Rattle.std.specs.Prelude.{ℕ, List, Option}
 use Rattle.std.specs.List.{slice_get}
 use Rattle.boot_data.specs.declared.plan.QueueIndex.{QueueIndex}
@@ -8,8 +8,8 @@ use Rattle.thread_table.specs.declared.places.Place.{Place}
 use Rattle.quajects.specs.declared.any.AnyQuaject.{AnyQuaject}
 pub use Rattle.boot_objects.specs.DeviceEndings.{Device}
 
--- A queue: the items put, in the order of their claims, and how many were taken; the lines that each processor put and
--- took, in the order of its steps, and those that quajects and devices did
+-- A queue: the items put, in the order of their claims, and the number of items taken; the lines that each processor
+-- put and took, in the order of its steps; the lines that quajects and devices put and took
 pub record Queue : Type 0 where
   pub items : List ℕ
   pub taken : ℕ
@@ -18,7 +18,7 @@ pub record Queue : Type 0 where
   pub taken_by : List (List (List ℕ))
   pub taken_by_others : List (List ℕ)
 
--- a thread: where its element stands, its steps done, and the signals that are pending and those that were shown
+-- a thread: the place of its element, its steps done, its pending signals and the signals that were shown to it
 pub record Thread : Type 0 where
   pub place : Place
   pub steps : ℕ
@@ -30,8 +30,8 @@ pub record Chain : Type 0 where
   pub quaject : AnyQuaject
   pub left : ℕ
 
--- the small queues and the large, the threads, the pumps and switches, the cooked ttys and their devices, the gauges,
--- and the alarms that fired and those left
+-- the small and large queues, the threads, the pumps and switches, the cooked ttys and their devices, the gauges, and
+-- the alarms fired and left
 pub record ClosedTables : Type 0 where
   pub small : List Queue
   pub large : List Queue
@@ -43,6 +43,6 @@ pub record ClosedTables : Type 0 where
   pub fired : List Alarm
   pub left : List Alarm
 
--- the queue that the plan names so
+-- the queue with this index, if there is one
 abbrev pub queue_at : ClosedTables → QueueIndex → Option Queue
 queue_at c = by_index (slice_get c.small) (slice_get c.large)

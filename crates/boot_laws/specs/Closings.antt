@@ -1,4 +1,4 @@
--- The closed tables of a boot as plain data: made of what closing gave, and of the ends that were joined.
+-- The closed tables of a boot as plain data, made from the results of closing and from the ends that were joined.
 use Rattle.std.specs.Prelude.{◌+◌, ◌-◌, ◌&&◌, Bool, ℕ, zero, suc, not, nat_lt, if◌then◌else◌, List, []}
 use Rattle.std.specs.Prelude.{◌∷◌, map, take, drop}
 use Rattle.std.specs.Prelude.{length, flat_map, slice_index_or}
@@ -30,7 +30,7 @@ use Rattle.table_theory.specs.Positioned.{blank}
 abbrev pub lies_in : ℕ → Batch → Bool
 lies_in p run = not (nat_lt p run.start) && nat_lt p (run.start + length run.places)
 
--- the item at the position: that of the run in which it lies
+-- the item at the position: the item of the first run in which the position lies
 abbrev pub item_at : List Batch → ℕ → ℕ
 item_at [] p = 0
 item_at (run ∷ runs) p =
@@ -54,7 +54,7 @@ queue_of plan boot index end shut = record {
   taken_by_others = flat_map lines_taken (map view_of (others_at plan boot index));
 }
 
--- the queues from this number on, each made of the end that closed it
+-- the queues from this number on, each made from the end that closed it
 abbrev pub queues_from : {n : ℕ} → (ℕ → QueueEnd n → ShutQueue n → closed.Queue) → ℕ → List (QueueEnd n)
     → List (ShutQueue n) → List closed.Queue
 queues_from make number [] shuts = []
@@ -63,7 +63,7 @@ queues_from make number (end ∷ ends) (shut ∷ shuts) = make number end shut �
 
 -- QUAJECTS
 
--- the closed chains: each quaject with what was left in its chain
+-- the closed chains: each quaject with the number of notes left in its chain
 abbrev pub chains_of : List AnyQuaject → List Home → List closed.Chain
 chains_of [] homes = []
 chains_of (quaject ∷ quajects) [] = []
@@ -72,7 +72,7 @@ chains_of (quaject ∷ quajects) (home ∷ homes) =
 
 -- ALL
 
--- The closed tables of this boot, by what closing gave: the quajects that came home, and what the devices did
+-- the closed tables of this boot, by the results of closing, the quajects that came home, and the devices' results
 abbrev pub closed_of : BootPlan → Boot → Unmade → List AnyQuaject → List closed.Device → ClosedTables
 closed_of plan boot ended quajects devices = record {
   small = queues_from (λ q. queue_of plan boot (Small q)) 0 ended.small_ends.value.items ended.small.items;

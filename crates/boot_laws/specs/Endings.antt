@@ -1,4 +1,4 @@
--- What a boot knows once its processors have returned and its tables are closed.
+-- The facts that a boot knows once its processors have returned and its tables are closed.
 use Rattle.std.specs.Prelude.{◌≡◌, ◌≤◌, ◌+◌, ◌%◌, ℕ, List, [], ◌∷◌, ◌++◌, map, take, length, flat_map}
 use Rattle.std.specs.Prelude.{Option, Some, None, slice_index_or}
 use Rattle.std.specs.List.{slice_get, concat, AllByRecursion}
@@ -38,15 +38,15 @@ use Rattle.boot_laws.specs.Totals.{total_of}
 
 -- PROCESSORS
 
--- what was done in a boot: before its processors had turns, by each of them, and in all
+-- the work done in a boot: before its processors had turns, by each of them, and in all
 pub record Done : Type 0 where
   pub before : Account
   pub by_each : List Account
   pub in_all : Account
 
--- Each entry of the logs follows the plan, and in each log the numbers of a thread's steps climb. Each processor did
--- what its log comes to. Before that, the threads were prepared of 64 free elements, and all that was done is this, and
--- then what the logs come to
+-- Each entry of the logs follows the plan. In each log the numbers of a thread's steps climb. Before the turns, the
+-- threads were prepared from 64 free elements. Each processor did what its log comes to. All that was done is the
+-- preparing, followed by what the logs come to
 pub record WorkedTogether (plan : BootPlan) (logs : List (List LogEntry)) (done : Done) : Type 0 where
   pub planned : AllByRecursion (AllByRecursion (FollowsPlan plan)) logs
   pub climb : (thread : ℕ) → AllByRecursion (λ log. (high : ℕ) × Climbs (numbers_done log thread) 0 high) logs
@@ -57,11 +57,11 @@ pub record WorkedTogether (plan : BootPlan) (logs : List (List LogEntry)) (done 
 
 -- THREADS
 
--- the elements that were put behind the free ones are no thread's
+-- the elements that were put into the free ring are no thread's
 abbrev pub FreedSpare : BootPlan → Account → Type 0
 FreedSpare plan did = AllByRecursion (λ (freed : Key). length plan.threads ≤ freed.0) did.hand.retired
 
--- the thread with this number, as the closed table tells, and with the signals that were shown
+-- the thread with this number, by the closed table and the signals that were shown
 abbrev pub thread_of : Places → List ℕ → ℕ → closed.Thread
 thread_of told signals thread = record {
   place = slice_index_or told.places thread places.Held;
@@ -70,8 +70,8 @@ thread_of told signals thread = record {
   shown = slice_index_or signals thread 0;
 }
 
--- What was done comes to what the closing of the table told, and nothing stands on a processor. The closed threads are
--- as the table told, with the signals that were shown
+-- The work done comes to the table's places, steps and pending signals, and to the signals shown. No element is on a
+-- processor. At most 64 threads are closed, each as the table and the signals have it
 pub record ThreadsEnded (did : Account) (c : ClosedTables) : Type 0 where
   pub told : Places
   pub signals : List ℕ
@@ -84,8 +84,8 @@ pub record ThreadsEnded (did : Account) (c : ClosedTables) : Type 0 where
 
 -- QUEUES
 
--- The stretches of each processor, which stand in the order of its log and are these lines, and those of the others:
--- one behind the other they have these places, from this position on, each place once
+-- Each processor has stretches that are these lines, in ascending order. These stretches and those of the others, in
+-- some order, cover the places from position `first` on, each place once
 pub record AreCovered (first : ℕ) (places : List Cell) (by : List (List (List ℕ))) (others : List Batch) : Type 0 where
   pub own : List (List Batch)
   pub lines : map (map line_of) own ≡ by
@@ -93,8 +93,8 @@ pub record AreCovered (first : ℕ) (places : List Cell) (by : List (List (List 
   pub order : List (Owned Batch)
   pub listed : IsListed first places order ((joined own ++ others) ∷ [])
 
--- The queue is closed, and the processors' ends and these others were all its ends. Their claims have all its places,
--- their takings the first of them, which were taken; no more are left than the queue has places
+-- The queue is closed; its ends were the processors' ends and these others. Their claims cover all its places, their
+-- takings the first places, which were taken. No more items are left than the queue has places
 pub record QueueEnded (index : QueueIndex) (by_each : List Account) (others : List (QueueEnd (room_of index)))
     (q : closed.Queue) : Type 0 where
   pub first : ℕ
@@ -115,13 +115,13 @@ ends_at number [] = []
 ends_at number (None ∷ ports) = ends_at number ports
 ends_at number (Some port ∷ ports) = at_one [] port.index (port.end ∷ []) number ++ ends_at number ports
 
--- the ends of the queue that came home
+-- the ends of the queue that came home with a quaject
 abbrev pub home_at : (index : QueueIndex) → Home → List (QueueEnd (room_of index))
 home_at (Small q) home = ends_at q home.small
 home_at (Large q) home = ends_at q home.large
 
--- the ends of the queue that devices had, where these are their ends of the raw queues, the first of which has this
--- number
+-- the ends of the queue that devices had; `ends` are the devices' ends of the raw queues, the first of which has the
+-- number `raw`
 abbrev pub device_at : (index : QueueIndex) → ℕ → List (QueueEnd 64) → List (QueueEnd (room_of index))
 device_at (Large q) raw ends = []
 device_at (Small q) raw [] = []
@@ -129,8 +129,8 @@ device_at (Small q) raw (end ∷ ends) = at_one [] raw (end ∷ []) q ++ device_
 
 -- QUAJECTS
 
--- The quaject came home of its closed chain with these ends. Its notes alone made it of one that had done nothing, it
--- kept its law and its sides, and no note was left
+-- The quaject came home from its closed chain with these ends. Only its notes made it, from a quaject that had done
+-- nothing. It kept its law and its sides, and no note was left
 pub record ChainEnded (home : Home) (chain : closed.Chain) : Type 0 where
   pub ports : PortsOf chain.quaject (home.small, home.large)
   pub of_new : MadeOfNew chain.quaject
@@ -138,14 +138,14 @@ pub record ChainEnded (home : Home) (chain : closed.Chain) : Type 0 where
   pub sides : KeepsSides chain.quaject
   pub none_left : chain.left ≡ 0
 
--- the pump or switch with this number is the plan's, and ran as many notes as were chained to it
+-- the pump or switch is the plan's, and ran as many notes as were chained in the chain with this number
 pub record MoverEnded (number : ℕ) (p : PlannedMover) (did : Account) (m : closed.Chain) : Type 0 where
   pub of_plan : IsMover p.mover m.quaject
   pub ran : notes_of m.quaject ≡ length (concat (did.chains number).notes)
 
 -- METERS
 
--- the gauges are the sums of the ticks; each alarm that was set was fired, cancelled or is left, and these were fired
+-- the gauges sum the ticks, modulo 2^64; each alarm set was fired, was cancelled or is left; `c.fired` are those fired
 pub record MetersEnded (did : Account) (c : ClosedTables) : Type 0 where
   pub gauges : (gauge value : ℕ) → slice_get c.gauges gauge ≡ Some value
       → value ≡ amount_on gauge did.meters.ticks % u64_values

@@ -1,4 +1,4 @@
--- What the lines of a report say of the plan and of the closed tables.
+-- The lines of a report, in terms of the plan and of the closed tables.
 use Rattle.std.specs.Prelude.{◌≡◌, ◌+◌, ◌*◌, ℕ, List, [], length, take, drop, Option, Some, None}
 use Rattle.std.specs.List.{slice_get, sum_by}
 use Rattle.boot_data.specs.declared.boot_plan.BootPlan.{BootPlan}
@@ -32,7 +32,7 @@ use Rattle.boot_data.specs.Hearing.{Line, NamedLine}
 use Rattle.boot_laws.specs.ClosedTables.{ClosedTables}
 use Rattle.boot_laws.specs.ClosedTables as closed
 
--- the numbers are those of the items put, taken and left
+-- these counts are the numbers of items put, taken and left
 pub record Counts (q : closed.Queue) (counts : ItemCounts) : Type 0 where
   pub put : counts.put ≡ length q.items
   pub taken : counts.taken ≡ length (take q.taken q.items)
@@ -47,7 +47,7 @@ pub record QueueSaid (p : PlannedQueue) (q : closed.Queue) (line : QueueLine) : 
   pub name : line.name ≡ p.name
   pub items : Counts q line.items
 
--- the bytes popped and refused, and of the cooked tty the notes run and the bytes held
+-- the line has the bytes popped and refused, and the cooked tty's notes run and bytes held
 pub record TtySaid (p : PlannedTty) (c : closed.Chain) (d : closed.Device) (lines : TtyLines) : Type 0 where
   pub name : lines.name ≡ p.name
   pub typed : lines.typed ≡ length d.popped
@@ -55,7 +55,7 @@ pub record TtySaid (p : PlannedTty) (c : closed.Chain) (d : closed.Device) (line
   pub notes : lines.notes ≡ notes_of c.quaject
   pub held : lines.held ≡ length (held_of c.quaject)
 
--- the counts of the three queues of the tty with this number, where the plan has so many queues and pipes
+-- the lines have the counts of the three queues of the tty with this number; the plan has `queues` queues and pipes
 pub record TtyQueuesSaid (queues tty : ℕ) (c : ClosedTables) (lines : TtyLines) : Type 0 where
   pub raw : (q : closed.Queue) → slice_get c.small (raw_queue queues tty) ≡ Some q → Counts q lines.raw
   pub line : (q : closed.Queue) → slice_get c.large (line_queue tty) ≡ Some q → Counts q lines.line
@@ -65,7 +65,7 @@ abbrev pub kind_of_mover : Mover → MoverKind
 kind_of_mover (movers.Pump from to) = Pump
 kind_of_mover (movers.Switch from other ways) = Switch
 
--- the notes run, the items taken and put, and those held
+-- the line has the notes run, the items taken and put, and the items held
 pub record MoverSaid (p : PlannedMover) (c : closed.Chain) (line : MoverLine) : Type 0 where
   pub kind : line.kind ≡ kind_of_mover p.mover
   pub name : line.name ≡ p.name
@@ -78,13 +78,13 @@ pub record GaugeSaid (name : List ℕ) (value : ℕ) (line : GaugeLine) : Type 0
   pub name_is : line.name ≡ name
   pub value_is : line.value ≡ value
 
--- the alarms set, those fired and those left
+-- the counts are the numbers of alarms set, fired and left
 pub record AlarmsSaid (plan : BootPlan) (c : ClosedTables) (counts : AlarmCounts) : Type 0 where
   pub set : counts.set ≡ length plan.alarms
   pub fired : counts.fired ≡ length c.fired
   pub left : counts.left ≡ length c.left
 
--- the word for a place
+-- the report's word for a place
 abbrev pub state_for : Place → ThreadState
 state_for places.Free = states.Ended
 state_for places.Ready = states.Ready
@@ -103,13 +103,13 @@ abbrev pub name_in : Option PlannedThread → List ℕ
 name_in None = []
 name_in (Some thread) = thread.name
 
--- a heard line names its thread and its step
+-- a heard line has the name of its thread, the number of its step, and the bytes heard
 pub record HeardSaid (plan : BootPlan) (heard : Line) (line : NamedLine) : Type 0 where
   pub thread : line.thread ≡ name_in (slice_get plan.threads heard.0.0)
   pub step : line.step ≡ heard.0.1
   pub bytes : line.bytes ≡ heard.1
 
--- as many lines of each kind as the plan has things, and as many closed tables
+-- the report has a line for each thing of the plan, and there is a closed table for each
 pub record AreWhole (plan : BootPlan) (c : ClosedTables) (r : Report) : Type 0 where
   pub queues : length r.queues ≡ length plan.queues
   pub ttys : length r.ttys ≡ length plan.ttys
@@ -123,7 +123,7 @@ pub record AreWhole (plan : BootPlan) (c : ClosedTables) (r : Report) : Type 0 w
   pub all_gauges : length c.gauges ≡ length plan.gauges
   pub all_threads : length c.threads ≡ length plan.threads
 
--- The report says the numbers of the closed tables: each list in the order of the plan, with its names
+-- the report says the numbers of the closed tables: each list in the order of the plan, with the plan's names
 pub record Says (plan : BootPlan) (c : ClosedTables) (heard : List Line) (r : Report) : Type 0 where
   pub whole : AreWhole plan c r
   pub queues : (number : ℕ) (p : PlannedQueue) (q : closed.Queue) (line : QueueLine)

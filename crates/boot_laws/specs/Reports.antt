@@ -1,4 +1,4 @@
--- The report of a boot, and how it agrees with the plan, the closed tables and what the processors did.
+-- The report of a boot, and its agreement with the plan, the closed tables and the work of the processors.
 use Rattle.std.specs.Prelude.{◌≡◌, ◌⊎◌, ◌<◌, ◌≤◌, ℕ, List, Some, flat_map}
 use Rattle.std.specs.Prelude.{IsPermutation, length, ◌++◌}
 use Rattle.std.specs.List.{slice_get, AllByRecursion}
@@ -19,14 +19,14 @@ use Rattle.boot_laws.specs.Lines.{Says}
 use Rattle.boot_laws.specs.Saying.{IsLeftOpen, IsNeverShut}
 use Rattle.boot_laws.specs.Totals.{total_of}
 
--- it is a queue or pipe of the plan, or a line or screen queue: no raw queue
+-- the queue is a queue or pipe of the plan, or a line or screen queue, not a raw queue
 abbrev pub IsNoRaw : BootPlan → QueueIndex → Type 0
 IsNoRaw plan (Small q) = q < length plan.queues
 IsNoRaw plan (Large q) = Unit {0}
 
--- The closed tables agree with the plan and with the processors' logs. In a queue or pipe of the plan, and in a line or
--- screen queue, put only the processors and the quajects; what is in a raw queue is what its device put. No say and no
--- hear is told that its queue is shut but where a step shut that; and no step can shut a large queue
+-- The closed tables agree with the plan and with the processors' logs. Only processors and quajects took lines, and
+-- only they put lines in queues other than raw queues. The items of a raw queue were put by its device. If no step shut
+-- a queue, no log reports that the queue is shut. No note is left in a chain
 pub record TablesAgree (plan : BootPlan) (c : ClosedTables) (logs : List (List LogEntry)) : Type 0 where
   pub planned : AllByRecursion (AllByRecursion (FollowsPlan plan)) logs
   pub threads : (thread : ℕ) (t : closed.Thread) → slice_get c.threads thread ≡ Some t
@@ -48,23 +48,24 @@ pub record TablesAgree (plan : BootPlan) (c : ClosedTables) (logs : List (List L
   pub alarms : AlarmsAgree plan c logs
   pub none_left : (chain : closed.Chain) (k : ℕ) → slice_get (c.movers ++ c.ttys) k ≡ Some chain → chain.left ≡ 0
 
--- by thread, and then by step
+-- line a is before line b: by thread, and then by step
 abbrev pub IsBefore : Line → Line → Type 0
 IsBefore a b = (a.0.0 < b.0.0) ⊎ ((a.0.0 ≡ b.0.0) × (a.0.1 < b.0.1))
 
+-- the lines are in strictly ascending order of thread and step
 abbrev pub AreSorted : List Line → Type 0
 AreSorted lines = (i j : ℕ) (a b : Line) → slice_get lines i ≡ Some a → slice_get lines j ≡ Some b → i < j
     → IsBefore a b
 
--- the same, or at the same thread and step
+-- line a is before line b, or at the same thread and step
 abbrev pub IsUpTo : Line → Line → Type 0
 IsUpTo a b = (a.0.0 < b.0.0) ⊎ ((a.0.0 ≡ b.0.0) × (a.0.1 ≤ b.0.1))
 
 abbrev pub Ascend : List Line → Type 0
 Ascend lines = (i j : ℕ) (a b : Line) → slice_get lines i ≡ Some a → slice_get lines j ≡ Some b → i < j → IsUpTo a b
 
--- The report: the closed tables agree with the plan and the logs, and it says their numbers; its heard lines are those
--- of the logs, each once, by thread and then by step
+-- The report: the closed tables agree with the plan and the logs, and the report says their numbers. Its heard lines
+-- are the lines heard in the logs, each once, by thread and then by step. It reports no note as left
 pub record IsReport (plan : BootPlan) (c : ClosedTables) (logs : List (List LogEntry)) (heard : List Line) (r : Report)
     : Type 0 where
   pub tables : TablesAgree plan c logs

@@ -1,4 +1,4 @@
--- The lines that a plan says, and those that the logs say of it.
+-- The lines that a plan says, and the lines that the logs say of the plan.
 use Rattle.std.specs.Prelude.{◌≡◌, ℕ, Bool, true, false, not, List, [], ◌∷◌, flat_map, count_by, Some, IsPermutation}
 use Rattle.std.specs.List.{AllByRecursion}
 use Rattle.boot_data.specs.declared.boot_plan.BootPlan.{BootPlan}
@@ -23,11 +23,11 @@ abbrev pub says_to : QueueIndex → Step → List (List ℕ)
 says_to index (steps.Say queue text) = only [] queue (said_line text ∷ []) index
 says_to index step = []
 
--- the lines of all steps of the plan that say to it
+-- the lines of all steps of the plan that say to the queue
 abbrev pub all_said : BootPlan → QueueIndex → List (List ℕ)
 all_said plan index = flat_map (λ (thread : PlannedThread). flat_map (says_to index) thread.steps) plan.threads
 
--- no say and no hear of the logs was told that the queue is shut
+-- no say and no hear of the logs reports that the queue is shut
 abbrev pub IsNeverShut : QueueIndex → List (List LogEntry) → Type 0
 IsNeverShut index logs = AllByRecursion (λ log. was_shut log index ≡ false) logs
 
@@ -48,7 +48,7 @@ abbrev pub is_ended : ThreadState → Bool
 is_ended states.Ended = true
 is_ended state = false
 
--- a thread that isn't ended is live
+-- a thread that has not ended is live
 abbrev pub is_live : ThreadLine → Bool
 is_live line = not (is_ended line.state)
 
@@ -56,6 +56,6 @@ is_live line = not (is_ended line.state)
 abbrev pub live_threads : Report → ℕ
 live_threads r = count_by is_live r.threads
 
--- none is live
+-- no thread of the report is live
 abbrev pub AllEnded : Report → Type 0
 AllEnded r = live_threads r ≡ 0

@@ -1,6 +1,6 @@
-//! The report of a boot, and how it agrees with the plan, the closed tables and what the processors did.
+//! The report of a boot, and its agreement with the plan, the closed tables and the work of the processors.
 //!
-//! There is no running code here but laws: functions with empty bodies, whose contracts name what is proved.
+//! The code consists of laws: functions with empty bodies, whose contracts name what is proved.
 #![tactic(auto)]
 
 ghost use Rattle.std.specs.Prelude.{◌≡◌, ◌<◌, ℕ, List, length, Some};
@@ -23,19 +23,18 @@ ghost use Rattle.boot_laws.specs.Endings.{ChainEnded, MoverEnded};
 ghost use Rattle.boot_laws.specs.Reports.{IsReport};
 ghost use Rattle.boot_laws.specs.Saying.{AllEnded, IsNeverClosed, IsNeverShut, IsSaid};
 
-/// A queue that was closed by all its ends has the lines that the processors' logs tell, in their order; and cut by
-/// claim, and by taking, the lines of the processors and of the others, each once.
+/// A queue that was closed by all its ends has the lines that the processors' logs say, in their order. Cut by claim,
+/// and by taking, its items are the lines of the processors and of the others, each once.
 pub fn queues_agree()
     ensures { (plan : BootPlan) (logs : List (List LogEntry)) (done : Done) (index : QueueIndex)
         (others : List (QueueEnd (room_of index))) (q : closed.Queue) → WorkedTogether plan logs done
         → QueueEnded index done.by_each others q → QueueAgrees index q logs }
 {}
 
-/// Each step of a closed thread stands once in the logs where it is below the number of its steps done, and else never,
-/// and in each log its steps stand in their order. Where no thread's element was freed before, a thread is among the
-/// free elements exactly where it was retired in a log, and it has then done all its steps; none stands on a
-/// processor. A signal was shown exactly where the logs delivered it, and was shown or is pending exactly where a step
-/// or an alarm of them raised it.
+/// Each step of a closed thread is in the logs once if its number is below the thread's number of steps done, else
+/// never. In each log the thread's steps are in their order. If no thread's element was freed before the turns, it is
+/// free exactly if a log retired it, with all its steps done. No element is on a processor. A signal was shown exactly
+/// if the logs delivered it. A signal was shown or is pending exactly if a step or an alarm of the logs raised it.
 pub fn threads_agree()
     ensures { (plan : BootPlan) (logs : List (List LogEntry)) (done : Done) (c : ClosedTables) (thread : ℕ)
         (t : closed.Thread) → WorkedTogether plan logs done → FreedSpare plan done.before
@@ -43,8 +42,8 @@ pub fn threads_agree()
         → ThreadAgrees plan thread t logs }
 {}
 
-/// The gauges of closed meters are the sums of the ticks of the logs, and the alarms of the plan are those that the
-/// logs fired and those left, each once.
+/// The gauges of closed meters are the sums of the ticks of the logs. The alarms of the plan are those that the logs
+/// fired and those left, each once.
 pub fn meters_agree()
     ensures gauges { (plan : BootPlan) (logs : List (List LogEntry)) (done : Done) (c : ClosedTables)
         → WorkedTogether plan logs done → MetersEnded done.in_all c → GaugesAgree c.gauges logs }
@@ -52,30 +51,30 @@ pub fn meters_agree()
         → WorkedTogether plan logs done → MetersEnded done.in_all c → AlarmsAgree plan c logs }
 {}
 
-/// The pump or switch that came home from a closed chain is the plan's and has kept its law, and it ran as many notes
-/// as the logs have done pokes of it.
+/// The pump or switch that came home from a closed chain is the plan's and has kept its law. It ran as many notes as
+/// the logs have done pokes of it.
 pub fn movers_agree()
     ensures { (plan : BootPlan) (logs : List (List LogEntry)) (done : Done) (number : ℕ) (p : PlannedMover)
         (home : Home) (m : closed.Chain) → WorkedTogether plan logs done → ChainEnded home m
         → MoverEnded number p done.in_all m → MoverAgrees number p.mover m logs }
 {}
 
-/// What a boot knows at its end makes its report agree with the plan, the closed tables and the logs.
+/// The facts that a boot establishes at its end make its report agree with the plan, the closed tables and the logs.
 pub fn reports_agree()
     ensures { (plan : BootPlan) (logs : List (List LogEntry)) (boot : Boot) (c : ClosedTables) (heard : List Line)
         (r : Report) → BootEnded plan logs boot c heard r → IsReport plan c logs heard r }
 {}
 
-/// Where no thread of an agreeing report is live, and no say to the queue was told that it is shut, the lines that the
-/// logs said to it are those of the plan's steps, each once.
+/// Conditions: no thread of an agreeing report is live, and no say to the queue reports that it is shut. Then the lines
+/// that the logs said to the queue are those of the plan's steps, each once.
 pub fn all_are_said()
     ensures { (plan : BootPlan) (c : ClosedTables) (logs : List (List LogEntry)) (heard : List Line) (r : Report)
         (index : QueueIndex) → IsReport plan c logs heard r → AllEnded r → IsNeverShut index logs
         → IsSaid plan index logs }
 {}
 
-/// Where no thread of an agreeing report is live, the lines that the logs said to a queue which no step of the plan
-/// shuts are those of the plan's steps, each once. No step shuts a large queue.
+/// Conditions: no thread of an agreeing report is live, and no step of the plan shuts the queue; no step shuts a large
+/// queue. Then the lines that the logs said to the queue are those of the plan's steps, each once.
 pub fn ended_boots_said_all()
     ensures { (plan : BootPlan) (c : ClosedTables) (logs : List (List LogEntry)) (heard : List Line) (r : Report)
         (index : QueueIndex) (q : closed.Queue) → IsReport plan c logs heard r → AllEnded r → queue_at c index ≡ Some q

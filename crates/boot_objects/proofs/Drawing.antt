@@ -52,7 +52,7 @@ module _ {A B C : Type 0} (R : A → B → C → Type 0) where
       let s : d.used ≡ others = sym (append-nil d.used) ∙ (ap (λ z. d.used ++ z) (sym no_rest) ∙ d.second) in
       subst (λ z. AllThree R z others made) f (subst (λ z. AllThree R drawn z made) s d.each)
 
-  -- the next two fit, where both lists have one image
+  -- the next two elements fit, if both lists have the same image
   pub next_fit : {D : Type 0} (f : B → D) (g : A → D) (all : List A) (others : List B) (drawn left : List A) (rest : List B) (made : List C) (a : A) (left' : List A) (b : B) (rest' : List B)
       → map f others ≡ map g all → Drawn R all others drawn left rest made → left ≡ a ∷ left' → rest ≡ b ∷ rest' → f b ≡ g a
   next_fit f g all others drawn left rest made a left' b rest' e d is is' = behind drawn d.used (sym (three_long drawn d.used made d.each).0)

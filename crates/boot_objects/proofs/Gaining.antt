@@ -9,7 +9,7 @@ use Rattle.proc_chain.specs.Notes as notes
 use Rattle.turn_io.specs.EndLists.{end_knows_shut, knows_shut_at, chain_end_puts, chain_end_takes}
 use Rattle.turn_io.proofs.Places.{grown_at, known_still}
 
--- what is at a place by one form is there by the other
+-- a property of the element at a place, in the form of `slice_get`, holds in the form of `get_or` too
 pub its_own : {A : Type 0} (P : A → Type 0) (list : List A) (index : ℕ) (x : A) → index < length list → ((y : A) → slice_get list index ≡ Some y → P y) → x ≡ get_or list index x → P x
 its_own P list index x below its is = its x (slice_get-get_or list index x below ∙ ap Some (sym is))
 

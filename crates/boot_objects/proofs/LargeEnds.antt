@@ -1,4 +1,4 @@
--- What the kind of a quaject tells of its ends.
+-- The ends of a quaject, by its kind.
 use Rattle.boot_objects.proofs.Common.{◌≡◌, ℕ, refl, Mover, AnyQuaject, quaject_shares, Large}
 use Rattle.boot_data.specs.declared.plan.Mover.TheVariants as mover
 use Rattle.quajects.specs.declared.any.AnyQuaject.TheVariants as any

@@ -6,7 +6,7 @@ use Rattle.boot_objects.proofs.Dealing.{gave_both}
 use Rattle.boot_objects.proofs.Summed.{shares_push}
 
 module _ {A : Type 0} where
-  -- what is read behind a push is the old element, or the new one
+  -- an element read after a push is the old element, or the new one
   pub each_pushed : (P : ℕ → A → Type 0) (xs new : List A) (x : A) → new ≡ xs ++ x ∷ [] → ((i : ℕ) (y : A) → slice_get xs i ≡ Some y → P i y) → P (length xs) x → (i : ℕ) (y : A) → slice_get new i ≡ Some y → P i y
   each_pushed P xs new x is h p i y e = go P xs h p i y (subst (λ (z : List A). slice_get z i ≡ Some y) is e)
     where

@@ -13,7 +13,7 @@ use Rattle.boot_data.specs.PlanLimits.{IsPlan, IsMoverOf, IsWayOf, AreApart, man
 use Rattle.event_theory.proofs.Lists.Placed.{all_at}
 use Rattle.boot_objects.specs.Makings.{IsThere}
 
--- a way has none of the keys that stand before
+-- a way has none of the keys that are before it
 behind : (keys : List ℕ) (ways : List Way) → AreApart keys ways → (i : ℕ) (a : Way) → slice_get ways i ≡ Some a → AllByRecursion (λ key. a.key ≢ key) keys
 behind keys [] h i a e = cc
 behind keys (w ∷ ways) h zero a e = let same : w ≡ a = cc in subst (λ (z : Way). AllByRecursion (λ key. z.key ≢ key) keys) same h.0

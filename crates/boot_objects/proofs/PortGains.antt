@@ -1,4 +1,4 @@
--- The ends of ports are joined to a list of ends, one behind the other.
+-- The ends of ports are joined to a list of ends, one after the other.
 use Rattle.boot_objects.proofs.Common.{◌≡◌, ℕ, zero, suc, Bool, true, false, List, [], ◌∷◌, ◌++◌, Some, None, sym, ap, subst, ◌∙◌, arith, ◌==◌, if◌then◌else◌, Option, flat_map, flat_map-cons, ClaimQueue, QueueEnd, Did, nothing_did, did_both, Stake, no_stake, both_stakes, stake, stakes, at_each, AddsUp, dids_add, stakes_add, each_adds, Port, AllUp, Home, Gained, port_stakes}
 use Rattle.std.specs.List.{All}
 use Rattle.std.proofs.lemmas.List.{flat_map_more}

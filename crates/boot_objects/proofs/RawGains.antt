@@ -1,4 +1,4 @@
--- The ends of raw ttys are joined to the parts, one raw tty behind the other.
+-- The ends of raw ttys are joined to the parts, one raw tty after the other.
 use Rattle.boot_objects.proofs.Common.{◌≡◌, ℕ, ◌+◌, ◌<◌, List, [], ◌∷◌, ◌++◌, length, refl, sym, ap, subst, ◌∙◌, arith, Some, Option, slice_get, QueueEnd, Stake, AtQueue, idle_queue, both_queue, no_stake, both_stakes, at_each, at_one, AddsUp, OnEnd, queues_add, stakes_add, each_adds, ChainEnd, Ghosts, Shared, Parts, Port, RawTty, port, Gained, ChainsGained, note_stake, note_stakes, raw_ports, raw_notes, TookRaws}
 use Rattle.processor.specs.RawEnds.{IsRawAt}
 use Rattle.event_theory.proofs.Keeping.Places.{slice_get_set_other}
@@ -56,7 +56,7 @@ raws_more raw chain xs x a b c h k = record {
 pub raws_none : (raw chain : ℕ) (a : Parts) → TookRaws raw chain [] a a
 raws_none raw chain a = record { small = gained_none a.small.items; chains = sym (adds.none_last (note_stakes a.chains.items)); before = λ q low. refl; rest = refl }
 
--- the next of a list stands behind those that were drawn
+-- the next of a list is after those that were drawn
 pub next_at : {A : Type 0} (xs : List A) (x : A) (ys all : List A) → xs ++ x ∷ ys ≡ all → slice_get all (length xs) ≡ Some x
 next_at xs x ys all e = ap (λ z. slice_get z (length xs)) (sym e) ∙ here xs
   where
@@ -64,7 +64,7 @@ next_at xs x ys all e = ap (λ z. slice_get z (length xs)) (sym e) ∙ here xs
     here [] = refl
     here (z ∷ zs) = here zs
 
--- the same at other numbers
+-- the joins of raw ttys at equal indexes
 pub took_at : (raw raw' chain chain' : ℕ) (ttys : List RawTty) (a b : Parts) → raw' ≡ raw → chain' ≡ chain → TookRaws raw' chain' ttys a b → TookRaws raw chain ttys a b
 took_at raw raw' chain chain' ttys a b e e' h = subst (λ (z : ℕ). TookRaws z chain ttys a b) e (subst (λ (z : ℕ). TookRaws raw' z ttys a b) e' h)
 

@@ -11,7 +11,7 @@ module _ {A : Type 0} (of : A → Shares) where
   pub shares_push : (xs : List A) (x : A) → all_shares of (xs ++ x ∷ []) ≡ both_shares (all_shares of xs) (of x)
   shares_push xs x = shares_append xs (x ∷ []) ∙ ap (both_shares (all_shares of xs)) (shares_add.none_last (of x))
 
-  -- where none has any of it, they have none
+  -- if no member of a list has a share of it, they have none together
   pub none_together : (pick : Shares → ℕ) → pick no_shares ≡ 0 → ((s t : Shares) → pick (both_shares s t) ≡ pick s + pick t) → ((x : A) → pick (of x) ≡ 0) → (xs : List A) → pick (all_shares of xs) ≡ 0
   none_together pick none adds each [] = none
   none_together pick none adds each (x ∷ xs) = let e = adds (of x) (all_shares of xs) in let f = each x in let h = none_together pick none adds each xs in omega (arith, e, f, h)
@@ -36,7 +36,8 @@ all_ends queues chains all small large ends = record { each_queue = each; each_c
     each (Small q) l = small q l
     each (Large q) l = large q l
 
--- where the owner's ends and the rest have all ends, and it has the only hand and the only seat, both have all
+-- if the owner's ends and the rest are all ends, and the owner has the only hand and the only seat, both together have
+-- all
 pub owner_whole : (shared : Shared) (parts : Parts) (rest : Shares) → rest.hand ≡ 0 → rest.meters ≡ 0 → AreAllEnds shared.queues shared.chains.items (both_shares (end_shares parts.small.items parts.large.items parts.chains.items) rest)
     → IsOnlyHand parts.hand → IsOnlySeat parts.meters → AreWhole shared (both_shares (shares parts) rest)
 owner_whole shared parts rest none none' ends hand seat = record {

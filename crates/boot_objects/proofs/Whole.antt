@@ -73,7 +73,7 @@ module _ {g : Ghosts AnyQuaject Queues} {n : ℕ} (ports_of : Home → List (Opt
       ∙ (ap (λ (f : ℕ → Stake Did). (f q).share) (stakes_append (ports_of z) (flat_map ports_of zs))
       ∙ (λ i. (share_of_ports (ports_of z) q ∙ (its z q ∙ ap (λ (s : Shares). s.queues (at q)) (posts_are (chains.opening_of x) (map post_at z.small, map post_at z.large) h.0.posts))) i + came_shares xs ys zs h.1 q i))
 
-  -- where all that had a part came home, the ends have the whole
+  -- if the quajects that came home had the rest of each queue, the ends have the whole
   pub all_whole : (list : List (ProcChain AnyQuaject Queues)) (ends : List (ChainEnd AnyQuaject Queues g)) (homes : List Home) (old new : List (QueueEnd n)) → HaveRetired list ends homes
       → ((q : ℕ) → q < length new → IsWhole ((stakes old q).share + (opening_shares list).queues (at q))) → Gained (flat_map ports_of homes) old new → All IsOnlyEnd new
   all_whole list ends homes old new h whole gained = only_by_share new (λ q l. sym (share_is new q) ∙ (ap (λ (f : ℕ → Stake Did). (f q).share) gained.stakes_are

@@ -9,7 +9,7 @@ module _ {A B : Type 0} (R : A → B → Type 0) where
   zip_weaker S f (x ∷ xs) [] h = absurd h
   zip_weaker S f (x ∷ xs) (y ∷ ys) h = (f x y h.0, zip_weaker S f xs ys h.1)
 
-  -- so it does of the elements of the one, and of those of the other
+  -- a property that R gives of each element of one list holds of all elements of that list
   pub zip_first : (P : A → Type 0) → ((x : A) (y : B) → R x y → P x) → (xs : List A) (ys : List B) → AllZip R xs ys → All P xs
   zip_first P f [] [] h = All-nil P
   zip_first P f [] (y ∷ ys) h = absurd h
@@ -28,7 +28,7 @@ module _ {A B : Type 0} (R : A → B → Type 0) where
   zip_same f g e (x ∷ xs) [] h = absurd h
   zip_same f g e (x ∷ xs) (y ∷ ys) h = λ i. e x y h.0 i ∷ zip_same f g e xs ys h.1 i
 
-  -- what each has that is the same for all is at each place
+  -- if a value is the same for all elements, the mapped list has it at each place
   pub zip_each : {C : Type 0} (g : B → C) (d : C) → ((x : A) (y : B) → R x y → g y ≡ d) → (xs : List A) (ys : List B) → AllZip R xs ys → (q : ℕ) → get_or (map g ys) q d ≡ d
   zip_each g d e [] [] h q = refl
   zip_each g d e [] (y ∷ ys) h q = absurd h

@@ -13,9 +13,9 @@ use Rattle.turn_io.specs.EndLists.{HasRaised, end_puts, end_takes, end_shuts}
 use Rattle.turn_io.specs.Splits.{AllThree}
 
 module _ {n : ℕ} where
-  -- The queue is closed, and this was its only end, which has the lines of all. The items put are the lines that it
-  -- put, each once; the first of them are the lines that it took, each once; where it has raised all that it claimed,
-  -- the others are left; and nobody shut the queue twice
+  -- The queue is closed by its only end, which has the lines of all. The items put are the lines that the end put, each
+  -- once. The first of the items are the lines that the end took, each once. If the end has raised all that it claimed,
+  -- the other items are left. The end shut the queue at most once
   pub record IsClosed (queue : ClaimQueue n) (end : QueueEnd n) (closed : Closed n) : Type 0 where
     pub starts : closed.first ≡ first_of queue
     pub now : ClosedNow (view_of end) closed.first closed.put closed.taken closed.left.items
@@ -30,8 +30,8 @@ module _ {n : ℕ} where
   abbrev pub AreClosed : List (ClaimQueue n) → List (QueueEnd n) → List (Closed n) → Type 0
   AreClosed queues ends closed = AllThree IsClosed queues ends closed
 
-  -- The ends of the queues gained those at these ports, have raised all that they claimed where they had, and closed
-  -- their queues
+  -- The ends of the queues gained the ends at these ports, and closed their queues. If all ends had raised all that
+  -- they claimed, they have at the close too
   pub record HaveClosed (ports : List (Option (Port n))) (queues : List (ClaimQueue n)) (ends last : List (QueueEnd n))
       (closed : List (Closed n)) : Type 0 where
     pub gained : Gained ports ends last

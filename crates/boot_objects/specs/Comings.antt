@@ -1,4 +1,4 @@
--- What comes home of quajects.
+-- The ends that come home with quajects.
 use Rattle.std.specs.Prelude.{◌≡◌, ℕ, List, Option}
 use Rattle.std.specs.List.{flat_map}
 use Rattle.boot_objects.specs.Gains.{port_stakes}
@@ -15,7 +15,7 @@ FitsHome world home = AllFit world.small.items home.small × AllFit world.large.
 abbrev pub small_ports : List Home → List (Option (Port 64))
 small_ports homes = flat_map (λ (home : Home). home.small) homes
 
--- the same of large queues
+-- the ends of large queues that came home, home by home
 abbrev pub large_ports : List Home → List (Option (Port 256))
 large_ports homes = flat_map (λ (home : Home). home.large) homes
 

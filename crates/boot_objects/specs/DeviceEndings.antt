@@ -1,4 +1,4 @@
--- What a tty's device did, once it has returned.
+-- The work of a tty's device, once the device has returned.
 use Rattle.std.specs.Prelude.{◌≡◌, ◌⊎◌, ◌+◌, ℕ, List, [], ◌∷◌}
 use Rattle.std.specs.List.{concat}
 use Rattle.boot_data.specs.declared.plan.PlannedTty.{PlannedTty}
@@ -13,15 +13,15 @@ pub record Device : Type 0 where
   pub popped : List ℕ
   pub refused : ℕ
 
--- these are the bytes, in their order, without the refused ones
+-- the items are these bytes, in their order, without as many of them as were refused
 abbrev pub AreWithout : List ℕ → ℕ → List ℕ → Type 0
 AreWithout [] refused items = (items ≡ []) × (refused ≡ 0)
 AreWithout (b ∷ bytes) refused items =
     ((rest : List ℕ) × (items ≡ b ∷ rest) × AreWithout bytes refused rest)
     ⊎ ((fewer : ℕ) × (refused ≡ fewer + 1) × AreWithout bytes fewer items)
 
--- A device popped the bytes typed, and put all but those refused at its end of the raw queue, one behind the other; it
--- took nothing there, and shut nothing
+-- A device popped the bytes typed, and put all except the refused ones at its end of the raw queue, in order. The
+-- device took nothing from the raw queue, and did not shut it
 pub record DeviceEnded (p : PlannedTty) (raw : QueueEnd 64) (d : Device) : Type 0 where
   pub popped : d.popped ≡ p.typed
   pub put : AreWithout d.popped d.refused (concat (lines_put (queues.view_of raw)))

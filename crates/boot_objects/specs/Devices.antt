@@ -22,7 +22,7 @@ use Rattle.boot_objects.specs.declared.device.Device.{Device}
 use Rattle.boot_objects.specs.Shares.{device_shares, all_shares}
 use Rattle.boot_objects.specs.Stocks.{Gave, IsStock, IsChainStock, shares, chain_shares}
 
--- its ends are those of the queue and the chain that it names
+-- the ends of the device are ends of the queue and of the chain that it names, and its end of the chain is idle
 pub record IsAtWork (queues : List (ClaimQueue 64)) (chains : List (ProcChain AnyQuaject Queues)) (device : Device)
     : Type 0 where
   pub end : IsEndAt queues device.tty.index (end_of device.tty)
@@ -31,8 +31,8 @@ pub record IsAtWork (queues : List (ClaimQueue 64)) (chains : List (ProcChain An
       → IsEndOf c device.tty.chain
   pub idle : IsIdle device.tty.chain
 
--- The device puts in the small queue with this index, at an end that has done nothing, and tells the chain with that
--- index, at an end that has chained and run nothing. It has refused no byte. Its line has 64 places, and is empty
+-- The device puts lines into small queue `raw` at an unused end, and notes into chain `chain` at an end that chained
+-- and ran nothing. It has refused no byte and shut nothing. Its line has 64 places, and is empty
 pub record IsDevice (queues : List (ClaimQueue 64)) (chains : List (ProcChain AnyQuaject Queues)) (raw chain : ℕ)
     (device : Device) : Type 0 where
   pub raw_is : device.tty.index ≡ raw
@@ -47,12 +47,12 @@ pub record IsDevice (queues : List (ClaimQueue 64)) (chains : List (ProcChain An
   pub input : IsNewIn 64 device.input
   pub output : IsNewOut 64 device.output
 
--- it is the device of the tty with this number
+-- the device is that of the tty with this number
 abbrev pub IsDeviceOf : BootPlan → Queues → List (ProcChain AnyQuaject Queues) → ℕ → Device → Type 0
 IsDeviceOf plan queues chains tty device =
     IsDevice queues.small.items chains (raw_queue (length plan.queues) tty) (length plan.movers + tty) device
 
--- there is one for each tty of the plan, in their order
+-- there is one device for each tty of the plan, in the order of the ttys
 pub record AreDevicesOf (plan : BootPlan) (queues : Queues) (chains : List (ProcChain AnyQuaject Queues))
     (devices : List Device) : Type 0 where
   pub number : length devices ≡ length plan.ttys
@@ -60,8 +60,8 @@ pub record AreDevicesOf (plan : BootPlan) (queues : Queues) (chains : List (Proc
       → IsDeviceOf plan queues chains tty device
 
 module _ {g : Ghosts AnyQuaject Queues} where
-  -- An end of the chain with this index was split off, and has done nothing. It has a part of the share of the one in
-  -- the stock, which has the rest
+  -- An idle end of the chain with this index was split off. The new end has chained and run nothing. It has a part of
+  -- the share of the stock's end, and the stock's end has the rest
   pub record ChainSplitOff (chains : List (ProcChain AnyQuaject Queues)) (index : ℕ)
       (old new : List (ChainEnd AnyQuaject Queues g)) (end : ChainEnd AnyQuaject Queues g) : Type 0 where
     pub stock : IsChainStock chains new
@@ -71,7 +71,7 @@ module _ {g : Ghosts AnyQuaject Queues} where
     pub takes : chain_end_takes end ≡ []
     pub gave : Gave 1 (at_one 0 index (chain_end_share end)) (chain_shares old) (chain_shares new)
 
-  -- it is such a device, and its ends were split off
+  -- the device has these indexes, and its ends were split off from the stocks
   pub record MadeDevice (queues : List (ClaimQueue 64)) (chains : List (ProcChain AnyQuaject Queues)) (raw chain : ℕ)
       (small small' : List (QueueEnd 64)) (ends ends' : List (ChainEnd AnyQuaject Queues g)) (device : Device)
       : Type 0 where
@@ -81,7 +81,7 @@ module _ {g : Ghosts AnyQuaject Queues} where
     pub gave : Gave 1 (λ q. (device_shares device).queues (Small q)) (shares small) (shares small')
     pub chain_gave : Gave 1 (device_shares device).chains (chain_shares ends) (chain_shares ends')
 
-  -- they are the devices of so many ttys, from the first on
+  -- these are the devices of the first `many` ttys of the plan, and their ends were split off from the stocks
   pub record MadeDevices (plan : BootPlan) (queues : Queues) (chains : List (ProcChain AnyQuaject Queues)) (many : ℕ)
       (small small' : List (QueueEnd 64)) (ends ends' : List (ChainEnd AnyQuaject Queues g)) (made : List Device)
       : Type 0 where

@@ -1,4 +1,4 @@
--- What closing all tells.
+-- The results of closing all objects.
 use Rattle.std.specs.Prelude.{◌≡◌, ◌<◌, ℕ, false}
 use Rattle.std.specs.List.{All}
 use Rattle.boot_objects.specs.declared.closing.all.Unmade.{Unmade}
@@ -16,9 +16,9 @@ use Rattle.thread_table.specs.Closings.{ClosedNow}
 use Rattle.thread_table.specs.Handles.{view_of, call_of}
 use Rattle.thread_table.specs.Rules.{has}
 
--- The chains were closed, and their quajects came home, with the numbers that they had; the queues' ends gained what
--- those had, and then the queues, the thread table and the meters were closed, each by its last end, which was one of
--- these objects. No element is held where the hand holds none. The rest is as it was
+-- The chains were closed, and their quajects came home with their numbers. The queues' ends gained the quajects' ends.
+-- Then the queues, the thread table and the meters were closed, each by its last end, one of these parts. If the hand
+-- holds no element, none is held at the close. All else is as it was
 pub record AllClosed (shared : Shared) (parts : Parts) (ended : Unmade) : Type 0 where
   pub its : ArePartsOf shared parts
   pub last : ended.last.value ≡ parts

@@ -1,4 +1,4 @@
--- What ends of a list gain by others that are joined to them.
+-- The ends of a list gain the work and the shares of other ends that are joined to them.
 use Rattle.std.specs.Prelude.{◌≡◌, ℕ, true, List, [], ◌∷◌, map, slice_index_or, Option, Some, None}
 use Rattle.claim_queue.specs.declared.ends.QueueEnd.{QueueEnd}
 use Rattle.claim_queue.specs.declared.rule.Did.{Did}
@@ -11,34 +11,34 @@ use Rattle.proc_chain.specs.declared.quaject.Quaject.{Ghosts}
 use Rattle.quajects.specs.declared.ports.Port.{Port}
 
 module _ {n : ℕ} where
-  -- what the end at a port has of the queue q: what it claimed and took there, its shuts and its share
+  -- the stake of the end at a port in the queue q: its claims and takings there, its shuts and its share
   abbrev pub port_stake : Option (Port n) → ℕ → Stake Did
   port_stake None q = no_stake nothing_did
   port_stake (Some port) q = at_one (no_stake nothing_did) port.index (stake port.end) q
 
-  -- what the ends at these ports have of it together, port by port
+  -- the stakes in the queue q of the ends at these ports together
   abbrev pub port_stakes : List (Option (Port n)) → ℕ → Stake Did
   port_stakes [] q = no_stake nothing_did
   port_stakes (port ∷ ports) q = both_stakes did_both (port_stake port q) (port_stakes ports q)
 
-  -- The ends at these ports were joined to those of their queues: the end of each queue has what it had and what those
-  -- had, and knows still that its queue is shut where it did
+  -- The ends at these ports were joined to the ends of their queues. Each queue's end has its old stake and the stakes
+  -- of the ports. If it knew that its queue is shut, it knows it still
   pub record Gained (ports : List (Option (Port n))) (old new : List (QueueEnd n)) : Type 0 where
     pub stakes_are : stakes new ≡ at_each (both_stakes did_both) (stakes old) (port_stakes ports)
     pub known : (q : ℕ) → knows_shut_at old q ≡ true → knows_shut_at new q ≡ true
 
 module _ {Q W : Type 0} {g : Ghosts Q W} where
-  -- what an end has of its chain: the notes that it put, those that it took, and its share
+  -- the stake of an end in its chain: the notes that it put, the notes that it took, and its share
   abbrev pub note_stake : ChainEnd Q W g → Stake AtQueue
   note_stake end = record {
     did = record idle_queue { put = chain_end_puts end; taken = chain_end_takes end };
     share = chain_end_share end;
   }
 
-  -- what the end of the chain k has
+  -- the stake of the end of the chain k
   abbrev pub note_stakes : List (ChainEnd Q W g) → ℕ → Stake AtQueue
   note_stakes ends k = slice_index_or (map note_stake ends) k (no_stake idle_queue)
 
-  -- the end of each chain has what it had, and this
+  -- the end of each chain has its old stake and the stake that `gained` gives for the chain
   abbrev pub ChainsGained : (ℕ → Stake AtQueue) → List (ChainEnd Q W g) → List (ChainEnd Q W g) → Type 0
   ChainsGained gained old new = note_stakes new ≡ at_each (both_stakes both_queue) (note_stakes old) gained

@@ -1,4 +1,4 @@
--- What each call that makes a quaject or a chain gives, and what it leaves of the ends from which it splits.
+-- The results of each call that makes a quaject or a chain, and the ends that remain in the stock it splits from.
 use Rattle.std.specs.Prelude.{◌≡◌, ℕ, ◌+◌, ◌*◌, ◌<◌, List, [], ◌∷◌, map, length, Option, Some, None}
 use Rattle.std.specs.List.{All, slice_get}
 use Rattle.table_theory.specs.Sharing.{the_whole}
@@ -32,13 +32,13 @@ pub record AreWays (count : ℕ) (ways : List Way) : Type 0 where
   pub there : (i : ℕ) (way : Way) → slice_get ways i ≡ Some way → way.to < count
   pub apart : (i j : ℕ) (a b : Way) → slice_get ways i ≡ Some a → slice_get ways j ≡ Some b → a.key ≡ b.key → i ≡ j
 
--- what a mover of a plan names is among so many queues
+-- the queues that a mover of a plan names are among the first `count` queues
 abbrev pub IsThere : ℕ → Mover → Type 0
 IsThere count (mover.Pump from to) = (from < count) × (to < count)
 IsThere count (mover.Switch from other ways) = (from < count) × (other < count) × AreWays count ways
 
--- An end of the queue with this index was split off, and has done nothing. It has a part of the share of the one in the
--- stock, which has the rest
+-- An unused end of the queue with this index was split off. The new end has shut nothing. It has a part of the share of
+-- the stock's end, and the stock's end has the rest
 pub record SplitOff {n : ℕ} (queues : List (ClaimQueue n)) (index : ℕ) (old new : List (QueueEnd n))
     (end : QueueEnd n) : Type 0 where
   pub stock : IsStock queues new
@@ -47,11 +47,12 @@ pub record SplitOff {n : ℕ} (queues : List (ClaimQueue n)) (index : ℕ) (old 
   pub shuts : end_shuts end ≡ 0
   pub gave : Gave 1 (at_one 0 index (end_share end)) (shares old) (shares new)
 
--- the share of the small queue q that the end of a way has, and those of all these ways
+-- the share of the small queue q that the end of a way has
 abbrev pub given_share : Given → ℕ → ℕ
 given_share None q = 0
 given_share (Some given) q = at_one 0 given.1 (end_share given.2) q
 
+-- the share of the small queue q that the ends of these ways have together
 abbrev pub givens_share : List Given → ℕ → ℕ
 givens_share [] q = 0
 givens_share (given ∷ rest) q = given_share given q + givens_share rest q
@@ -61,7 +62,7 @@ abbrev pub IsGivenOpen : Given → Type 0
 IsGivenOpen None = Unit {0}
 IsGivenOpen (Some given) = end_shuts given.2 ≡ 0
 
--- the way is the one of the plan, with an end of its queue that was split off; there is none where the plan has none
+-- the way is the plan's, with a split-off end of its queue that has done nothing; if the plan has none, none was made
 pub record GaveWay (world : Queues) (way : Option Way) (old new : List (QueueEnd 64)) (given : Given) : Type 0 where
   pub stock : IsStock world.small.items new
   pub key : given_key given ≡ way_key way
@@ -71,7 +72,7 @@ pub record GaveWay (world : Queues) (way : Option Way) (old new : List (QueueEnd
   pub fit : IsGivenFit world.small.items given
   pub gave : Gave 1 (given_share given) (shares old) (shares new)
 
--- the same of all ways of a switch
+-- the first four ways of a switch are the plan's, each with an end of its queue that was split off and has done nothing
 pub record GaveWays (world : Queues) (ways : List Way) (old new : List (QueueEnd 64)) (given : List Given)
     : Type 0 where
   pub stock : IsStock world.small.items new
@@ -82,7 +83,7 @@ pub record GaveWays (world : Queues) (ways : List Way) (old new : List (QueueEnd
   pub fit : All (IsGivenFit world.small.items) given
   pub gave : Gave 4 (givens_share given) (shares old) (shares new)
 
--- It is the pump or switch of the plan, over ends that were split off and have done nothing
+-- the quaject is the pump or switch of the plan, over ends that were split off and have done nothing
 pub record MadeMover (world : Queues) (mover : Mover) (old new : List (QueueEnd 64)) (quaject : AnyQuaject)
     : Type 0 where
   pub stock : IsStock world.small.items new
@@ -95,7 +96,7 @@ pub record AreQueuesOf (plan : BootPlan) (queues : Queues) : Type 0 where
   pub small : length queues.small.items ≡ raw_queue (length plan.queues) (length plan.ttys)
   pub large : length queues.large.items ≡ line_queue (length plan.ttys)
 
--- it is a quaject of this kind, over ends that were split off and have done nothing; so many splits give its shares
+-- the quaject is of this kind, over split-off ends that have done nothing; at most so many splits give its shares
 pub record MadeQuaject (world : Queues) (IsKind : AnyQuaject → Type 0) (small_splits large_splits : ℕ)
     (small small' : List (QueueEnd 64)) (large large' : List (QueueEnd 256)) (quaject : AnyQuaject) : Type 0 where
   pub small_stock : IsStock world.small.items small'
@@ -105,7 +106,7 @@ pub record MadeQuaject (world : Queues) (IsKind : AnyQuaject → Type 0) (small_
   pub small_gave : Gave small_splits (λ q. (quaject_shares quaject).queues (Small q)) (shares small) (shares small')
   pub large_gave : Gave large_splits (λ q. (quaject_shares quaject).queues (Large q)) (shares large) (shares large')
 
--- they are so many quajects of the plan, from the first on
+-- these are the first `many` quajects of the plan, over ends that were split off and have done nothing
 pub record MadeQuajects (world : Queues) (plan : BootPlan) (many : ℕ) (small small' : List (QueueEnd 64))
     (large large' : List (QueueEnd 256)) (made : List AnyQuaject) : Type 0 where
   pub small_stock : IsStock world.small.items small'
@@ -119,7 +120,7 @@ pub record MadeQuajects (world : Queues) (plan : BootPlan) (many : ℕ) (small s
       (shares large')
 
 module _ {g : Ghosts AnyQuaject Queues} where
-  -- the chain begins at 0 and has this quaject, and this is its only end, which has done nothing
+  -- the chain begins at 0 and has this quaject; `end` is its only end, and has done nothing
   pub record MadeChain (world : Queues) (quaject : AnyQuaject) (chain : ProcChain AnyQuaject Queues)
       (end : ChainEnd AnyQuaject Queues g) : Type 0 where
     pub opening : opening_of chain ≡ quaject
@@ -128,7 +129,7 @@ module _ {g : Ghosts AnyQuaject Queues} where
     pub stock : IsIdleChainEnd chain end
     pub whole : chain_end_share end ≡ the_whole
 
-  -- the chains begin at 0 and have these quajects, in their order, and these are their only ends
+  -- the chains begin at 0 and have these quajects, in their order; these are their only ends, and have done nothing
   pub record MadeChains (world : Queues) (quajects : List AnyQuaject) (chains : List (ProcChain AnyQuaject Queues))
       (ends : List (ChainEnd AnyQuaject Queues g)) : Type 0 where
     pub openings : map opening_of chains ≡ quajects
@@ -137,7 +138,7 @@ module _ {g : Ghosts AnyQuaject Queues} where
     pub stock : IsChainStock chains ends
     pub whole : All (λ end. chain_end_share end ≡ the_whole) ends
 
--- the queues that the plan asks for begin at 0, and these are their only ends, which have done nothing
+-- the queues that the plan asks for begin at 0; these are their only ends, and have done nothing
 pub record NewQueues (plan : BootPlan) (queues : Queues) (small : List (QueueEnd 64)) (large : List (QueueEnd 256))
     : Type 0 where
   pub sizes : AreQueuesOf plan queues

@@ -32,7 +32,7 @@ use Rattle.boot_objects.specs.Stocks.{CanGive, IsStock, IsChainStock, shares, ch
 use Rattle.boot_objects.specs.Shares.{device_shares, all_shares, quajects_of, opening_shares, end_shares}
 use Rattle.boot_objects.specs.Shares.{AreAllEnds, AreWhole}
 
--- they are the quajects of the plan, each over ends of these queues that have done nothing
+-- these are the quajects of the plan, each over ends of these queues that have done nothing
 pub record AreQuajectsOf (plan : BootPlan) (world : Queues) (quajects : List AnyQuaject) : Type 0 where
   pub number : length quajects ≡ length plan.movers + length plan.ttys
   pub kinds : (i : ℕ) (x : AnyQuaject) → slice_get quajects i ≡ Some x → IsPlannedAt plan i x
@@ -44,7 +44,7 @@ pub record BeginAtZero (world : Queues) (chains : List (ProcChain AnyQuaject Que
   pub large_begin : All (λ queue. queues.first_of queue ≡ 0) world.large.items
   pub chains_begin : All (λ chain. first_of chain ≡ 0) chains
 
--- these parts have the whole of all objects, together with the quajects that were given to the chains and the devices
+-- these parts, with the quajects that were given to the chains and with the devices, have the whole of all objects
 abbrev pub HaveAll : Shared → Parts → List Device → Type 0
 HaveAll shared parts devices = AreWhole shared (both_shares (accounts.shares parts)
     (both_shares (opening_shares shared.chains.items) (all_shares device_shares devices)))
@@ -66,8 +66,8 @@ module _ {g : Ghosts AnyQuaject Queues} where
         (both_shares (opening_shares chains) (all_shares device_shares devices)))
     pub splits : CanGive 1000 (shares small) × CanGive 1000 (shares large) × CanGive 1000 (chain_shares ends)
 
--- The thread elements begin at 0, and this is their only hand. It holds none of them, and serves each processor, on
--- which none stands
+-- The thread elements begin at 0, and this is their only hand. It holds no element, knows nothing else yet, and serves
+-- each of the 8 processors. No element is on a processor
 pub record IsFirstHand (table : ThreadTable) (hand : Hand) : Type 0 where
   pub first : threads.first_of table ≡ 0
   pub knows : threads.view_of hand ≡ thread_rules.newcomer (record { first = 0 })
@@ -75,7 +75,7 @@ pub record IsFirstHand (table : ThreadTable) (hand : Hand) : Type 0 where
   pub holds_none : (element : ℕ) → thread_rules.has (threads.view_of hand) element ≡ false
   pub free : (p : ℕ) → p < 8 → IsFree p (threads.view_of hand)
 
--- the clock begins at 0, and this is the only seat of the meters, which has done nothing
+-- the clock begins at 0, and this is the only seat of the meters; it has done nothing
 pub record IsFirstSeat (table : Meters) (seat : MeterSeat) : Type 0 where
   pub first : meters.first_of table ≡ 0
   pub knows : meters.view_of seat ≡ meter_rules.newcomer (record { clock = 0 })

@@ -1,4 +1,4 @@
--- The ends that devices had, joined to those of their queues and chains.
+-- The ends that devices had, joined to the ends of their queues and chains.
 use Rattle.std.specs.Prelude.{◌≡◌, ◌+◌, ◌<◌, ℕ, List, [], ◌∷◌, length, Option, Some}
 use Rattle.std.specs.List.{slice_get}
 use Rattle.boot_data.specs.QueueLists.{raw_queue}
@@ -12,24 +12,24 @@ use Rattle.quajects.specs.declared.raw.RawTty.{RawTty}
 use Rattle.quajects.specs.Ports.{port}
 use Rattle.quajects.specs.Raws.{end_of}
 
--- the ends of these raw ttys at their queues, the first of which has this index
+-- the ends of these raw ttys at their queues; `raw` is the index of the first tty's queue
 abbrev pub raw_ports : ℕ → List RawTty → List (Option (Port 64))
 raw_ports raw [] = []
 raw_ports raw (tty ∷ ttys) = Some (port raw (end_of tty)) ∷ raw_ports (raw + 1) ttys
 
--- what their ends have of the chain k; the first one's chain has this index
+-- the stake of the raw ttys' ends in the chain k; `chain` is the index of the first tty's chain
 abbrev pub raw_notes : ℕ → List RawTty → ℕ → Stake AtQueue
 raw_notes chain [] k = no_stake idle_queue
 raw_notes chain (tty ∷ ttys) k = both_stakes both_queue
     (at_one (no_stake idle_queue) chain (note_stake tty.chain) k) (raw_notes (chain + 1) ttys k)
 
--- they are the raw ttys of the plan's ttys, in their order
+-- these are the raw ttys of the plan's ttys, in their order
 abbrev pub AreRawsOf : Shared → List RawTty → Type 0
 AreRawsOf shared ttys = (k : ℕ) (tty : RawTty) → slice_get ttys k ≡ Some tty
     → IsRawAt shared (raw_queue (length shared.plan.queues) k) (length shared.plan.movers + k) tty
 
--- The ends of these raw ttys were joined to those of their queues and chains, the first of which have these indexes.
--- The ends of the chains before those, and all else, are as they were
+-- The ends of these raw ttys were joined to the ends of their queues and chains. The first tty's queue and chain have
+-- these indexes. The ends of the chains before those, and all other parts, are as they were
 pub record TookRaws (raw chain : ℕ) (ttys : List RawTty) (old new : Parts) : Type 0 where
   pub small : Gained (raw_ports raw ttys) old.small.items new.small.items
   pub chains : ChainsGained (raw_notes chain ttys) old.chains.items new.chains.items

@@ -11,12 +11,12 @@ use Rattle.quajects.specs.declared.home.Home.{Home}
 use Rattle.quajects.specs.declared.world.Queues.{Queues}
 use Rattle.quajects.specs.Homes.{CameHome}
 
--- so many notes were chained; a chain has no more positions
+-- fewer notes were chained than a chain has positions
 abbrev pub IsFew : Home → Type 0
 IsFew home = home.chained < POSITIONS
 
 module _ {g : Ghosts AnyQuaject Queues} where
-  -- the chain is closed by this end, and this is what came home
+  -- the chain is closed by this end, and `home` is its quaject come home
   abbrev pub HasRetired : ProcChain AnyQuaject Queues → ChainEnd AnyQuaject Queues g → Home → Type 0
   HasRetired chain end home = CameHome (pact_of chain) (first_of chain) (view_of end) home
 

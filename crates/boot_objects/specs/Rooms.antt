@@ -1,4 +1,4 @@
--- Room for the answers of closing all.
+-- Room for the answers of closing all objects.
 use Rattle.std.specs.Prelude.{◌≡◌, ◌≤◌, [], length, vec_capacity}
 use Rattle.processor.specs.declared.shared.Shared.{Shared}
 use Rattle.boot_objects.specs.declared.closing.all.Answers.{Answers}

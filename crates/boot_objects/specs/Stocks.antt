@@ -1,4 +1,4 @@
--- The ends from which others are split off: one of each object, in their order, and the share that each has.
+-- The ends from which others are split off: one of each object, in order, with the share of each.
 use Rattle.std.specs.Prelude.{◌≡◌, ℕ, ◌+◌, ◌*◌, ◌<◌, ◌≤◌, List, [], length, map, slice_index_or}
 use Rattle.std.specs.List.{AllZip}
 use Rattle.claim_queue.specs.declared.ends.ClaimQueue.{ClaimQueue}
@@ -12,7 +12,7 @@ use Rattle.quajects.specs.Ports.{IsUnused}
 use Rattle.table_theory.specs.declared.shares.TheConstants.{MOST_GIVEN}
 use Rattle.turn_io.specs.EndLists.{end_share, end_shuts, chain_end_share, chain_end_puts, chain_end_takes, IsIdle}
 
--- Of each of these shares a part was given away, no more than so many splits give, and the rest was kept
+-- A part of each of these shares was given away, no more than so many splits give, and the rest was kept
 pub record Gave (splits : ℕ) (part : ℕ → ℕ) (old new : List ℕ) : Type 0 where
   pub long : length new ≡ length old
   pub rest : (q : ℕ) → slice_index_or new q 0 + part q ≡ slice_index_or old q 0
@@ -29,7 +29,7 @@ module _ {n : ℕ} where
     pub unused : IsUnused (queues.view_of end)
     pub shuts : end_shuts end ≡ 0
 
-  -- one such end of each queue, in their order
+  -- an idle end of each queue, in the order of the queues
   abbrev pub IsStock : List (ClaimQueue n) → List (QueueEnd n) → Type 0
   IsStock queues ends = AllZip IsIdleEnd queues ends
 
@@ -44,7 +44,7 @@ module _ {Q W : Type 0} {g : Ghosts Q W} where
     pub puts : chain_end_puts end ≡ []
     pub takes : chain_end_takes end ≡ []
 
-  -- one such end of each chain, in their order
+  -- an idle end of each chain, in the order of the chains
   abbrev pub IsChainStock : List (ProcChain Q W) → List (ChainEnd Q W g) → Type 0
   IsChainStock chains ends = AllZip IsIdleChainEnd chains ends
 

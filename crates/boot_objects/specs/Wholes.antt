@@ -1,4 +1,4 @@
--- One owner has the whole of each object, by its ends and by those that the quajects have.
+-- One owner has the whole of each object, by its own ends and by the ends of the quajects.
 use Rattle.std.specs.Prelude.{◌≡◌, ℕ, List, map}
 use Rattle.turn_io.specs.Accounts.{stake, chain_stake}
 use Rattle.boot_objects.specs.declared.device.Device.{Device}
@@ -17,6 +17,6 @@ HasWholes shared parts = AreWhole shared (both_shares (shares parts) (opening_sh
 abbrev pub tty_shares : RawTty → ℕ × ℕ
 tty_shares tty = ((stake (end_of tty)).share, (chain_stake tty.chain).share)
 
--- the raw ttys have the shares that the devices' ones had, in their order
+-- the raw ttys have the shares that the raw ttys of the devices had, in their order
 abbrev pub HaveBack : List Device → List RawTty → Type 0
 HaveBack devices ttys = map tty_shares ttys ≡ map (λ (device : Device). tty_shares device.tty) devices

@@ -13,7 +13,7 @@ pub type Chain = ProcChain<AnyQuaject>;
 
 pub type End = ChainEnd<AnyQuaject>;
 
-// A chain with this quaject, and its only end.
+// A chain with this quaject, and the only end of the chain.
 fn make_chain(
     alloc: Global,
     queues: &Queues,
@@ -28,8 +28,8 @@ fn make_chain(
     }
 }
 
-/// A chain for each of these quajects, in their order, and its only end. `OutOfMemory` comes only where an allocation
-/// was refused.
+/// A chain for each of these quajects, in their order, and the only end of each chain. `OutOfMemory` is returned only
+/// if an allocation was refused.
 ///
 /// Condition: the quajects work on these queues, and have done nothing.
 pub(crate) fn make_chains(

@@ -19,8 +19,8 @@ use std::alloc::Global;
 /// How many bytes a device's line has room for.
 const LINE_BYTES: usize = 64;
 
-/// The device of a tty, the index of the tty's chain, and the two ends of the line from which the device takes what is
-/// typed.
+/// The device of a tty, the index of the tty's chain, and the two ends of the line from which the device pops typed
+/// bytes.
 #[derive(Drop)]
 pub struct Device {
     pub chain: usize,
@@ -29,7 +29,7 @@ pub struct Device {
     pub output: LineOut,
 }
 
-// An end more of the chain, split off this one.
+// One more end of the chain, split off from this one.
 fn split_one(chain: &Chain, end: &mut End) -> End
     requires idle { IsIdleChainEnd chain.now end.old }
     requires parts { IsDivisible end.old }
@@ -40,7 +40,7 @@ fn split_one(chain: &Chain, end: &mut End) -> End
     chain.split(end)
 }
 
-// An end more of the chain with this index, split off the one in the stock, which has an end of each chain.
+// One more end of the chain with this index, split off from the end in the stock, which has an end of each chain.
 fn split_chain_at(chains: &[Chain], stock: &mut Vec<End>, index: usize) -> End
     requires named { index < length chains.now }
     requires stock { IsChainStock chains.now stock.old.items }
@@ -50,8 +50,8 @@ fn split_chain_at(chains: &[Chain], stock: &mut Vec<End>, index: usize) -> End
     split_one(&chains[index], &mut stock[index])
 }
 
-// A device that puts in the small queue with the index `raw` and tells the chain with the index `chain`, with a new
-// line.
+// A device that puts in the small queue with the index `raw` and chains notes in the chain with the index `chain`. Its
+// line is new.
 fn make_device(
     alloc: Global,
     queues: &[ClaimQueue<64>],
@@ -80,11 +80,11 @@ fn make_device(
     })
 }
 
-/// The device of each tty of the plan, in their order, over ends that are split off the first ends of the ttys' raw
-/// queues and chains. `OutOfMemory` comes only where an allocation was refused.
+/// The device of each tty of the plan, in order, over ends split off the first ends of the ttys' raw queues and chains.
+/// `OutOfMemory` is returned only if an allocation was refused.
 ///
-/// Conditions: the queues and chains are those that the plan asks for, each with its end, and each end can be split
-/// eight times: a plan has two ttys at most.
+/// Conditions: the queues and chains are those that the plan asks for, each with its end. Each end can be split eight
+/// times: a plan has two ttys at most.
 pub(crate) fn make_devices(
     alloc: Global,
     queues: &Queues,

@@ -17,7 +17,7 @@ use processor::{Shared, Station};
 use std::alloc::Global;
 use thread_table::ThreadTable;
 
-/// What the processors of a kernel share, the station of the first of them, and the devices of its ttys.
+/// The shared objects of a kernel's processors, the station of the first processor, and the devices of the ttys.
 #[derive(Drop)]
 pub struct Objects {
     pub shared: Shared,
@@ -28,8 +28,8 @@ pub struct Objects {
 /// Makes all objects of a plan: the queues, each with an end in the station; the chains of its pumps, switches and
 /// ttys, in that order, each with its quaject and an end in the station; a device for each tty, with a line of 64
 /// places; the thread elements, all free, with their only hand in the station; and the meters, with their only seat
-/// there. Each end of a queue or chain in the station can be split a thousand times. `OutOfMemory` comes only where an
-/// allocation was refused; what was made until then is gone, and the plan too.
+/// there. Each end of a queue or chain in the station can be split a thousand times. `OutOfMemory` is returned only if
+/// an allocation was refused; the objects made until then are dropped, and the plan too.
 pub fn make_objects(alloc: Global, plan: BootPlan) -> Result<Objects, OutOfMemory>
     ensures plan { IfOk result (λ o. o.shared.plan ≡ plan) }
     ensures parts { IfOk result (λ o. ArePartsOf o.shared o.station.parts) }

@@ -22,7 +22,7 @@ fn make_pump(queues: &Queues, small: &mut Vec<QueueEnd<64>>, from: usize, to: us
     AnyQuaject::Pump(Pump::new(from, source, to, target))
 }
 
-// A way with an end of its queue, where there is one with this number.
+// A way with an end of its queue, if there is a way with this number.
 fn give_way(queues: &Queues, small: &mut Vec<QueueEnd<64>>, ways: &[Way], number: usize) -> GivenWay
     requires there { AreWays (length queues.now.small.items) ways.now }
     requires stock { IsStock queues.now.small.items small.old.items }
@@ -73,8 +73,8 @@ fn make_switch(
 
 /// The pump or switch of a plan, over ends that are split off the first ends of its queues.
 ///
-/// Conditions: the queues that it names are there, no two of its ways have the same key, and the ends can be split six
-/// times.
+/// Conditions: the queues that the pump or switch names exist. No two of its ways have the same key. The ends can be
+/// split six times.
 pub(crate) fn make_mover(
     queues: &Queues,
     small: &mut Vec<QueueEnd<64>>,

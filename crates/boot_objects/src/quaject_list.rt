@@ -42,8 +42,8 @@ fn make_quaject(
     }
 }
 
-/// The pumps and switches of the plan, in their order, and then the cooked tty of each tty, over ends that are split
-/// off the first ends of the queues. `OutOfMemory` comes only where an allocation was refused.
+/// The pumps and switches of the plan, in order, and then the cooked ttys, over ends split off the first ends of the
+/// queues. `OutOfMemory` is returned only if an allocation was refused.
 ///
 /// Conditions: the queues are those that the plan asks for, each with its end, and each end can be split 64 times.
 pub(crate) fn make_quajects(

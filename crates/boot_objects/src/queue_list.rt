@@ -12,8 +12,8 @@ use std::alloc::Global;
 pub(crate) type NewQueues = (Queues, Vec<QueueEnd<64>>, Vec<QueueEnd<256>>);
 
 /// The queues that the plan asks for, each empty at 0, and the only end of each. The small ones are its queues and
-/// pipes, in their order, and then each tty's raw queue; the large ones are each tty's line queue and screen queue.
-/// `OutOfMemory` comes only where an allocation was refused.
+/// pipes, in their order, and then each tty's raw queue. The large ones are each tty's line queue and screen queue.
+/// `OutOfMemory` is returned only if an allocation was refused.
 pub(crate) fn make_queues(alloc: Global, plan: &BootPlan) -> Result<NewQueues, OutOfMemory>
     ensures { IfOk result (λ r. NewQueues plan.now r.0 r.1.items r.2.items) }
 {

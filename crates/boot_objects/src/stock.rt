@@ -8,7 +8,7 @@ ghost use Rattle.boot_objects.specs.Stocks.{CanGive, IsIdleEnd, IsStock, shares}
 
 use claim_queue::{ClaimQueue, QueueEnd};
 
-// An end more of the queue, split off this one.
+// One more end of the queue, split off from this one.
 fn split_one<const N: usize>(queue: &ClaimQueue<N>, end: &mut QueueEnd<N>) -> QueueEnd<N>
     requires idle { IsIdleEnd queue.now end.old }
     requires parts { IsDivisible end.old }
@@ -19,7 +19,7 @@ fn split_one<const N: usize>(queue: &ClaimQueue<N>, end: &mut QueueEnd<N>) -> Qu
     queue.split(end)
 }
 
-/// An end more of the queue with this index, split off the one in the stock, which has an end of each queue.
+/// One more end of the queue with this index, split off from the end in the stock, which has an end of each queue.
 ///
 /// Condition: the end in the stock can be split.
 pub(crate) fn split_at<const N: usize>(

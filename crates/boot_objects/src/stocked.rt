@@ -23,8 +23,8 @@ pub struct Stocked {
     pub devices: Vec<Device>,
 }
 
-/// The queues of the plan, a chain for each of its quajects, a device for each of its ttys, and an end of each queue
-/// and chain. `OutOfMemory` comes only where an allocation was refused.
+/// The plan's queues, a chain for each of its quajects, a device for each of its ttys, and an end of each queue and
+/// chain. `OutOfMemory` is returned only if an allocation was refused.
 pub fn make_stocked(alloc: Global, plan: &BootPlan) -> Result<Stocked, OutOfMemory>
     ensures { IfOk result (λ s. AreStocked plan.now s.queues s.small.items s.large.items s.chains.items s.ends.items
         s.devices.items) }

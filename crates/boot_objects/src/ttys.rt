@@ -10,9 +10,9 @@ use claim_queue::QueueEnd;
 use quajects::{AnyQuaject, CookedTty, Queues};
 
 /// The cooked tty of the tty with this number, over ends that are split off the first ends of its queues. The index of
-/// its raw queue is told.
+/// the tty's raw queue is `raw`.
 ///
-/// Conditions: its queues are there, and the ends can be split twice.
+/// Conditions: the tty's queues exist, and the ends can be split twice.
 pub(crate) fn make_tty(
     queues: &Queues,
     small: &mut Vec<QueueEnd<64>>,

@@ -19,7 +19,7 @@ use Rattle.boot_report.proofs.Limits.{few_ttys, few_movers, few_gauges}
 use Rattle.boot_report.proofs.Numbering.{as_many, made_at, mapped_at}
 use Rattle.boot_report.proofs.Shown.{got_left, got_right, counts_are, chain_is, device_is, all_left, said_at, few_is}
 
--- what stands among the first of a list
+-- the element at a place among the first of a list
 got_take : {A : Type 0} (n : ℕ) (l : List A) (k : ℕ) (x d : A) → slice_get (take n l) k ≡ Some x → get_or l k d ≡ x
 got_take zero l k x d e = absurd (cc)
 got_take (suc n) [] k x d e = absurd (cc)

@@ -1,4 +1,4 @@
--- The lines of a report, each made of a thing of the plan and of the numbers at its place.
+-- The lines of a report, each made from a thing of the plan and from the numbers at its place.
 use Rattle.std.specs.Prelude.{◌≡◌, ◌+◌, ◌-◌, ◌%◌, ◌^◌, ℕ, nat_lt, if◌then◌else◌, List, [], ◌∷◌, length, Option, Some}
 use Rattle.std.specs.Prelude.{None}
 use Rattle.std.specs.Prelude.{slice_index_or, map}
@@ -28,7 +28,7 @@ use Rattle.boot_laws.specs.Lines.{kind_of_queue, kind_of_mover}
 use Rattle.boot_report.specs.declared.ttys.Typed.{Typed}
 use Rattle.boot_report.specs.Amounts.{counts_at, numbers_at}
 
--- what is made of each thing and its number, from a number on
+-- the results of `made` for each thing and its number, from this number on
 abbrev pub numbered : {A B : Type 0} → (ℕ → A → B) → ℕ → List A → List B
 numbered made number [] = []
 numbered made number (x ∷ xs) = made number x ∷ numbered made (number + 1) xs
@@ -45,7 +45,7 @@ queue_line small number queue = record {
 abbrev pub gauge_line : List ℕ → ℕ → List ℕ → GaugeLine
 gauge_line values number name = record { name = name; value = slice_index_or values number 0 }
 
--- the line of the pump or switch with this number, whose chain has the same
+-- the line of the pump or switch with this number; its chain has this number too
 abbrev pub mover_line : List Came → ℕ → PlannedMover → MoverLine
 mover_line counts number mover = record {
   kind = kind_of_mover mover.mover;
@@ -60,16 +60,16 @@ mover_line counts number mover = record {
 abbrev pub left_in : Came → ℕ
 left_in came = came.left
 
--- what the device of a tty did
+-- the numbers of a tty's device, or 0
 abbrev pub typed_of : Option Typed → Typed
 typed_of None = record { popped = 0; refused = 0 }
 typed_of (Some typed) = typed
 
--- that of the tty with this number; where there is none, nothing
+-- the numbers of the device of the tty with this number, or 0 if there is none
 abbrev pub typed_at : List Typed → ℕ → Typed
 typed_at typed tty = typed_of (slice_get typed tty)
 
--- The lines of the tty with this number. The chains of the ttys stand behind those of the pumps and switches
+-- the lines of the tty with this number; the chains of the ttys are after the chains of the pumps and switches
 abbrev pub tty_lines : Unmade → List Typed → ℕ → PlannedTty → TtyLines
 tty_lines ended typed number tty = record {
   name = tty.name;
@@ -82,7 +82,7 @@ tty_lines ended typed number tty = record {
   screen = counts_at ended.large.items (screen_queue number);
 }
 
--- the word for a place; there are 16 wait queues
+-- the report's word for a place; there are 16 wait queues
 abbrev pub told : Place → ThreadState
 told places.Free = states.Ended
 told places.Ready = states.Ready
@@ -91,7 +91,7 @@ told places.Stopped = states.Stopped
 told places.Held = states.Held
 told (places.Processor p) = states.Held
 
--- that of an element without a place: held
+-- the report's word for a place, or held if the element has no place
 abbrev pub state_of : Option Place → ThreadState
 state_of None = states.Held
 state_of (Some place) = told place
@@ -100,7 +100,7 @@ state_of (Some place) = told place
 abbrev pub state_at : List Place → ℕ → ThreadState
 state_at stands thread = state_of (slice_get stands thread)
 
--- a number of steps, or 2^32 - 1 where there are more
+-- a number of steps, or 2^32 - 1 if there are more
 abbrev pub few : ℕ → ℕ
 few steps = if nat_lt steps u32_values then steps else u32_max
 
@@ -120,15 +120,15 @@ thread_line ended number thread = record {
 abbrev pub name_of : PlannedThread → List ℕ
 name_of thread = thread.name
 
--- the line of what was heard, with the name of its thread
+-- a heard line, with the name of its thread
 abbrev pub heard_line : List PlannedThread → Line → NamedLine
 heard_line threads heard = named_line (map name_of threads) heard
 
--- so many alarms were set and are left; the others fired
+-- the counts of alarms, of which `set` were set and `left` are left; the others fired
 abbrev pub alarm_counts : ℕ → ℕ → AlarmCounts
 alarm_counts set left = record { set = set; fired = set - left; left = left }
 
--- the report is made, line by line, of what was closed, of these lines that were heard, and of what the devices did
+-- the report is made, line by line, from the closed objects, the lines heard and the numbers of the devices
 pub record IsMade (ended : Unmade) (heard : List Line) (typed : List Typed) (r : Report) : Type 0 where
   pub queues : r.queues ≡ numbered (queue_line ended.small.items) 0 ended.plan.queues
   pub ttys : r.ttys ≡ numbered (tty_lines ended typed) 0 ended.plan.ttys

@@ -13,7 +13,7 @@ pub record HasRoom (plan : BootPlan) (lines : Lines) : Type 0 where
   pub threads : (lines.threads.items ≡ []) × (length plan.threads ≤ vec_capacity lines.threads)
   pub names : (lines.names.items ≡ []) × (length plan.threads ≤ vec_capacity lines.names)
 
--- and the list of places is empty, and has room for one of each step of the plan that hears
+-- the lists have room, and the list of places is empty and has room for one place for each step of the plan that hears
 pub record HasAllRoom (plan : BootPlan) (lines : Lines) : Type 0 where
   pub has_room : HasRoom plan lines
   pub places : (lines.places.items ≡ []) × (hear_count plan ≤ vec_capacity lines.places)

@@ -1,4 +1,4 @@
--- What was closed shows the numbers of the closed tables.
+-- The closed objects show the numbers of the closed tables.
 use Rattle.std.specs.Prelude.{◌≡◌, ◌+◌, ◌-◌, ◌*◌, ◌≤◌, ℕ, List, ◌++◌, length, take, Some, slice_index_or}
 use Rattle.std.specs.List.{slice_get}
 use Rattle.claim_queue.specs.declared.close.Closed.{Closed as ClosedQueue}
@@ -14,7 +14,7 @@ use Rattle.boot_laws.specs.ClosedTables as closed
 use Rattle.boot_report.specs.declared.amounts.Numbers.{Numbers}
 use Rattle.boot_report.specs.declared.ttys.Typed.{Typed}
 
--- a queue: as many items were put as it has, and so many taken; the others are left
+-- a queue: the numbers of the items put and taken are those of the closed queue; the other items are left
 pub record ShowsQueue {n : ℕ} (q : closed.Queue) (numbers : ClosedQueue n) : Type 0 where
   pub put : numbers.put ≡ length q.items
   pub taken : numbers.taken ≡ q.taken
@@ -27,7 +27,7 @@ pub record ShowsQueues {n : ℕ} (queues : List closed.Queue) (numbers : List (C
   pub each : (k : ℕ) (q : closed.Queue) (its : ClosedQueue n) → slice_get queues k ≡ Some q
       → slice_get numbers k ≡ Some its → ShowsQueue q its
 
--- a chain: the numbers of its quaject, and how many notes were left, which are 32 at most
+-- a chain: the numbers of its quaject, and the number of notes left, at most 32
 pub record ShowsChain (chain : closed.Chain) (numbers : Came) : Type 0 where
   pub notes : numbers.notes ≡ notes_of chain.quaject
   pub taken : numbers.taken ≡ counted (all_taken chain.quaject)
@@ -36,7 +36,7 @@ pub record ShowsChain (chain : closed.Chain) (numbers : Came) : Type 0 where
   pub left : numbers.left ≡ chain.left
   pub few : chain.left ≤ 32
 
--- those that a line tells of a quaject
+-- a quaject: the numbers that its line in the report has
 pub record ShowsNumbers (chain : closed.Chain) (numbers : Numbers) : Type 0 where
   pub notes : numbers.notes ≡ notes_of chain.quaject
   pub taken : numbers.taken ≡ counted (all_taken chain.quaject)
@@ -49,7 +49,7 @@ pub record ShowsChains (chains : List closed.Chain) (numbers : List Came) : Type
   pub each : (k : ℕ) (chain : closed.Chain) (its : Came) → slice_get chains k ≡ Some chain
       → slice_get numbers k ≡ Some its → ShowsChain chain its
 
--- a thread: where it stands, its steps, of which it has done no more than its program has, and its signals
+-- a thread: the place of its element, its steps done, no more than its program has, and its signals
 pub record ShowsThread (ended : Unmade) (thread : ℕ) (t : closed.Thread) : Type 0 where
   pub place : t.place ≡ slice_index_or ended.threads.places thread places.Held
   pub named : IsNamed t.place
@@ -57,18 +57,18 @@ pub record ShowsThread (ended : Unmade) (thread : ℕ) (t : closed.Thread) : Typ
   pub prefix : t.steps ≤ length (program ended.plan thread)
   pub shown : t.shown ≡ slice_index_or ended.signals thread 0
 
--- what a device did: how many bytes it popped, and how many of them were refused
+-- a device: the number of bytes popped, and how many of them were refused
 pub record ShowsDevice (d : closed.Device) (typed : Typed) : Type 0 where
   pub popped : typed.popped ≡ length d.popped
   pub refused : typed.refused ≡ d.refused
 
--- this is what each device did
+-- these are the numbers of each device
 pub record ShowsDevices (devices : List closed.Device) (typed : List Typed) : Type 0 where
   pub as_many : length typed ≡ length devices
   pub each : (k : ℕ) (d : closed.Device) (its : Typed) → slice_get devices k ≡ Some d → slice_get typed k ≡ Some its
       → ShowsDevice d its
 
--- as many tables of each kind as the plan has things
+-- there is a closed table for each thing of the plan
 pub record AreAll (ended : Unmade) (c : ClosedTables) : Type 0 where
   pub small : length c.small ≡ length ended.plan.queues + length ended.plan.ttys
   pub large : length c.large ≡ length ended.plan.ttys * 2
@@ -77,7 +77,7 @@ pub record AreAll (ended : Unmade) (c : ClosedTables) : Type 0 where
   pub devices : length c.devices ≡ length ended.plan.ttys
   pub threads : length c.threads ≡ length ended.plan.threads
 
--- the numbers of what was closed, and of the devices, are those of the closed tables
+-- the numbers of the closed objects and of the devices are the numbers of the closed tables
 pub record Shows (c : ClosedTables) (ended : Unmade) (typed : List Typed) : Type 0 where
   pub all : AreAll ended c
   pub small : ShowsQueues c.small ended.small.items

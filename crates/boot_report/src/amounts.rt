@@ -1,4 +1,4 @@
-//! The numbers of what was closed, each by its place, and 0 where there is none.
+//! The numbers of closed objects, each by its place, and 0 if there is none at the place.
 ghost use Rattle.std.specs.Prelude.{◌≡◌, slice_index_or};
 ghost use Rattle.boot_report.specs.Amounts.{counts_at, numbers_at};
 
@@ -15,7 +15,7 @@ pub(crate) fn copy_of(name: &Name) -> Name
     copy
 }
 
-/// How many items went through the closed queue with this number.
+/// The numbers of items put, taken and left of the closed queue with this number.
 pub(crate) fn counts_in<const N: usize>(closed: &[Closed<N>], number: usize) -> ItemCounts
     ensures { result ≡ counts_at closed.now number }
 {
@@ -33,7 +33,7 @@ pub(crate) fn counts_in<const N: usize>(closed: &[Closed<N>], number: usize) -> 
     }
 }
 
-/// The numbers that a line tells of a quaject: so many notes were run, so many items taken, put and held.
+/// The numbers that a line has of a quaject: the notes run, and the items taken, put and held.
 #[derive(Clone, Copy, Debug, PartialEq, Eq)]
 pub struct Numbers {
     pub(crate) notes: u64,

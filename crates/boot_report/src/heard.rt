@@ -1,4 +1,4 @@
-//! What the report has of what was heard.
+//! The lines heard, as the report has them.
 ghost use Rattle.std.specs.Prelude.{◌≡◌, ◌≤◌, [], length, map, vec_capacity};
 ghost use Rattle.std.specs.List.{AllByRecursion};
 ghost use Rattle.boot_data.specs.Hearing.{IsPlace, heard_at};
@@ -20,10 +20,10 @@ fn names_of(threads: &[PlannedThread], names: Vec<Name>) -> Vec<Name>
     names
 }
 
-/// The lines at these places of what the processors heard, in this order, with the threads' names. It takes no memory:
-/// the list of names comes empty and has room.
+/// The lines at these places of what the processors heard, in the order of the places, with the threads' names. It
+/// takes no memory: the list of names is empty and has room.
 ///
-/// Condition: there is a line at each place, and it is of the thread and step that the place has.
+/// Condition: there is a line at each place, and it is of the thread and step that the place names.
 pub(crate) fn report_heard(
     threads: &[PlannedThread],
     names: Vec<Name>,

@@ -1,4 +1,4 @@
-//! What a boot knows at its end gives what a report of it needs besides the numbers.
+//! The facts that a boot establishes at its end give what its report needs besides the numbers.
 ghost use Rattle.std.specs.Prelude.{◌≡◌, ◌+◌, ◌≤◌, ℕ, List, length, Some};
 ghost use Rattle.std.specs.List.{slice_get};
 ghost use Rattle.boot_data.specs.declared.boot_plan.BootPlan.{BootPlan};
@@ -16,13 +16,13 @@ pub fn threads_fit()
         → slice_get c.threads thread ≡ Some t → t.steps ≤ length (program plan thread) }
 {}
 
-/// The alarms of a plan are as many as those fired and those left.
+/// A plan has as many alarms as were fired and are left together.
 pub fn alarms_are_all()
     ensures { (plan : BootPlan) (c : ClosedTables) (logs : List (List LogEntry)) → AlarmsAgree plan c logs
         → length plan.alarms ≡ length c.fired + length c.left }
 {}
 
-/// The lines that were heard are no more than the steps of the plan that hear.
+/// The lines that were heard are at most as many as the steps of the plan that hear.
 pub fn heard_lines_are_few()
     ensures { (plan : BootPlan) (logs : List (List LogEntry)) (done : Done) (c : ClosedTables)
         → WorkedTogether plan logs done → ThreadsEnded done.in_all c → length done.in_all.heard ≤ hear_count plan }

@@ -1,7 +1,7 @@
-//! The report of a boot, made of what was closed.
+//! The report of a boot, made from the closed objects.
 //!
-//! The lines of a report are allocated before the threads of a boot start (`Lines`), so that sorting what was heard and
-//! making the report of what was closed take no memory.
+//! The lines of a report are allocated before the threads of a boot start (`Lines`). Sorting the lines heard and making
+//! the report therefore take no memory.
 #![tactic(auto)]
 
 mod amounts;

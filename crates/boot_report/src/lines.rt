@@ -9,7 +9,7 @@ use event_theory::OutOfMemory;
 use processor::hears_of;
 use std::alloc::Global;
 
-/// Empty lists with room for the lines of a report, for the places of what was heard, and for the threads' names.
+/// Empty lists with room for the lines of a report, for the places of the lines heard, and for the threads' names.
 #[derive(Drop)]
 pub struct Lines {
     pub queues: Vec<QueueLine>,
@@ -22,8 +22,8 @@ pub struct Lines {
 }
 
 impl Lines {
-    /// Lists with room for a line of each thing of the plan, for a place of each of its steps that hear, and for a name
-    /// of each thread. `OutOfMemory` comes only where an allocation was refused.
+    /// Lists with room for a line of each thing of the plan, a place of each step that hears, and a name of each
+    /// thread. `OutOfMemory` is returned only if an allocation was refused.
     pub fn new(alloc: Global, plan: &BootPlan) -> Result<Lines, OutOfMemory>
         ensures { IfOk result (HasAllRoom plan.now) }
     {

@@ -1,4 +1,4 @@
-//! How many threads of a report are live.
+//! The number of live threads of a report.
 ghost use Rattle.std.specs.Prelude.{◌≡◌};
 ghost use Rattle.boot_laws.specs.Saying.{live_threads, is_live};
 
@@ -11,7 +11,7 @@ fn is_live_line(line: &ThreadLine) -> bool
     !matches!(line.state, ThreadState::Ended)
 }
 
-/// How many threads of a report haven't ended.
+/// The number of threads of a report that have not ended.
 pub fn live_of(report: &Report) -> usize
     ensures { result ≡ live_threads report.now }
 {

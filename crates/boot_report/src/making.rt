@@ -1,4 +1,4 @@
-//! The report of what was closed.
+//! The report of closed objects.
 ghost use Rattle.std.specs.Prelude.{◌≡◌, ◌≤◌, length, map, flat_map};
 ghost use Rattle.std.specs.List.{AllByRecursion};
 ghost use Rattle.boot_data.specs.Hearing.{IsPlace, heard_at};
@@ -21,7 +21,7 @@ use boot_data::{AlarmCounts, HeardLines, Report};
 use boot_objects::Unmade;
 use event_theory::Items;
 
-// How many alarms were set, fired and left.
+// The numbers of alarms that were set, fired and left.
 fn counts_of_alarms(set: usize, left: usize) -> AlarmCounts
     ensures { result ≡ alarm_counts set left }
 {
@@ -32,11 +32,11 @@ fn counts_of_alarms(set: usize, left: usize) -> AlarmCounts
     }
 }
 
-/// The report of a boot: the numbers of what was closed, with the plan's names and in the plan's order, what the device
-/// of each tty did, and what the processors heard at the places of `lines`, in their order. It takes no memory.
+/// The report of a boot, in the plan's order and with the plan's names. It has the numbers of the closed objects and of
+/// each tty's device, and the lines heard at the places of `lines`, in their order. It takes no memory.
 ///
-/// Conditions: the lines have room for those of the plan, and there is a line at each place, of the thread and step that
-/// the place has.
+/// Conditions: the lines have room for those of the plan. There is a line at each place, of the thread and step that
+/// the place names.
 pub fn make_report(ended: &Unmade, heard: Vec<HeardLines>, typed: &[Typed], lines: Lines) -> Report
     requires room { HasRoom ended.now.plan lines }
     requires places { AllByRecursion (IsPlace heard.items) lines.places.items }
@@ -66,10 +66,11 @@ pub fn make_report(ended: &Unmade, heard: Vec<HeardLines>, typed: &[Typed], line
     }
 }
 
-/// The report of a boot: that of `make_report`, with what each processor heard, by thread and then by step. Sorting moves
-/// the places of lines, and no text. It takes no memory.
+/// The report of a boot, as `make_report` makes it, with the lines that each processor heard, sorted by thread and then
+/// by step. Sorting moves the places of lines, and no text. It takes no memory.
 ///
-/// Conditions: the lines have room for those of the plan, and no more was heard than the plan has steps that hear.
+/// Conditions: the lines have room for those of the plan, and at most as many lines were heard as the plan has steps
+/// that hear.
 pub fn report_boot(ended: &Unmade, heard: Vec<HeardLines>, typed: &[Typed], lines: Lines) -> Report
     requires room { HasAllRoom ended.now.plan lines }
     requires few { length (flat_map lines_of heard.items) ≤ hear_count ended.now.plan }

@@ -9,7 +9,7 @@ use boot_data::plan::{Mover, PlannedMover};
 use boot_data::{MoverKind, MoverLine};
 use quajects::Came;
 
-// The word of the script that declares it.
+// The word of the script that declares the pump or switch.
 fn kind_of(mover: &Mover) -> MoverKind
     ensures { result ≡ kind_of_mover mover.now }
 {

@@ -1,4 +1,4 @@
-//! Gathering the places of all that was heard, and sorting them.
+//! Gathering the places of all lines heard, and sorting them.
 ghost use Rattle.std.specs.Prelude.{◌≡◌, ◌<◌, ◌≤◌, ◌+◌, ◌++◌, List, [], map, flat_map, IsPermutation, length};
 ghost use Rattle.std.specs.Prelude.{vec_len, vec_capacity, IfSome};
 ghost use Rattle.std.specs.List.{AllByRecursion, slice_get};
@@ -9,7 +9,7 @@ ghost use Rattle.boot_laws.specs.Reports.{Ascend};
 
 use boot_data::{HeardLines, HeardPlace};
 
-// The place of the line with this number of what this processor heard.
+// The place of the line with this number among the lines that this processor heard.
 fn place_in(processor: usize, number: usize, heard: &HeardLines) -> HeardPlace
     requires { number < length heard.now.lines }
     ensures { IfSome (slice_get heard.now.lines number) (λ line. result ≡ place_of processor number line) }
@@ -23,7 +23,7 @@ fn place_in(processor: usize, number: usize, heard: &HeardLines) -> HeardPlace
     }
 }
 
-// Puts the place of each line that this processor heard behind the rest.
+// Appends the place of each line that this processor heard.
 fn append(places: &mut Vec<HeardPlace>, processor: usize, heard: &HeardLines)
     requires room { vec_len places.old + length heard.now.lines ≤ vec_capacity places.old }
     ensures items { places.new.items ≡ places.old.items ++ numbered (place_of processor) 0 heard.now.lines }
@@ -35,8 +35,8 @@ fn append(places: &mut Vec<HeardPlace>, processor: usize, heard: &HeardLines)
     }
 }
 
-/// Puts the places of all that each processor heard in one list, one behind the other. The list is empty and has room
-/// for all, so it takes no memory.
+/// Puts the places of all lines that each processor heard in one list, processor by processor. The list is empty and
+/// has room for all, so it takes no memory.
 pub(crate) fn gather(heard: &[HeardLines], places: &mut Vec<HeardPlace>)
     requires room { (places.old.items ≡ []) × (length (flat_map lines_of heard.now) ≤ vec_capacity places.old) }
     ensures places { AllByRecursion (IsPlace heard.now) places.new.items }
@@ -47,7 +47,7 @@ pub(crate) fn gather(heard: &[HeardLines], places: &mut Vec<HeardPlace>)
     }
 }
 
-/// Sorts the places of what was heard by thread, and then by step. It takes no memory.
+/// Sorts the places of the lines heard by thread, and then by step. It takes no memory.
 pub fn sort_heard(places: &mut [HeardPlace])
     ensures all { IsPermutation places.old places.new }
     ensures ascend { (processors : List Heard) → Ascend (map (heard_at processors) places.new) }

@@ -9,7 +9,7 @@ use boot_objects::Unmade;
 use event_theory::WaitNumber;
 use thread_table::Place;
 
-// The word for a place.
+// The report's word for a place.
 fn word_for(place: Place) -> ThreadState
     ensures { result ≡ told place }
 {
@@ -26,7 +26,7 @@ fn word_for(place: Place) -> ThreadState
     }
 }
 
-// The word for the place of this thread.
+// The report's word for the place of this thread.
 fn state_in(places: &[Place], thread: usize) -> ThreadState
     ensures { result ≡ state_at places.now thread }
 {
@@ -36,7 +36,7 @@ fn state_in(places: &[Place], thread: usize) -> ThreadState
     }
 }
 
-// A number of steps, or 2^32 - 1 where there are more.
+// A number of steps, or 2^32 - 1 if there are more.
 fn steps_of(steps: u64) -> u32
     ensures { result ≡ few steps }
 {

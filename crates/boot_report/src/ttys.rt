@@ -7,14 +7,14 @@ use boot_data::TtyLines;
 use boot_data::plan::PlannedTty;
 use boot_objects::Unmade;
 
-/// What the device of a tty did: how many bytes it popped, and how many of them the raw queue refused.
+/// The numbers of a tty's device: the number of bytes popped, and how many of them the raw queue refused.
 #[derive(Clone, Copy, Debug, PartialEq, Eq)]
 pub struct Typed {
     pub popped: u64,
     pub refused: u64,
 }
 
-// What the device of this tty did.
+// The numbers of this tty's device.
 fn typed_in(typed: &[Typed], tty: usize) -> Typed
     ensures { result ≡ typed_at typed.now tty }
 {

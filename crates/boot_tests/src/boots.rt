@@ -1,5 +1,5 @@
-//! Boots with gates, of each number of turns, with streams that are handed over, and where memory is refused. The built
-//! program boots more scripts, and all kinds of them, in `tools/test-boots` and `tools/test-program`.
+//! Boots with gates, of each number of turns, with streams that are handed over, and with refused allocations. The
+//! built program boots more scripts, of all kinds, in `tools/test-boots` and `tools/test-program`.
 
 mod gates;
 mod kinds;
@@ -20,7 +20,7 @@ struct Wanted<'a> {
     printed: &'a [u8],
 }
 
-/// What is wanted where all threads end.
+/// The expected outcome if all threads end.
 fn all_ended(printed: &str) -> Wanted<'_> {
     Wanted {
         ended: Ended::AllEnded,
@@ -28,7 +28,7 @@ fn all_ended(printed: &str) -> Wanted<'_> {
     }
 }
 
-/// What is wanted where so many threads don't end.
+/// The expected outcome if so many threads don't end.
 fn unfinished(live: usize, printed: &str) -> Wanted<'_> {
     Wanted {
         ended: Ended::Unfinished { live },
@@ -36,7 +36,7 @@ fn unfinished(live: usize, printed: &str) -> Wanted<'_> {
     }
 }
 
-/// Asserts how a script ends that is booted on one processor with so many turns, and what it prints.
+/// Asserts the outcome and the output of a script that is booted on one processor with so many turns.
 fn assert_boot<R: Threads + Wait + Sync + Abort>(
     rt: &R,
     alloc: Global,

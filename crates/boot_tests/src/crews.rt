@@ -35,7 +35,7 @@ fn alarm_at(due: u32, element: u8) -> Alarm {
     }
 }
 
-/// The alarms of a plan stand once all are set: those that are due fire, in the order in which they were set.
+/// The alarms of a plan are pending once all are set: the due ones fire, in the order in which they were set.
 #[test]
 fn alarms_stand(rt: HostRuntime) {
     let (meters, seat) = Meters::new(rt.alloc(), 0).expect(&rt, "memory");
@@ -49,7 +49,7 @@ fn alarms_stand(rt: HostRuntime) {
     assert!(rt; metered.alarms.as_slice() == [alarm_at(2, 4)].as_slice());
 }
 
-/// Takes all free elements from this number on, and says whether they came in their order, and no other.
+/// Takes all free elements from this number on, and returns whether they came in their order, and no other.
 fn are_free_from(threads: &ThreadTable, hand: &mut Hand, first: u8) -> bool
     requires { IsHandOf threads.now hand.old }
 {
@@ -60,7 +60,7 @@ fn are_free_from(threads: &ThreadTable, hand: &mut Hand, first: u8) -> bool
     in_order && threads.try_free(hand).is_err()
 }
 
-/// Takes so many ready elements, and says whether they are the first ones, in their order.
+/// Takes so many ready elements, and returns whether they are the first ones, in their order.
 fn are_ready_to(threads: &ThreadTable, hand: &mut Hand, end: u8) -> bool
     requires { IsHandOf threads.now hand.old }
     ensures { IsHandOf threads.now hand.new }
@@ -72,7 +72,7 @@ fn are_ready_to(threads: &ThreadTable, hand: &mut Hand, end: u8) -> bool
     in_order
 }
 
-/// Of three threads the elements are ready in their order, and the other 61 are free, in theirs.
+/// The elements of three threads are ready in their order, and the other 61 are free, in theirs.
 #[test]
 fn three_threads_are_ready(rt: HostRuntime) {
     let (threads, hand) = ThreadTable::new(rt.alloc()).expect(&rt, "memory");
@@ -203,8 +203,8 @@ fn type_and_serve<R: Threads + Wait + Sync>(
     )
 }
 
-/// Joins the device's end of the chain to the other, and closes the chain: how often a note was chained, how many were run,
-/// and how many items were taken and put.
+/// Joins the device's end of the chain to the other, and closes the chain. Returns how many notes were chained, how
+/// many were run, and how many items were taken and put.
 fn close_chain<R: Abort>(
     rt: &R,
     chain: Chain,
@@ -249,7 +249,7 @@ fn typed_bytes_arrive(rt: HostRuntime) {
     assert!(rt; heard.as_slice() == [97, 99, 10].as_slice());
 }
 
-/// A job that meets the others, and gives its number back with what all share added.
+/// A job that meets the others, and returns its number with what all share added.
 #[derive(Drop)]
 struct Meet(u64);
 
@@ -271,7 +271,7 @@ impl Job<Meeting, u64> for Meet {
     }
 }
 
-/// Four jobs meet, which they can only in four threads, and what they give back is in their order.
+/// Four jobs meet, which they can only in four threads, and their results are in their order.
 #[test]
 fn jobs_meet(rt: HostRuntime) {
     let shared = Meeting {

@@ -1,4 +1,4 @@
-//! What the tests of several modules make.
+//! Fixtures of the tests of several modules.
 
 pub(crate) mod lists;
 pub(crate) mod scripts;

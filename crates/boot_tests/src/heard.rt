@@ -1,4 +1,4 @@
-//! Sorting what was heard, and room for a report.
+//! Sorting the lines heard, and room for a report.
 
 use crate::fixtures::scripts::plan_if_given;
 use boot_data::HeardPlace;
@@ -28,7 +28,7 @@ fn assert_place<R: Abort>(rt: &R, found: &HeardPlace, line: (u8, u8), at: (usize
     assert!(rt; (found.processor, found.number) == at);
 }
 
-/// The places of what was heard are sorted in place, by thread, and then by step.
+/// The places of lines heard are sorted in place, by thread, and then by step.
 #[test]
 fn sorts_what_was_heard(rt: HostRuntime) {
     let mut all = [place(1, 0, 0, 0), place(0, 2, 1, 0), place(0, 1, 0, 1)];
@@ -39,7 +39,7 @@ fn sorts_what_was_heard(rt: HostRuntime) {
     assert_place(&rt, third, (1, 0), (0, 0));
 }
 
-/// Takes the room once, and says whether there was memory.
+/// Takes the room once, and returns whether there was memory.
 fn has_room<R: Abort>(rt: &R, alloc: Global) -> bool {
     let Some(plan) = plan_if_given(rt, alloc, SCRIPT) else {
         return false;
@@ -53,7 +53,7 @@ fn has_room<R: Abort>(rt: &R, alloc: Global) -> bool {
     }
 }
 
-/// Where an allocation is refused there are no lines, and the next try has them.
+/// If an allocation is refused there are no lines, and the next try has them.
 #[test]
 fn memory_may_be_wanting(rt: HostRuntime) {
     let mut made = false;

@@ -18,7 +18,7 @@ use turn_io::NoGate;
 const SCRIPT: &[u8] =
     b"synthesis 3\ntty t\ntype t hi\ntty u\ngauge g\nthread v\nhear t.line\nalarm 2 v 3";
 
-/// What a kernel has before its threads start.
+/// The objects of a kernel before its threads start.
 #[derive(Drop)]
 struct Kernel {
     shared: Shared,

@@ -1,5 +1,5 @@
-//! The tests of `boot_objects` with `boot_objects`, `boot_report`, `boot_threads` and `synth_kernel`, in a crate of their own:
-//! beside each they would prove it once more, and a crate for each would have all below built for each.
+//! The tests of `boot_objects`, `boot_report`, `boot_threads` and `synth_kernel`, in a crate of their own. Beside each
+//! of these crates they would prove it once more, and a test crate for each would have all below built for each.
 #![tactic(auto)]
 
 #[cfg(test)]

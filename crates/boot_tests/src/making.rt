@@ -37,7 +37,7 @@ fn counts_are_those_of_the_script(rt: HostRuntime) {
     assert_counts(&rt, made);
 }
 
-/// Makes the objects once, and says whether there was memory.
+/// Makes the objects once, and returns whether there was memory.
 fn are_made<R: Abort>(rt: &R, alloc: Global) -> bool {
     let Some(plan) = plan_if_given(rt, alloc, SCRIPT) else {
         return false;
@@ -54,7 +54,7 @@ fn are_made<R: Abort>(rt: &R, alloc: Global) -> bool {
     }
 }
 
-/// Where an allocation is refused there are no objects, and the next try has them.
+/// If an allocation is refused there are no objects, and the next try has them.
 #[test]
 fn memory_may_be_wanting(rt: HostRuntime) {
     let mut made = false;

@@ -1,5 +1,5 @@
--- What the takings and moves of elements add to the hand's own list of events, how many takings of free elements there
--- were behind them, and how many elements the hand holds.
+-- Takings and moves of elements: their events in the hand's own list; the number of takings of free elements that the
+-- hand has seen; and the number of elements that it holds.
 use Rattle.boot_threads.proofs.Common.{◌≡◌, ℕ, zero, suc, ◌+◌, ◌<◌, ◌≤◌, Bool, true, false, List, [], ◌∷◌, ◌++◌, length, get_or, Ok, refl, ap, arith, ◌≢◌, ◌-◌, sym, subst, ◌∙◌, true≢false, eq-eqb, or_left, or_right, le_prop, ∥∥₁_elim, filter, if◌then◌else◌, Result, Err, Event, MoveAnswer, claim_event, free_taken, ring_of, move_by, moves_in, claims, own_takings, many_held, Moved, TookFree, PutInto, HoldsFrom, range_with_len, eqb_tells, append_assoc, append-nil, map-append, flat_map-append, Made, has, HoldsSame}
 use Rattle.std.proofs.Common.{set, ⊎_elim}
 use Rattle.std.specs.Prelude.{◌==◌}
@@ -35,7 +35,7 @@ use Rattle.boot_threads.specs.declared.elements.Ring.TheVariants as rings
 abbrev pub marked : List Bool → ℕ
 marked marks = length (filter (λ (held : Bool). held) marks)
 
--- a mark where none was is one more
+-- setting a mark that was not set adds one mark
 pub mark_new : (marks : List Bool) (i : ℕ) → get_or marks i false ≡ false → get_or (set marks i true) i false ≡ true → marked (set marks i true) ≡ marked marks + 1
 mark_new [] i none now = absurd (cc)
 mark_new (true ∷ marks) zero none now = absurd (cc)
@@ -43,7 +43,7 @@ mark_new (false ∷ marks) zero none now = omega arith
 mark_new (true ∷ marks) (suc i) none now = let m = mark_new marks i none now in omega arith
 mark_new (false ∷ marks) (suc i) none now = mark_new marks i none now
 
--- a mark that is taken away is one less
+-- clearing a mark that was set takes one mark away
 pub mark_less : (marks : List Bool) (i : ℕ) → get_or marks i false ≡ true → marked (set marks i false) + 1 ≡ marked marks
 mark_less [] i up = absurd (cc)
 mark_less (true ∷ marks) zero up = omega arith
@@ -51,7 +51,7 @@ mark_less (false ∷ marks) zero up = absurd (cc)
 mark_less (true ∷ marks) (suc i) up = let m = mark_less marks i up in omega arith
 mark_less (false ∷ marks) (suc i) up = mark_less marks i up
 
--- where none is marked, there is no mark
+-- if no place is marked, there is no mark
 pub none_marked : (marks : List Bool) (n : ℕ) → length marks ≤ n → ((i : ℕ) → i < n → get_or marks i false ≡ false) → marked marks ≡ 0
 none_marked [] n few h = refl
 none_marked (b ∷ marks) zero few h = absurd (omega arith)

@@ -46,7 +46,7 @@ only_free p v free k below at = by (eqb_tells k p)
     by (inr other) = absurd (true≢false (sym at ∙ mask_bit p k ∙ other.0))
 
 module _ (p : ℕ) (old new born : Parts) (s : AreSplit (2 ^ p) old new born) where
-  -- the new station's hand serves it, and nothing stands there
+  -- the new station's hand serves the processor, and no element is on it
   pub born_free : p < 8 → IsFree p (view_of born.hand)
   born_free low = (s.born_hand.serves p low ∙ mask_bit p p ∙ eq-eqb p p refl, ap (λ (v : View). running v p) s.born_hand.same ∙ get_or-copies 8 None p)
 

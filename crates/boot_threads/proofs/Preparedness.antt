@@ -20,7 +20,7 @@ use Rattle.boot_threads.proofs.Handling.{none_marked}
 
 -- EVENTS
 
--- an event that puts an element into the ready ring or behind the free ones
+-- an event that puts an element into the ready ring or into the free ring
 abbrev IsPlacing : Event → Type 0
 IsPlacing (events.Claim call names.Ready items) = Unit {0}
 IsPlacing (events.Claim call names.Free items) = Unit {0}
@@ -46,7 +46,7 @@ quiet_all (m ∷ made) h =
     let rest = quiet_all made both.1 in
     λ i. record (tally (m ∷ made)) { done = one.0 i ++ (rest i).done; signalled = one.1 i ++ (rest i).signalled; delivered = one.2 i ++ (rest i).delivered }
 
--- the elements that an event puts behind the free ones
+-- the elements that an event puts into the free ring
 abbrev freed_by : Event → List ℕ
 freed_by (events.Claim call names.Free items) = get_or items 0 0 ∷ []
 freed_by event = []
@@ -118,7 +118,7 @@ module _ (plan : BootPlan) (table : ThreadTable) (old new : Parts) (hand : IsFir
   moves_are : moves_in made ≡ placing (call_of old.hand) (length plan.threads)
   moves_are = p.hand.moved.moves_are ∙ ap (λ (z : View). moves_in z.own.made ++ placing (call_of old.hand) (length plan.threads)) hand.knows
 
-  -- the elements that it put behind the free ones are no thread's
+  -- the elements that the station put into the free ring are no thread's
   freed_past : (P : Key → Type 0) → ((e k : ℕ) → length plan.threads ≤ e → P (e, k)) → AllByRecursion P (tally made).retired
   freed_past P holds = all_past P (length plan.threads) holds (tally made).retired (length plan.threads) (64 - length plan.threads) (omega arith)
       (freed_all made ∙ ap (flat_map freed_by) moves_are ∙ others_free (call_of old.hand) (length plan.threads))

@@ -1,4 +1,4 @@
--- What the processors and the devices gave back, by the works that they were told.
+-- The results of the processors and the devices, by their works.
 use Rattle.boot_threads.proofs.Common.{◌≡◌, ℕ, zero, suc, ◌+◌, ◌<◌, ◌≤◌, ◌^◌, List, [], ◌∷◌, ◌∙◌, map, take, drop, length, refl, sym, ap, subst, arith, Option, Some, None, Result, Ok, slice_get, AllZip, le_prop, ∥∥₁_elim, BootPlan, PlannedTty, Point, ProcChain, IsEndOf, AnyQuaject, Queues, IsEndAt, end_of, AllThree, Device, AreDevicesOf, Shared, RawTty, LineIn, LineOut, SameIn, SameOut, Work, Worked, GaveBack, IsServing, AreServing, input_of, IsTyped, AreTyped, Back, HasWorked, HasServed}
 use Rattle.boot_data.specs.QueueLists.{raw_queue}
 use Rattle.boot_data.specs.BootPlans.{plan_of}
@@ -53,7 +53,7 @@ module _ {G : Type 0} (R : Work G → Back G → Type 0) where
       let e : suc (length posts + t) ≡ suc (length posts) + t = omega arith in
       served_at ttys devices posts ws backs t p device back s.1 r.1 a b (ap (slice_get (x ∷ backs)) e ∙ c)
 
-  -- the backs of the posts stand first
+  -- the backs of the posts are first
   pub posts_first : (ttys : List PlannedTty) (devices : List Device) (posts ws : List (Work G)) (backs : List (Back G))
       → AreServing ttys devices posts ws → AllZip R ws backs → AllZip R posts (take (length posts) backs)
   posts_first ttys devices [] ws backs s r = tt

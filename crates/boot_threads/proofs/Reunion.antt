@@ -39,14 +39,15 @@ serves_on first (s ∷ stations) last k j h = serves_on j.0 stations last k j.2 
 none_either : (xs ys : List (Option ℕ)) → xs ≡ nothing_on → ys ≡ nothing_on → either_on xs ys ≡ nothing_on
 none_either xs ys a b = ap (λ (z : List (Option ℕ)). either_on z ys) a ∙ ap (either_on nothing_on) b
 
--- what is parted is there again: what was kept, and what was given, behind what the others have
+-- what is parted is there again: what was kept, and what was given, after what the others have
 parted_more : (old mid born back new rest : Shares) → both_shares mid born ≡ old → back ≡ born → mid ≡ both_shares new rest → old ≡ both_shares new (both_shares back rest)
 parted_more old mid born back new rest whole same parted =
     sym whole ∙ ap (both_shares mid) (sym same) ∙ ap (λ z. both_shares z back) parted ∙ shares_add.regroups new rest back ∙ ap (both_shares new) (shares_swap rest back)
 
 module _ (G : Type 0) (ran : RunsOf G) (refused : RefusalsOf G) (T : G → ℕ → Point → G → Type 0) (shared : Shared) (turns : ℕ) where
-  -- what came back of the processors from this one on: their turns; that the first station did nothing; the shares that were given to them; and what a station
-  -- has to which they are joined, the processors that they serve, with nothing on them
+  -- the results of the processors from this one on: their turns; no work of the first station; the shares that were
+  -- given to them; and, for a station to which they are joined, the processors that they serve, without an element on
+  -- them
   record Comes (p : ℕ) (gates : List G) (old new : Parts) (came : List (Processed G)) : Type 0 where
     turned : AllTurned ran T shared p turns gates came
     did : account new ≡ account old

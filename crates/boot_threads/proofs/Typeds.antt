@@ -21,7 +21,7 @@ use Rattle.boot_threads.specs.Backs.{device_of}
 
 -- PUTS
 
--- the runs are in order where they were, and nothing more was shut
+-- if the runs were in order, they still are, and nothing more was shut
 record Keeps (v w : View) : Type 0 where
   order : InOrder v.own.runs → InOrder w.own.runs
   shuts : w.own.shuts ≡ v.own.shuts

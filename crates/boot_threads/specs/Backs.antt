@@ -1,4 +1,4 @@
--- What the threads of a kernel gave back, and what that tells where they began with new objects.
+-- Results of the threads of a kernel, and what follows from them if the threads began with new objects.
 use Rattle.std.specs.Prelude.{◌≡◌, ◌++◌, ◌+◌, ◌<◌, ℕ, List, [], ◌∷◌, map, length, Ok}
 use Rattle.boot_data.specs.declared.plan.PlannedTty.{PlannedTty}
 use Rattle.boot_data.specs.QueueLists.{raw_queue}
@@ -28,13 +28,13 @@ use Rattle.boot_threads.specs.declared.work.Worked.TheVariants as worked
 use Rattle.boot_threads.specs.Crews.{WasRun}
 use Rattle.boot_threads.specs.Works.{Back, HasRun, HasServed, RunsOf}
 
--- what a device popped, and how many bytes it was refused
+-- the bytes that a device popped, and how many bytes were refused
 abbrev pub device_of : LineOut → RawTty → ended.Device
 device_of line tty = record { popped = bytes_received line; refused = overruns_of tty }
 
--- The device of this tty served it: its ends are still those of its queue and its chain, with the shares that they had.
--- The end into which was typed and the end from which it popped are of one line; and where what was received and what
--- is left are what was sent, it ended as a report asks
+-- The device of this tty served it. Its ends are ends of the tty's queue and chain, with the shares that they had.
+-- `input` and `line` are the two ends of one line. If the bytes received and the bytes left are the bytes sent, the
+-- device ended as a report requires
 pub record IsDeviceBack (shared : Shared) (t : ℕ) (p : PlannedTty) (device : Device) (input : LineIn) (line : LineOut)
     (tty : RawTty) : Type 0 where
   pub served : HasServed shared device.chain (length p.typed) device.output device.tty line tty
@@ -45,7 +45,7 @@ pub record IsDeviceBack (shared : Shared) (t : ℕ) (p : PlannedTty) (device : D
   pub all : bytes_received line ++ bytes_left input line ≡ bytes_sent input
       → DeviceEnded p (end_of tty) (device_of line tty)
 
--- what these stations did together, but for what they heard
+-- the work of these stations together, except the lines that they heard
 abbrev pub all_done : List Parts → Account
 all_done [] = nothing
 all_done (parts ∷ stations) = unheard (account parts) ⊕ all_done stations
@@ -55,17 +55,17 @@ module _ {G : Type 0} where
   abbrev pub back_of : Processed G → Back G
   back_of one = Ok (worked.Processed one)
 
-  -- the parts of its station
+  -- the parts of the processor's station
   abbrev pub parts_of : Processed G → Parts
   parts_of one = one.station.parts
 
-  -- its gate
+  -- the processor's gate
   abbrev pub gate_of : Processed G → G
   gate_of one = one.gate
 
-  -- Each processor, from this one on, had so many turns on a station of these objects that it could use and that had
-  -- done nothing, of which its gate was told; so the gate, and the station, became those that it gave back. The thread
-  -- of just this work gave them back
+  -- Each processor, from the number p on, had so many turns on a station of these objects. The processor could use the
+  -- station, and the station had done nothing. Its gate observed these turns. The thread of exactly this work gave back
+  -- the station and the gate as the turns left them
   abbrev pub AllTurned : RunsOf G → (G → ℕ → Point → G → Type 0) → Shared → ℕ → ℕ → List G
       → List (Processed G) → Type 0
   AllTurned ran T shared p turns [] [] = Unit {0}
@@ -76,9 +76,9 @@ module _ {G : Type 0} where
       × AllTurned ran T shared (p + 1) turns gates came
   AllTurned ran T shared p turns gates came = ⊥
 
-  -- Each processor left on its station what its log says. Once all are joined to what the first station had kept, that
-  -- has the shares again that it had before it gave parts away, and has done what it had and what they did; it serves
-  -- each processor, on which nothing stands
+  -- Each processor left on its station what its log says. After all stations are joined to what the first station had
+  -- kept, `last` has the shares that the first station had before its splits. It has done the work that it had done and
+  -- theirs. It serves each processor, and no element is on one
   pub record CameTogether (ran : RunsOf G) (T : G → ℕ → Point → G → Type 0) (shared : Shared)
       (turns : ℕ) (gates : List G) (old last : Parts) (came : List (Processed G)) : Type 0 where
     pub turned : AllTurned ran T shared 0 turns gates came

@@ -1,4 +1,4 @@
--- What a device does with the bytes that it pops.
+-- The effect of a device on the bytes that it pops.
 use Rattle.std.specs.Prelude.{◌≡◌, ℕ, zero, suc, ◌+◌, ◌≤◌, ◌%◌, ◌^◌, Bool, not, List, [], ◌∷◌, ◌++◌, map}
 use Rattle.std.specs.Prelude.{filter, length}
 use Rattle.std.specs.List.{repeat}
@@ -20,7 +20,7 @@ use Rattle.quajects.specs.Anys.{MadeOf, Fits}
 use Rattle.quajects.specs.Notings.{Noted}
 use Rattle.quajects.specs.Raws.{end_of, overruns_of, PutByte}
 
--- a byte that was tried to be put as a line of its own, and whether it was put
+-- a byte that the device tried to put as a line of its own, and whether it was put
 pub record Try : Type 0 where
   pub byte : ℕ
   pub put : Bool
@@ -29,33 +29,33 @@ pub record Try : Type 0 where
 abbrev pub bytes_of : List Try → List ℕ
 bytes_of tries = map (λ (one : Try). one.byte) tries
 
--- the lines that were put: each byte alone, but for those that were refused
+-- the lines that were put: one line for each byte, except the refused bytes
 abbrev pub lines_of : List Try → List (List ℕ)
 lines_of tries = map (λ (one : Try). one.byte ∷ []) (filter (λ (one : Try). one.put) tries)
 
--- how many were refused
+-- how many bytes were refused
 abbrev pub refused : List Try → ℕ
 refused tries = length (filter (λ (one : Try). not one.put) tries)
 
--- the end tried so, one byte behind the other
+-- the end tried to put these bytes, one after the other, each with this outcome
 abbrev pub PutEach : View → List Try → View → Type 0
 PutEach v [] w = w ≡ v
 PutEach v (one ∷ tries) w = (u : View) × PutByte v one.byte one.put u × PutEach u tries w
 
--- the end chained note 0 so many times, one behind the other, each as far as the chain had room
+-- the end chained note 0 so many times in sequence, each time only if the chain had room
 abbrev pub NotedTimes : {Q : Type 0} → (Q → List ℕ → Type 0) → (Q → Type 0) → Me Q chains.View → ℕ
     → Me Q chains.View → Type 0
 NotedTimes made fits me zero w = w ≡ me
 NotedTimes {Q} made fits me (suc count) w =
     (u : Me Q chains.View) × NotedTimes made fits me count u × Noted made fits u 0 w
 
--- so many notes 0
+-- so many lines that each are note 0 alone
 abbrev pub zeros : ℕ → List (List ℕ)
 zeros count = repeat count (alone 0 ∷ [])
 
--- The device popped so many bytes. Each was tried to be put in the raw queue, in their order; the lines put there are
--- those bytes that were not refused, and each that was refused is one overrun. For each byte note 0 was chained, but
--- where the chain refused it
+-- The device popped `count` bytes, and tried to put each in the raw queue, in order. The lines put there are the bytes
+-- that were not refused. Each refused byte is one overrun, modulo 2^64. For each byte note 0 was chained, unless the
+-- chain refused it. The ends are still ends of their queue and chain, with the shares that they had
 pub record Served (chain : ProcChain AnyQuaject Queues) (count : ℕ) (line : LineOut) (tty : RawTty) (line' : LineOut)
     (tty' : RawTty) : Type 0 where
   pub tries : List Try

@@ -15,7 +15,7 @@ use Rattle.thread_table.specs.Rules.{nothing_on}
 use Rattle.boot_threads.specs.declared.work.Work.{Work}
 use Rattle.boot_threads.specs.declared.work.Work.TheVariants as works
 
--- a share that can be split so many times
+-- the share can be split so many times
 abbrev pub IsAmple : ℕ → ℕ → Type 0
 IsAmple splits share = splits * MOST_GIVEN + 2 ≤ share
 
@@ -27,12 +27,12 @@ pub record CanSplit (splits : ℕ) (parts : Parts) : Type 0 where
   pub chains : (q : ℕ) → q < length parts.chains.items → IsAmple splits ((shares parts).chains q)
   pub meters : IsAmple splits (shares parts).meters
 
--- nothing stands on any processor
+-- no element is on a processor
 abbrev pub NoneOn : Parts → Type 0
 NoneOn parts = (view_of parts.hand).own.on ≡ nothing_on
 
--- The work of a processor on a station that it can use, and that has done nothing yet. The first gave it a part of each
--- end, and this processor alone; it has done what it had done, and nothing else
+-- The work of a processor on a station that it can use, and that has done nothing. The first station gave it a part of
+-- each end, and of the processors only this one. The first station has done what it had done, and nothing else
 pub record IsPosted {G : Type 0} (shared : Shared) (p turns : ℕ) (gate : G) (old new : Parts) (work : Work G)
     : Type 0 where
   pub station : Station
@@ -44,7 +44,7 @@ pub record IsPosted {G : Type 0} (shared : Shared) (p turns : ℕ) (gate : G) (o
   pub kept_are : shares new ≡ each_share kept (shares old)
   pub given_are : shares station.parts ≡ each_share given (shares old)
 
--- so it is with each gate, for the processors from this one on, one behind the other
+-- each gate has such a work, for the processors from p on; each station is split off from what the last split left
 abbrev pub ArePosted : {G : Type 0} → Shared → ℕ → ℕ → List G → Parts → Parts → List (Work G) → Type 0
 ArePosted shared p turns [] old new [] = new ≡ old
 ArePosted shared p turns (gate ∷ gates) old new (work ∷ works) =

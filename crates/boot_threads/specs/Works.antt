@@ -1,4 +1,4 @@
--- What the threads of a kernel may do, and what they give back.
+-- The works that the threads of a kernel may do, and their results.
 use Rattle.std.specs.Prelude.{◌≡◌, ℕ, Some, false, Result}
 use Rattle.std.specs.List.{slice_get}
 use Rattle.turn_io.specs.declared.gate.Point.{Point}
@@ -23,28 +23,28 @@ use Rattle.boot_threads.specs.declared.work.Worked.TheVariants as worked
 use Rattle.boot_threads.specs.Crews.{Runs, Refusals}
 use Rattle.boot_threads.specs.Devices.{Served}
 
--- that a thread of the kernel was joined and gave this back
+-- a relation: a thread of the kernel with this promise was joined and gave this back
 abbrev pub RunsOf : Type 0 → Type 1
 RunsOf G = Runs Shared (Work G) (Worked G)
 
--- that a thread of the kernel was refused
+-- a relation: a thread of the kernel with this promise was refused
 abbrev pub RefusalsOf : Type 0 → Type 1
 RefusalsOf G = Refusals Shared (Work G)
 
--- A processor had so many turns, of which its gate was told and so became the other one; they left on its station what
--- their log says. It can use the station still
+-- A processor had so many turns, of which its gate observed each and became `gate'`. The turns left on its station what
+-- their log says. The processor can still use the station
 abbrev pub HasRun : {G : Type 0} → (G → ℕ → Point → G → Type 0) → Shared → ℕ → ℕ → G → G → Parts → Parts → Type 0
 HasRun T shared p turns gate gate' old new =
     StaysManned shared p old new × HasTurned T shared p turns gate gate' old new
 
--- a raw tty of these objects, whose chain has this index
+-- the raw tty has an end of a small queue of these objects, and an end of the chain with this index
 pub record IsServable (shared : Shared) (chain : ℕ) (tty : RawTty) : Type 0 where
   pub its : ProcChain AnyQuaject Queues
   pub is : slice_get shared.chains.items chain ≡ Some its
   pub raw : IsEndAt shared.queues.small.items tty.index (end_of tty)
   pub chain_end : IsEndOf its tty.chain
 
--- a device popped so many bytes, and the raw tty was interrupted with each
+-- a device popped so many bytes, each an interrupt of the raw tty, which keeps its queue and chain and has no Turn
 pub record HasServed (shared : Shared) (chain count : ℕ) (line : LineOut) (tty : RawTty) (line' : LineOut)
     (tty' : RawTty) : Type 0 where
   pub its : ProcChain AnyQuaject Queues
@@ -67,6 +67,6 @@ HasWorked T shared (works.Serve chain line tty count) (worked.Served line' tty')
     HasServed shared chain count line tty line' tty'
 HasWorked T shared work back = ⊥
 
--- what came back of a thread of the kernel, or what stands for one that can't be started
+-- the result of a thread of the kernel, or the substitute for a thread that can't be started
 abbrev pub Back : Type 0 → Type 0
 Back G = Result (Worked G) (NotStarted Shared (Work G))

@@ -7,7 +7,7 @@ use event_theory::Alarm;
 use meters::{MeterSeat, Meters};
 use std::sync::Wait;
 
-// Sets an alarm, again where no slot was empty or another end was first.
+// Sets an alarm. Retries if no slot was empty or another end was first.
 fn set_alarm<R: Wait>(rt: &R, meters: &Meters, seat: &mut MeterSeat, alarm: &Alarm)
     requires { IsSeatOf meters.now seat.old }
     ensures set { DidSet alarm.now (view_of seat.old) (view_of seat.new) }
@@ -21,8 +21,8 @@ fn set_alarm<R: Wait>(rt: &R, meters: &Meters, seat: &mut MeterSeat, alarm: &Ala
     }
 }
 
-/// Sets these alarms in their order, each again where no slot was empty or another end was first. They are 16 at most
-/// in a plan, so new meters have a slot for each.
+/// Sets these alarms in their order, each with retries if no slot was empty or another end was first. A plan has at
+/// most 16 alarms, so new meters have a slot for each.
 pub fn set_alarms<R: Wait>(rt: &R, meters: &Meters, seat: MeterSeat, alarms: &[Alarm]) -> MeterSeat
     requires { IsSeatOf meters.now seat }
     ensures set { DidSetAll alarms.now (view_of seat) (view_of result) }

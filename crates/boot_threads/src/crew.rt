@@ -8,8 +8,8 @@ use std::sync::Wait;
 use std::thread;
 use std::thread::Scope;
 
-/// Starts a thread for each job, in their order, whether or not others can be started. It takes no memory: the list has
-/// room for all handles.
+/// Starts a thread for each job, in the order of the jobs, even if another thread can't be started. It takes no memory:
+/// the list has room for all handles.
 pub fn start_all<'s, E, R, S, B, J>(
     rt: &'s R,
     scope: &'s Scope<'s, E>,
@@ -33,7 +33,7 @@ where
     handles
 }
 
-// What a thread gave back, or what stands for one that was not started.
+// The result of a thread, or the substitute for a thread that was not started.
 fn join_one<R: Witness<S, B, J>, S, B: Drop, J: Job<S, B>>(
     rt: &R,
     handle: Started<S, B, J>,
@@ -46,8 +46,8 @@ fn join_one<R: Witness<S, B, J>, S, B: Drop, J: Job<S, B>>(
     }
 }
 
-/// Joins these threads, in their order, and gives what each gave back, or what stands for one that was not started. It
-/// takes no memory: the list has room for all.
+/// Joins these threads, in their order, and returns the result of each, or the substitute for a thread that was not
+/// started. It takes no memory: the list has room for all results.
 pub fn join_all<R: Witness<S, B, J>, S, B: Drop, J: Job<S, B>>(
     rt: &R,
     handles: Vec<Started<S, B, J>>,
@@ -63,8 +63,8 @@ pub fn join_all<R: Witness<S, B, J>, S, B: Drop, J: Job<S, B>>(
     backs
 }
 
-/// Starts a thread for each job, joins all, and gives what each gave back, in the order of the jobs, or what stands for
-/// one whose thread can't be started. It takes no memory: both lists have room for all.
+/// Starts a thread for each job, joins all, and returns the results in the order of the jobs. A thread that can't be
+/// started has a substitute instead of a result. It takes no memory: both lists have room for all.
 pub fn run_all<R, S, B, J>(
     rt: &R,
     shared: &S,

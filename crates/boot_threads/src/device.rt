@@ -12,7 +12,7 @@ use spsc_line::LineOut;
 use std::sync::Wait;
 use std::thread;
 
-// Pops a byte, again where the line is empty.
+// Pops a byte. Retries if the line is empty.
 fn next_byte<R: Wait>(rt: &R, line: &mut LineOut) -> u8
     ensures line { SameOut line.old line.new }
     ensures received { Receives result line.old line.new }
@@ -26,11 +26,11 @@ fn next_byte<R: Wait>(rt: &R, line: &mut LineOut) -> u8
     unreachable!()
 }
 
-/// The device of a tty: pops so many bytes from the line, again where it is empty, and has the raw tty interrupted with
-/// each, in their order. Each byte is put in the raw queue as a line of its own or counted as an overrun, and for each
-/// note 0 is chained, as `RawTty::interrupt` says.
+/// The device of a tty: pops so many bytes from the line, with retries if it is empty. It has the raw tty interrupted
+/// with each byte, in their order. Each byte is put in the raw queue as a line of its own or counted as an overrun. For
+/// each byte, note 0 is chained, as `RawTty::interrupt` says.
 ///
-/// Conditions: the raw tty's end and index fit the queues, its chain's end is one of the chain, and the queues are the
+/// Conditions: the raw tty's end and index fit the queues. Its chain's end is an end of the chain. The queues are the
 /// chain's world.
 pub fn serve_device<R: Wait>(
     rt: &R,

@@ -10,14 +10,14 @@ use event_theory::Element;
 use std::sync::Wait;
 use thread_table::{Hand, MoveRefusal, ThreadTable};
 
-// The ring into which an element is put: the ready ring, or that of the free elements.
+// The ring into which an element is put: the ready ring, or the free ring.
 #[derive(Clone, Copy)]
 enum Ring {
     Ready,
     Free,
 }
 
-// Takes free elements until the hand holds this one.
+// Takes free elements until the hand holds this element.
 fn take_free<R: Wait>(rt: &R, threads: &ThreadTable, hand: &mut Hand, element: Element)
     requires { IsHandOf threads.now hand.old }
     ensures holds { has (view_of hand.new) element ≡ true }
@@ -50,7 +50,7 @@ fn try_put(
     }
 }
 
-// Puts an element that the hand holds into the ring, again where another hand was first.
+// Puts an element that the hand holds into the ring. Retries if another hand was first.
 fn put<R: Wait>(rt: &R, threads: &ThreadTable, hand: &mut Hand, ring: Ring, element: Element)
     requires table { IsHandOf threads.now hand.old }
     requires holds { has (view_of hand.old) element ≡ true }
@@ -76,7 +76,7 @@ fn element_of(number: u8) -> Element
     element
 }
 
-// Takes free elements until the hand holds all.
+// Takes free elements until the hand holds all elements.
 fn take_all<R: Wait>(rt: &R, threads: &ThreadTable, hand: &mut Hand)
     requires { IsHandOf threads.now hand.old }
     ensures holds { HoldsFrom 0 (view_of hand.new) }
@@ -88,7 +88,7 @@ fn take_all<R: Wait>(rt: &R, threads: &ThreadTable, hand: &mut Hand)
     }
 }
 
-// Puts the elements from this number on, up to that one, into the ring, in their order.
+// Puts the elements with the numbers from `from` to below `to` into the ring, in their order.
 fn put_all<R: Wait>(rt: &R, threads: &ThreadTable, hand: &mut Hand, ring: Ring, from: u8, to: u8)
     requires table { IsHandOf threads.now hand.old }
     requires most { (from ≤ to) × (to ≤ 64) }
@@ -103,9 +103,9 @@ fn put_all<R: Wait>(rt: &R, threads: &ThreadTable, hand: &mut Hand, ring: Ring, 
     }
 }
 
-/// Takes all elements from among the free ones, puts so many, the first ones, into the ready ring, one for each thread
-/// in the order of the script, and the others behind the free ones. Each try that another hand was ahead of is made
-/// again. The hand then holds none.
+/// Takes all free elements. Puts the first `count` elements into the ready ring, one for each thread in script order,
+/// and the others into the free ring. Each try is repeated if another hand was first. The hand holds no element
+/// afterwards.
 ///
 /// Condition: there are 64 threads at most.
 pub fn prepare<R: Wait>(rt: &R, threads: &ThreadTable, hand: Hand, count: u8) -> Hand

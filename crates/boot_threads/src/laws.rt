@@ -1,4 +1,4 @@
-//! What it comes to that a station is prepared, and that the threads of a kernel ran.
+//! Consequences of the preparing of a station and of the running of a kernel's threads.
 ghost use Rattle.std.specs.Prelude.{◌≡◌, ◌<◌, ◌≤◌, ◌+◌, ◌^◌, ◌++◌, ℕ, List, Some, Ok, length, map, take, drop};
 ghost use Rattle.std.specs.List.{All, AllZip, AllByRecursion, slice_get};
 ghost use Rattle.boot_data.specs.declared.boot_plan.BootPlan.{BootPlan};
@@ -47,8 +47,8 @@ use crate::work::{Work, Worked};
 use processor::Shared;
 use turn_io::Gate;
 
-/// The first station of new objects, once it is prepared, is as the report of a boot asks: all free elements were
-/// taken, those that were freed again are no thread's, the plan's alarms were set, and nothing else was done.
+/// The first station of new objects, once it is prepared, is as the report of a boot requires. All free elements were
+/// taken, and the elements freed again are no thread's. The plan's alarms were set, and nothing else was done.
 pub fn first_is_prepared()
     ensures prepared { (plan : BootPlan) (table : ThreadTable) (old new : Parts) → IsFirstHand table old.hand
         → HasPrepared plan old new → account old ≡ nothing → IsUnused old → IsPrepared plan new }
@@ -57,9 +57,9 @@ pub fn first_is_prepared()
         → AllByRecursion (λ (freed : Key). length plan.threads ≤ freed.0) (account new).hand.retired }
 {}
 
-/// The first station of new objects, once it is prepared, can be split eight times, and serves all processors, on which
-/// nothing stands. What has its shares again is the only hand and the only seat, with the shares that the first station
-/// had.
+/// The first station of new objects, once it is prepared, can be split eight times. It serves all processors, and no
+/// element is on one. Parts with the shares of the prepared station have the only hand and the only seat, and the
+/// shares that the first station had.
 pub fn first_is_ready()
     ensures splits { (plan : BootPlan) (table : ThreadTable) (meters : Meters) (old new : Parts)
         → IsFirstHand table old.hand → IsFirstSeat meters old.meters → CanGive 1000 (stocks.shares old.small.items)
@@ -72,8 +72,8 @@ pub fn first_is_ready()
         → shares last ≡ shares old → IsOnlyHand last.hand × IsOnlySeat last.meters × (shares last ≡ shares first) }
 {}
 
-/// The works of the processors and, behind them, those of new objects' devices may all be done. There are as many as
-/// there are gates and ttys.
+/// The works of the processors, followed by the works of new objects' devices, may all be done. There are as many works
+/// as gates and ttys.
 pub fn works_may_run<G>()
     ensures may { (shared : Shared) (turns : ℕ) (gates : List G) (old new : Parts) (devices : List Device)
         (posts works : List (Work G)) → ArePosted shared 0 turns gates old new posts
@@ -85,9 +85,9 @@ pub fn works_may_run<G>()
         → AreServing ttys devices posts works → length works ≡ length posts + length ttys }
 {}
 
-/// A device of new objects that served as many bytes as were typed into its line served those bytes, in their order:
-/// it put those that were not refused, each run behind the one before it, and took and shut nothing. That what was
-/// received and what is left are what was sent is what `spsc_line::finish` says of the two ends.
+/// A device of new objects that served as many bytes as were typed into its line served those bytes, in their order. It
+/// put the bytes that were not refused, each run after the one before it, and took and shut nothing.
+/// `spsc_line::finish` ensures of the two ends that the bytes received and the bytes left are the bytes sent.
 pub fn all_is_served()
     ensures { (queues : List (ClaimQueue 64)) (chains : List (ProcChain AnyQuaject Queues)) (raw chain : ℕ)
         (device : Device) (its : ProcChain AnyQuaject Queues) (p : PlannedTty) (input : LineIn) (line : LineOut)
@@ -98,9 +98,9 @@ pub fn all_is_served()
         → DeviceEnded p (end_of tty) (device_of line tty) }
 {}
 
-/// Where the works of new objects' devices stand behind the others, and the bytes of each tty were typed, the device of
-/// each tty that gave anything back served its tty, and its ends have the shares that they had; and once its line is
-/// finished, all that the plan types was served.
+/// Conditions: the works of new objects' devices follow the others, and the bytes of each tty were typed. Then the
+/// device of each tty that gave anything back served its tty, and its ends have the shares that they had. Once the
+/// device's line is finished, all bytes that the plan types were served.
 pub fn devices_come_back<R: Witness<Shared, Worked<G>, Work<G>>, G: Gate + Drop>()
     ensures { (shared : Shared) (devices : List Device) (posts works : List (Work G))
         (backs : List (Back G)) (inputs : List LineIn)
@@ -115,9 +115,9 @@ pub fn devices_come_back<R: Witness<Shared, Worked<G>, Work<G>>, G: Gate + Drop>
         × IsDeviceBack shared t p device input line tty }
 {}
 
-/// Where each processor gave its station back, each left on it what its log says, and its gate was told of each turn of
-/// the log. Once all stations are joined to what the first had kept, that has the shares again that it had, has done
-/// what it had done and what they did, and serves all processors, on which nothing stands.
+/// Condition: each processor gave its station back. Then each left on the station what its log says, and its gate
+/// observed each turn of the log. Once all stations are joined to what the first had kept, the result has the shares
+/// that the first station had. It has done the work of all, and serves all processors; no element is on a processor.
 pub fn stations_come_together<R: Witness<Shared, Worked<G>, Work<G>>, G: Gate + Drop>()
     ensures { (shared : Shared) (turns : ℕ) (gates : List G) (old new last : Parts) (posts works : List (Work G))
         (devices : List Device) (backs : List (Back G)) (came : List (Processed G))

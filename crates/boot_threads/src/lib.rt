@@ -1,5 +1,5 @@
-//! The threads of a kernel: one for each processor and each device. What is done before they start stands here too,
-//! and that each tty's bytes are typed into its line while they run.
+//! The threads of a kernel: one for each processor and each device. The work before they start is here too, and the
+//! typing of each tty's bytes into its line while they run.
 #![tactic(auto)]
 
 mod alarms;

@@ -1,4 +1,4 @@
-//! What a boot does before its threads start: the first station is prepared, and each device gets its work.
+//! The work of a boot before its threads start: the first station is prepared, and each device gets its work.
 ghost use Rattle.std.specs.Prelude.{◌≡◌, ◌+◌, ◌≤◌, [], length, map, vec_len, vec_capacity};
 ghost use Rattle.processor.specs.Stations.{ArePartsOf};
 ghost use Rattle.boot_threads.specs.Readiness.{HasPrepared, IsServing, AreServing, input_of};
@@ -29,7 +29,7 @@ pub fn prepare_station<R: Wait>(rt: &R, shared: &Shared, station: Station) -> St
     Station::from_parts(parts)
 }
 
-// The work of a device, and the end of its line into which its tty's bytes are typed.
+// The work of a device, and the end of its line at which its tty's bytes are typed.
 fn device_work<G>(device: Device, tty: &PlannedTty) -> (Work<G>, LineIn)
     ensures { IsServing tty.now device result.0 × (result.1 ≡ device.input) }
 {
@@ -49,8 +49,8 @@ fn device_work<G>(device: Device, tty: &PlannedTty) -> (Work<G>, LineIn)
     (work, input)
 }
 
-/// The work of each device, behind these works: to serve its tty till it has had as many bytes as the plan types. The
-/// ends of the lines into which they are typed go into `lines`. Both lists have room, so it takes no memory.
+/// Adds the work of each device after these works: to serve its tty until it has had as many bytes as the plan types.
+/// The ends of the lines at which bytes are typed go into `lines`. Both lists have room, so it takes no memory.
 ///
 /// Conditions: there is a device for each tty, in their order, and `lines` is empty.
 pub fn add_devices<G: Drop>(

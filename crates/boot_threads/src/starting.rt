@@ -1,4 +1,4 @@
-//! A thread for a job, and what stands for one that can't be started.
+//! A thread for a job, and the substitute for a thread that can't be started.
 ghost use Rattle.std.specs.Prelude.{◌≡◌};
 ghost use Rattle.boot_objects.specs.declared.closing.all.Unmade.{Unmade};
 ghost use Rattle.boot_threads.specs.Crews.{WasTold};
@@ -9,7 +9,7 @@ use std::snapshot::Snapshot;
 use std::sync::Wait;
 use std::thread::{Promise, PromisedHandle, Scope, SpawnError, Threads};
 
-/// What a thread does with what all threads share, and what it gives back.
+/// The work of a thread on the data that all threads share, and its result.
 pub trait Job<S, B>: Sized {
     ghost may_run: { S → Self → Type 0 };
 
@@ -21,7 +21,7 @@ pub trait Job<S, B>: Sized {
         ensures { gives shared.now self result };
 }
 
-/// What the thread of a job was told: what all share, and the job.
+/// The input of the thread of a job: the data that all share, and the job.
 #[derive(Drop)]
 pub struct JobPromise<S, J> {
     shared: Snapshot<S>,
@@ -32,10 +32,12 @@ impl<S, B, J: Job<S, B>> Promise<B> for JobPromise<S, J> {
     ghost kept_by = { λ told back. J.gives told.shared.value told.job.value back };
 }
 
-/// What joins threads of jobs of one kind, and is told which could not be started. Every handle for threads is one.
+/// Joins threads of jobs of one kind, and is informed of those that could not be started. Every handle for threads is a
+/// witness.
 ///
 /// `ran`, `refused` and `shown` are for contracts alone. Code that is generic over a witness knows of them only what a
-/// call on it ensured. So a contract that says of a value that a thread gave it back says that this thread was joined.
+/// call on the witness ensured. A contract that says of a value that a thread gave it back therefore says that this
+/// thread was joined.
 pub trait Witness<S, B, J>: Threads {
     // A thread that had made this promise was joined, and gave this back.
     ghost ran: { JobPromise S J → B → Type 0 };
@@ -43,7 +45,7 @@ pub trait Witness<S, B, J>: Threads {
     // A thread that was to make this promise could not be started.
     ghost refused: { JobPromise S J → Type 0 };
 
-    // It was shown what a boot closed.
+    // This result of closing a boot was shown to the witness.
     ghost shown: { Unmade → Type 0 };
 
     /// Joins a thread.
@@ -53,7 +55,7 @@ pub trait Witness<S, B, J>: Threads {
         ensures kept { J.gives handle.promise.shared.value handle.promise.job.value result }
         ensures ran { ran handle.promise result };
 
-    /// Gives up a thread that could not be started. What came back instead is the closure that it was to run.
+    /// Gives up a thread that could not be started. The closure that the thread was to run came back instead.
     fn give_up<F>(&self, promise: &JobPromise<S, J>, lost: SpawnError<F>)
     where
         J: Job<S, B>,
@@ -61,7 +63,7 @@ pub trait Witness<S, B, J>: Threads {
         requires { (back : B) → F.post lost.value back → J.gives promise.now.shared.value promise.now.job.value back }
         ensures { refused promise.now };
 
-    /// Shows it what was closed, and changes nothing.
+    /// Shows the closed objects to the witness, and changes nothing.
     fn show(&self, closed: &Unmade)
         ensures { shown closed.now };
 }
@@ -97,17 +99,17 @@ impl<R: Threads, S, B, J> Witness<S, B, J> for R {
     {}
 }
 
-/// Stands for the thread of a job that can't be started, with what that would have been told. Only `start_one`
-/// makes one, and there is no other of it: so what a thread gave back is never missing.
+/// The substitute for the thread of a job that can't be started, with the input of that thread. Only `start_one` makes
+/// one, and it can't be copied: so a thread's result is never missing.
 #[derive(Drop)]
 pub struct NotStarted<S, J> {
     told: JobPromise<S, J>,
 }
 
-/// The thread of a job, until it is joined, or what stands for one that can't be started.
+/// The thread of a job, until it is joined, or the substitute for a thread that can't be started.
 pub type Started<S, B, J> = Result<PromisedHandle<B, JobPromise<S, J>>, NotStarted<S, J>>;
 
-// What the thread of this job is to be told.
+// The input of the thread of this job.
 fn promise_of<S, J>(shared: &S, job: &J) -> JobPromise<S, J>
     ensures { (result.shared.value ≡ shared.now) × (result.job.value ≡ job.now) }
 {

@@ -38,12 +38,12 @@ fn post<G: Gate + Drop>(
     })
 }
 
-/// A station for each gate, for the processors from 0 on, split off from the first one, and the work of each: so many
-/// turns. They go into `works`, which is empty and has room for them. The first station still serves the other
-/// processors, and has done what it had done. `OutOfMemory` comes only where an allocation was refused; what was split
-/// off until then is gone.
+/// Splits a station off from the first one for each gate, for the processors from 0 on. Makes the work of each: so many
+/// turns. The works go into `works`, which is empty and has room for them. The first station still serves the other
+/// processors, and has done what it had done. `OutOfMemory` is returned only if an allocation was refused; the stations
+/// split off until then are dropped.
 ///
-/// Conditions: the station is one of `shared`; it serves all processors, on which nothing stands; each of its ends can
+/// Conditions: the station is one of `shared`; it serves all processors, and no element is on one; each of its ends can
 /// be split eight times; and there are 8 gates at most.
 pub fn post_all<G: Gate + Drop>(
     alloc: Global,

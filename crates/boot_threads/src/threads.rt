@@ -18,7 +18,7 @@ use turn_io::Gate;
 
 type Handles<G> = Vec<Started<Shared, Worked<G>, Work<G>>>;
 
-// Starts all, and then types into the lines.
+// Starts all threads, and then types into the lines.
 fn start_and_type<'s, E, R, G>(
     rt: &'s R,
     scope: &'s Scope<'s, E>,
@@ -46,12 +46,12 @@ where
     (handles, typed)
 }
 
-/// Starts a thread for each work, types each tty's bytes into its line while they run, and joins all: what each gave
-/// back, in the order of the works, and the lines. Where a thread can't be started there is what stands for it, the
-/// others go on, and nothing is typed for a device that isn't there. It takes no memory: all lists have room.
+/// Starts a thread for each work, types each tty's bytes into its line while the threads run, and joins all. Returns
+/// the results, in the order of the works, and the lines. If a thread can't be started, its substitute is returned and
+/// the others go on. Nothing is typed for a device that was not started. It takes no memory: all lists have room.
 ///
-/// Conditions: the works are those of so many processors, and then those of the devices, one for each tty in the order
-/// of the plan, whose lines' other ends these are; each work may be done.
+/// Conditions: the works of so many processors are first, followed by those of the devices, one for each tty in plan
+/// order. The lines are the other ends of the devices' lines. Each work may be done.
 pub fn run_kernel<R, G>(
     rt: &R,
     shared: &Shared,

@@ -8,7 +8,7 @@ use spsc_line::LineIn;
 use std::sync::Wait;
 use std::thread;
 
-// Pushes a byte, again where no place of the line is free.
+// Pushes a byte. Retries if no place of the line is free.
 fn push_byte<R: Wait>(rt: &R, line: &mut LineIn, byte: u8)
     ensures line { SameIn line.old line.new }
     ensures sent { bytes_sent line.new ≡ bytes_sent line.old ++ byte ∷ [] }
@@ -21,7 +21,7 @@ fn push_byte<R: Wait>(rt: &R, line: &mut LineIn, byte: u8)
     }
 }
 
-/// Pushes these bytes in their order, each again where no place of the line is free.
+/// Pushes these bytes in their order, each with retries if no place of the line is free.
 pub fn type_bytes<R: Wait>(rt: &R, line: LineIn, bytes: &[u8]) -> LineIn
     ensures line { SameIn line result }
     ensures sent { bytes_sent result ≡ bytes_sent line ++ bytes.now }
@@ -33,7 +33,7 @@ pub fn type_bytes<R: Wait>(rt: &R, line: LineIn, bytes: &[u8]) -> LineIn
     line
 }
 
-// Types the bytes of a tty into its line, where its device was started.
+// Types the bytes of a tty into its line, if its device was started.
 fn type_line<R: Wait, H, N>(rt: &R, device: &Result<H, N>, line: LineIn, tty: &PlannedTty) -> LineIn
     ensures { IsTyped device.now tty.now line result }
 {
@@ -43,9 +43,9 @@ fn type_line<R: Wait, H, N>(rt: &R, device: &Result<H, N>, line: LineIn, tty: &P
     }
 }
 
-/// Types the bytes of each tty into its line, one tty after the other, each byte again where no place of the line is
-/// free. Nothing is typed where the tty's device was not started. The lines come back in `typed`, which is empty and
-/// has room for them, so it takes no memory.
+/// Types the bytes of each tty into its line, one tty after the other. Each byte is retried if no place of the line is
+/// free. Nothing is typed if the tty's device was not started. The lines come back in `typed`, which is empty and has
+/// room for them, so it takes no memory.
 ///
 /// Conditions: there is a device and a line for each tty, in their order.
 pub fn type_all<R: Wait, H, N>(

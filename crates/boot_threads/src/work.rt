@@ -1,4 +1,4 @@
-//! What the threads of a kernel do: each processor has its turns, and each device serves its tty.
+//! The works of a kernel's threads: each processor has its turns, and each device serves its tty.
 ghost use Rattle.std.specs.Prelude.{◌≡◌, ◌<◌, length};
 ghost use Rattle.boot_threads.specs.Works.{MayWork, HasWorked};
 
@@ -11,7 +11,7 @@ use spsc_line::LineOut;
 use std::sync::Wait;
 use turn_io::Gate;
 
-/// What a thread of the kernel does.
+/// The work of a thread of the kernel.
 #[derive(Drop)]
 pub enum Work<G> {
     /// A processor has so many turns.
@@ -30,21 +30,21 @@ pub enum Work<G> {
     },
 }
 
-/// What a processor gives back: its station, and its gate with all that it was told.
+/// The result of a processor: its station, and its gate with the record of the turns.
 #[derive(Drop)]
 pub struct Processed<G> {
     pub station: Station,
     pub gate: G,
 }
 
-/// What a thread of the kernel gives back.
+/// The result of a thread of the kernel.
 #[derive(Drop)]
 pub enum Worked<G> {
     Processed(Processed<G>),
     Served { line: LineOut, tty: RawTty },
 }
 
-/// What came back of a thread of the kernel, or what stands for one that can't be started.
+/// The result of a thread of the kernel, or the substitute for a thread that can't be started.
 pub type Back<G> = Result<Worked<G>, NotStarted<Shared, Work<G>>>;
 
 impl<G: Gate + Drop> Job<Shared, Worked<G>> for Work<G> {

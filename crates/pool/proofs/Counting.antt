@@ -56,7 +56,7 @@ total_at f [] j a at = absurd (some-ne-none a (sym at))
 total_at f (x ∷ xs) zero a at = let h : f x ≡ f a = ap f (some-injective x a at) in omega arith
 total_at f (x ∷ xs) (suc j) a at = let h = total_at f xs j a at in omega arith
 
--- where one alone counts, and once
+-- exactly one member counts, and it counts once
 pub record OneAlone {A : Type 0} (f : A → ℕ) (xs : List A) : Type 0 where
   pub number : ℕ
   pub one : A

@@ -1,4 +1,4 @@
--- What the entries of a log come to, and what those of its lists come to: the same, since each is listed once.
+-- The entries of a log and the entries of its lists have the same total, since each is listed once.
 use Rattle.table_theory.proofs.Common.{◌≡◌, ℕ, zero, suc, ◌+◌, ◌⊎◌, ⊎_elim, inl, inr, List, [], ◌∷◌, map, set, sym, refl, ap, subst, ◌∙◌, arith, dite, ℕ_discrete, some, some-injective, some-ne-none, get_elem?, set_else, set_here, at_set, Owned, ListedOnce, total}
 use Rattle.table_theory.proofs.Owned.{Stands, at_below, file_map, one_at, told}
 use Rattle.table_theory.proofs.Totals.{total_set}

@@ -19,6 +19,6 @@ more_less u v w buffers a b x = let c = a x in let d = b x in omega arith
 
 -- TWO WORKERS
 
--- where the last of them holds nothing, what is left is all
+-- if the last holder holds nothing, all buffers are left
 pub all_left : (count n : ℕ) (left : List ℕ) (last : ℕ → ℕ) → count ≡ n → ((x : ℕ) → last x ≡ 0) → ((x : ℕ) → last x + times x left ≡ times x (all_buffers count)) → AreAll n left
 all_left count n left last is none all x = let a = all x in let b = none x in let c = ap (λ (z : ℕ). times x (all_buffers z)) is in omega arith

@@ -1,4 +1,4 @@
--- Where each buffer is between any two steps: in the queue, or with one holder.
+-- The place of each buffer between any two steps: in the queue, or with one holder.
 use Rattle.std.specs.Prelude.{◌≡◌, ◌≢◌, ◌+◌, ◌<◌, ◌≤◌, ℕ, false, List, drop}
 use mathlib.Core.Option.{some}
 use lib.ListN.{get_elem?}

@@ -1,4 +1,4 @@
--- What a clause says of a pool and of a holder.
+-- Terms in which a clause describes a pool and a holder.
 use Rattle.std.specs.Prelude.{◌≡◌, ◌+◌, ℕ, List}
 use Rattle.table_theory.specs.Sharing.{given, kept}
 use Rattle.batch_queue.specs.Handles as queues
@@ -9,7 +9,7 @@ use Rattle.pool.specs.Buffers.{all_buffers, times}
 use Rattle.pool.specs.Holdings as ends
 use Rattle.pool.specs.Holdings.{IsStocked, ListsFirst}
 
--- what the holder knows: the lists of its end
+-- the view of the holder: the lists of its end
 abbrev pub view_of : Holder → View
 view_of holder = queues.view_of holder.end
 
@@ -21,7 +21,7 @@ count_of pool = pool.count
 abbrev pub room_of : Pool → ℕ
 room_of pool = queues.room_of pool.queue
 
--- it is a holder of buffers of this pool
+-- the holder is an end of the pool's queue, and knows the pool's first batch
 abbrev pub IsHolderOf : Pool → Holder → Type 0
 IsHolderOf pool holder = queues.IsEndOf pool.queue holder.end × IsStocked pool.count (view_of holder)
     × ListsFirst pool.count (view_of holder)
@@ -34,27 +34,27 @@ IsOnlyHolder holder = queues.IsOnlyEnd holder.end
 abbrev pub IsDivisible : Holder → Type 0
 IsDivisible holder = queues.IsDivisible holder.end
 
--- how often it holds the buffer x
+-- how often the holder holds the buffer x
 abbrev pub held_by : Holder → ℕ → ℕ
 held_by holder x = ends.held (view_of holder) x
 
--- it holds these buffers
+-- the holder holds these buffers
 abbrev pub Holds : Holder → List ℕ → Type 0
 Holds holder buffers = ends.Holds (view_of holder) buffers
 
--- it holds none
+-- the holder holds no buffer
 abbrev pub HoldsNone : Holder → Type 0
 HoldsNone holder = (x : ℕ) → held_by holder x ≡ 0
 
--- it holds what it held before
+-- the holder holds the buffers that it held before
 abbrev pub HoldsSame : Holder → Holder → Type 0
 HoldsSame old new = ends.HoldsSame (view_of old) (view_of new)
 
--- it holds these buffers more than before
+-- the holder holds these buffers in addition to those that it held before
 abbrev pub HoldsMore : List ℕ → Holder → Holder → Type 0
 HoldsMore buffers old new = ends.HoldsMore buffers (view_of old) (view_of new)
 
--- it holds these buffers less than before
+-- the holder holds the buffers that it held before, except these
 abbrev pub HoldsLess : List ℕ → Holder → Holder → Type 0
 HoldsLess buffers old new = ends.HoldsLess buffers (view_of old) (view_of new)
 
@@ -66,14 +66,14 @@ HoldsBoth one other new = (x : ℕ) → held_by new x ≡ held_by one x + held_b
 abbrev pub share_of : Holder → ℕ
 share_of holder = (view_of holder).member.share
 
--- it has the share that it had
+-- the holder has the share that it had
 abbrev pub SameShare : Holder → Holder → Type 0
 SameShare old new = share_of new ≡ share_of old
 
--- a split leaves a part of the share, and gives the other
+-- a split leaves the holder a part of its share, and gives the new holder the rest
 abbrev pub SharesOut : Holder → Holder → Holder → Type 0
 SharesOut old new born = (share_of new ≡ kept (share_of old)) × (share_of born ≡ given (share_of old))
 
--- what the holder holds and these are all buffers of a pool of so many, each once
+-- the buffers that the holder holds, together with the list `left`, are all buffers of a pool of so many, each once
 abbrev pub AllThere : ℕ → Holder → List ℕ → Type 0
 AllThere count holder left = (x : ℕ) → held_by holder x + times x left ≡ times x (all_buffers count)

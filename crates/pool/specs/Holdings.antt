@@ -1,4 +1,4 @@
--- Which buffers an end of the pool's queue holds: by what it took and what it put, as the end itself lists them.
+-- Buffers that an end of the pool's queue holds: by its takings and its puts, as the end itself lists them.
 use Rattle.std.specs.Prelude.{◌≡◌, ◌==◌, ℕ, ◌-◌, ◌+◌, ◌<◌, ◌≤◌, Bool, not, List, ◌∷◌, map, length, take, drop}
 use Rattle.std.specs.List.{concat, filter}
 use mathlib.Core.Option.{some}
@@ -21,7 +21,7 @@ acquired v = concat (lines_taken v)
 abbrev pub released : View → List ℕ
 released v = concat (map line_of (filter is_later v.own.runs))
 
--- how often the end holds the buffer x: as often as it took it, less how often it put it back
+-- how often the end holds the buffer x: the number of times it took x, less the number of times it put x back
 abbrev pub held : View → ℕ → ℕ
 held v x = times x (acquired v) - times x (released v)
 
@@ -37,11 +37,11 @@ Holds v buffers = (x : ℕ) → times x buffers ≤ held v x
 abbrev pub HoldsSame : View → View → Type 0
 HoldsSame v w = (x : ℕ) → held w x ≡ held v x
 
--- the end holds these buffers more than before
+-- the end holds these buffers in addition to those that it held before
 abbrev pub HoldsMore : List ℕ → View → View → Type 0
 HoldsMore buffers v w = (x : ℕ) → held w x ≡ held v x + times x buffers
 
--- the end holds these buffers less than before
+-- the end holds the buffers that it held before, except these
 abbrev pub HoldsLess : List ℕ → View → View → Type 0
 HoldsLess buffers v w = (x : ℕ) → held w x + times x buffers ≡ held v x
 
@@ -62,6 +62,6 @@ pub record Released (buffers : List ℕ) (v w : View) : Type 0 where
 abbrev pub IsStocked : ℕ → View → Type 0
 IsStocked count v = ∥ ((rest : List (List ℕ)) × (v.seen.object.batches ≡ all_buffers count ∷ rest)) ∥₁
 
--- if that batch is one of the end's own, the end lists it with all buffers
+-- if the end's own list has the queue's first batch, that batch has all buffers of a pool of so many
 abbrev pub ListsFirst : ℕ → View → Type 0
 ListsFirst count v = (m : ℕ) (e : Batch) → get_elem? v.own.runs m ≡ some e → e.start ≡ 0 → line_of e ≡ all_buffers count

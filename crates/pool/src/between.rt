@@ -1,4 +1,4 @@
-//! Where each buffer is between any two steps of any threads.
+//! The place of each buffer between any two steps of any threads.
 ghost use Rattle.std.specs.Prelude.{◌≡◌, ℕ};
 ghost use Rattle.atomic_table.specs.Table.{State};
 ghost use Rattle.batch_queue.specs.Between.{ShowsQueue};
@@ -13,12 +13,12 @@ ghost use Rattle.pool.specs.declared.pool.Pool.{Pool};
 use atomic_table::TableRule;
 use batch_queue::{BatchRule, Shape, View, between_steps};
 
-/// Whatever the rule of the batch queue holds of shows a queue. If its views are those of the holders of a pool of so
-/// many buffers, each buffer is in that queue once, or with one holder once, and nowhere else.
+/// A value for which the rule of the batch queue holds shows a queue. If its views are those of the holders of a pool
+/// of so many buffers, each buffer has one place. It is in that queue once, or with one holder once.
 ///
-/// Every atomic step keeps the rule, so this holds between any two steps, whoever makes them. Each holder is fair, by
-/// its type, and so is an end that was joined to another. A call of a holder changes its lists by one step: before that
-/// step they are those before the call, and after it those after the call.
+/// Every atomic step keeps the rule, so this holds between any two steps of any threads. Each holder is fair, by its
+/// type, and so is an end that was joined to another. A call of a holder changes the holder's lists by one step. Before
+/// that step they are the lists before the call, and after it the lists after the call.
 pub fn each_buffer_has_one_owner()
     ensures once { (key : Shape) (state : State ℕ View) (count : ℕ)
         → ⟦<BatchRule as TableRule<u64, View, Shape>>⟧.holds key state

@@ -14,10 +14,10 @@ use std::sync::Wait;
 use std::thread::Threads;
 use workers::{give_back, run_workers};
 
-/// Why a run ends early.
+/// The reason why a run ends early.
 type Fault = &'static str;
 
-/// Prints a line of what was done, and the buffers with which it was done.
+/// Prints a line with what was done, and the buffers with which it was done.
 fn print_buffers<R: Print>(rt: &R, done: &str, buffers: &[u64]) -> Result<(), Fault> {
     print!(rt; "{done}").map_err(|_| "a line can't be written")?;
     for buffer in buffers {
@@ -38,7 +38,7 @@ fn sorted(alloc: Global, left: &LeftItems) -> Result<Vec<u64>, Fault> {
     Ok(buffers)
 }
 
-/// Two holders in one thread: what each of them acquires, and what is left when both have released all.
+/// Two holders in one thread: the buffers that each acquires, and the buffers left when both have released all.
 fn run_both<R: Wait + Print>(rt: &R, alloc: Global) -> Result<(), Fault> {
     let Ok((pool, mut one)) = Pool::new(alloc, 5) else {
         return Err("no memory");
@@ -68,7 +68,7 @@ fn run_both<R: Wait + Print>(rt: &R, alloc: Global) -> Result<(), Fault> {
     }
 }
 
-/// Runs both, and then the workers.
+/// Runs the two holders, and then the workers.
 fn run<R: Threads + Wait + Print + AllocGlobal + Sync>(rt: &R) -> Result<(), Fault> {
     let alloc = rt.alloc();
     run_both(rt, alloc)?;

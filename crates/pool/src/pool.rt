@@ -1,7 +1,7 @@
 //! The pool and its holders.
 //!
-//! A holder is an end of the pool's queue, which lists what it put and took; so it needs no list of its own. The
-//! functions of `batch_queue::laws` have empty bodies. They are called since the proofs use their clauses.
+//! A holder is an end of the pool's queue, which lists what it put and took, so it needs no list of its own. The
+//! functions of `batch_queue::laws` have empty bodies. They are called because the proofs use their clauses.
 ghost use Rattle.std.specs.Prelude.{◌≡◌, ◌+◌, ◌<◌, ◌≤◌, length, take, IfErr, IfOk, MatchResult};
 ghost use Rattle.table_theory.specs.Ledgers.{WereOpen};
 ghost use Rattle.batch_queue.specs.Answers.{WhyNotPut};
@@ -17,11 +17,11 @@ use batch_queue::{BatchEnd, BatchQueue, Closed, LeftItems, OpenEnds, PutRefusal,
 use event_theory::OutOfMemory;
 use std::alloc::Global;
 
-/// A pool has at most so many buffers, 2^24.
+/// The maximum number of buffers of a pool, 2^24.
 pub const MOST_BUFFERS: usize = 16_777_216;
 
-/// A pool of buffers, which are the numbers from 0 on. The free ones are the items of a queue, as batches: first all of
-/// them as one batch, and then as they were released.
+/// A pool of buffers, which are the numbers from 0 on. The free buffers are the items of a queue, in batches: first all
+/// of them as one batch, and then as they were released.
 #[derive(Drop)]
 pub struct Pool {
     queue: BatchQueue,
@@ -29,8 +29,8 @@ pub struct Pool {
     ghost some: { 0 < count },
 }
 
-/// One who holds buffers of a pool: those that it acquired and did not release. It has no bytes. A holder that is
-/// dropped keeps its buffers for good.
+/// A holder of buffers of a pool: the buffers that it acquired and did not release. It has no bytes. A dropped holder
+/// keeps its buffers for good.
 #[derive(Drop)]
 pub struct Holder {
     end: BatchEnd,
@@ -55,7 +55,7 @@ impl Pool {
 
     /// A pool of so many buffers, all of them free, and its only holder, which holds none.
     ///
-    /// Condition: there is a buffer, and there are 2^24 at most.
+    /// Condition: there is a buffer, and there are at most 2^24.
     pub fn new(alloc: Global, count: usize) -> Result<(Pool, Holder), OutOfMemory>
         requires { (0 < count) × (count ≤ MOST_BUFFERS) }
         ensures pool { IfOk result (λ r. IsHolderOf r.0 r.1 × (count_of r.0 ≡ count) × (count ≤ room_of r.0)) }
@@ -71,9 +71,9 @@ impl Pool {
         Ok((Pool { queue, count }, Holder { end }))
     }
 
-    /// One try to acquire free buffers: as many as are free and fit the slice, in the order in which they were released.
-    /// Their numbers are then the first of the slice. Returns how many there are. The refusals are those of
-    /// `BatchQueue::try_take_some`; Closed is none of them, since no holder shuts the queue.
+    /// One try to acquire free buffers: as many as are free and fit the slice, in the order in which they were
+    /// released. Their numbers are then the first of the slice. Returns how many there are. The refusals are those of
+    /// `BatchQueue::try_take_some`, except Closed, since no holder shuts the queue.
     pub fn acquire(&self, holder: &mut Holder, buffers: &mut [u64]) -> Result<usize, TakeRefusal>
         requires { IsHolderOf self.now holder.old }
         ensures pool { IsHolderOf self.now holder.new }
@@ -94,8 +94,8 @@ impl Pool {
     }
 
     /// One try to release buffers: all of them or none, as one batch. They are free once the call has published them.
-    /// The refusals are those of `BatchQueue::try_put`. Full comes while another holder is within an acquire: the places
-    /// of the buffers that it took are not given back yet.
+    /// The refusals are those of `BatchQueue::try_put`. Full is possible while another holder is within an acquire: the
+    /// places of the buffers that it took are not freed yet.
     ///
     /// Condition: the holder holds these buffers.
     pub fn release(&self, holder: &mut Holder, buffers: &[u64]) -> Result<(), PutRefusal>
@@ -114,11 +114,11 @@ impl Pool {
         Ok(())
     }
 
-    /// A new holder, which holds none. Both are to be joined again before the pool can be closed; a holder that is
-    /// dropped can never be joined.
+    /// Splits off a new holder, which holds none. Both must be joined again before the pool can be closed; a dropped
+    /// holder can never be joined.
     ///
-    /// Condition: the holder's end can be split. The first one can be split two million times without a join, and each
-    /// of those 43 times in a chain.
+    /// Condition: the holder's end can be split. The first holder can be split two million times without a join, and
+    /// each of those 43 times in a chain.
     pub fn split(&self, holder: &mut Holder) -> Holder
         requires pool { IsHolderOf self.now holder.old }
         requires parts { IsDivisible holder.old }
@@ -131,7 +131,7 @@ impl Pool {
         Holder { end }
     }
 
-    /// The first holder then holds what both held.
+    /// Joins the other holder to this one, which then holds what both held.
     pub fn join(&self, holder: &mut Holder, other: Holder)
         requires { IsHolderOf self.now holder.old × IsHolderOf self.now other }
         ensures pool { IsHolderOf self.now holder.new }
@@ -145,8 +145,8 @@ impl Pool {
     }
 
     /// Closes the pool if every other holder has been joined, and returns the free buffers. These and the buffers that
-    /// the holder holds are all buffers of the pool, each once. Else the pool and the holder come back, and the number
-    /// of the others.
+    /// the holder holds are all buffers of the pool, each once. Otherwise it returns the pool, the holder and the
+    /// number of other holders.
     pub fn close(self, holder: Holder) -> Result<LeftItems, (Pool, Holder, OpenEnds)>
         requires { IsHolderOf self holder }
         ensures only { IsOnlyHolder holder → MatchResult result (λ left. Unit {0}) (λ e. ⊥) }

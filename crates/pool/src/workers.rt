@@ -14,13 +14,13 @@ use std::sync::Wait;
 use std::thread;
 use std::thread::Threads;
 
-/// How many buffers the workers' pool has.
+/// The number of buffers of the workers' pool.
 const BUFFERS: usize = 8;
 
-/// How many turns a worker makes.
+/// The number of turns of a worker.
 const TURNS: usize = 100;
 
-/// Releases buffers, as one batch. It tries again while there is no room yet, and while another holder is first.
+/// Releases buffers, as one batch. Retries while there is no room yet, and while another holder is first.
 pub fn give_back<R: Wait>(rt: &R, pool: &Pool, holder: &mut Holder, buffers: &[u64])
     requires pool { IsHolderOf pool.now holder.old }
     requires holds { Holds holder.old buffers.now }
@@ -36,7 +36,7 @@ pub fn give_back<R: Wait>(rt: &R, pool: &Pool, holder: &mut Holder, buffers: &[u
     }
 }
 
-/// One turn: acquires what is free and fits the slice, and gives it back.
+/// One turn: acquires the free buffers that fit the slice, and releases them.
 fn turn<R: Wait>(rt: &R, pool: &Pool, holder: &mut Holder, buffers: &mut [u64])
     requires { IsHolderOf pool.now holder.old }
     ensures pool { IsHolderOf pool.now holder.new }
@@ -48,7 +48,7 @@ fn turn<R: Wait>(rt: &R, pool: &Pool, holder: &mut Holder, buffers: &mut [u64])
     }
 }
 
-/// The turns of a worker, which acquires two buffers at most.
+/// The turns of a worker, which acquires at most two buffers.
 fn work<R: Wait>(rt: &R, pool: &Pool, holder: Holder) -> Holder
     requires { IsHolderOf pool.now holder }
     ensures { Works pool.now holder result }

@@ -26,7 +26,7 @@ two a b l up up' zero at = subst Ascending (some-injective a l at) up
 two a b l up up' (suc zero) at = subst Ascending (some-injective b l at) up'
 two a b l up up' (suc (suc k)) at = absurd (some-ne-none l (sym at))
 
--- what the closed chain has, where these two ends chained all notes
+-- the results of the closed chain, if these two ends chained all notes
 pub record Collected {Q : Type 0} (made : Q → List ℕ → Type 0) (xs ys : List ℕ) (put taken : ℕ) (left : List (Option ℕ)) (quaject : Q) : Type 0 where
   pub notes : List ℕ
   pub made_by : made quaject notes

@@ -32,11 +32,11 @@ refused_stays v w Spent r = record { runs = λ i. (r.3.did i).runs; share = λ i
 refused_stays v w (Full head tail) r = record { runs = λ i. (r.4.did i).runs; share = λ i. (r.4.member i).share }
 refused_stays v w (Lost head) r = record { runs = λ i. (r.8.did i).runs; share = λ i. (r.8.member i).share }
 
--- a note that was claimed and raised is one run more, behind the others
+-- a note that was claimed and raised is one run more, after the others
 run_order : (v w : View) (b : Batch) → w.own.runs ≡ v.own.runs ++ b ∷ [] → IsPast v.own.runs b.start → 0 < length b.places → InOrder v.own.runs → InOrder w.own.runs
 run_order v w b runs past some up = subst InOrder (sym runs) (order_push v.own.runs b up past some)
 
--- the end sent what it sends behind a beginning in which nothing was sent
+-- the end sent what it sends after a beginning in which nothing was sent
 pub sent_behind : (u v w : View) (notes : List ℕ) → Stays u v → HasSent notes v w → HasSent notes u w
 sent_behind u v w notes s h = record {
   puts = h.puts ∙ ap (λ (z : List Batch). map line_of z ++ map alone notes) s.runs;

@@ -7,7 +7,7 @@ use arrayvec::ArrayVec;
 use proc_chain::{Quaject, Ran};
 use std::mem;
 
-/// The numbers of the second port's notes begin here.
+/// The first number of the second port's notes.
 pub const SECOND_PORT: u16 = 256;
 
 /// The byte that ends a line.
@@ -34,7 +34,7 @@ impl Page {
         }
     }
 
-    /// One byte more: 10 ends the line. What finds no room is dropped.
+    /// Adds one byte: 10 ends the line. A byte or an end of a line without room is dropped.
     fn react(&mut self, byte: u8)
         ensures { text_of self.new ≡ react (text_of self.old) byte }
     {
@@ -47,7 +47,7 @@ impl Page {
     }
 }
 
-/// A page for each of two ports. A note is a byte, and 256 more where the second port has sent it.
+/// A page for each of two ports. A note is a byte, plus 256 if the second port has sent it.
 #[derive(Drop)]
 pub struct Collector {
     pub first: Page,

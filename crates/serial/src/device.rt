@@ -18,8 +18,8 @@ type Chain = ProcChain<Collector>;
 
 type End = ChainEnd<Collector>;
 
-/// Chains one note, and runs all notes where it got the Turn. It tries again where the other port chained first, or
-/// where the chain is full.
+/// Chains one note, and runs all notes if it got the Turn. Retries if the other port chained first, or if the chain is
+/// full.
 fn interrupt<R: Wait>(rt: &R, chain: &Chain, end: &mut End, note: u16)
     requires { IsIdle chain.now end.old }
     ensures chain { IsIdle chain.now end.new }
@@ -37,7 +37,7 @@ fn interrupt<R: Wait>(rt: &R, chain: &Chain, end: &mut End, note: u16)
     }
 }
 
-/// The device of the port whose notes begin there: chains a note for each byte.
+/// The device of the port whose notes begin at `port`: chains a note for each byte.
 fn send<R: Wait>(rt: &R, chain: &Chain, end: End, port: u16, bytes: &[u8]) -> End
     requires chain { IsIdle chain.now end }
     requires port { port ≤ 256 }
@@ -50,10 +50,10 @@ fn send<R: Wait>(rt: &R, chain: &Chain, end: End, port: u16, bytes: &[u8]) -> En
     end
 }
 
-/// Collects the lines that two ports send. When all bytes are sent the chain is closed: no note is left, and each
-/// port's page is what its bytes make of a blank one, in their order.
+/// Collects the lines that two ports send. When all bytes are sent the chain is closed: no note is left. Each port's
+/// page is the result of its bytes on a blank page, in their order.
 ///
-/// A chain takes 4,294,967,295 notes. With more bytes than that, the devices wait for ever.
+/// A chain takes 4,294,967,295 notes. With more bytes the devices wait forever.
 pub fn collect<R: Threads + Wait + Sync>(
     rt: &R,
     alloc: Global,

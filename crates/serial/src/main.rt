@@ -17,10 +17,10 @@ const FIRST: &[u8] = b"the first port says\nthat all is well\n";
 const SECOND: &[u8] =
     b"the second\nsays so\ntoo, and what stands behind the 64th byte of a line is left out, as these words are\n";
 
-/// Why a run ends early.
+/// The reason why a run ends early.
 type Fault = &'static str;
 
-/// Prints the lines of a page, each behind the name of its port.
+/// Prints the lines of a page, each after the name of its port.
 fn print_page<R: Print>(rt: &R, port: &str, page: &Page) -> Result<(), Fault> {
     for line in page.lines.as_slice() {
         let text = str::from_utf8(line.as_slice()).unwrap_or("no text");
@@ -29,7 +29,7 @@ fn print_page<R: Print>(rt: &R, port: &str, page: &Page) -> Result<(), Fault> {
     Ok(())
 }
 
-/// Collects what both ports send, and prints it, with the numbers of the chain.
+/// Collects the bytes of both ports, and prints the lines, with the numbers of the chain.
 fn run<R: Threads + Wait + Print + AllocGlobal + Sync>(rt: &R) -> Result<(), Fault> {
     let closed = collect(rt, rt.alloc(), FIRST, SECOND).map_err(|_| "no memory")?;
     print_page(rt, "first", &closed.quaject.first)?;

@@ -1,4 +1,4 @@
--- What a producer put, one line behind the other.
+-- Lines that a producer put, one after the other.
 use Rattle.std.proofs.Common.{ℕ, List, [], ◌∷◌, ◌++◌, ◌∙◌, refl, sym, ap, append_assoc, Result}
 use Rattle.std.proofs.lemmas.List.{append-nil}
 use Rattle.claim_queue.specs.Own.{View}

@@ -30,7 +30,7 @@ more_taken u v w items kept kept' t h k = t.takes ∙ (ap (λ (z : List (List �
 pub puts_through : (u v w : View) → KeepsPuts u v → lines_put w ≡ lines_put v → w.member.share ≡ v.member.share → KeepsPuts u w
 puts_through u v w k puts share = record { puts = puts ∙ k.puts; share = share ∙ k.share }
 
--- an end that was told Closed has seen the queue shut, and all taken
+-- an end whose try returned Closed has seen the queue shut, and all taken
 closed_seen : (v w : View) → ∥ IsHonest of_queues v ∥₁ → ∥ IsHonest of_queues w ∥₁ → RefusedTake (IsBegun 64) (IsLine 64) 64 v Closed w → (w.seen.object.shut ≡ true) × (w.seen.object.taken ≡ length w.seen.object.places)
 closed_seen v w x y h = let d = λ (a : IsHonest of_queues v) (b : IsHonest of_queues w). done_says v w a b (IsBegun 64) (IsLine 64) 64 h in (
   ∥∥₁_elim x (Bool-set _ _) (λ (a : IsHonest of_queues v). ∥∥₁_elim y (Bool-set _ _) (λ (b : IsHonest of_queues w). (d a b).0)),

@@ -14,7 +14,7 @@ use Rattle.spooler.specs.declared.line.Line.{Line}
 use Rattle.spooler.specs.Lines.{lines_of}
 use Rattle.spooler.specs.Wholes.{IsWhole}
 
--- a text without an end of a line, and an end behind it
+-- a text without an end of a line, followed by an end of a line
 pub whole_of : (text : List ℕ) → length text < 64 → ((k : ℕ) → k < length text → get_or text k 0 ≢ 10) → IsWhole (text ++ 10 ∷ [])
 whole_of text low none =
     let long : length (text ++ 10 ∷ []) ≡ length text + 1 = length-append text (10 ∷ []) in

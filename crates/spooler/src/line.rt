@@ -16,7 +16,8 @@ pub struct Line {
 }
 
 impl Line {
-    /// The line with this text, and an end behind it. None where the text has more than 63 bytes, or an end of a line.
+    /// The line with this text, followed by an end of a line. None if the text has more than 63 bytes, or an end of a
+    /// line.
     pub fn of(text: &[u8]) -> Option<Line>
         ensures text { IfSome result (λ line. line.items.items ≡ text.now ++ 10 ∷ []) }
         ensures given { length text.now < 64 → list_any (λ byte. nat_eq byte 10) text.now ≡ false → IsSome result }

@@ -1,5 +1,6 @@
 //! The program `spooler`: three producers put lines into one claim queue, each from a thread of its own, and two takers
-//! take them out. Then all lines are printed, in alphabetical order, since which taker had which is left to chance.
+//! take them out. Then all lines are printed in alphabetical order, since it is left to chance which taker has which
+//! line.
 #![tactic(auto)]
 
 ghost use Rattle.std.specs.Prelude.{◌++◌, IfOk, IsPermutation};
@@ -21,7 +22,7 @@ const BEN: [&str; 2] = ["ben 1 of 2", "ben 2 of 2"];
 
 const EVE: [&str; 4] = ["eve 1 of 4", "eve 2 of 4", "eve 3 of 4", "eve 4 of 4"];
 
-/// Why a run ends early.
+/// The reason why a run ends early.
 type Fault = &'static str;
 
 /// The lines of these texts.
@@ -34,8 +35,8 @@ fn job(alloc: Global, texts: &[&str]) -> Result<Vec<Line>, Fault> {
     Ok(lines)
 }
 
-/// All lines that were taken, each as often as it was taken, in alphabetical order: of two lines the one with the lesser
-/// byte, where they first differ, stands first.
+/// All lines that were taken, each as often as it was taken, in alphabetical order. The first of two lines is the one
+/// with the lesser byte at the first difference.
 pub fn sorted(mut one: Vec<Line>, mut other: Vec<Line>) -> Result<Vec<Line>, Fault>
     ensures all { IfOk result (λ lines. IsPermutation (one.items ++ other.items) lines.items) }
     ensures sorted { IfOk result (λ lines. AreSorted lines.items) }

@@ -20,10 +20,10 @@ type Queue = ClaimQueue<64>;
 
 type End = QueueEnd<64>;
 
-/// What a taker comes back with: its end, and the lines that it took. None where there was no memory for one of them.
+/// The result of a taker: its end, and the lines that it took. None if it was out of memory for one of them.
 type Taker = (End, Option<Vec<Line>>);
 
-/// Puts one line, which is one claim. It tries again for as long as the queue is full.
+/// Puts one line, which is one claim. Retries while the queue is full.
 fn put_line<R: Wait>(rt: &R, queue: &Queue, end: &mut End, line: &Line)
     requires { IsEndOf queue.now end.old }
     ensures queue { IsEndOf queue.now end.new }
@@ -47,7 +47,7 @@ fn put_lines<R: Wait>(rt: &R, queue: &Queue, end: &mut End, lines: &[Line])
     }
 }
 
-/// Takes lines until the queue is shut and empty. Where there is no memory for a line it goes on, so that no producer
+/// Takes lines until the queue is shut and empty. If it is out of memory for a line it goes on, so that no producer
 /// waits for it.
 fn take_lines<R: Wait>(rt: &R, alloc: Global, queue: &Queue, mut end: End) -> Taker
     requires { IsEndOf queue.now end }
@@ -65,13 +65,12 @@ fn take_lines<R: Wait>(rt: &R, alloc: Global, queue: &Queue, mut end: End) -> Ta
     unreachable!()
 }
 
-/// Spools three jobs: a producer puts the lines of each, and two takers take them. When all is put the queue is shut,
-/// and when all is taken it is closed. Each line that was put was taken once, and there is one order of all lines in
-/// which those of each producer stand in its order, and those of each taker in the order in which it took them.
+/// Spools three jobs: a producer puts the lines of each, and two takers take them. When all lines are put the queue is
+/// shut, and when all are taken it is closed. Each line that was put was taken once. One order of all lines has each
+/// producer's lines in its order, and each taker's lines in the order in which it took them.
 ///
-/// A queue takes 4,294,967,295 items. With more than that, the producers wait for ever. Where a thread can't be started,
-/// its work is done before that beside it, so that producers of more lines than the queue has room for may then wait for
-/// ever.
+/// A queue takes 4,294,967,295 items. With more items the producers wait forever. If a thread can't be started, its
+/// work is done before the work beside it. Then producers of more lines than the queue has room for may wait forever.
 pub fn run_spool<R: Threads + Wait + Sync>(
     rt: &R,
     alloc: Global,
@@ -85,7 +84,7 @@ pub fn run_spool<R: Threads + Wait + Sync>(
     let (c, d) = (queue.split(&mut last), queue.split(&mut last));
     let e = queue.split(&mut last);
     let (shared, mut ends) = (&queue, [a, b, c]);
-    // The producers, beside each other; then one end more has what all of theirs had, and shuts the queue.
+    // The producers run beside each other; then one more end has what all of their ends had, and shuts the queue.
     let putting = move || -> End
         requires { IsSync R.row × (length jobs.now ≡ 3) × IsEndOf shared.now last × AreEndsOf shared.now ends }
         ensures { IsEndOf shared.entry.now result
@@ -104,7 +103,7 @@ pub fn run_spool<R: Threads + Wait + Sync>(
         let _was_open = shared.shut(&mut last);
         last
     };
-    // The takers, beside each other.
+    // The takers run beside each other.
     let taking = move || -> (Taker, Taker)
         requires { IsSync R.row × IsEndOf shared.now d × IsEndOf shared.now e }
         ensures { Takes shared.entry.now d result.0 × Takes shared.entry.now e result.1 }

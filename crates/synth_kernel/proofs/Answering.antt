@@ -34,7 +34,7 @@ all_tend T shared p number [] old new gate gate' told = tt
 all_tend T shared p number (entry ∷ log) old new gate gate' told =
     (tends p entry.tended old told.2.0 told.2.1, all_tend T shared p (suc number) log told.0 new told.1 gate' told.4)
 
--- what is left where the gates, and what was closed, are forgotten
+-- the facts that remain if the gates and the closed objects are forgotten
 module _ {G : Type 0} (ran : RunsOf G) (shown : Unmade → Type 0) (T : G → ℕ → Point → G → Type 0) (turns : ℕ) where
   had_one : (shared : Shared) (p : ℕ) (gate back : G) (log : List LogEntry) → WasTold ran T shared p turns gate back log → IsLogOf shared.plan p turns log
   had_one shared p gate back log told = subst (IsLogOf shared.plan p turns) told.log_is (record {

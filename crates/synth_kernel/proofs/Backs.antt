@@ -1,4 +1,4 @@
--- What came back, by the works: the stations of the processors, and behind them what the devices gave.
+-- The results of all threads, by the works: the stations of the processors, followed by the results of the devices.
 use Rattle.synth_kernel.proofs.Common.{◌≡◌, ◌≤◌, ℕ, zero, suc, ◌+◌, true, List, [], ◌∷◌, ◌++◌, map, length, Option, Some, Result, Ok, Err, slice_get, refl, sym, ap, subst, ◌∙◌, arith, length-map, AllZip, PlannedTty, Point, AllThree, Device, Shared, Parts, Work, Worked, back_of, GaveBack, AreServing, ArePosted, Back, HasWorked, Served, processed_in, served_in, all_there}
 use Rattle.std.proofs.Common.{take}
 use Rattle.boot_threads.specs.declared.work.Worked.TheVariants as worked
@@ -8,7 +8,7 @@ use Rattle.boot_threads.specs.Works.{RunsOf, RefusalsOf}
 abbrev pub back_served : {G : Type 0} → Served → Back G
 back_served one = Ok (worked.Served one.line one.tty)
 
--- what came back is what came back from so many processors, and behind it from so many devices
+-- the results are those of so many processors, followed by those of so many devices
 pub record Sorted {G : Type 0} (posts ttys : ℕ) (backs : List (Back G)) : Type 0 where
   pub is : backs ≡ map back_of (processed_in backs) ++ map back_served (served_in backs)
   pub posts_are : length (processed_in backs) ≡ posts

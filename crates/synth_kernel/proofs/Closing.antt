@@ -1,4 +1,4 @@
--- What the ends that closed all had done, but for what the devices did.
+-- The work of the ends that closed all, except the work of the devices.
 use Rattle.synth_kernel.proofs.Common.{◌≡◌, ℕ, zero, suc, ◌+◌, List, [], ◌∷◌, map, length, Option, Some, refl, ap, ◌∙◌, arith, slice_get, BootPlan, TookRaws, Parts, RawTty}
 use Rattle.std.proofs.Common.{◌<◌, ◌==◌, Bool, false, ne_eqb}
 use Rattle.std.specs.Prelude.{if◌then◌else◌, slice_index_or}
@@ -17,7 +17,7 @@ use Rattle.turn_dispatch.specs.Tallies.{tally}
 use Rattle.turn_io.specs.Accounts.{Stake, no_stake, both_stakes, stake, stakes, at_each, lines_of, queue_account, chain_stake, idle_chain}
 use Rattle.synth_kernel.specs.Boots.{DidAll}
 
--- at a place where two lists have the same, what is made of it is the same
+-- if two lists agree at a place, the mapped lists agree there
 same_at : {A B : Type 0} (f : A → B) (d : B) (xs ys : List A) (k : ℕ) → slice_get xs k ≡ slice_get ys k → slice_index_or (map f xs) k d ≡ slice_index_or (map f ys) k d
 same_at f d [] [] k e = refl
 same_at f d [] (y ∷ ys) zero e = absurd (cc)
@@ -34,14 +34,14 @@ none_before raw (tty ∷ ttys) q low =
     let other : (q == raw) ≡ false = ne_eqb q raw (λ (e : q ≡ raw). absurd (omega arith)) in
     (λ i. did_both (if other i then stake (end_of tty) else no_stake nothing_did).did (none_before (raw + 1) ttys q (omega arith) i))
 
--- so the end of such a queue did what it had
+-- the end of such a queue did what it had done
 as_before : (raw : ℕ) (ttys : List RawTty) (old new : List (QueueEnd 64)) (q : ℕ) → Gained (raw_ports raw ttys) old new → q < raw → queue_account new q ≡ queue_account old q
 as_before raw ttys old new q gained low =
     ap (λ (f : ℕ → Stake Did). lines_of (f q).did) gained.stakes_are
     ∙ ap (λ (d : Did). lines_of (did_both (stakes old q).did d)) (none_before raw ttys q low)
     ∙ ap lines_of (dids_add.none_last (stakes old q).did)
 
--- What the devices' ends added is in no other place: all else is what the last station did
+-- The devices' ends added work at no other place: everywhere else it is the last station's work
 pub did_all : (plan : BootPlan) (ttys : List RawTty) (last parts : Parts) → TookRaws (length plan.queues) (length plan.movers) ttys last parts → (heard : List Line) → DidAll plan (record (account last) { heard = heard }) parts
 did_all plan ttys last parts took heard = record {
   hand = ap (λ (z : Parts). tally (view_of z.hand).own.made) took.rest;

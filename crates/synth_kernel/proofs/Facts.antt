@@ -92,7 +92,7 @@ module _ {G : Type 0} (ran : RunsOf G) (refused : RefusalsOf G) (T : G → ℕ �
   inputs_long : length inputs ≡ length shared.plan.ttys
   inputs_long = typed_long shared.plan.ttys (drop (length posts) backs) (map input_of devices) inputs typed
 
-  -- what stands at a place of all lists
+  -- the element at a place of all lists
   came_at : (t : ℕ) (one : Served) → slice_get (served_in backs) t ≡ Some one → (p : PlannedTty) × (device : Device) × (input : LineIn) × (slice_get shared.plan.ttys t ≡ Some p) × (slice_get devices t ≡ Some device) × (slice_get inputs t ≡ Some input)
       × IsDeviceBack shared t p device input one.line one.tty
   came_at t one its =

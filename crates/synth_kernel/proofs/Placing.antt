@@ -1,4 +1,4 @@
--- An element of a list, by what stands before and behind it.
+-- An element of a list, by the elements before and after it.
 use Rattle.synth_kernel.proofs.Common.{◌≡◌, zero, suc, List, [], ◌∷◌, ◌++◌, map, length, refl, ap, sym, subst, arith, All, AllZip}
 
 pub here : {A B : Type 0} (f : A → B) (P : B → Type 0) (before : List A) (x : A) (behind all : List A) → before ++ x ∷ behind ≡ all → All P (map f all) → P (f x)

@@ -33,14 +33,14 @@ module _ {G : Type 0} (ran : RunsOf G) (refused : RefusalsOf G) (T : G → ℕ �
       let was : GaveBack ran refused (HasWorked T) shared (works.Process a.1.station p turns g) (Ok (worked.Processed s)) = subst (λ (x : Work G). GaveBack ran refused (HasWorked T) shared x (Ok (worked.Processed s))) a.1.is z.0 in was.1.0.manned.parts_are
   parts_all p turns (g ∷ gates) old new (w ∷ posts) (s ∷ came) a z (suc k) d l = parts_all (p + 1) turns gates a.0 new posts came a.2 z.1 k d (omega arith)
 
-  -- giving parts away is nothing that the first station did
+  -- giving parts away changes nothing of the first station's work
   posted_did : (p turns : ℕ) (gates : List G) (old new : Parts) (posts : List (Work G)) → ArePosted shared p turns gates old new posts → account new ≡ account old
   posted_did p turns [] old new [] a = ap account a
   posted_did p turns [] old new (w ∷ posts) a = absurd a
   posted_did p turns (g ∷ gates) old new [] a = absurd a
   posted_did p turns (g ∷ gates) old new (w ∷ posts) a = posted_did (p + 1) turns gates a.0 new posts a.2 ∙ a.1.did
 
-  -- each processor's log, by what its gate was told
+  -- each processor's log, by the turns that its gate observed
   logs_told : (p turns : ℕ) (gates : List G) (came : List (Processed G)) → AllTurned ran T shared p turns gates came → (logs : List (List LogEntry)) × AllZip (Leaves shared.plan) logs (map parts_of came) × AllTold ran T shared p turns gates (map gate_of came) logs
   logs_told p turns [] [] t = ([], tt, tt)
   logs_told p turns [] (s ∷ came) t = absurd t

@@ -37,7 +37,7 @@ none_processed xs lost = sym (processed_append xs (Err lost ∷ []) ∙ append-n
 pub none_served : {G : Type 0} (xs : List (Back G)) (lost : NotStarted Shared (Work G)) → served_in xs ≡ served_in (xs ++ Err lost ∷ [])
 none_served xs lost = sym (served_append xs (Err lost ∷ []) ∙ append-nil (served_in xs))
 
--- what is sorted out of a list has room for one more, where it has room for what is sorted out of all
+-- a list of sorted results has room for one more, if it has room for the sorted results of all
 pub room_for : {G A : Type 0} (sorted : List (Back G) → List A) → ((xs ys : List (Back G)) → sorted (xs ++ ys) ≡ sorted xs ++ sorted ys) → (before : List (Back G)) (x : Back G) (behind all : List (Back G)) (list : List A)
     → before ++ x ∷ behind ≡ all → list ≡ sorted before → (room : ℕ) → length (sorted all) ≤ room → length (list ++ sorted (x ∷ [])) ≤ room
 room_for sorted append before x behind all list is its room few =

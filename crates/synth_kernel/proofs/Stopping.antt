@@ -7,7 +7,7 @@ use Rattle.synth_kernel.proofs.Shut.{raws_came, wholes, few_lines, booted}
 use Rattle.boot_threads.specs.Works.{RunsOf, RefusalsOf}
 
 module _ {G : Type 0} (ran : RunsOf G) (refused : RefusalsOf G) (shown : Unmade → Type 0) (T : G → ℕ → Point → G → Type 0) (plan : BootPlan) (turns : ℕ) (gates : List G) (ready : Ready G) (r : IsReady plan turns gates ready) (stopped : Stopped G) (s : HasStopped ran refused T (length gates) ready stopped) where
-  -- what is known where these are the objects, and these raw ttys, gates and lines came back
+  -- the known facts, if these are the objects, and these raw ttys, gates and lines came back
   pub record Knows (shared : Shared) (ttys : List RawTty) (back : List G) (lines : List Line) : Type 0 where
     pub raws : AreRawsOf shared ttys
     pub wholes : (parts : Parts) → TookRaws (length shared.plan.queues) (length shared.plan.movers) ttys stopped.gathered.station.parts parts → HasWholes shared parts

@@ -1,4 +1,4 @@
--- What a boot answers and prints.
+-- Answers and output of a boot.
 use Rattle.std.specs.Prelude.{◌≡◌, ◌+◌, ◌<◌, ◌==◌, ℕ, zero, suc, List, [], ◌∷◌, length, Option, Result, Ok, Err}
 use Rattle.std.specs.Prelude.{IsOk, IfSome}
 use Rattle.std.specs.List.{AllByRecursion}
@@ -45,33 +45,33 @@ use Rattle.synth_kernel.specs.declared.outcome.BootFault.TheVariants.{Script, Me
 use Rattle.synth_kernel.specs.declared.printing.Booted.{Booted}
 pub use Rattle.boot_threads.specs.Works.{RunsOf}
 
--- WHAT ITS PROCESSORS DID
+-- THE WORK OF ITS PROCESSORS
 
--- The log of the processor p: it has an entry for each of so many turns, in each of which processor 0 tended the
--- alarms, and no other did; and it says all that was left on a station that had done nothing
+-- The log of the processor p has an entry for each of `turns` turns. Processor 0 tended the alarms in each of its
+-- turns, and no other processor did. The log says all that was left on a station that had done nothing
 pub record IsLogOf (plan : BootPlan) (p turns : ℕ) (log : List LogEntry) : Type 0 where
   pub many : length log ≡ turns
   pub tends : AllByRecursion (λ (entry : LogEntry). is_some entry.tended ≡ (p == 0)) log
   pub station : Parts
   pub left : Leaves plan log station
 
--- these are the logs of the processors from this one on, in their order
+-- these are the logs of the processors from the number p on, in their order
 abbrev pub AreLogs : BootPlan → ℕ → ℕ → List (List LogEntry) → Type 0
 AreLogs plan p turns [] = Unit {0}
 AreLogs plan p turns (log ∷ logs) = IsLogOf plan p turns log × AreLogs plan (p + 1) turns logs
 
--- each of so many processors had so many turns, whatever the closed tables are
+-- each of so many processors had so many turns; the closed tables may be any
 pub record HadTurns (processors turns : ℕ) (plan : BootPlan) (closed : ClosedTables) (logs : List (List LogEntry))
     : Type 0 where
   pub many : length logs ≡ processors
   pub each : AreLogs plan 0 turns logs
 
--- WHAT CAME BACK OF A BOOT WITH GATES
+-- THE RESULTS OF A BOOT WITH GATES
 
--- The processor p had so many turns on a station of these objects that it could use and that had done nothing, and this
--- is their log. It can use the station still. The gate was told of the turns, and of nothing else, and so became the
--- other one. A thread that was told of just this work, on these objects, was joined, and gave back the station and the
--- gate: so `ran` says, of which a proof knows only what joining a thread ensured
+-- The processor p had so many turns on a station of these objects. The processor could use the station, still can, and
+-- the station had done nothing. `log` is the log of these turns. The gate observed these turns and nothing else, and so
+-- became `gate'`. The thread of exactly this work, on these objects, was joined and gave back the station and the gate,
+-- as `ran` says. A proof knows of `ran` only what joining a thread ensures
 pub record WasTold {G : Type 0} (ran : RunsOf G) (T : G → ℕ → Point → G → Type 0)
     (shared : Shared) (p turns : ℕ) (gate gate' : G) (log : List LogEntry) : Type 0 where
   pub old : Station
@@ -84,7 +84,7 @@ pub record WasTold {G : Type 0} (ran : RunsOf G) (T : G → ℕ → Point → G 
   pub turned : HasTurned T shared p turns gate gate' old.parts new.parts
   pub log_is : turned.log ≡ log
 
--- so it was with each of these gates, for the processors from this one on, in their order
+-- each of these gates observed the turns of its processor, from the number p on, in their order
 abbrev pub AllTold : {G : Type 0} → RunsOf G → (G → ℕ → Point → G → Type 0) → Shared → ℕ → ℕ
     → List G → List G → List (List LogEntry) → Type 0
 AllTold ran T shared p turns [] [] [] = Unit {0}
@@ -92,8 +92,8 @@ AllTold ran T shared p turns (gate ∷ gates) (gate' ∷ gates') (log ∷ logs) 
     WasTold ran T shared p turns gate gate' log × AllTold ran T shared (p + 1) turns gates gates' logs
 AllTold ran T shared p turns gates gates' logs = ⊥
 
--- These ends did so at all objects of the plan, but for the raw queue and the chain of each tty: of those its device
--- had ends too
+-- These ends did `did` at all objects of the plan, except the raw queue and the chain of each tty. The tty's device had
+-- ends of these two too
 pub record DidAll (plan : BootPlan) (did : Account) (parts : Parts) : Type 0 where
   pub hand : (account parts).hand ≡ did.hand
   pub meters : (account parts).meters ≡ did.meters
@@ -102,10 +102,10 @@ pub record DidAll (plan : BootPlan) (did : Account) (parts : Parts) : Type 0 whe
   pub large : (q : ℕ) → (account parts).queues (Large q) ≡ did.queues (Large q)
   pub chains : (k : ℕ) → k < length plan.movers → (account parts).chains k ≡ did.chains k
 
--- Each gate was told of the turns of its processor on the objects of the plan, in a thread that was joined, and came
--- back so at its place; and this came of closing just these, and was shown to the runtime: the ends that closed all are
--- theirs, and did what was done before the turns, and then what the logs come to. The closed tables are made of it,
--- with what ends, quajects and devices had, and show its numbers
+-- Each gate observed the turns of its processor on objects of the plan, in a thread that was joined, and came back at
+-- its place. `ended` is the result of closing these objects, and was shown to the runtime. The ends that closed all
+-- belong to these objects. They did the work before the turns, followed by what the logs come to. The closed tables are
+-- made from `ended` and from the work of ends, quajects and devices, and show the numbers of `ended`
 pub record CameBack {G : Type 0} (ran : RunsOf G) (shown : Unmade → Type 0)
     (T : G → ℕ → Point → G → Type 0) (turns : ℕ) (gates back : List G) (ended : Unmade) (plan : BootPlan)
     (closed : ClosedTables) (logs : List (List LogEntry)) : Type 0 where
@@ -124,11 +124,11 @@ pub record CameBack {G : Type 0} (ran : RunsOf G) (shown : Unmade → Type 0)
   pub typed : List Typed
   pub shows : Shows closed ended typed
 
--- the gate that does nothing may be told anything
+-- the law of the gate that does nothing: it allows any call
 abbrev pub ToldNothing : NoGate → ℕ → Point → NoGate → Type 0
 ToldNothing old p point new = Unit {0}
 
--- the same of a boot without gates: so many of those that do nothing came back so
+-- a boot without gates: its gates are so many gates that do nothing, which came back
 pub record CameBackPlain (ran : RunsOf NoGate) (shown : Unmade → Type 0)
     (processors turns : ℕ) (back : List NoGate) (ended : Unmade) (plan : BootPlan) (closed : ClosedTables)
     (logs : List (List LogEntry)) : Type 0 where
@@ -136,14 +136,13 @@ pub record CameBackPlain (ran : RunsOf NoGate) (shown : Unmade → Type 0)
   pub many : length gates ≡ processors
   pub came : CameBack ran shown ToldNothing turns gates back ended plan closed logs
 
--- the boot was on so many processors, with so many turns on each
+-- the boot had so many processors, and so many turns on each
 abbrev pub HasNumbers : {G : Type 0} → ℕ → ℕ → Booted G → Type 0
 HasNumbers processors turns booted = (booted.processors ≡ processors) × (booted.turns ≡ turns)
 
--- WHAT IT TELLS
+-- THE REPORT
 
--- The report agrees with the plan, with the closed tables of a boot, and with the logs of its processors, of which all
--- this holds
+-- The report agrees with the plan, with some closed tables and with some logs of processors, for which `Did` holds
 pub record IsBootOf (Did : BootPlan → ClosedTables → List (List LogEntry) → Type 0) (plan : BootPlan) (report : Report)
     : Type 0 where
   pub closed : ClosedTables
@@ -152,12 +151,12 @@ pub record IsBootOf (Did : BootPlan → ClosedTables → List (List LogEntry) �
   pub did : Did plan closed logs
   pub agrees : IsReport plan closed logs heard report
 
--- the answer where so many threads are live
+-- the answer if so many threads are live
 abbrev pub ended_of : ℕ → Ended
 ended_of zero = AllEnded
 ended_of (suc others) = Unfinished (suc others)
 
--- the answer is that of the live threads of a report of such a boot, which was printed, and nothing else
+-- the answer is by the number of live threads in the report of such a boot; this report was printed, and nothing else
 pub record IsRun (Did : BootPlan → ClosedTables → List (List LogEntry) → Type 0) (plan : BootPlan) (ended : Ended)
     (old new : Option (List ℕ)) : Type 0 where
   pub report : Report
@@ -165,18 +164,18 @@ pub record IsRun (Did : BootPlan → ClosedTables → List (List LogEntry) → T
   pub ends : ended ≡ ended_of (live_threads report)
   pub printed : Appends old new (report_text report)
 
--- what was read, where the reader tells it, says this plan
+-- if the reader reports the bytes read, they parse as this plan
 abbrev pub Says : Option (List ℕ) → BootPlan → Type 0
 Says read plan = IfSome read (λ bytes. text_plan bytes ≡ Ok (plan_of plan))
 
--- what was read says a plan, and so it is with a boot of that
+-- a boot of some plan gave the answer and the output; the bytes read, if the reader reports them, parse as this plan
 pub record IsBoot (Did : BootPlan → ClosedTables → List (List LogEntry) → Type 0) (read : Option (List ℕ))
     (ended : Ended) (old new : Option (List ℕ)) : Type 0 where
   pub plan : BootPlan
   pub says : Says read plan
   pub run : IsRun Did plan ended old new
 
--- the answer alone
+-- a boot of some plan gave the answer; the bytes read, if the reader reports them, parse as this plan
 pub record IsBootAnswer (Did : BootPlan → ClosedTables → List (List LogEntry) → Type 0) (read : Option (List ℕ))
     (ended : Ended) : Type 0 where
   pub plan : BootPlan
@@ -185,22 +184,22 @@ pub record IsBootAnswer (Did : BootPlan → ClosedTables → List (List LogEntry
   pub booted : IsBootOf Did plan report
   pub ends : ended ≡ ended_of (live_threads report)
 
--- HOW IT FAILS
+-- FAILURES
 
--- a script's fault is the first of the text; memory is wanting, or the writer fails, only where the text has none; the
--- reader may fail with any text
+-- a script fault is the first fault of the text; a boot is out of memory, or its writer fails, only if the text is
+-- valid; the reader may fail with any text
 abbrev pub IsBootFault : Result Plan ScriptFault → BootFault → Type 0
 IsBootFault said (Script fault) = said ≡ Err fault
 IsBootFault said Memory = IsOk said
 IsBootFault said Read = Unit {0}
 IsBootFault said Write = IsOk said
 
--- the plan is that of the text, or the fault is one that the text allows
+-- the plan is the plan of the text, or the fault is one that the text allows
 abbrev pub IsRead : Result Plan ScriptFault → Result BootPlan BootFault → Type 0
 IsRead said (Ok plan) = said ≡ Ok (plan_of plan)
 IsRead said (Err fault) = IsBootFault said fault
 
--- a fault that comes where the text has none
+-- a fault that needs a valid text: out of memory, or a failed write
 abbrev pub IsLate : BootFault → Type 0
 IsLate (Script fault) = ⊥
 IsLate Memory = Unit {0}

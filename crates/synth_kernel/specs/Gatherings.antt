@@ -1,4 +1,4 @@
--- What the threads of a kernel gave back, sorted and joined.
+-- The results of a kernel's threads, sorted and joined.
 use Rattle.std.specs.Prelude.{◌≡◌, ◌≤◌, ◌++◌, ◌%◌, ◌^◌, map, flat_map, length, vec_capacity, List, [], ◌∷◌}
 use Rattle.std.specs.Prelude.{Ok, Err, Bool, true, false}
 use Rattle.turn_io.specs.Splits.{AllThree}
@@ -21,21 +21,21 @@ use Rattle.synth_kernel.specs.declared.gathering.Gathered.{Gathered}
 use Rattle.synth_kernel.specs.declared.gathering.Lists.{Lists}
 use Rattle.synth_kernel.specs.declared.gathering.Served.{Served}
 
--- what the processors gave back, in their order
+-- the results of the processors, in their order
 abbrev pub processed_in : {G : Type 0} → List (Back G) → List (Processed G)
 processed_in [] = []
 processed_in (Ok (worked.Processed one) ∷ backs) = one ∷ processed_in backs
 processed_in (Ok (worked.Served line tty) ∷ backs) = processed_in backs
 processed_in (Err lost ∷ backs) = processed_in backs
 
--- what the devices gave back, in their order
+-- the results of the devices, in their order
 abbrev pub served_in : {G : Type 0} → List (Back G) → List Served
 served_in [] = []
 served_in (Ok (worked.Processed one) ∷ backs) = served_in backs
 served_in (Ok (worked.Served line tty) ∷ backs) = record { line = line; tty = tty } ∷ served_in backs
 served_in (Err lost ∷ backs) = served_in backs
 
--- each thread gave something back
+-- whether each thread gave a result
 abbrev pub all_there : {G : Type 0} → List (Back G) → Bool
 all_there [] = true
 all_there (Ok back ∷ backs) = all_there backs
@@ -44,14 +44,14 @@ all_there (Err lost ∷ backs) = false
 abbrev pub tty_of : Served → RawTty
 tty_of served = served.tty
 
--- What a device did: how many bytes it popped, which with those left in the line are all that was sent, and how many of
--- them its raw queue refused
+-- The totals of a device: the number of bytes popped, modulo 2^64, and the number of bytes refused. The bytes popped
+-- and the bytes left in the line are the bytes sent
 pub record TotalsAre (served : Served) (input : LineIn) (told : Typed) : Type 0 where
   pub whole : bytes_received served.line ++ bytes_left input served.line ≡ bytes_sent input
   pub popped : told.popped ≡ length (bytes_received served.line) % 2 ^ 64
   pub refused : told.refused ≡ overruns_of served.tty
 
--- the lists are empty, and have room for what is sorted out of all that came back, and for what is made of it
+-- the lists are empty, and have room for the sorted results of all threads, and for what is made from them
 pub record HaveRoomFor {G : Type 0} (backs : List (Back G)) (lists : Lists G) : Type 0 where
   pub processed : (lists.processed.items ≡ []) × (length (processed_in backs) ≤ vec_capacity lists.processed)
   pub served : (lists.served.items ≡ []) × (length (served_in backs) ≤ vec_capacity lists.served)
@@ -60,8 +60,8 @@ pub record HaveRoomFor {G : Type 0} (backs : List (Back G)) (lists : Lists G) : 
   pub gates : (lists.gates.items ≡ []) × (length (processed_in backs) ≤ vec_capacity lists.gates)
   pub told : (lists.told.items ≡ []) × (length (served_in backs) ≤ vec_capacity lists.told)
 
--- Each thread gave something back. The stations were joined to the first, which is then the last, and what they heard
--- is there, and so are their gates, in their order. The raw ttys are there, and what each device did, by its input
+-- Each thread gave a result. The stations were joined to the first, which became `gathered.station`. The lines that
+-- they heard, their gates, the raw ttys and the devices' totals are in `gathered`, in order
 pub record IsGathered {G : Type 0} (shared : Shared) (first : Station) (backs : List (Back G))
     (inputs : List LineIn) (gathered : Gathered G) : Type 0 where
   pub all : all_there backs ≡ true

@@ -1,4 +1,4 @@
--- What a boot has before its threads start.
+-- The objects of a boot before its threads start.
 use Rattle.std.specs.Prelude.{◌≡◌, ◌+◌, ◌<◌, ◌≤◌, ℕ, List, [], map, length, vec_capacity}
 use Rattle.std.specs.List.{All}
 use Rattle.boot_data.specs.declared.boot_plan.BootPlan.{BootPlan}
@@ -21,7 +21,7 @@ use Rattle.boot_threads.specs.Works.{MayWork}
 use Rattle.synth_kernel.specs.declared.ready.Ready.{Ready}
 use Rattle.synth_kernel.specs.declared.ready.Room.{Room}
 
--- The lists are empty, and have room for what so many processors and the devices of the plan give back, for the answers
+-- The lists are empty. They have room for the results of so many processors and of the plan's devices, for the answers
 -- of closing all, and for the report
 pub record HasPlaces {G : Type 0} (shared : Shared) (processors : ℕ) (room : Room G) : Type 0 where
   pub backs : (room.backs.items ≡ []) × (processors + length shared.plan.ttys ≤ vec_capacity room.backs)
@@ -35,9 +35,9 @@ pub record HasPlaces {G : Type 0} (shared : Shared) (processors : ℕ) (room : R
   pub answers : closing.HaveRoom shared room.answers
   pub report : reporting.HasAllRoom shared.plan room.report
 
--- All objects of the plan were made, with all their shares at the first station, the devices and the quajects. The
--- station was prepared, gave each processor one of its own. Each processor and each device has its
--- work, which may be done
+-- All objects of the plan were made; the first station, the devices and the quajects have all their shares. The first
+-- station was prepared, and gave each processor a station of its own. Each processor and each device has its work,
+-- which may be done. The lists have room
 pub record IsReady {G : Type 0} (plan : BootPlan) (turns : ℕ) (gates : List G) (ready : Ready G) : Type 0 where
   pub plan_is : ready.shared.plan ≡ plan
   pub quajects : AreQuajectsOf ready.shared.plan ready.shared.queues (quajects_of ready.shared.chains.items)

@@ -1,4 +1,4 @@
--- What a boot has when its threads have stopped.
+-- The objects of a boot when its threads have stopped.
 use Rattle.std.specs.Prelude.{◌≡◌, ℕ, List, drop}
 use Rattle.std.specs.List.{AllZip}
 use Rattle.turn_io.specs.declared.gate.Point.{Point}
@@ -10,9 +10,9 @@ use Rattle.synth_kernel.specs.declared.ready.Ready.{Ready}
 use Rattle.synth_kernel.specs.declared.running.Stopped.{Stopped}
 use Rattle.synth_kernel.specs.Gatherings.{IsGathered}
 
--- Each work was done by a thread that was joined, while the ttys' bytes were typed into the inputs of the devices,
--- which come behind so many processors; and what came back was gathered. All objects are those that were ready, and so
--- is the room
+-- A thread did each work and was joined, or was refused. Meanwhile the ttys' bytes were typed into the inputs of the
+-- devices, whose works follow those of so many processors. The results were gathered. The objects, and the room for
+-- answers and report, are those that were ready
 pub record HasStopped {G : Type 0} (ran : RunsOf G) (refused : RefusalsOf G)
     (T : G → ℕ → Point → G → Type 0) (processors : ℕ) (ready : Ready G) (stopped : Stopped G) : Type 0 where
   pub shared_is : stopped.shared ≡ ready.shared

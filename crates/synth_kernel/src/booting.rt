@@ -16,10 +16,10 @@ use std::alloc::Global;
 use std::sync::Wait;
 use turn_io::Gate;
 
-/// Boots a plan, a processor for each gate, so many turns on each, and reports. The gates come back, each at its place,
-/// and what came of closing all.
-/// `OutOfMemory` comes only where an allocation was refused or a thread could not be started. All memory is taken
-/// before the first thread starts, but what each thread's own start takes.
+/// Boots a plan, a processor for each gate, with so many turns on each, and makes the report. Returns the gates, each
+/// at its place, and the result of closing all. `OutOfMemory` is returned only if an allocation was refused or a thread
+/// could not be started. All memory is taken before the first thread starts, except the memory that the start of each
+/// thread takes.
 ///
 /// Conditions: there are 1 to 8 gates.
 pub(crate) fn boot_plan<R, G>(

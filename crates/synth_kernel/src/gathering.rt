@@ -1,4 +1,4 @@
-//! What the threads of a kernel gave back, joined.
+//! The results of a kernel's threads, joined.
 ghost use Rattle.std.specs.Prelude.{◌≡◌, ◌≤◌, ◌+◌, ◌++◌, [], ◌∷◌, false, true, length, map, vec_capacity};
 ghost use Rattle.std.specs.Prelude.{None, Ok, IfSome};
 ghost use Rattle.std.specs.List.{All, AllZip, flat_map};
@@ -19,14 +19,14 @@ use processor::{Shared, Station};
 use quajects::RawTty;
 use spsc_line::{LineIn, LineOut, finish};
 
-/// What a device gave back: the end of its line from which it popped, and its raw tty.
+/// The result of a device: the end of its line from which it popped, and its raw tty.
 #[derive(Drop)]
 pub(crate) struct Served {
     pub(crate) line: LineOut,
     pub(crate) tty: RawTty,
 }
 
-/// Lists for what is sorted out of all that the threads give back, and for what is made of it.
+/// Lists for the sorted results of all threads, and for what is made from them.
 #[derive(Drop)]
 pub(crate) struct Lists<G> {
     pub(crate) processed: Vec<Processed<G>>,
@@ -37,8 +37,8 @@ pub(crate) struct Lists<G> {
     pub(crate) told: Vec<Typed>,
 }
 
-/// What was made of all that the threads gave back: the last station, to which all are joined, what each processor
-/// heard, its gate, the raw ttys, and what each device did.
+/// The gathered results of all threads. All stations are joined to `station`. The lists have the lines that each
+/// processor heard, the gates, the raw ttys, and the totals of each device.
 #[derive(Drop)]
 pub(crate) struct Gathered<G> {
     pub(crate) station: Station,
@@ -48,7 +48,7 @@ pub(crate) struct Gathered<G> {
     pub(crate) told: Vec<Typed>,
 }
 
-// What a thread gave back goes to its list.
+// Puts the result of a thread into its list.
 fn sort_back<G: Drop>(back: Worked<G>, processed: &mut Vec<Processed<G>>, served: &mut Vec<Served>)
     requires processed { length (processed.old.items ++ processed_in (Ok back ∷ [])) ≤ vec_capacity processed.old }
     requires served { length (served.old.items ++ served_in (Ok back ∷ [])) ≤ vec_capacity served.old }
@@ -63,8 +63,8 @@ fn sort_back<G: Drop>(back: Worked<G>, processed: &mut Vec<Processed<G>>, served
     }
 }
 
-// What the processors gave back, and what the devices did, each in their order. None where a thread gave nothing back,
-// since it couldn't be started. It takes no memory: both lists have room.
+// The results of the processors, and the results of the devices, each in their order. None if a thread gave nothing
+// back, since it couldn't be started. It takes no memory: both lists have room.
 fn sort_backs<G: Drop>(
     backs: Vec<Back<G>>,
     processed: Vec<Processed<G>>,
@@ -88,7 +88,7 @@ fn sort_backs<G: Drop>(
     if all { Some((processed, served)) } else { None }
 }
 
-// Joins the stations of all these to the first, one after the other. What each heard goes into `heards`, and its gate
+// Joins all these stations to the first, one after the other. The lines that each heard go into `heards`, and its gate
 // into `gates`, in their order. Both are empty and have room, so it takes no memory.
 //
 // Conditions: all stations are of `shared`.
@@ -119,7 +119,7 @@ fn join_stations<G: Drop>(
     (first, heards, gates)
 }
 
-// Ends the line of a device, and tells what it did.
+// Ends the line of a device, and returns the device's totals.
 fn finish_one(input: LineIn, served: Served) -> (RawTty, Typed)
     requires { IsLine input served.line }
     ensures tty { result.0 ≡ served.tty }
@@ -134,10 +134,10 @@ fn finish_one(input: LineIn, served: Served) -> (RawTty, Typed)
     (tty, told)
 }
 
-// Ends the lines of all devices, and tells what each did, in their order. The raw ttys go into `ttys`, and what is told
-// into `told`; both are empty and have room, so it takes no memory.
+// Ends the lines of all devices. The raw ttys go into `ttys`, and the devices' totals into `told`, in the order of the
+// devices. Both lists are empty and have room, so it takes no memory.
 //
-// Conditions: there is an input for each device, in their order, which is that of its line.
+// Conditions: there is an input for each device, in the order of the devices, which is the input of its line.
 fn finish_all(
     inputs: Vec<LineIn>,
     served: Vec<Served>,
@@ -164,12 +164,12 @@ fn finish_all(
     (ttys, told)
 }
 
-/// Joins the stations of the processors to the first, and ends the devices' lines, each in their order; the gates are
-/// in the processors' order. None where a thread gave nothing back, since it couldn't be started. It takes no memory:
-/// all lists have room.
+/// Joins the stations of the processors to the first, and ends the devices' lines, each in their order. The gates are
+/// in the processors' order. None if a thread gave nothing back, since it couldn't be started. It takes no memory: all
+/// lists have room.
 ///
-/// Conditions: where each thread gave something back, the stations are of `shared`, and there is an input for each
-/// device, in their order, which is that of its line.
+/// Conditions, if each thread gave something back: the stations are of `shared`. There is an input for each device, in
+/// the order of the devices, which is the input of its line.
 pub(crate) fn gather<G: Drop>(
     shared: &Shared,
     first: Station,

@@ -18,10 +18,10 @@ use std::alloc::Global;
 use std::sync::Wait;
 use turn_io::{Gate, NoGate};
 
-/// How many bytes a script may have, and one more.
+/// The maximum number of bytes of a script, and one more.
 const BUFFER_BYTES: usize = 65_537;
 
-// The plan that a text says.
+// The plan that a text says, or why there is none.
 fn plan_said(alloc: Global, text: &[u8]) -> Result<BootPlan, BootFault>
     ensures read { IsRead (text_plan text.now) result }
     ensures unwritten { IfErr result (λ fault. fault ≢ BootFault.Write) }
@@ -36,7 +36,7 @@ fn plan_said(alloc: Global, text: &[u8]) -> Result<BootPlan, BootFault>
     }
 }
 
-// The plan that is read.
+// The plan that is read, or why there is none.
 fn read_plan<I: Source>(alloc: Global, reader: &mut I) -> Result<BootPlan, BootFault>
     ensures read { IfSome (I.remaining reader.old) (λ bytes. IsRead (text_plan bytes) result) }
     ensures unwritten { IfErr result (λ fault. fault ≢ BootFault.Write) }
@@ -58,14 +58,13 @@ pub(crate) fn no_gates(alloc: Global, processors: u8) -> Result<Vec<NoGate>, Out
     Ok(gates)
 }
 
-/// Boots the script that is read on so many processors, with so many turns on each, and prints the report. What it
-/// answers has both numbers, and what came of closing all, whose numbers the report has. The gates are those that do
-/// nothing.
+/// Boots the script that is read on so many processors, with so many turns on each, and prints the report. The answer
+/// has both numbers, and the result of closing all, whose numbers the report has. The gates are those that do nothing.
 ///
-/// After a fault other than `Write` nothing was written. `Memory` is answered only where the text has no fault: an
-/// allocation was refused, or a thread could not be started. `Read` comes only where the last call on the reader
-/// returned an error other than an interruption, or at 131,072 calls. `Write` comes only where the last call on the
-/// writer returned an error.
+/// After a fault other than `Write` nothing was written. `Memory` is returned only if the text is valid: an allocation
+/// was refused, or a thread could not be started. `Read` is returned only if the last call on the reader returned an
+/// error other than an interruption, or at 131,072 calls. `Write` is returned only if the last call on the writer
+/// returned an error.
 ///
 /// Condition: there are 1 to 8 processors.
 pub fn boot_on<R, I, O>(
@@ -96,9 +95,10 @@ where
     boot_and_print(rt, alloc, plan, writer, processors, turns, idle)
 }
 
-/// The same with a gate for each processor, from 0 on, which the processor calls between the parts of its turns. Where
-/// the boot answers `Ok`, the gates come back, each at its place: it was called with the number of each turn, and then
-/// with the points of its step, and with nothing else. So does what came of closing all, whose numbers the report has.
+/// Boots the script as `boot_on` does, with a gate for each processor, from 0 on, which the processor calls between the
+/// parts of its turns. If the boot returns `Ok`, the gates come back, each at its place. Each gate was called with the
+/// number of each turn, followed by the points of the turn's step, and with nothing else. The result of closing all
+/// comes back too, and the report has its numbers.
 ///
 /// Conditions: there are 1 to 8 processors, and a gate for each.
 pub fn boot_on_with<R, I, O, G>(
@@ -131,7 +131,7 @@ where
     boot_and_print(rt, alloc, plan, writer, processors, turns, gates)
 }
 
-/// The same as `boot_on`, of a reader and a writer that are handed over.
+/// Boots the script as `boot_on` does, with a reader and a writer that are handed over.
 ///
 /// Condition: there are 1 to 8 processors.
 pub fn boot<R, I, O>(
@@ -158,7 +158,7 @@ where
     Ok(booted.ended())
 }
 
-/// The same as `boot_on_with`, of a reader and a writer that are handed over. The gates don't come back.
+/// Boots the script as `boot_on_with` does, with a reader and a writer that are handed over. The gates don't come back.
 ///
 /// Conditions: there are 1 to 8 processors, and a gate for each.
 pub fn boot_with<R, I, O, G>(

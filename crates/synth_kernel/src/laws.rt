@@ -1,4 +1,4 @@
-//! What it comes to that a boot's processors had their turns.
+//! Consequences of the turns of a boot's processors.
 ghost use Rattle.std.specs.Prelude.{ℕ, List, length};
 ghost use Rattle.boot_data.specs.declared.boot_plan.BootPlan.{BootPlan};
 ghost use Rattle.boot_laws.specs.ClosedTables.{ClosedTables};
@@ -10,8 +10,8 @@ use boot_threads::{Witness, Work, Worked};
 use processor::Shared;
 use turn_io::{Gate, NoGate};
 
-/// There is a log for each gate, with an entry for each turn, and it says all that was left on a station that had done
-/// nothing: this is what remains where the gates and what was closed are forgotten.
+/// There is a log for each gate, with an entry for each turn. The log says all that was left on a station that had done
+/// nothing. These facts remain if the gates and the closed objects are forgotten.
 pub fn turns_were_had<
     R: Witness<Shared, Worked<G>, Work<G>>,
     N: Witness<Shared, Worked<NoGate>, Work<NoGate>>,

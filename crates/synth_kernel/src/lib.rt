@@ -10,8 +10,8 @@
 //! ```
 //!
 //! A boot makes all objects of the script's plan and takes all the memory that it needs. Then each processor and each
-//! device has a thread of its own, while the caller types the bytes of the ttys. When all have stopped, their ends are
-//! joined, all is closed, and the report is made and printed.
+//! device has a thread of its own, while the caller types the bytes of the ttys. When all threads have stopped, their
+//! ends are joined, all objects are closed, and the report is made and printed.
 #![tactic(auto)]
 
 mod booting;

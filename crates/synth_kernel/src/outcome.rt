@@ -1,4 +1,4 @@
-//! How a boot ends.
+//! The outcome of a boot.
 
 ghost use Rattle.std.specs.Prelude.{◌≡◌, Some};
 ghost use Rattle.synth_kernel.specs.declared.outcome.BootFault.TheVariants as faults;
@@ -8,25 +8,25 @@ use event_theory::OutOfMemory;
 use std::error::Error as StdError;
 use std::fmt;
 
-/// How a boot ended whose report was printed.
+/// The outcome of a boot whose report was printed.
 #[derive(Clone, Copy, Debug, PartialEq, Eq)]
 pub enum Ended {
     /// All threads have ended.
     AllEnded,
-    /// So many have not.
+    /// So many threads have not ended.
     Unfinished { live: usize },
 }
 
-/// Why a boot printed no report. Nothing was written, but where the fault is `Write`.
+/// The reason why a boot printed no report. Nothing was written, except if the fault is `Write`.
 #[derive(Clone, Copy, Debug, PartialEq, Eq)]
 pub enum BootFault {
-    /// The script is at fault.
+    /// The script is invalid.
     Script(ScriptFault),
-    /// A growth was refused, or a thread couldn't be started, and the script is not at fault.
+    /// The script is valid, but an allocation was refused, or a thread couldn't be started.
     Memory,
     /// The reader failed, or there were more than 131,072 reads.
     Read,
-    /// The writer failed. A front of the report may be written.
+    /// The writer failed. A beginning of the report may have been written.
     Write,
 }
 

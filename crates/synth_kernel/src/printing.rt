@@ -1,4 +1,4 @@
-//! The end of a boot: its report is printed, and what it came to is answered.
+//! The end of a boot: its report is printed, and its outcome is returned.
 ghost use Rattle.std.specs.Prelude.{◌≡◌, ◌≢◌, ◌≤◌, vec_len, IfOk, IfErr};
 ghost use Rattle.std.specs.Io.KnownBytes.{Keeps};
 ghost use Rattle.boot_laws.specs.Saying.{live_threads};
@@ -17,9 +17,9 @@ use std::alloc::Global;
 use std::sync::Wait;
 use turn_io::Gate;
 
-/// How a boot ended whose report was printed, the gates, each at its place, with all that they were told, and what came
-/// of closing all, of which the report was made; and on how many processors it ran, with how many turns on each. Only
-/// the function that boots a plan makes one.
+/// The outcome of a boot whose report was printed: the gates, each at its place, with the record of its turns; the
+/// result of closing all, from which the report was made; and the numbers of processors and of turns on each. Only the
+/// function that boots a plan makes one.
 #[derive(Drop)]
 pub struct Booted<G> {
     ended: Ended,
@@ -30,7 +30,7 @@ pub struct Booted<G> {
 }
 
 impl<G> Booted<G> {
-    /// How it ended.
+    /// How the boot ended.
     pub fn ended(&self) -> Ended
         ensures { result ≡ self.now.ended }
     {
@@ -44,21 +44,21 @@ impl<G> Booted<G> {
         self.gates.as_slice()
     }
 
-    /// What came of closing all.
+    /// The result of closing all.
     pub fn closed(&self) -> &Unmade
         ensures { result.now ≡ self.now.closed }
     {
         &self.closed
     }
 
-    /// How many processors it had.
+    /// The number of processors.
     pub fn processors(&self) -> u8
         ensures { result ≡ self.now.processors }
     {
         self.processors
     }
 
-    /// How many turns each of them had.
+    /// The number of turns on each processor.
     pub fn turns(&self) -> u32
         ensures { result ≡ self.now.turns }
     {
@@ -66,7 +66,7 @@ impl<G> Booted<G> {
     }
 }
 
-// The answer of a boot with this report.
+// The outcome of a boot with this report.
 fn ended_by(report: &Report) -> Ended
     ensures { result ≡ ended_of (live_threads report.now) }
 {

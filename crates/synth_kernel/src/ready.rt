@@ -1,4 +1,4 @@
-//! What a boot has before its threads start, with the memory that it takes.
+//! The objects of a boot before its threads start, with the memory that it takes.
 ghost use Rattle.std.specs.Prelude.{◌≡◌, ◌≤◌, ◌+◌, length, vec_len, IfOk};
 ghost use Rattle.boot_report.specs.Rooms.{HasAllRoom};
 ghost use Rattle.synth_kernel.specs.Readies.{HasPlaces, IsReady};
@@ -16,7 +16,7 @@ use std::alloc::Global;
 use std::sync::Wait;
 use turn_io::Gate;
 
-/// Room for what the threads give back, and for what is made of it.
+/// Room for the results of the threads, and for what is made from them.
 #[derive(Drop)]
 pub(crate) struct Room<G> {
     pub(crate) backs: Vec<Back<G>>,
@@ -31,8 +31,8 @@ pub(crate) struct Room<G> {
     pub(crate) report: Lines,
 }
 
-/// All objects of a boot, what is left of the first station, the work of each processor and then that of each device,
-/// the ends of the lines into which the ttys' bytes are typed, and room.
+/// All objects of a boot, and the rest of the first station. The works are those of the processors, followed by those
+/// of the devices. The inputs are the ends of lines at which the ttys' bytes are typed. The room is for results.
 #[derive(Drop)]
 pub(crate) struct Ready<G> {
     pub(crate) shared: Shared,
@@ -42,7 +42,7 @@ pub(crate) struct Ready<G> {
     pub(crate) room: Room<G>,
 }
 
-// Room for what so many processors and the devices give back.
+// Room for the results of so many processors and of the devices.
 fn make_room<G: Drop>(
     alloc: Global,
     shared: &Shared,
@@ -77,8 +77,8 @@ fn make_room<G: Drop>(
     })
 }
 
-/// Makes all that a plan asks for, prepares the thread elements and the alarms, and gives each gate's processor, from 0
-/// on, and each device its work. `OutOfMemory` comes only where an allocation was refused.
+/// Makes all objects of a plan, and prepares the thread elements and the alarms. Gives the processor of each gate, from
+/// 0 on, and each device its work. `OutOfMemory` is returned only if an allocation was refused.
 ///
 /// Condition: there are 8 gates at most.
 pub(crate) fn get_ready<R: Wait, G: Gate + Drop>(

@@ -1,4 +1,4 @@
-//! The threads of a boot, from what is ready for them to what is made of all that they gave back.
+//! The threads of a boot, from their start to the gathering of their results.
 ghost use Rattle.std.specs.Prelude.{IfOk};
 ghost use Rattle.synth_kernel.specs.Readies.{IsReadyFor};
 ghost use Rattle.synth_kernel.specs.Stops.{HasStopped};
@@ -14,8 +14,8 @@ use std::alloc::Global;
 use std::sync::Wait;
 use turn_io::Gate;
 
-/// What a boot has when its threads have stopped: all objects, what the threads gave back, and room for what is made of
-/// it.
+/// The objects of a boot when its threads have stopped, with the gathered results of the threads, and room for the
+/// answers and the report.
 #[derive(Drop)]
 pub(crate) struct Stopped<G> {
     pub(crate) shared: Shared,
@@ -24,8 +24,8 @@ pub(crate) struct Stopped<G> {
     pub(crate) report: Lines,
 }
 
-/// Runs a thread for each work and types the ttys' bytes meanwhile, and gathers what they gave back. `OutOfMemory`
-/// comes only where the list of threads was refused its memory, before the first starts, or a thread could not be
+/// Runs a thread for each work, types the ttys' bytes meanwhile, and gathers the results. `OutOfMemory` is returned
+/// only if the allocation of the list of threads was refused, before the first starts, or a thread could not be
 /// started.
 ///
 /// Condition: all is ready for so many processors.

@@ -11,11 +11,11 @@ use boot_objects::{Answers, Unmade, close_all, join_raws};
 use processor::{Shared, Station};
 use quajects::RawTty;
 
-/// Joins the ends of the devices to those of the last station, which has all others, and closes all. It takes no
-/// memory.
+/// Joins the ends of the devices to the ends of the last station, which has all others, and closes all objects. It
+/// takes no memory.
 ///
-/// Conditions: the station and the raw ttys are of these objects, and the station has the whole of each once these are
-/// joined to it; the lists of the answers are empty and have room.
+/// Conditions: the station and the raw ttys are of these objects. Once the raw ttys' ends are joined, the station has
+/// the whole of each object. The lists of the answers are empty and have room.
 pub(crate) fn shut_down(
     shared: Shared,
     last: Station,

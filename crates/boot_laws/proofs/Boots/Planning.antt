@@ -62,7 +62,7 @@ four_routes (a ∷ b ∷ c ∷ d ∷ e ∷ ways) few = absurd (omega arith)
 
 -- QUAJECTS
 
--- it is the pump or switch that is planned; where none is, the cooked tty of this tty, behind so many queues and pipes
+-- the planned pump or switch; if none is planned, this tty's cooked tty, after so many queues and pipes
 abbrev pub IsPlanned : ℕ → ℕ → Option PlannedMover → AnyQuaject → Type 0
 IsPlanned queues tty (Some planned) quaject = IsMover planned.mover quaject
 IsPlanned queues tty None quaject = IsTty (raw_queue queues tty) (line_queue tty) (screen_queue tty) quaject

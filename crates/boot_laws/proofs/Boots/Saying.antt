@@ -1,4 +1,4 @@
--- Where all steps were done, the lines said are those of the plan.
+-- If all steps were done, the lines said are those of the plan.
 use Rattle.boot_laws.proofs.Common.{◌≡◌, ◌≢◌, ⊎_elim, ℕ, zero, suc, ◌+◌, ◌<◌, Bool, true, false, eqb, eq-eqb, ne_eqb, List, [], ◌∷◌, ◌++◌, map, length, refl, sym, ap, ◌∙◌, subst, arith, Option, Some, None, append_assoc, append-nil, flat_map, count_by, IsPermutation, if◌then◌else◌, ◌&&◌, ◌||◌, ◌==◌, nat_lt, not, range_with_len, AllByRecursion, list_any-append, leb_tells, flat_map-append, dite, dec_lt, BootPlan, PlannedThread, QueueIndex, Small, Step, Report, Place, AtQueue, idle_queue, only, put_if, shut_if, taken_if, Deed, SayAnswer, Paid, is_done, IsDeedOf, queues_by, told_shut, LogEntry, FollowsPlan, entry_account, turn_told_shut, sum_of, was_shut, Key, same_key, program, step_of, said_line, Line, said, heard, PlaceAgrees, ClosedTables, IsReport, IsNeverShut, total_of, by_bool, plus, many_cons, many_more}
 use Rattle.std.proofs.Common.{slice_get}
 use Rattle.std.proofs.lemmas.List.Sorted.{IsPermutation-refl, IsPermutation-trans, IsPermutation-append_comm, IsPermutation-append_left, IsPermutation-append_right}
@@ -22,7 +22,7 @@ use Rattle.boot_laws.proofs.Totals.{all_of, all_planned}
 use Rattle.boot_laws.proofs.Undone.{none_in, no_program}
 
 module _ {A B : Type 0} (f : A → List B) where
-  -- where an entry goes to the front, what it gives does
+  -- if an entry moves to the front, its results move to the front
   to_front : (front : List A) (x : A) (back : List A) → IsPermutation (flat_map f (front ++ x ∷ back)) (f x ++ flat_map f (front ++ back))
   to_front front x back =
       let a : List B = flat_map f front in let c : List B = flat_map f back in
@@ -31,7 +31,7 @@ module _ {A B : Type 0} (f : A → List B) where
       subst (λ z. IsPermutation z (f x ++ flat_map f (front ++ back))) (sym from)
       (subst (λ z. IsPermutation ((a ++ f x) ++ c) z) to (IsPermutation-append_left c (a ++ f x) (f x ++ a) (IsPermutation-append_comm a (f x))))
 
-  -- lists in which each entry stands equally often give the same
+  -- lists in which each entry is equally often give the same
   same_gives : (same : A → A → Bool) → ((a b : A) → same a b ≡ true → a ≡ b) → ((a : A) → same a a ≡ true)
       → (xs ys : List A) → ((x : A) → count_by (same x) xs ≡ count_by (same x) ys) → IsPermutation (flat_map f ys) (flat_map f xs)
   same_gives same tells itself [] [] h = IsPermutation-refl []
@@ -129,7 +129,7 @@ module _ (says : Step → List (List ℕ)) (plan : BootPlan) where
       let ih = lines_of_keys (a + 1) threads (λ i. let f : a + suc i ≡ a + 1 + i = omega arith in h (suc i) ∙ ap (program plan) f) in
       flat_map-append line_at (map (λ n. (a, n)) (range_with_len 0 (length t.steps))) (keys_from (a + 1) threads) ∙ (λ k. first k ++ ih k)
 
-  -- where each step was done once, what the done steps say is what the plan says
+  -- if each step was done once, the done steps say what the plan says
   pub all_done : (done : List Key) → ((x n : ℕ) → count_by (same_key (x, n)) done ≡ (if nat_lt n (length (program plan x)) then 1 else 0))
       → IsPermutation (flat_map line_at done) (flat_map (λ (t : PlannedThread). flat_map says t.steps) plan.threads)
   all_done done once = subst (IsPermutation (flat_map line_at done)) (lines_of_keys 0 plan.threads (λ i. let e : i ≡ 0 + i = omega arith in ap (program plan) e))

@@ -114,7 +114,7 @@ module _ {g : Ghosts AnyQuaject Queues} where
   chains_long (x ∷ list) (y ∷ ends) [] r = absurd r
   chains_long (x ∷ list) (y ∷ ends) (z ∷ homes) r = ap suc (chains_long list ends homes r.1)
 
-  -- the quaject came home of it, where its notes alone made it of one that had done nothing
+  -- the quaject came home from its chain, if only its notes made it, from a quaject that had done nothing
   chain_ended : (list : List (ProcChain AnyQuaject Queues)) (ends : List (ChainEnd AnyQuaject Queues g)) (homes : List Home) (k : ℕ) (chain : closed.Chain) (c : ChainShut list ends homes k chain)
       → MadeOfNew c.came.quaject → (home : Home) → slice_get homes k ≡ Some home → ChainEnded home chain
   chain_ended list ends homes k chain c new home at = let e = c.home_at in let same : c.home ≡ home = cc in
@@ -147,9 +147,9 @@ ports_unshut ports (home ∷ homes) q all = ap (λ (f : ℕ → Stake Did). (f q
 
 -- A BOOT THAT WAS SHUT DOWN
 
--- what was had when a boot was shut down, and what closing gave: the objects, the logs of the processors, the first
--- station, theirs, and the one to which they were joined; the raw ttys of the devices, what those did, what all were
--- joined to, and what came of closing that
+-- A boot that was shut down: its objects, the logs of its processors, the first station, the processors' stations, and
+-- all of them joined; the raw ttys of the devices and the devices' work; the parts of all ends joined, and the result
+-- of closing these parts
 pub record Shutdown : Type 0 where
   pub shared : Shared
   pub logs : List (List LogEntry)
@@ -161,9 +161,9 @@ pub record Shutdown : Type 0 where
   pub parts : Parts
   pub ended : Unmade
 
--- The stations were joined, and the first freed the other elements; nothing stands on a processor then. The raw ttys of
--- the devices were joined to that, and all was closed. The chains were given the quajects of the plan, over ends that
--- had done nothing
+-- The stations were joined, and the first had freed the other elements; no element is on a processor then. The raw ttys
+-- of the devices were joined to the last station, and all was closed. The chains were given the quajects of the plan,
+-- over ends that had done nothing
 pub record IsShutDown (shut : Shutdown) : Type 0 where
   pub worked : WereJoined shut.shared.plan shut.logs shut.first shut.stations shut.last
   pub spare : FreedSpare shut.shared.plan (account shut.first)

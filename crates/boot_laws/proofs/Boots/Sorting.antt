@@ -57,7 +57,7 @@ module _ (plan : BootPlan) (logs : List (List LogEntry)) (done : Done) (w : Work
       (λ high. let few : length plan.threads ≤ 64 = ∥∥₁_elim plan.within le_prop (λ (h : IsPlan (plan_of plan)). h.threads) in
       let z = none_in plan x n (ap (λ (l : List Step). slice_get l n) (no_program plan.threads x (omega (arith, high)))) (all_of logs) planned in omega arith)
 
-  -- where they ascend
+  -- ascending lines are in strictly ascending order
   pub sorted : (heard : List Line) → IsPermutation (total_of logs).heard heard → Ascend heard → AreSorted heard
   sorted heard all up i j a b at at' low = ⊎_elim (λ l. inl l) (λ r. inr (r.0, dite (dec_lt a.0.1 b.0.1) (λ less. less) (λ more. absurd (twice r.0 (let m = r.1 in omega arith))))) (up i j a b at at' low)
     where

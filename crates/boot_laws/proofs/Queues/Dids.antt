@@ -25,7 +25,7 @@ pub lines_are : (index : QueueIndex) (parts : Parts) → (account parts).queues 
 lines_are (Small q) parts = refl
 lines_are (Large q) parts = refl
 
--- a join puts what the other did behind its own
+-- a join appends the work of the other to its own
 pub did_joined : (index : QueueIndex) (a b c : Parts) → AreJoined a b c → did_at index c ≡ did_both (did_at index a) (did_at index b)
 did_joined (Small q) a b c j = ap (λ (f : ℕ → Stake Did). (f q).did) (joined_at a.small.items c.small.items b.small.items j.small.each)
 did_joined (Large q) a b c j = ap (λ (f : ℕ → Stake Did). (f q).did) (joined_at a.large.items c.large.items b.large.items j.large.each)

@@ -17,7 +17,7 @@ lies p run e = (grind (arith, nat_tests, e), grind (arith, nat_tests, e))
 lies_there : (p : ℕ) (run : Batch) → run.start ≤ p → p < run.start + length run.places → lies_in p run ≡ true
 lies_there p run low high = grind (arith, nat_tests, low, high)
 
--- the first run in which the position lies tells its item, as any does
+-- the first run in which the position lies gives the position's item, as any such run does
 told : (p x : ℕ) (l : List Batch) → ((m : ℕ) (e : Batch) → get_elem? l m ≡ some e → lies_in p e ≡ true → in_run p e ≡ x)
     → (m : ℕ) (e : Batch) → get_elem? l m ≡ some e → lies_in p e ≡ true → item_at l p ≡ x
 told p x [] all m e at it = absurd (some-ne-none e (sym at))

@@ -144,7 +144,7 @@ module _ (plan : BootPlan) (logs : List (List LogEntry)) (first : Parts) (statio
         taken_by_others = refl;
       }
 
-  -- it was ended, and where a log was told that it is shut, a processor shut it
+  -- the queue was ended, and if a log reports that it is shut, a processor shut it
   pub queue_ended : (end_knows_shut was ≡ true → end_knows_shut end ≡ true) → (port_stakes ports number).did.shuts ≡ 0
       → QueueEnded index (map account stations) others (queue_of plan boot index end shut) × AllByRecursion (λ log. was_shut log index ≡ true → 0 < ((account last).queues index).shuts) logs
   queue_ended known none = (

@@ -22,7 +22,7 @@ module _ (index : QueueIndex) where
   none_told shuts [] none told = tt
   none_told shuts (log ∷ logs) none told = (by_bool (was_shut log index) (λ is. absurd (let some = told.0 is in omega arith)) (λ isnt. isnt), none_told shuts logs none told.1)
 
-  -- where a log is told that the queue is shut only where a processor shut it
+  -- if the queue was left open, and each report that it is shut needs a processor's shut, no log has such a report
   pub never_shut : (plan : BootPlan) (logs : List (List LogEntry)) (done : Done) → WorkedTogether plan logs done
       → AllByRecursion (λ log. was_shut log index ≡ true → 0 < (done.in_all.queues index).shuts) logs → IsLeftOpen index logs → IsNeverShut index logs
   never_shut plan logs done w told none = none_told (done.in_all.queues index).shuts logs (ap (λ (a : AtQueue). a.shuts) (queue_did plan logs done w index) ∙ none_in_all logs none) told

@@ -48,7 +48,7 @@ knows_too (Small q) a b c j h = j.small.others_known q h
 knows_too (Large q) a b c j h = j.large.others_known q h
 
 module _ (index : QueueIndex) where
-  -- what the last station knows, it knows where a log was told so
+  -- the last station knows that a queue is shut if a log reports so
   pub all_told : (plan : BootPlan) (P : Type 0) (logs : List (List LogEntry)) (first : Parts) (stations : List Parts) (last : Parts) → AllZip (Leaves plan) logs stations → AllJoined first stations last
       → (KnowsShut index last → P) → AllByRecursion (λ log. was_shut log index ≡ true → P) logs
   all_told plan P [] first stations last z j h = tt

@@ -34,7 +34,7 @@ module _ {E : Type 0} (f : View → List E) where
   of_one true end = append-nil (f (view_of end))
   of_one false end = refl
 
-  -- with one more, where it is of the queue
+  -- with one more end, if it is an end of the queue
   pub of_next : {n : ℕ} (index number : ℕ) (end : QueueEnd n) (rest : List (QueueEnd n)) → of_ends (at_one [] index (end ∷ []) number ++ rest) ≡ at_one [] index (f (view_of end)) number ++ of_ends rest
   of_next index number end rest = of_more (at_one [] index (end ∷ []) number) rest ∙ ap (λ z. z ++ of_ends rest) (of_one (number == index) end)
 
@@ -48,7 +48,7 @@ module _ {E : Type 0} (f : View → List E) where
   of_homes ends [] = refl
   of_homes ends (home ∷ homes) = of_more (ends home) (flat_map ends homes) ∙ ap (λ z. of_ends (ends home) ++ z) (of_homes ends homes)
 
-  -- the devices' ends list nothing, where each lists nothing
+  -- the devices' ends list nothing, if each lists nothing
   pub devices_none : (index : QueueIndex) (raw : ℕ) (ends : List (QueueEnd 64)) → AllByRecursion (λ (end : QueueEnd 64). f (view_of end) ≡ []) ends → of_ends (device_at index raw ends) ≡ []
   devices_none (Large q) raw ends h = refl
   devices_none (Small q) raw [] h = refl
@@ -78,7 +78,7 @@ ways_took_none number [] h = refl
 ways_took_none number (None ∷ ways) h = ways_took_none number ways h.1
 ways_took_none number (Some way ∷ ways) h = idle lines_taken way.outlet.index number way.outlet.end (ends_at number (map port_of ways)) h.0 ∙ ways_took_none number ways h.1
 
--- the first end took these, and those behind it took nothing
+-- the first end took these, and the ends after it took nothing
 first_took : (index number : ℕ) (end : QueueEnd 64) (rest : List (QueueEnd 64)) → of_ends lines_taken rest ≡ []
     → of_ends lines_taken (at_one [] index (end ∷ []) number ++ rest) ≡ at_one [] index (lines_taken (view_of end)) number
 first_took index number end rest none = of_next lines_taken index number end rest
@@ -159,7 +159,7 @@ home_put_none number many (any.Switch switch) home h k low b = ap (of_ports runs
     ∙ (elsewhere runs_of switch.other.index number (switches.other_of switch) (ends_at number (switches.way_ports switch)) (λ e. let c = b.1 in omega arith)
     ∙ ways_put_none number many switch.ways low b.2))
 
--- where each quaject's small queues are among the first so many, none of their ends put in one behind those
+-- if each quaject's small queues are among the first so many, no end of a quaject put in a queue after those
 pub homes_put_none : (number many : ℕ) (homes : List Home) (chains : List closed.Chain) → AllZip ChainEnded homes chains → many ≤ number
     → AllByRecursion (λ (chain : closed.Chain). IsBelow many chain.quaject) chains → of_ends runs_of (flat_map (home_at (Small number)) homes) ≡ []
 homes_put_none number many homes chains z far below = of_homes runs_of (home_at (Small number)) homes ∙ each homes chains z below

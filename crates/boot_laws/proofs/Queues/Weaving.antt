@@ -58,7 +58,7 @@ module _ (first : ℕ) (places : List Cell) (by : List (List (List ℕ))) (rest 
   whole : concat (map line_of (map entry_of c.order)) ≡ map item_of places
   whole = lines_flat c.order ∙ ap (map item_of) c.listed.flat
 
-  -- where these lists have the stretches, one behind the other, the order takes them from these
+  -- if these lists have the stretches, one after the other, the order takes them from these
   in_lists : (lists : List (List Batch)) → joined c.own ++ rest ≡ joined lists → AllByRecursion Ascending lists → Interleaves (map entry_of c.order) lists
   in_lists lists is ups = interleaved first c.order lists c.listed.adjacent c.listed.solid (subst (λ (z : List Batch). ListedOnce c.order (z ∷ [])) is c.listed.filed) (all_at lists ups)
 
@@ -72,7 +72,7 @@ module _ (first : ℕ) (places : List Cell) (by : List (List (List ℕ))) (rest 
         (ap (λ z. joined c.own ++ z) (sym (joined_each rest)) ∙ sym (joined_both c.own (each_alone rest))) (all_append Ascending c.own (each_alone rest) c.ascend (each_ascends rest))));
   }
 
-  -- where the processors have none of the places, and the others' ascend, the items are those lines, one behind the other
+  -- if the processors have no place, and the others' stretches ascend, the items are those lines, one after the other
   pub alone : joined c.own ≡ [] → (l : List Batch) → rest ≡ l → Ascending l → map item_of places ≡ concat (map line_of l)
   alone none l is up = sym whole ∙ ap (λ z. concat (map line_of z)) (one_order (map entry_of c.order) l
       (in_lists (l ∷ []) ((λ k. none k ++ is k) ∙ sym (append-nil l)) (up, tt)))
@@ -93,7 +93,7 @@ module _ (plan : BootPlan) (logs : List (List LogEntry)) (done : Done) (w : Work
   by_logs : (f : Account → List (List ℕ)) → map f done.by_each ≡ map (λ log. f (sum_of log)) logs
   by_logs f = ap (map f) w.each ∙ map-map f sum_of logs
 
-  -- the closed queue has the lines that the logs tell
+  -- the closed queue has the lines that the logs say
   pub queue_agrees : QueueAgrees index q logs
   queue_agrees = record {
     behind = e.behind;

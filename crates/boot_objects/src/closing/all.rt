@@ -1,5 +1,5 @@
-//! Closing all that a boot shared, in the order in which it has to be: the chains first, whose quajects have ends of
-//! the queues.
+//! Closing all that a boot shared, in the necessary order: the chains first, because their quajects have ends of the
+//! queues.
 ghost use Rattle.std.specs.Prelude.{◌≡◌, IfOk, length};
 ghost use Rattle.boot_objects.specs.Endings.{AllClosed};
 ghost use Rattle.boot_objects.specs.Rooms.{HaveRoom};
@@ -29,7 +29,7 @@ pub struct Answers {
 }
 
 impl Answers {
-    /// Lists with room for an answer of each of these objects. `OutOfMemory` comes only where an allocation was
+    /// Lists with room for an answer of each of these objects. `OutOfMemory` is returned only if an allocation was
     /// refused.
     pub fn new(alloc: Global, shared: &Shared) -> Result<Answers, OutOfMemory>
         ensures { IfOk result (HaveRoom shared.now) }
@@ -47,10 +47,10 @@ impl Answers {
     }
 }
 
-/// What all had at the end: the numbers of each quaject, in the order of the chains, what each queue was put and taken
-/// and what is left, the thread elements, the meters, and what was heard and signalled. The last three are for the
-/// contract alone: the ends that closed all, as they came, and the last end of each queue. Only `close_all` makes one,
-/// and nobody changes it: a report is made of what was closed.
+/// The final state of all objects: the numbers of each quaject, in the order of the chains; the items put, taken and
+/// left of each queue; the thread elements; the meters; and the lines heard and the signals shown. The last three
+/// fields are for the contract alone: the ends that closed all, as they came, and the last end of each queue. Only
+/// `close_all` makes one, and nobody changes it: a report is made from what was closed.
 #[derive(Drop)]
 pub struct Unmade {
     counts: Vec<Came>,
@@ -81,28 +81,28 @@ impl Unmade {
         self.counts.as_slice()
     }
 
-    /// What each small queue was put and taken, and what is left in it, in the order of the queues.
+    /// The items put, taken and left of each small queue, in the order of the queues.
     pub fn small(&self) -> &[Closed<64>]
         ensures { result.now ≡ self.now.small.items }
     {
         self.small.as_slice()
     }
 
-    /// The same of each large queue.
+    /// The items put, taken and left of each large queue, in the order of the queues.
     pub fn large(&self) -> &[Closed<256>]
         ensures { result.now ≡ self.now.large.items }
     {
         self.large.as_slice()
     }
 
-    /// Where each thread element is, by its number.
+    /// The place of each thread element, by its number.
     pub fn places(&self) -> &[Place; 64]
         ensures { result.now ≡ self.now.threads.places }
     {
         &self.threads.places
     }
 
-    /// How many steps each thread element has done, by its number.
+    /// The number of steps that each thread element has done, by its number.
     pub fn pcs(&self) -> &[u64; 64]
         ensures { result.now ≡ self.now.threads.pcs }
     {
@@ -123,7 +123,7 @@ impl Unmade {
         &self.meters.gauges
     }
 
-    /// How many alarms were set and did not fire.
+    /// The number of alarms that were set and did not fire.
     pub fn alarms_left(&self) -> usize
         ensures { result ≡ length self.now.meters.alarms.items }
     {
@@ -134,8 +134,8 @@ impl Unmade {
 /// Closes the chains and brings their quajects home, and then closes the queues, the thread table and the meters. It
 /// takes no memory: the answers go into lists that have room for them.
 ///
-/// Conditions: the parts are those of what is shared, no end of a chain has a Turn, and no end of another owner stands,
-/// but for those of the quajects.
+/// Conditions: the parts are those of the shared objects. No end of a chain has a Turn. No other end exists except
+/// those of the quajects.
 pub fn close_all(shared: Shared, parts: Parts, answers: Answers) -> Unmade
     requires parts { ArePartsOf shared parts }
     requires wholes { HasWholes shared parts }

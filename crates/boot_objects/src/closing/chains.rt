@@ -22,11 +22,11 @@ fn retire_chain(chain: ProcChain<AnyQuaject>, end: ChainEnd<AnyQuaject>) -> Home
     }
 }
 
-/// Closes each chain, and gives what comes home, in the order of the chains. The answers go into `homes`, which is
-/// empty and has room for them, so it takes no memory.
+/// Closes each chain, and returns the quajects that come home, in the order of the chains. The answers go into `homes`,
+/// which is empty and has room for them, so it takes no memory.
 ///
-/// Conditions: the ends are those of the chains, in their order and without a Turn, and each has the whole of its
-/// chain, so that no other end stands.
+/// Conditions: the ends are those of the chains, in their order and without a Turn. Each has the whole of its chain, so
+/// that no other end exists.
 pub fn retire_all(
     chains: Vec<ProcChain<AnyQuaject>>,
     ends: Vec<ChainEnd<AnyQuaject>>,

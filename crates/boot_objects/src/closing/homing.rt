@@ -1,4 +1,4 @@
-//! The ends of a quaject that came home go to those of their queues.
+//! The ends of a quaject that came home are joined to the ends of their queues.
 ghost use Rattle.std.specs.Prelude.{◌≡◌, ◌≤◌, [], ◌∷◌, length, vec_capacity};
 ghost use Rattle.std.specs.List.{All};
 ghost use Rattle.boot_objects.specs.Comings.{FitsHome, small_ports, large_ports};
@@ -15,7 +15,7 @@ use claim_queue::{ClaimQueue, QueueEnd};
 use proc_chain::{ChainEnd, ProcChain};
 use quajects::{AnyQuaject, Came, Home, Port, Queues};
 
-// Joins the end of a port, where there is one, to the one of its queue.
+// Joins the end of a port, if there is one, to the end of its queue.
 fn join_port<const N: usize>(
     queues: &[ClaimQueue<N>],
     ends: &mut [QueueEnd<N>],
@@ -49,10 +49,10 @@ fn join_ports<const N: usize, const K: usize>(
     }
 }
 
-/// Joins the ends of a quaject that came home, each to the one of its queue in the lists, which then have what those
-/// had, and gives its numbers. It takes no memory.
+/// Joins the ends of a quaject that came home, each to the end of its queue in the lists. The ends in the lists then
+/// have what the quaject's ends had too. Returns the quaject's numbers. It takes no memory.
 ///
-/// Conditions: the ends in the lists are those of the queues, in their order, and each end of the quaject is one of the
+/// Conditions: the ends in the lists are those of the queues, in their order. Each end of the quaject is an end of the
 /// queue that it names.
 pub fn bring_home(
     queues: &Queues,
@@ -76,8 +76,8 @@ pub fn bring_home(
     came
 }
 
-/// The same of all that came home, one behind the other. The numbers go into `counts`, in the order of the homes, which
-/// is empty and has room for them, so it takes no memory.
+/// Joins the ends of all quajects that came home, one quaject after the other, as `bring_home` does. The numbers go
+/// into `counts`, in the order of the homes. `counts` is empty and has room for them, so it takes no memory.
 ///
 /// Conditions: those of `bring_home`, for each.
 pub fn bring_all_home(
@@ -105,11 +105,12 @@ pub fn bring_all_home(
     counts
 }
 
-/// Closes each chain by its only end, and brings all home. The numbers of what came home go into `counts`, in the order
-/// of the chains. `homes` and `counts` are empty and have room for all, so it takes no memory.
+/// Closes each chain by its only end, and brings all quajects home. Their numbers go into `counts`, in the order of the
+/// chains. `homes` and `counts` are empty and have room for all, so it takes no memory.
 ///
-/// Conditions: the queues are the world of the chains, and the ends in the lists are those of the queues, in their
-/// order; those of the chains are theirs, in their order and without a Turn, and each has the whole of its chain.
+/// Conditions: the queues are the world of the chains. The ends of queues in the lists are those of the queues, in
+/// their order. The ends of chains are those of the chains, in their order and without a Turn, and each has the whole
+/// of its chain.
 pub fn close_chains(
     queues: &Queues,
     chains: Vec<ProcChain<AnyQuaject>>,

@@ -1,4 +1,4 @@
-//! One end more, for an object of a list.
+//! Joins one more end to the end of an object in a list.
 ghost use Rattle.std.specs.Prelude.{◌≡◌, true, false, [], ◌∷◌, Some};
 ghost use Rattle.boot_objects.specs.Gains.{Gained, ChainsGained, note_stake};
 ghost use Rattle.turn_io.specs.Accounts.{at_one, idle_queue, no_stake};
@@ -14,9 +14,9 @@ use proc_chain::{ChainEnd, ProcChain};
 use quajects::{AnyQuaject, Port};
 use turn_io::item_at;
 
-/// Joins one end more to the one of its queue in the list, which then has all that both had. It takes no memory.
+/// Joins one more end to the end of its queue in the list, which then has all that both had. It takes no memory.
 ///
-/// Conditions: the ends are those of the queues, in their order, and the other is one of the queue with this index.
+/// Conditions: the ends are those of the queues, in their order, and the other end is one of the queue with this index.
 pub fn join_at<const N: usize>(
     queues: &[ClaimQueue<N>],
     ends: &mut [QueueEnd<N>],
@@ -34,7 +34,7 @@ pub fn join_at<const N: usize>(
     queues[index].join(item_at(ends, index), other);
 }
 
-// The same of a port that came home, whose end is one of the queue with this index.
+// Joins the end of a port that came home, which is an end of the queue with this index.
 fn join_port_in<const N: usize>(
     queues: &[ClaimQueue<N>],
     ends: &mut [QueueEnd<N>],
@@ -51,7 +51,7 @@ fn join_port_in<const N: usize>(
     port.join_into(&queues[index], item_at(ends, index));
 }
 
-/// The same of a port that came home, whose end goes to the one of its queue.
+/// Joins the end of a port that came home to the end of its queue in the list.
 ///
 /// Conditions: those of `join_at`, for the end and the index of the port.
 pub fn join_port_at<const N: usize>(
@@ -70,9 +70,9 @@ pub fn join_port_at<const N: usize>(
     join_port_in(queues, ends, index, port);
 }
 
-/// The same of chains.
+/// Joins one more end to the end of its chain in the list, which then has all that both had.
 ///
-/// Conditions: the ends are those of the chains, in their order and without a Turn, and the other is one of the chain
+/// Conditions: the ends are those of the chains, in their order and without a Turn. The other end is one of the chain
 /// with this index, without a Turn.
 pub fn join_chain_at(
     chains: &[ProcChain<AnyQuaject>],

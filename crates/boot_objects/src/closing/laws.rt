@@ -1,4 +1,4 @@
-//! What the laws of quajects and of shares tell of the ends that come home.
+//! Consequences of the laws of quajects and of shares for the ends that come home.
 ghost use Rattle.std.specs.Prelude.{◌≡◌, List, length, map};
 ghost use Rattle.std.specs.List.{All};
 ghost use Rattle.boot_objects.specs.Comings.{ShutNothing};
@@ -16,17 +16,17 @@ ghost use Rattle.quajects.specs.Anys.{HasShutNothing};
 ghost use Rattle.quajects.specs.declared.home.Home.{Home};
 ghost use Rattle.quajects.specs.declared.raw.RawTty.{RawTty};
 
-/// No queue was shut by an end that came home from the chains, where the quajects that were given to the chains had
-/// shut none: no note shuts a queue.
+/// If the quajects that were given to the chains had shut no queue, no end that came home from the chains shut a queue.
+/// No note shuts a queue.
 pub fn homes_shut_nothing()
     ensures { (shared : Shared) (parts : Parts) (homes : List Home)
         → HaveRetired shared.chains.items parts.chains.items homes
         → All HasShutNothing (map opening_of shared.chains.items) → All ShutNothing homes }
 {}
 
-/// Where the first owner had all, together with the quajects and the devices, and the last one has the shares that the
-/// first had, and the devices' raw ttys came back with theirs and were joined, these parts have the whole of each
-/// object, together with the quajects: so all can be closed.
+/// Conditions: the first owner had all, together with the quajects and the devices. The last owner has the shares that
+/// the first had. The devices' raw ttys came back with their shares and were joined. Then these parts, together with
+/// the quajects, have the whole of each object: so all can be closed.
 pub fn wholes_come_home()
     ensures { (shared : Shared) (first last parts : Parts) (devices : List Device) (ttys : List RawTty)
         → HaveAll shared first devices → AreDevicesOf shared.plan shared.queues shared.chains.items devices

@@ -1,8 +1,8 @@
-//! Closing what the processors and the devices of a boot shared, when all have stopped and one owner has the ends: the
-//! queues, the chains, the thread elements and the meters.
+//! Closing the objects that the processors and the devices of a boot shared: the queues, the chains, the thread
+//! elements and the meters. All have stopped, and one owner has the ends.
 //!
-//! Nothing here takes memory: the lists of the results come in with room for them. Where the one end of an object has
-//! the whole, so that no other stands, closing it can't be refused.
+//! Nothing here takes memory: the lists of the results come in with room for them. If the one end of an object has the
+//! whole, no other end exists, and closing the object can't be refused.
 mod all;
 mod chains;
 mod homing;

@@ -19,11 +19,11 @@ fn close_queue<const N: usize>(queue: ClaimQueue<N>, end: QueueEnd<N>) -> Closed
     }
 }
 
-/// Closes each queue, and gives what each had at its end, in the order of the queues: how many items were put and
-/// taken, and those left. The answers go into `closed`, which is empty and has room for them, so it takes no memory.
+/// Closes each queue, and returns, in the order of the queues, the number of items put, the number of items taken, and
+/// the items left. The answers go into `closed`, which is empty and has room for them, so it takes no memory.
 ///
 /// Conditions: the ends are those of the queues, in their order, and each has the whole of its queue, so that no other
-/// end stands.
+/// end exists.
 pub fn close_queues<const N: usize>(
     queues: Vec<ClaimQueue<N>>,
     ends: Vec<QueueEnd<N>>,

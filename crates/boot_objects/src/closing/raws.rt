@@ -1,4 +1,4 @@
-//! The ends that devices had go to those of their queues and chains.
+//! The ends that devices had are joined to the ends of their queues and chains.
 ghost use Rattle.std.specs.Prelude.{[], ◌∷◌, length};
 ghost use Rattle.boot_objects.specs.RawEnds.{AreRawsOf, TookRaws};
 ghost use Rattle.processor.specs.RawEnds.{IsRawAt};
@@ -8,7 +8,7 @@ use crate::closing::joining::{join_at, join_chain_at};
 use processor::{Parts, Shared};
 use quajects::RawTty;
 
-// Joins the ends of a raw tty to those of the small queue and of the chain with these indexes.
+// Joins the ends of a raw tty to the ends of the small queue and of the chain with these indexes.
 fn join_raw(shared: &Shared, parts: &mut Parts, raw: usize, chain: usize, tty: RawTty)
     requires parts { ArePartsOf shared.now parts.old }
     requires its { IsRawAt shared.now raw chain tty }
@@ -22,10 +22,11 @@ fn join_raw(shared: &Shared, parts: &mut Parts, raw: usize, chain: usize, tty: R
     join_chain_at(chains, parts.chains.as_mut_slice(), chain, chain_end);
 }
 
-/// Joins the ends of the raw ttys of all ttys, which came back from the devices, to those of their raw queues and
-/// chains in the parts, which then have what all had. Takes no memory.
+/// Joins the ends of all ttys' raw ttys, as devices gave them back, to the ends of their raw queues and chains in the
+/// parts. The ends in the parts then have what all had. It takes no memory.
 ///
-/// Conditions: the parts are those of what is shared, and the raw ttys are those of the plan's ttys, in their order.
+/// Conditions: the parts are those of the shared objects, and the raw ttys are those of the plan's ttys, in their
+/// order.
 pub fn join_raws(shared: &Shared, parts: &mut Parts, ttys: Vec<RawTty>)
     requires parts { ArePartsOf shared.now parts.old }
     requires ttys { AreRawsOf shared.now ttys.items }

@@ -10,10 +10,10 @@ ghost use Rattle.thread_table.specs.Rules.{has};
 use meters::{MeterSeat, Metered, Meters};
 use thread_table::{Hand, Places, ThreadTable};
 
-/// Closes the thread table by its only hand, and tells where each element is, how many steps it has done, and its
-/// signals and stop bit. It takes no memory. Where the hand holds none, none is held.
+/// Closes the thread table by its only hand. Returns the place of each element, the number of its steps done, its
+/// signals and its stop bit. It takes no memory. If the hand holds no element, no element is held.
 ///
-/// Conditions: the hand is one of the table, and has the whole of it, so that no other hand stands.
+/// Conditions: the hand is one of the table, and has the whole of it, so that no other hand exists.
 pub fn close_threads(threads: ThreadTable, hand: Hand) -> Places
     requires hand { IsHandOf threads hand }
     requires whole { IsOnlyHand hand }
@@ -26,9 +26,10 @@ pub fn close_threads(threads: ThreadTable, hand: Hand) -> Places
     }
 }
 
-/// Closes the meters by their only end, and gives the gauges, the clock and the alarms that stand. It takes no memory.
+/// Closes the meters by their only end, and returns the gauges, the clock and the alarms that remain. It takes no
+/// memory.
 ///
-/// Conditions: the seat is one of the meters, and has the whole of them, so that no other seat stands.
+/// Conditions: the seat is one of the meters, and has the whole of them, so that no other seat exists.
 pub fn close_meters(meters: Meters, seat: MeterSeat) -> Metered
     requires seat { seats.IsSeatOf meters seat }
     requires whole { seats.IsOnlySeat seat }

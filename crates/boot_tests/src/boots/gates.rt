@@ -1,4 +1,4 @@
-//! Processors that are held at points of their turns until others are at points of theirs.
+//! Processors that are held at points of their turns until others are at points of their turns.
 
 use super::*;
 use crossbeam_utils::Backoff;
@@ -6,12 +6,12 @@ use crossbeam_utils::atomic::AtomicCell;
 use std::alloc::AllocError;
 use turn_io::{Gate, Point};
 
-/// How often a processor that is held looks whether it may go on.
+/// How often a held processor looks whether it may go on.
 const LOOKS: u32 = 10_000_000;
 
-/// Counts in one cell how often its processor is at one point, and holds it at another until so many are counted in
-/// another cell. It gives up after many looks, and tells that. It counts its turns, where each has the next number and is
-/// its processor's.
+/// Counts in one cell how often its processor is at one point. Holds the processor at another point until another cell
+/// has counted so many. It gives up after many looks, and records that. It counts the turns that have the next number
+/// and are its processor's.
 #[derive(Drop)]
 struct Hold<'a> {
     p: u8,
@@ -24,7 +24,7 @@ struct Hold<'a> {
     given_up: &'a AtomicCell<bool>,
 }
 
-/// Looks until so many are counted, or until it gives up, which it tells.
+/// Looks until so many are counted, and returns true. Returns false if it gives up.
 fn may_go_on(awaited: &AtomicCell<u32>, number: u32) -> bool {
     let backoff = Backoff::new();
     for _ in 0..LOOKS {
@@ -52,7 +52,7 @@ impl Gate for Hold<'_> {
     }
 }
 
-/// Whether these are the gates of so many processors, from 0 on, and each was told of so many turns.
+/// Whether these are the gates of so many processors, from 0 on, and each counted so many turns.
 fn were_told(gates: &[Hold<'_>], processors: u8, turns: u32) -> bool {
     let mut p = 0u8;
     for gate in gates {
@@ -64,8 +64,8 @@ fn were_told(gates: &[Hold<'_>], processors: u8, turns: u32) -> bool {
     p == processors
 }
 
-/// Boots a script with a gate for each processor, and gives the answer and what is printed. Where the boot answers Ok the
-/// gates come back, each told of its turns.
+/// Boots a script with a gate for each processor, and returns the answer and the output. If the boot returns `Ok`, the
+/// gates come back, each with its turns counted.
 fn boot_held<R: Threads + Wait + Sync + Abort>(
     rt: &R,
     alloc: Global,
@@ -89,8 +89,8 @@ fn boot_held<R: Threads + Wait + Sync + Abort>(
     }
 }
 
-/// The gates of two processors, of which the second is held until the first is at one point, and the first is held there
-/// until the second is at another.
+/// The gates of two processors. The second is held until the first is at the first point. The first is held there until
+/// the second is at the other point.
 fn pair<'a>(
     alloc: Global,
     points: (Point, Point),
@@ -122,7 +122,8 @@ fn pair<'a>(
     Ok(gates)
 }
 
-/// Boots a script on two processors that are held so. Gives whether all threads have ended, and what is printed.
+/// Boots a script on two processors that are held at these points. Returns whether all threads have ended, and the
+/// output.
 fn boot_pair<R: Threads + Wait + Sync + Abort>(
     rt: &R,
     alloc: Global,
@@ -142,8 +143,8 @@ fn boot_pair<R: Threads + Wait + Sync + Abort>(
     (answer == Ok(Ended::AllEnded), printed)
 }
 
-/// Asserts what is printed, where all threads have ended. Boots again, at most twice, where they have not, since a
-/// schedule may leave one behind.
+/// Asserts the output if all threads have ended. If they have not, boots again, at most twice, since a schedule may
+/// leave a thread live.
 fn assert_pair<R: Threads + Wait + Sync + Abort>(
     rt: &R,
     alloc: Global,
@@ -162,7 +163,8 @@ fn assert_pair<R: Threads + Wait + Sync + Abort>(
     panic!(rt; "threads are left")
 }
 
-/// One processor says while the other hears: a line is claimed, a take of it is answered, and then the line is raised.
+/// One processor says while the other hears: a line is claimed, a take of the line is answered, and then the line is
+/// raised.
 #[test]
 fn two_processors_meet_in_a_queue(rt: HostRuntime) {
     assert_pair(
@@ -175,7 +177,7 @@ fn two_processors_meet_in_a_queue(rt: HostRuntime) {
     );
 }
 
-/// The points of a step are told within it: what one processor has claimed, and not raised, the other doesn't hear.
+/// The points of a step are reported within it: the other processor doesn't hear what one has claimed and not raised.
 #[test]
 fn a_line_that_is_claimed_is_not_heard(rt: HostRuntime) {
     let script = "synthesis 1\nqueue q\nthread a\nsay q x\nthread b\nhear q\n";
@@ -186,7 +188,7 @@ fn a_line_that_is_claimed_is_not_heard(rt: HostRuntime) {
     assert!(rt; printed.as_slice() == wanted.as_slice());
 }
 
-/// A processor that stands still at any point for a thousand turns of the other changes nothing of what is done.
+/// A processor that stops at any point for a thousand turns of the other doesn't change the output.
 #[test]
 fn a_processor_stands_still(rt: HostRuntime) {
     let points = [
@@ -255,7 +257,7 @@ fn all_processors_meet(rt: HostRuntime) {
     }
 }
 
-/// So it is where the streams are handed over.
+/// Each processor has a thread of its own if the streams are handed over.
 #[test]
 fn processors_meet_by_streams_that_are_handed_over(rt: HostRuntime) {
     let given_up = AtomicCell::new(false);

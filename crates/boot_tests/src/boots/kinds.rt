@@ -1,9 +1,9 @@
-//! The report of a boot that has a thing of each kind, and a thread in each place in which one can be left.
+//! The report of a boot that has a thing of each kind, and a thread left in each possible place.
 
 use super::*;
 
-/// The steps of v stand last, since they name y, which is stopped before its first turn. The thread x hears before v does,
-/// and w is left waiting. Of the alarms three fire and are shown, one fires while its thread waits, and one is left.
+/// The steps of v are last, since they name y, which is stopped before its first turn. The thread x hears before v
+/// does, and w is left waiting. Three alarms fire and are shown, one fires while its thread waits, and one is left.
 const SCRIPT: &str = "synthesis 3
 queue a
 pipe b 0 1
@@ -46,7 +46,7 @@ alarm 19 w 4
 alarm 50 x 6
 ";
 
-/// What is printed of it behind 20 turns.
+/// The output after 20 turns.
 const PRINTED: &str = "queue a put 11 taken 11 left 0
 pipe b put 9 taken 7 left 2
 tty t typed 0 overrun 0 notes 0 held 0
@@ -67,7 +67,7 @@ heard x 5 xy\\0A
 chained 0
 ";
 
-/// Each number stands at its place, and what was heard in its order.
+/// Each number is at its place, and the lines heard are in their order.
 #[test]
 fn each_kind_is_reported(rt: HostRuntime) {
     assert_boot(&rt, rt.alloc(), SCRIPT, 20, unfinished(3, PRINTED));

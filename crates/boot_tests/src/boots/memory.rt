@@ -1,4 +1,4 @@
-//! A boot where memory is refused.
+//! A boot with a refused allocation.
 
 use super::*;
 use arrayvec::ArrayVec;
@@ -9,7 +9,7 @@ const SCRIPT: &[u8] =
 const REPORT: &[u8] = b"queue in put 3 taken 3 left 0\nqueue out put 3 taken 3 left 0\n\
     pump p notes 1 taken 3 put 3 held 0\nthread a ended 3\nheard a 2 hi\\0A\nchained 0\n";
 
-/// Boots once, and says whether there was memory. Where there was none, nothing is printed.
+/// Boots once, and returns whether there was memory. If there was none, nothing is printed.
 fn boots<R: Threads + Wait + Sync + Abort>(rt: &R, alloc: Global) -> bool {
     let mut reader = SCRIPT;
     let mut output: ArrayVec<u8, 256> = ArrayVec::new();
@@ -27,7 +27,8 @@ fn boots<R: Threads + Wait + Sync + Abort>(rt: &R, alloc: Global) -> bool {
     }
 }
 
-/// Where an allocation of one boot is refused, it has no memory, or goes on without; the other goes on.
+/// If an allocation of one boot is refused, the boot is out of memory, or goes on without the allocation; the other
+/// boot goes on.
 #[test]
 fn memory_may_be_wanting(rt: HostRuntime) {
     let first = boots(&rt, rt.alloc());

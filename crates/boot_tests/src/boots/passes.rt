@@ -3,7 +3,7 @@
 use super::*;
 use std::test::Fail;
 
-/// Asserts how a thread ends that has so many passes and so many turns.
+/// Asserts the outcome of a thread that has so many passes and so many turns.
 fn assert_passes<R: Threads + Wait + Sync + Abort>(
     rt: &R,
     alloc: Global,

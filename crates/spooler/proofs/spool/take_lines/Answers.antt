@@ -50,7 +50,7 @@ loop-preserved-else-is_ok g c = let i = c.loop.invariant in let t = c.in-Ok.ensu
   taken = λ k. absurd (never (sym c.if-is_ok.false ∙ k));
 }
 
--- what is kept of the lines, where all found memory
+-- the lines that are kept, if there was memory for all
 kept_lines : (kept : Bool) (lines : Vec Line) (result : Option (Vec Line)) (P : Vec Line → Type 0) → result ≡ then_some kept lines → (kept ≡ true → P lines) → IfSome result P
 kept_lines true lines result P is h = subst (λ (z : Option (Vec Line)). IfSome z P) (sym is) (h refl)
 kept_lines false lines result P is h = subst (λ (z : Option (Vec Line)). IfSome z P) (sym is) tt

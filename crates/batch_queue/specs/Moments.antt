@@ -1,28 +1,9 @@
--- How the queue was at a moment of a call. A call that led from one view to another has a moment for each of the steps
--- that the end made meanwhile.
-use Rattle.std.specs.Prelude.{◌≡◌, ◌≢◌, ◌<◌, ◌≤◌, ℕ, List, ◌∷◌, ◌++◌, length}
-use Rattle.table_theory.specs.Ledgers.{Step, Adds}
+-- How the queue was at a moment of a call.
+use Rattle.std.specs.Prelude.{◌≢◌, ◌<◌, ◌≤◌, ℕ, length}
+pub use Rattle.table_theory.specs.Moments.{AtSomeMoment, AtTwoMoments}
 use Rattle.batch_queue.specs.declared.rule.BatchState.{BatchState}
 use Rattle.batch_queue.specs.Object.{items_of, mark_of, phase_at}
 use Rattle.batch_queue.specs.Own.{View}
-
--- the queue was so at a moment of the call
-pub record WasSo (v w : View) (Holds : BatchState → Type 0) : Type 0 where
-  pub before : List (Step BatchState)
-  pub step : Step BatchState
-  pub after : List (Step BatchState)
-  pub adds : Adds v (before ++ step ∷ after) w
-  pub holds : Holds step.then.object
-
--- the queue was so at a moment of the call, and later at another
-pub record Changed (v w : View) (Holds : BatchState → BatchState → Type 0) : Type 0 where
-  pub before : List (Step BatchState)
-  pub first : Step BatchState
-  pub between : List (Step BatchState)
-  pub second : Step BatchState
-  pub after : List (Step BatchState)
-  pub adds : Adds v (before ++ first ∷ (between ++ second ∷ after)) w
-  pub holds : Holds first.then.object second.then.object
 
 -- how many items were claimed
 abbrev pub claimed : BatchState → ℕ
@@ -34,4 +15,4 @@ IsGivenBackTo o free = ((i : ℕ) → i < free → 3 ≤ phase_at o i) × (phase
 
 -- the mark of a place was one number at a moment of the call, and another later
 abbrev pub MarkChanged : View → View → Type 0
-MarkChanged v w = (p : ℕ) × Changed v w (λ o later. mark_of o p ≢ mark_of later p)
+MarkChanged v w = (p : ℕ) × AtTwoMoments v w (λ o later. mark_of o p ≢ mark_of later p)

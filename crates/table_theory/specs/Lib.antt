@@ -7,6 +7,7 @@ pub mod Interleaving
 pub mod Ledgers
 pub mod Lines
 pub mod Listing
+pub mod Moments
 pub mod Orders
 pub mod Plays
 pub mod Positioned

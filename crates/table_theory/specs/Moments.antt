@@ -1,0 +1,39 @@
+-- What a call did, and how its object was meanwhile, for the call's caller. A call that led an end from one view to
+-- another has a moment for each of the steps that the end made.
+use Rattle.std.specs.Prelude.{◌≡◌, ◌⊎◌, List, [], ◌∷◌, ◌++◌}
+use Rattle.table_theory.specs.declared.views.Ledger.{Ledger}
+use Rattle.table_theory.specs.Ledgers.{Step, Adds}
+
+-- the object was so at a moment of the call
+pub record AtSomeMoment {K O : Type 0} (v w : Ledger K O) (Holds : O → Type 0) : Type 0 where
+  pub before : List (Step O)
+  pub step : Step O
+  pub after : List (Step O)
+  pub adds : Adds v (before ++ step ∷ after) w
+  pub holds : Holds step.then.object
+
+-- at a moment of the call and at a later one the objects were so
+pub record AtTwoMoments {K O : Type 0} (v w : Ledger K O) (Holds : O → O → Type 0) : Type 0 where
+  pub before : List (Step O)
+  pub first : Step O
+  pub between : List (Step O)
+  pub second : Step O
+  pub after : List (Step O)
+  pub adds : Adds v (before ++ first ∷ (between ++ second ∷ after)) w
+  pub holds : Holds first.then.object second.then.object
+
+-- Each step is the next of these events, or one that no event shows. `Makes` says what an event makes of an object, and
+-- `IsHidden` which changes are no event
+abbrev pub AreEvents : {E O : Type 0} → (E → O → O → Type 0) → (O → O → Type 0) → List (Step O) → List E → Type 0
+AreEvents Makes IsHidden [] events = events ≡ []
+AreEvents {E} Makes IsHidden (step ∷ steps) events =
+    (IsHidden step.then.object step.next.object × AreEvents Makes IsHidden steps events)
+    ⊎ ((event : E) × (rest : List E) × (events ≡ event ∷ rest) × Makes event step.then.object step.next.object
+    × AreEvents Makes IsHidden steps rest)
+
+-- the end made just these events, in this order, each at one step of the call
+pub record Does {K E O : Type 0} (Makes : E → O → O → Type 0) (IsHidden : O → O → Type 0) (v : Ledger K O)
+    (events : List E) (w : Ledger K O) : Type 0 where
+  pub steps : List (Step O)
+  pub adds : Adds v steps w
+  pub are : AreEvents Makes IsHidden steps events

@@ -26,7 +26,7 @@ get_behind : (xs ys : List ℕ) (i : ℕ) → get_or (xs ++ ys) (length xs + i) 
 get_behind [] ys i = ap (λ (z : ℕ). get_or ys z 0) (let n : 0 + i ≡ i = omega arith in n)
 get_behind (x ∷ xs) ys i = ap (λ (z : ℕ). get_or (x ∷ (xs ++ ys)) z 0) (let n : suc (length xs) + i ≡ suc (length xs + i) = omega arith in n) ∙ get_behind xs ys i
 
--- the items of a claim that the end has seen stand in the queue as it is
+-- the items of a claim that the end has seen are in the queue as it is
 pub claim_stands : (o now : BatchState) (start : ℕ) (claim before rest : List ℕ) → Grows o now → length before ≡ start → items_of o ≡ before ++ (claim ++ rest) → (i : ℕ) → i < length claim → get_or claim i 0 ≡ get_or (items_of now) (start + i) 0
 claim_stands o now start claim before rest g at is i h =
     let all : items_of now ≡ before ++ (claim ++ (rest ++ concat g.more.0)) = ap concat (sym g.more.1) ∙ (concat-append o.batches g.more.0 ∙ (ap (λ (z : List ℕ). z ++ concat g.more.0) is ∙ (append_assoc before (claim ++ rest) (concat g.more.0) ∙ ap (λ (z : List ℕ). before ++ z) (append_assoc claim rest (concat g.more.0))))) in

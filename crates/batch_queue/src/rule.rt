@@ -1,10 +1,10 @@
-//! The rule of the table. Its types are for the proofs alone: no program makes a value of them but the queue itself.
+//! The rule of the table. Its types are for the proofs alone: no program except the queue makes a value of them.
 use atomic_table::TableRule;
 use std::collections::LinkedList;
 use table_theory::queues::Batch;
 use table_theory::views::Ledger;
 
-/// What the rule is given when the table is made.
+/// The parameters of the rule, given when the table is made.
 #[derive(Drop)]
 pub struct Shape {
     pub room: u64,
@@ -17,8 +17,8 @@ pub struct HeldSlots {
     pub count: u64,
 }
 
-/// What an end did: its runs, each claimed or published, what it took, how often it shut the queue where it was open,
-/// how often it parted a batch, and which slots it holds. Proofs alone speak of it.
+/// The record of what an end did: its runs, each claimed or published, its takings, how often it shut the queue when
+/// the queue was open, how often it parted a batch, and which slots it holds. Only proofs use it.
 pub struct EndRecord {
     pub runs: LinkedList<Batch>,
     pub takes: LinkedList<Batch>,
@@ -43,7 +43,7 @@ pub struct BatchState {
     pub marks: LinkedList<u64>,
 }
 
-/// What an end knows: what it did, its steps, and all ends' steps up to its own last one.
+/// The view of an end: what it did, its steps, and all ends' steps up to its own last step.
 pub type View = Ledger<EndRecord, BatchState>;
 
 pub struct BatchRule;

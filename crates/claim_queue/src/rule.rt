@@ -11,15 +11,15 @@ pub struct Shape {
     pub room: u64,
 }
 
-/// What an end did: its runs, each as far as it was raised, its takings, and how often it shut the queue when the queue
-/// was open. Only proofs use it.
+/// The record of what an end did: its runs, each as far as it was raised, its takings, and how often it shut the queue
+/// when the queue was open. Only proofs use it.
 pub struct Did {
     pub runs: LinkedList<Batch>,
     pub takes: LinkedList<Batch>,
     pub shuts: u64,
 }
 
-/// What an end knows: what it did, its steps, and all ends' steps up to its own last step.
+/// The view of an end: what it did, its steps, and all ends' steps up to its own last step.
 pub type View = Ledger<Did, Positions>;
 
 pub struct ClaimRule;

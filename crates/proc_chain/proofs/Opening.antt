@@ -1,4 +1,4 @@
--- What is known of a new end, of the two ends of a split, and of an end that took in another.
+-- The views of a new end, of the two ends of a split, and of an end that took in another.
 use Rattle.proc_chain.proofs.Common.{◌≡◌, ℕ, ◌+◌, ◌-◌, ◌<◌, Bool, true, false, ◌||◌, ◌&&◌, true≢false, zero, suc, List, [], ◌∷◌, ◌++◌, length, set, sym, refl, ap, ◌∙◌, subst, arith, props, ∥∥₁_elim, some, some-ne-none, get_elem?, set_here, at_last, Batch, Part, rest_of, newborn, both, AllRaised, head_of, at_below, reaches_one, Did, ends_word, View, nothing_did, did_both, of_chains, queue_of, view_from, IsTold, Rests, Meets, KeepsTaken, GatedQueue, IsLawful, AreShown, notes_of}
 use Rattle.table_theory.specs.Ledgers.{IsHonest, CountedUp, CountedDown}
 use Rattle.table_theory.specs.Ledgers as ends

@@ -14,7 +14,8 @@ View = Ledger Did GatedQueue
 abbrev pub nothing_did : Did
 nothing_did = record { runs = []; takes = []; runner = false; taken = 0; owes = false; saw = false; doubled = false }
 
--- the records of two ends together: the turn, the count and the notify owed are those of the first end
+-- the records of two ends together: the runs and takings of both, `doubled` if either was or both had the turn, and the
+-- rest of the first end
 abbrev pub did_both : Did → Did → Did
 did_both d e = record {
   runs = d.runs ++ e.runs;

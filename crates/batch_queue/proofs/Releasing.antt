@@ -1,4 +1,4 @@
--- A store of a mark gives home all slots that the end holds: where it publishes them, and where it gives them back.
+-- A store of a mark gives back to the table all slots that the end holds: it publishes them, or it gives places back.
 use Rattle.batch_queue.proofs.Common.{Allows, Batch, BatchState, Becomes, EndRecord, FIRST_MARK, Grows, HasRun, HeldSlots, Holds, HomeShows, IsBatch, IsEdge, IsParted, IsRest, IsUsed, Lawful, List, MarkSays, Option, OwnShows, Positions, Rule, Shape, Stepped, View, ViewsShow, WordsShow, [], ap, append_assoc, arith, at_map, at_set, blank, by_mark, change, concat, concat-append, dec_lt, dite, free_word, get_elem?, get_or, get_or-set_other, get_or-set_same, give_all, head_word, homes_after, inl, inr, items_of, length, length-set, listed_look, map, mark_word, mod-lt, no_slots, none, part_of, phase_at, positions_of, raised_run, refl, releases, set, slots_of, some, step, subst, suc, sym, tail_word, times_shut, unused_kept, was_given, was_published, with_back, with_mark, with_phase, with_published, with_up, released, mark_of, written_to, zero, ℕ, ℕ_discrete, ⊎_elim, ◌%◌, ◌*◌, ◌++◌, ◌+◌, ◌-◌, ◌/◌, ◌<◌, ◌∙◌, ◌∷◌, ◌≡◌, ◌≤◌, ◌⊎◌}
 use Rattle.table_theory.proofs.Tables as tables
 use Rattle.table_theory.proofs.Positioned as positioned

@@ -1,4 +1,4 @@
--- What a walk along the marks finds.
+-- The result of a walk along the marks.
 use Rattle.batch_queue.proofs.Common.{IsStop, IsRest, ◌⊎◌, BatchState, Found, Grows, IsEdge, IsReal, IsRuled, IsSame, IsSeated, Lawful, List, Made, MarkSays, Moment, Stays, Step, View, WordsShow, [], add-mod_right, ap, append-nil, arith, concat, dec_le, dec_lt, dite, get_or, inl, inr, items_of, length, load, mark_word, of_batches, phase_at, refl, subst, suc, sym, zero, ℕ, ⊎_elim, ◌%◌, ◌++◌, ◌+◌, ◌/◌, ◌<◌, ◌∙◌, ◌∷◌, ◌≡◌, ◌≤◌}
 use Rattle.atomic_table.specs.Seated.{TableId}
 use Rattle.atomic_table.specs.declared.shared.Seat.{Seat}

@@ -30,7 +30,7 @@ PutLine line v w = lines.PutLine lines_put lines_taken line v w × (times_parted
 abbrev pub TookLine : List ℕ → View → View → Type 0
 TookLine line v w = lines.TookLine lines_put lines_taken line v w × (times_parted w ≡ times_parted v)
 
--- `ordered` has these lines, each once, in an order that keeps the order of `lines`
+-- `ordered` has these lines, each once, in some order
 pub record AreInOrder (ordered lines : List (List ℕ)) : Type 0 where
   pub log : List (Owned (List ℕ))
   pub once : ListedOnce log (lines ∷ [])

@@ -74,9 +74,9 @@ pub record AreGroups (batches takings : List (List ℕ)) : Type 0 where
   pub all : flat_map (λ group. group) groups ++ left ≡ batches
   pub each : map concat groups ≡ takings
 
--- A lawful queue: at most one claimed position of the window for each place. At the tail, and at the end of each
--- taking, a batch ends or was parted; if none was parted, each taking is of whole batches. The takings are the first
--- items. At the beginning of the window a taking ends
+-- A lawful queue: from the beginning of the window on, no more positions are claimed than there are places. At the
+-- tail, and at the end of each taking, a batch ends or was parted; if none was parted, each taking is of whole batches.
+-- The takings are the first items. At the beginning of the window a taking ends
 pub record Lawful (o : BatchState) : Type 0 where
   pub some_room : 0 < o.room
   pub long : length o.phases ≡ length (items_of o)

@@ -63,7 +63,7 @@ fn claim(
         (min (length items.now) room) least r) }
 {
     let most = items.len().min(room);
-    // One load suffices for Closed and Spent: a shut queue stays shut, and the head never falls.
+    // linearization point of Closed and Spent. One load suffices: a shut queue stays shut, and the head never falls.
     let head = load_head(words, seat);
     if head >= SHUT {
         return Err(PutRefusal::Closed);

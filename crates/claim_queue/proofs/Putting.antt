@@ -1,4 +1,4 @@
--- A put that is tried again, and what is raised by one that wins.
+-- A put that is retried, and the items raised by a put that succeeds.
 use Rattle.claim_queue.proofs.Common.{◌≡◌, ℕ, suc, ◌+◌, ◌<◌, List, [], ◌∷◌, ◌++◌, length, get_or, set, take, refl, sym, ap, subst, ◌∙◌, arith, true, false, Result, Ok, Err, some, get_elem?, Batch, Positions, Step, Made, Distinct, number_of, at_last, made_none, made_then, Did, ClaimRefusal, NoItems, TooLong, Closed, Spent, Full, Lost, IsPast, RefusedBy, Refused, ClaimedItems, run_of, Owns, View, run, with_run, with_changed, Looks, Raised, RaisedFrom, IsPut, Try, tried, PutAnswer, length-take-le, set_again}
 use Rattle.std.proofs.Common.{true≢false}
 use Rattle.std.specs.Prelude.{MatchResult}

@@ -173,7 +173,8 @@ impl<const N: usize> ClaimQueue<N> {
         if count > N {
             return Err(ClaimRefusal::TooLong);
         }
-        // One load suffices for Closed and Spent: a shut queue stays shut, and the head never falls.
+        // linearization point of Closed, Spent and Full. One load suffices: a shut queue stays shut, and the head never
+        // falls.
         let head = load_head(&self.table.shared, &mut end.seat);
         if head >= SHUT {
             return Err(ClaimRefusal::Closed);

@@ -34,7 +34,7 @@ emptied_slot [] after count k is one below = ap (λ (z : List Bool). get_or z k 
 emptied_slot (x ∷ xs) after count zero is one below = ap (λ (z : List Bool). get_or z 0 false) is
 emptied_slot (x ∷ xs) after count (suc k) is one below = absurd (omega arith)
 
--- all places of a log are raised where those of its entries are
+-- all places of a log are raised if the places of its entries are
 flat_raised : (log : List (Owned Batch)) → ((k : ℕ) (o : Owned Batch) → get_elem? log k ≡ maybe.some o → (i : ℕ) → i < length o.2.places → 2 ≤ (get_or o.2.places i blank).written) → (i : ℕ) → i < length (all_places log) → 2 ≤ (get_or (all_places log) i blank).written
 flat_raised [] h i b = absurd (omega arith)
 flat_raised (o ∷ os) h i b = let n : ℕ = length o.2.places in let long = length-append o.2.places (all_places os) in dite (dec_lt i n)

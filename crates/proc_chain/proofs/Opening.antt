@@ -17,7 +17,7 @@ none_raised m e has = absurd (some-ne-none e (sym has))
 pub of_newcomer : (first : ℕ) (v : View) → v ≡ view_from first → first < 4294967296 → Rests v × IsTold v
 of_newcomer first v is bounded = subst (λ (z : View). Rests z × IsTold z) (sym is) (record { one = refl; raised = none_raised; settled = refl }, first_told first bounded)
 
--- what an end is after it was split, or took in another, where it was v before
+-- the view of an end that was v, after it was split or took in another
 pub record Parted (v w : View) : Type 0 where
   pub rests : Rests w
   pub told : IsTold w

@@ -39,7 +39,7 @@ settled_look q views id v w at owes same s up = owed_on q q views id v w at (s u
 pub gated_look : (q : Positions) (gate : ℕ) (views : List View) (id : ℕ) (v w : View) → GateShows q gate views → get_elem? views id ≡ some v → w.own ≡ v.own → w.seen.object.queue.taken ≡ q.taken → GateShows q gate (set views id w)
 gated_look q gate views id v w g at own sees = gated_same q q gate views id v w g at (λ i. (own i).runner) refl (λ _. sees) (λ _ i. (own i).taken) (λ h. inl ((λ i. (sym own i).saw) ∙ h)) (settled_look q views id v w at (λ i. (own i).owes) (λ i. (own i).runs))
 
--- the views' parts, where one sees the queue as it is
+-- the views' parts, if one view sees the queue as it is
 pub listed_part : (q : Positions) (views : List View) (id : ℕ) (v w : View) → ViewsShow q (map part_of views) → get_elem? views id ≡ some v → w.own.runs ≡ v.own.runs → w.own.takes ≡ v.own.takes → w.seen.object.queue ≡ q → ViewsShow q (map part_of (set views id w))
 listed_part q views id v w l at runs taken sees = subst (ViewsShow q) (sym (map-set part_of views id w)) (listed_look q (map part_of views) id (part_of v) (part_of w) l (at_map part_of views id v at) runs taken (subst (λ (z : Positions). Grows z q) (sym sees) (grows_refl q)))
 

@@ -58,7 +58,7 @@ impl<Q: Quaject> ProcChain<Q> {
         ensures same { IsSameEnd end.old end.new × KeepsTaken (view_of end.old) (view_of end.new) }
     {
         let words = &self.table.shared;
-        // One load suffices for Spent: the head never falls.
+        // linearization point of Spent and Full. One load suffices: the head never falls.
         let head = load(words, &mut end.seat, HEAD);
         if head + 1 >= POSITIONS {
             return Err(ChainRefusal::Spent);

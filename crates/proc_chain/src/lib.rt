@@ -38,7 +38,7 @@
 //!
 //! - Idle: no end runs notes, and the quaject is in the chain.
 //! - Running: one end has the Turn and the quaject, and has seen all notifies.
-//! - More: one end has the Turn, and a note was raised since it last looked.
+//! - More: one end has the Turn, and a notify came since its last round.
 //!
 //! `try_chain` claims a place, raises its note there and swaps the gate to More. The end whose swap found Idle has the
 //! Turn, and must serve it; every other end goes on at once. `serve` swaps the gate to Running and runs the notes that

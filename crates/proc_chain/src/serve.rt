@@ -21,8 +21,8 @@ const MOST_RUN: u32 = u32::MAX;
 
 /// How a Turn was served, and how many notes were run.
 pub enum Served {
-    /// The gate was found Running at a leave: the notes with a notify were run, and the quaject is in the chain again.
-    /// The Turn is spent.
+    /// The end left: the first place left was not raised, the gate was found Running, and the quaject is in the chain
+    /// again. The Turn is spent. Notes raised after that place are left for a later Turn.
     Done { ran: u32 },
     /// The limit was used up. The Turn is to be served again.
     More { turn: Turn, ran: u32 },
@@ -44,7 +44,8 @@ fn run_next<Q: Quaject>(
 {
     // One load suffices: only the end with the Turn writes the tail.
     let tail = load(words, seat, TAIL);
-    // One load suffices: the note and its mark are one word, which stays until the tail has passed its position.
+    // One load suffices: the note and its mark are one word. If the note is raised after this load, its notify comes
+    // later still, so it makes the leave fail or finds the gate Idle.
     let word = load_place(words, seat, tail);
     if word.mark != tail + 1 {
         return (false, turn);
@@ -70,8 +71,8 @@ fn leave_or_round<Q: Quaject>(
     ensures left { MatchOption result (LeftNow seat.old.me.0 seat.new.me.0)
         (λ turn. RoundNow seat.old.me.0 seat.new.me.0) }
 {
-    // linearization point: the end leaves, if the gate is Running. A notify since the last round made it More, and then
-    // the compare-and-swap fails: no note is forgotten.
+    // linearization point: the end leaves, if the gate is Running. A notify since the last round has set More, and then
+    // the compare-and-swap fails.
     match exchange_gate(words, seat, turn) {
         Some(turn) => {
             // linearization point: a new round begins

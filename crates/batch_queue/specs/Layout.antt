@@ -26,7 +26,7 @@ mark_word room position = position % room + 48
 abbrev pub width : ℕ → ℕ
 width room = room + 48
 
--- a number of places that a queue can have is a power of two
+-- this number of places is a power of two
 abbrev pub IsPowerOfTwo : ℕ → Type 0
 IsPowerOfTwo room = ∥ ((k : ℕ) × (room ≡ 2 ^ k)) ∥₁
 

@@ -6,9 +6,9 @@ use Rattle.batch_queue.specs.Layout.{head_word, tail_word, free_word, mark_word,
 use Rattle.table_theory.specs.Unused.{AreZero}
 use Rattle.batch_queue.specs.Object.{items_of, mark_of, phase_at, IsEdge, IsBatch, IsParted, IsRest, IsStop}
 
--- The meaning of the mark m of a position p of the window. If m is even and its half is past p: a batch begins at p or
--- was parted there, and its positions from p on and before the half are published. If m is odd: the places from p on
--- and before its half are given back. If its half is not past p, the mark says nothing of p
+-- The meaning of the mark m of a position p of the window. Its half h is at most p + room; if h is not past p, m says
+-- nothing of p. If m is even, a batch begins at p or was parted there, ends at h, and is published from p on. If m is
+-- odd, the places from p on and before h are given back, and a taking ends at h
 pub record MarkSays (o : BatchState) (p m : ℕ) : Type 0 where
   pub up : m % 2 ≡ 0 → (i : ℕ) → p ≤ i → i < m / 2 → 1 ≤ phase_at o i
   pub back : m % 2 ≡ 1 → (i : ℕ) → p ≤ i → i < m / 2 → 3 ≤ phase_at o i

@@ -37,7 +37,7 @@ ghost use Rattle.batch_queue.specs.Takings.{RefusedTake};
 
 /// The list of an end is true: each entry that a call adds is a real step. The step found a lawful queue that the words
 /// showed, and the number in its word, and made one event, or none. Real steps lead from the queue that the end had
-/// seen to each of these entries, in their order, and from the last of them to the queue that the end sees then.
+/// seen to each of these entries, in their order. The last of them left the queue that the end sees then.
 pub fn lists_are_true()
     ensures end { (end : BatchEnd) → ∥ IsHonest of_batches (view_of end) ∥₁ }
     ensures entries { (old : View) (new : BatchEnd) (entries : List (Step BatchState))
@@ -115,9 +115,9 @@ pub fn numbers_say()
         → phase_at e.then.object p < 3 }
 {}
 
-/// Each change that an answer lists is the event of the core with that name, for all views that list the queue as the
-/// step found it, if one of them is the end's view. A publication is a raise of each item of the batch, in their order,
-/// at one step. Giving places back, moving the window and parting a batch are no event.
+/// Each change that an answer lists is the event of the core with that name. This holds for all views that list the
+/// queue as the step found it, if one of them is the end's view. A publication is a raise of each item of the batch, in
+/// their order, at one step. Giving places back, moving the window and parting a batch are no event.
 pub fn changes_are_events()
     ensures claimed { (head : ℕ) (items : List ℕ) (m : Moment BatchState) (views : List QueueView) (seat : ℕ)
         (v w : QueueView) → IsReal of_batches (change head_word head m (with_batch m.object items)) → 0 < length items
@@ -212,9 +212,9 @@ pub fn changes_are_events_of_histories()
         → IsEventOf (positions_of m.object) runs (λ c. Ok (shut c)) (positions_of (with_shut m.object)) runs }
 {}
 
-/// No head, tail or free position that a call has found is below one that the end had seen: a number that an entry
-/// found is no less than what the end had seen before the call, no less than what an earlier entry of the call found in
-/// the same word, and no more than what the end sees then.
+/// No head, tail or free position falls. A number that an entry of a call found is no less than what the end had seen
+/// before the call, and no more than what the end sees then. It is no less than the number that an earlier entry of the
+/// call found in the same word.
 pub fn never_below()
     ensures head { (old new : BatchEnd) (before after : List (Step BatchState)) (e : Step BatchState)
         → Adds (view_of old) (before ++ e ∷ after) (view_of new) → e.word ≡ head_word
@@ -257,8 +257,8 @@ pub fn only_ends_are_never_lost()
         → RefusedTakeSome (room_of queue) (view_of old) most (not_taken.Lost tail) (view_of new) → ⊥ }
 {}
 
-/// The numbers of the layout: where the words are, how many words a queue has, how many places it can have, the bound
-/// of its positions, and the mark of a shut queue.
+/// The numbers of the layout: where the words are, and how many words and places a queue can have. The bound of its
+/// positions, and the mark of a shut queue.
 ///
 /// A cache line has 8 words, and a processor fetches lines in pairs. The head, the tail, the free position and the
 /// first mark are 16 words apart, so they are in pairs of their own. Each of them begins a pair if the table's memory

@@ -2,8 +2,8 @@
 //! mark for each place of the queue. The place of a position is the position modulo the number of places, which is a
 //! power of two.
 //!
-//! The head, the tail, the free position and the marks are 16 words apart, so that no two of them are in one cache line
-//! or in a pair of lines that a processor fetches together. The words between them are never used: each stays 0.
+//! The head, the tail, the free position and the marks are 16 words apart. So no two of them are in one cache line, or
+//! in a pair of lines that a processor fetches together. The words between them are never used: each stays 0.
 ghost use Rattle.std.specs.Prelude.{◌≡◌, ◌%◌, ◌<◌, ◌≤◌};
 ghost use Rattle.batch_queue.specs.Layout.{IsPowerOfTwo, mark_word, width};
 ghost use Rattle.batch_queue.specs.declared.layout.TheConstants.{MOST_PLACES};

@@ -72,8 +72,9 @@ fn claim(
     if new >= POSITIONS {
         return Err(PutRefusal::Spent);
     }
-    // Full is exact at the last load of this look: the place of `free` was not given back then, and the head was at
-    // least this one. The free position never falls, so room that is found remains while the head is unchanged.
+    // linearization point of Full: the last load of a mark in this look. The place of `free` was not given back then,
+    // and the head was at least this one. Room that is found remains while the head is unchanged: the free position
+    // never falls.
     let look = look_free(words, seat, room, new);
     let end = new.min(look.free + room as u64);
     if end < head + least as u64 {

@@ -27,10 +27,11 @@ pub struct EndRecord {
     pub held: HeldSlots,
 }
 
-/// A queue: its batches in the order of their claims, its takings in their order, the phase of each position, the
-/// position of the next item that is taken, the position that the window begins at, whether it is shut, the positions
-/// at which batches were parted, so that a taking may end there, and the mark of each place. A position's phase is 0
-/// from its claim on, 1 once it is published, 2 once it is taken, and 3 once its place is given back.
+/// A queue: its batches in the order of their claims, its takings in their order, and the phase of each position. The
+/// position of the next item that is taken, the first position of the window, and whether the queue is shut. The
+/// positions at which batches were parted, so that a taking may end there, and the mark of each place. The phase of a
+/// position is 0 from its claim on, 1 from its publication on, 2 from its taking on, and 3 after its place is given
+/// back.
 pub struct BatchState {
     pub room: u64,
     pub batches: LinkedList<LinkedList<u64>>,

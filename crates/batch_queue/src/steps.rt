@@ -83,8 +83,8 @@ pub(crate) fn exchange_tail(words: &Words, seat: &mut Seat<u64, View>, tail: u64
     words.compare_exchange::<Takes>(seat, TAIL, tail, new)
 }
 
-/// Parts the batch that ends at `end`, at this position, if the mark is still the mark that was found, which says
-/// nothing of the position. Then a taking may end there, and another may begin.
+/// Parts the batch that ends at `end`, at this position, if the mark is still the mark that was found. That mark says
+/// nothing of the position. After the step a taking may end there, and another may begin.
 pub(crate) fn exchange_mark<J: PartPosition>(
     words: &Words,
     seat: &mut Seat<u64, View>,

@@ -1,5 +1,5 @@
-//! Takings: an end follows the marks of published batches from the tail on, takes all of them by one compare-and-swap
-//! of the tail, reads their items, and gives their places back by one store.
+//! Takings: an end follows the marks of published batches from the tail on, and takes all of them by one
+//! compare-and-swap of the tail. Then it reads their items, and gives their places back by one store.
 ghost use Rattle.std.specs.Prelude.{◌≡◌, ◌+◌, ◌<◌, ◌≤◌, ℕ, List, [], length, take, MatchResult, IfErr, IfOk};
 ghost use Rattle.table_theory.specs.Seating.{IsSame};
 ghost use Rattle.batch_queue.specs.Answers.{WhyNotTaken};

@@ -70,7 +70,8 @@ pub(crate) fn walk(
 {
     let mut at = from;
     while at < most {
-        // One load suffices: what a mark shows remains true until the tail, or the free position, has passed `base`.
+        // One load suffices: what a mark shows stays true, as phases only rise. It is the mark of `at`, unless the tail
+        // (or the free position) has passed `base`.
         let mark = load_mark(words, seat, room, at);
         if !leads_on(parity, at, mark) || mark / 2 > most {
             return at;
@@ -159,8 +160,8 @@ fn help(words: &Words, seat: &mut Seat<u64, View>, room: usize, free: u64) -> Fr
     }
 }
 
-/// Loads the free position, and moves it on over places that are given back if there is not enough room for a claim up
-/// to `new`.
+/// Loads the free position. If there is not enough room for a claim up to `new`, moves it on over places that are given
+/// back.
 pub(crate) fn look_free(
     words: &Words,
     seat: &mut Seat<u64, View>,

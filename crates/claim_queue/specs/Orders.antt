@@ -11,8 +11,8 @@ use Rattle.claim_queue.specs.Own.{View}
 abbrev pub ClaimsInOrder : View → Type 0
 ClaimsInOrder v = InOrder v.own.runs
 
--- each taking of the end starts at a later position than the one before it, has a place, and ends at or before the tail
--- that the end saw last
+-- Each taking of the end starts at a later position than the one before it, and has a place. Each ends at or before the
+-- tail that the end saw last
 abbrev pub TakesInOrder : View → Type 0
 TakesInOrder v = InOrder v.own.takes
     × ((m : ℕ) (e : Batch) → get_elem? v.own.takes m ≡ some e → e.start + length e.places ≤ tail_of v.seen.object)

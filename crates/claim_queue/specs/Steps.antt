@@ -28,8 +28,8 @@ abbrev pub IsSeated : ℕ → TableId → Seat Unit View → Type 0
 IsSeated room table seat = (seat.table_id ≡ table) × (1 ≤ seat.me.0.member.ends) × (seat.me.0.first.room ≡ room)
     × (table.words ≡ width room) × (0 < room) × (room ≤ MOST_PLACES)
 
--- the position is not before the first one, less than `room` past the tail that the end has seen, and below 2 *
--- POSITIONS
+-- the position is not before the first one, is before the tail that the end has seen plus `room`, and is below
+-- 2 * POSITIONS
 abbrev pub IsNear : View → ℕ → ℕ → Type 0
 IsNear v room position = (v.seen.object.first ≤ position) × (position < tail_of v.seen.object + room)
     × (position < 2 * POSITIONS)

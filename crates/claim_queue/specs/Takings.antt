@@ -113,7 +113,7 @@ abbrev pub WasDone : (List ℕ → Type 0) → ℕ → View → View → Type 0
 WasDone Few room v w = (s : Stop) × (m : Moment Positions) × IsStop Few s
     × Made v (stopping room s ++ load head_word (SHUT + s.tail) m ∷ []) v.own w
 
--- the refusal of a taking for which lists with Few are too short, and lists with Enough suffice
+-- the refusal of a taking: items with the property Few are too few for the taking, and items with Enough are enough
 abbrev pub RefusedTake : (List ℕ → Type 0) → (List ℕ → Type 0) → ℕ → View → TakeRefusal → View → Type 0
 RefusedTake Few Enough room v (Empty at) w = WasEmpty Few room v at w
 RefusedTake Few Enough room v (Lost tail) w = PassedBefore Few room v tail w ⊎ PassedMeanwhile Enough room v tail w

@@ -27,8 +27,7 @@ pub struct ClaimQueue<const N: usize> {
 /// An end of a queue. It has no bytes.
 ///
 /// Its list is true for its own steps and for the steps of all ends that it has seen. The step of each entry found the
-/// number that its word had then, and found the queue as the step before it left the queue, lawful and shown by the
-/// words.
+/// number that its word had then. It found the queue as the previous step left it, lawful and shown by the words.
 #[derive(Drop)]
 pub struct QueueEnd<const N: usize> {
     pub(crate) seat: Seat<(), View>,

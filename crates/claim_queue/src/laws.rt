@@ -99,8 +99,8 @@ pub fn numbers_say()
         → e.found ≡ item_at e.then.object (position - e.then.object.first) }
 {}
 
-/// Each change that an answer lists is the event of the core with that name, for all views that list the queue as the
-/// step found it, if one of them is the end's view.
+/// Each change that an answer lists is the event of the core with that name. This holds for all views that list the
+/// queue as the step found it, if one of them is the end's view.
 pub fn changes_are_events()
     ensures claimed { (head : ℕ) (items : List ℕ) (m : Moment Positions) (views : List QueueView) (seat : ℕ)
         (v w : QueueView) → IsReal of_queues (change head_word head m (with_claim m.object items)) → 0 < length items
@@ -170,9 +170,9 @@ pub fn changes_are_events_of_histories()
         → IsEventOf m.object runs (λ c. Ok (shut c)) (with_shut m.object) runs }
 {}
 
-/// No head or tail that a call has found is below one that the end had seen: a number that an entry found is no less
-/// than what the end had seen before the call, no less than what an earlier entry of the call found in the same word,
-/// and no more than what the end sees then.
+/// No head and no tail falls. A number that an entry of a call found is no less than what the end had seen before the
+/// call, and no more than what the end sees then. It is no less than the number that an earlier entry of the call found
+/// in the same word.
 pub fn never_below()
     ensures head { (n : ℕ) (old new : QueueEnd n) (before after : List (Step Positions)) (e : Step Positions)
         → Adds (view_of old) (before ++ e ∷ after) (view_of new) → e.word ≡ head_word

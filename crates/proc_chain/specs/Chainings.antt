@@ -45,8 +45,8 @@ pub record AreShown (o : GatedQueue) (views : List View) : Type 0 where
   pub listed : ViewsShow o.queue (map part_of views)
   pub gate : GateShows o.queue o.gate views
 
--- this event makes p of o: o is a lawful chain, shown by the gate and these views, and p is shown by the views in which
--- the end `seat` has the view w
+-- This event makes p of o. The gate and these views show o as a lawful chain. The views show p after the view of the
+-- end `seat` is replaced by w
 pub record IsChainEvent (o p : GatedQueue) (views : List View) (shown : AreShown o views) (seat : ℕ) (w : View)
     (event : Chain → Result Chain Refusal) : Type 0 where
   pub new_shown : ViewsShow p.queue (slice_set (map part_of views) seat (part_of w))

@@ -23,8 +23,8 @@ pub fn between_steps<Q: Quaject>()
         → ShowsChain (makes Q.made_by) (suits Q.fits) key state }
 {}
 
-/// In a state for which the rule holds, the words show the queue and the gate of that chain, and the steps of all ends,
-/// each real, lead to them.
+/// In a state for which the rule holds, the words show the queue and the gate of that chain. The steps of all ends,
+/// each of them real, lead to this queue and gate.
 pub fn ends_between_steps<Q: Quaject>()
     ensures { (key : Shape (Pact Q.World Q)) (state : State Q View)
         → ⟦<ChainRule as TableRule<Q, View, Shape<Pact<Q::World, Q>>>>⟧.holds key state

@@ -33,7 +33,7 @@ pub struct ProcChain<Q: Quaject> {
 /// owes no notify. It has no bytes except the Turn's flag.
 ///
 /// Its list is true for its own steps and for the steps of all ends that it has seen. The step of each entry found the
-/// number that its word had then, and found the queue and the gate as the step before it left them, lawful and shown by
+/// number that its word had then. It found the queue and the gate as the previous step left them, lawful and shown by
 /// the words.
 #[derive(Drop)]
 pub struct ChainEnd<Q: Quaject> {

@@ -34,9 +34,9 @@ ghost use Rattle.proc_chain.specs.Steps.{run};
 
 use crate::quaject::Quaject;
 
-/// The numbers of a chain: where its words are, 8 words apart if different threads write them, how many places it has,
-/// what the numbers of the gate and of a place's word mean, and the greatest number of notes and failed leaves in one
-/// serving of `serve_all`. The words in between are 0.
+/// The numbers of a chain: where its words are, 8 words apart if different threads write them, and how many places it
+/// has. The meaning of the numbers of the gate and of a place's word. The greatest number of notes and failed leaves in
+/// one serving of `serve_all`. The words in between are 0.
 pub fn layout_is()
     ensures words { (head_word ≡ 0) × (ends_word ≡ 1) × (tail_word ≡ 8) × (gate_word ≡ 16) × (width ≡ 56)
         × ((position : ℕ) → place_word position ≡ position % 32 + 24) }
@@ -52,8 +52,8 @@ pub fn layout_is()
 
 /// The list of an end is true: each entry that a call adds is a real step. The step found a lawful queue and a gate
 /// that the words showed, and the number in its word, and made one event, or none. Real steps lead from what the end
-/// had seen to each of these entries, in their order, and from the last of them to what the end sees then. If the end
-/// has the whole share, these entries alone lead there.
+/// had seen to each of these entries, in their order. The last of them left what the end sees then. If the end has the
+/// whole share, these entries alone lead there.
 pub fn lists_are_true<Q: Quaject>()
     ensures end { (end : ChainEnd Q Q.World Q.Quaject) → ∥ IsHonest of_chains (view_of end) ∥₁ }
     ensures entries { (old : View) (new : ChainEnd Q Q.World Q.Quaject) (entries : List (Step GatedQueue))
@@ -73,8 +73,8 @@ pub fn lists_are_true<Q: Quaject>()
 {}
 
 /// No head and no tail falls. A number that an end finds there is not below what the end had seen, nor below a number
-/// that it found earlier, and what the end sees then is not below that number. After a join, what the end sees is not
-/// below what either end had seen.
+/// that it found earlier. What the end sees then is not below that number. After a join, what the end sees is not below
+/// what either end had seen.
 pub fn never_below<Q: Quaject>()
     ensures head { (old new : ChainEnd Q Q.World Q.Quaject) (before : List (Step GatedQueue)) (e : Step GatedQueue)
         (after : List (Step GatedQueue)) → Adds (view_of old) (before ++ e ∷ after) (view_of new) → e.word ≡ head_word

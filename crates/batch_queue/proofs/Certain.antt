@@ -1,4 +1,4 @@
--- What is certain where an end's list is true: the proof of it is cut off, and what can be decided needs none.
+-- Facts that are certain if an end's list is true: the proof of that is truncated, and decidable facts need none.
 use Rattle.batch_queue.proofs.Common.{BatchState, Grows, IsHonest, IsRuled, List, Moment, Step, View, ap, of_batches, sym, true, ◌∙◌, ◌≡◌, ◌≤◌}
 use Rattle.std.proofs.Math.Bool.{Bool-set}
 use Rattle.std.proofs.Math.Bridge.{le_prop}

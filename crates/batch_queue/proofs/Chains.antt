@@ -51,7 +51,7 @@ module _ {S : Type 0} where
   values_more room p hs x xs first more zero y e = first ∙ ap (λ (z : S). some (some z)) (some-injective x y e)
   values_more room p hs x xs first more (suc i) y e = subst (λ (z : ℕ). get_elem? hs (z % room) ≡ some (some y)) (sym (shift p i)) (more i y e)
 
-  -- where each of n slots is at home, there are their values
+  -- if each of n slots is at home, their values exist
   pub values_at : (room n p : ℕ) (hs : List (Option S)) → ((i : ℕ) → i < n → (y : S) × (get_elem? hs ((p + i) % room) ≡ some (some y))) → (xs : List S) × (length xs ≡ n) × ((i : ℕ) (y : S) → get_elem? xs i ≡ some y → get_elem? hs ((p + i) % room) ≡ some (some y))
   values_at room zero p hs h = ([], refl, λ i y e. absurd (some-ne-none y (sym e)))
   values_at room (suc n) p hs h =

@@ -1,4 +1,4 @@
--- One exchange of the head claims positions, and takes the slots of all of them.
+-- One compare-and-swap of the head claims positions, and takes the slots of all of them.
 use Rattle.batch_queue.proofs.Common.{Allows, Batch, BatchState, EndRecord, Grows, Holds, HomeShows, IsBatch, IsUsed, Lawful, List, MarkSays, Me, Option, OwnShows, POSITIONS, Positions, Rule, Shape, Stepped, View, ViewsShow, WordsShow, [], ap, append-nil, arith, at_last, at_map, at_snoc, by_head, change, claims, concat, dec_le, dec_lt, dite, either, eqb, false, free_word, fresh, get_elem?, get_or, get_or-set_other, get_or-set_same, head_of, head_word, homes_after, inl, inr, items_of, length, length-append, length-map, length-set, listed_claim, map, mark, mark_word, none, part_of, phase_at, positions_of, refl, run, set, slots_of, some, step, subst, suc, sym, tail_word, take_all, unused_kept, was_claimed, with_batch, with_claim, with_run, zero, ℕ, ⊎_elim, ◌%◌, ◌++◌, ◌+◌, ◌<◌, ◌∙◌, ◌∷◌, ◌≡◌, ◌≢◌, ◌≤◌, ◌⊎◌}
 use Rattle.table_theory.proofs.Tables as tables
 use Rattle.table_theory.proofs.Positioned as positioned

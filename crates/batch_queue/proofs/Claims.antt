@@ -1,4 +1,4 @@
--- What the steps of a claim say together.
+-- The steps of a claim, taken together.
 use Rattle.batch_queue.proofs.Common.{BatchState, Bool, Claimed, EndRecord, Found, List, Made, Me, Moment, POSITIONS, SHUT, Step, View, [], ap, append-nil, arith, change, false, head_word, inl, inr, items_of, length, length-take-le, load, mark, refl, slots_of, subst, sym, take, true, with_batch, with_run, ℕ, ◌++◌, ◌+◌, ◌<◌, ◌∙◌, ◌∷◌, ◌≡◌, ◌≢◌, ◌≤◌, ◌⊎◌}
 use Rattle.std.proofs.Common.{true≢false}
 use Rattle.std.specs.Prelude.{min}

@@ -1,4 +1,4 @@
--- What the look at a mark says at which a batch is parted.
+-- The meaning of the mark of a position at which a batch is parted.
 use Rattle.batch_queue.proofs.Common.{HasStop, POSITIONS, append_assoc, tail_word, BatchState, EndRecord, Found, Grows, IsStop, IsWithin, List, Made, MarkSays, Moment, Parted, Step, View, [], ap, arith, at_last, change, dec_lt, dite, false, get_or, inl, inr, length, load, mark_word, phase_at, refl, subst, sym, true, mark_of, with_part, with_parting, ℕ, ℕ_discrete, ⊎_elim, ◌%◌, ◌++◌, ◌+◌, ◌/◌, ◌<◌, ◌∙◌, ◌∷◌, ◌≡◌, ◌≢◌, ◌≤◌, ◌⊎◌}
 use Rattle.std.specs.Prelude.{Bool, MatchBool, IsTrue}
 use Rattle.std.proofs.Common.{true≢false}
@@ -132,7 +132,7 @@ rest_grows v w tail p e g h = ⊎_elim
     (λ all. inr ((λ i a b. let x = all.0 i a b in let q = g.phases i in omega arith), rest_on v.seen.object.batches w.seen.object.batches g.more.0 p e g.more.1 all.1))
     h
 
--- where the tail was found again, the position is within the batch
+-- if the tail was found again, the position is within the batch
 pub within_now : (v u : View) (tail at end last : ℕ) → Found v tail_word tail u → FoundRest v tail at end → tail ≤ at → at < last → last < end → IsWithin u.seen.object last end
 within_now v u tail at end last f h low less far = let is = (found_tail v u tail f).0 in ⊎_elim
     (λ past. absurd (let l : tail < u.seen.object.taken = past in omega arith))

@@ -127,7 +127,7 @@ joins key id other v w live bare bare' s k at ne has = let one : View = both did
           record { number = h.number; view = h.view; here = set_else (set s.views id one) other h.number spent not_other ∙ (set_else s.views id h.number one not_id ∙ h.here); in_held = h.in_held };
     }
 
--- the first end stands under the rule
+-- the first end is under the rule
 pub new_ruled : (room : ℕ) → 0 < room → IsRuled (newcomer (record { room = room }))
 unfolding opens
 new_ruled room some_room = let zs : List ℕ = replicate (width room) 0 in let slots : List ℕ = replicate room 0 in record {
@@ -139,7 +139,7 @@ new_ruled room some_room = let zs : List ℕ = replicate (width room) 0 in let s
   seen = refl;
 }
 
--- both ends of a split stand under the rule
+-- both ends of a split are under the rule
 module _ (v : View) (two : v.member.ends ≡ 2) (r : IsRuled v) where
   pub rest_ruled : IsRuled (rest_of v)
   unfolding splits

@@ -1,4 +1,4 @@
--- One exchange moves the window on, over places that were found given back.
+-- One compare-and-swap moves the window on, over places that were found given back.
 use Rattle.batch_queue.proofs.Common.{Allows, BatchState, FIRST_MARK, Grows, HasBack, HomeShows, IsEdge, IsUsed, Lawful, MarkSays, Me, Rule, Shape, Stepped, View, WordsShow, add-mod_right, ap, arith, at_map, by_free, change, dec_lt, dite, either, eqb, free_word, frees, get_elem?, get_or, get_or-set_other, get_or-set_same, head_word, keeps, length-set, listed_look, map, mark_word, none, part_of, phase_at, positions_of, refl, set, some, step, subst, sym, tail_word, unused_kept, was_freed, with_freed, ℕ, ⊎_elim, ◌%◌, ◌+◌, ◌-◌, ◌<◌, ◌∙◌, ◌≡◌, ◌≢◌, ◌≤◌}
 use Rattle.table_theory.proofs.Tables as tables
 use Rattle.table_theory.proofs.Positioned as positioned

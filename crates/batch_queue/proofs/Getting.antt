@@ -1,4 +1,4 @@
--- What the steps of a taking say together.
+-- The steps of a taking, taken together.
 use Rattle.batch_queue.proofs.Common.{HasFound, IsStop, IsRest, inl, ⊎_elim, phase_at, ◌⊎◌, BatchState, EndRecord, Found, Grows, IsEdge, List, Made, Me, Step, Took, View, [], ap, append_assoc, arith, change, concat, concat-append, drop, inr, items_of, length, length-append, load, mark_word, refl, slots_of, subst, sym, tail_word, take, with_taken, with_taking, ℕ, ◌++◌, ◌+◌, ◌-◌, ◌/◌, ◌<◌, ◌∙◌, ◌∷◌, ◌≡◌, ◌≢◌, ◌≤◌}
 use Rattle.std.proofs.Math.Seq.{drop-append_seam, take-append_seam}
 use Rattle.std.specs.Prelude.{min}

@@ -57,7 +57,7 @@ solid_more bs b some_item solid p e h = ⊎_elim
 line_long : (e : Batch) → length (line_of e) ≡ length e.places
 line_long e = length-map e.places item_of
 
--- runs side by side, each of which is a batch, are the batches, where their items are
+-- runs side by side, each of which is a batch, are the batches, if they have the same items
 pub lines_are : (bs : Lists) (log : List (Owned Batch)) (before rest : Lists) → before ++ rest ≡ bs → Adjacent (length (concat before)) log → AreSolid bs
     → ((k : ℕ) (o : Owned Batch) → get_elem? log k ≡ some o → (0 < length o.2.places) × IsBatch bs o.2.start (o.2.start + length o.2.places)) → map item_of (all_places log) ≡ concat rest → map line_of (map entry_of log) ≡ rest
 lines_are bs [] before [] all adjacent solid each is = refl

@@ -1,4 +1,4 @@
--- What the numbers that were found say of the queue.
+-- The meaning of the numbers that were found, for the queue.
 use Rattle.batch_queue.proofs.Common.{BatchState, Bool, EndRecord, Found, Freed, Grows, HasBack, IsEdge, IsRuled, List, Made, Lawful, Moment, POSITIONS, Step, Stepped, View, [], ap, arith, at_map, change, dite, false, free_word, inr, items_of, length, load, map, of_batches, part_of, refl, subst, sym, tail_word, true, with_freed, ℕ, ℕ_discrete, ◌++◌, ◌+◌, ◌∷◌, ◌<◌, ◌≤◌, ◌≢◌, ◌∙◌, ◌≡◌}
 use Rattle.table_theory.proofs.Reaching.{passes_some}
 use Rattle.table_theory.proofs.Listing.{distinct}

@@ -1,4 +1,4 @@
--- What an end lists and holds stays so while the queue grows.
+-- The record of an end stays true while the queue grows.
 use Rattle.batch_queue.proofs.Common.{Batch, BatchState, EndRecord, Grows, HeldSlots, Holds, IsBatch, OwnShows, ap, arith, get_elem?, length, no_slots, phase_at, some, ℕ, ◌+◌, ◌∙◌, ◌≡◌}
 use Rattle.batch_queue.proofs.Growing.{items_grow}
 use Rattle.batch_queue.proofs.Whole.{batch_on}

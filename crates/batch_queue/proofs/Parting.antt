@@ -1,4 +1,4 @@
--- One exchange of a mark parts a batch that is published: a taking may end there then.
+-- One compare-and-swap of a mark parts a batch that is published: then a taking may end there.
 use Rattle.batch_queue.proofs.Common.{Allows, BatchState, Becomes, EndRecord, FIRST_MARK, Grows, IsBatch, IsParted, IsRest, IsUsed, IsWithin, Lawful, MarkSays, Me, OwnShows, Rule, Shape, Stepped, View, WordsShow, [], ap, arith, at_last, at_map, at_snoc, by_mark, change, dec_lt, dite, either, eqb, free_word, get_elem?, get_or, get_or-set_other, get_or-set_same, head_word, inr, items_of, keeps, mark_of, length, length-append, length-set, listed_look, map, mark_word, mod-lt, none, one_turn, part_of, parts, phase_at, positions_of, refl, set, some, step, subst, sym, tail_word, unused_kept, was_parted, with_part, with_parting, ℕ, ℕ_discrete, ⊎_elim, ◌%◌, ◌*◌, ◌+◌, ◌/◌, ◌<◌, ◌∙◌, ◌∷◌, ◌≡◌, ◌≢◌, ◌≤◌}
 use Rattle.table_theory.proofs.Tables as tables
 use Rattle.table_theory.proofs.Positioned as positioned

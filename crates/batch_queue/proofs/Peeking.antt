@@ -1,4 +1,4 @@
--- What a look at a queue says: how far items are published from the tail on.
+-- The answer of a look at a queue: how far items are published from the tail on.
 use Rattle.batch_queue.proofs.Common.{BatchState, Bool, Found, List, SHUT, Step, View, [], arith, dec_le, dite, head_word, inl, inr, load, mark_word, refl, subst, sym, tail_word, ℕ, ⊎_elim, ◌%◌, ◌+◌, ◌/◌, ◌<◌, ◌∷◌, ◌≡◌, ◌≤◌}
 use Rattle.std.specs.Prelude.{MatchBool}
 use Rattle.std.proofs.Math.Dec.{leb}

@@ -1,4 +1,4 @@
--- What the steps of a taking of some items say together.
+-- The steps of a taking of some items, taken together.
 use Rattle.batch_queue.proofs.Common.{BatchState, EndRecord, Found, Grows, IsStop, List, Made, Me, Released, Step, Took, View, [], ap, arith, cells, change, drop, inl, inr, items_of, length, length-drop, length-take-le, line_of, load, map, map-append, mark_word, no_slots, positions_of, refl, slots_of, subst, sym, tail_word, take, taking, with_no_slots, with_back, with_taken, with_taking, ℕ, ⊎_elim, ◌++◌, ◌+◌, ◌/◌, ◌-◌, ◌<◌, ◌∙◌, ◌∷◌, ◌≡◌, ◌≢◌, ◌≤◌}
 use Rattle.std.specs.Prelude.{min}
 use Rattle.std.proofs.Math.Seq.{take-append_seam}

@@ -97,7 +97,7 @@ put_line room want start items v w (mark, m, c) = let made = c.added in (
 
 -- THE WHOLE OF THE ITEMS
 
--- where all were wanted, all were claimed
+-- if all items were wanted, all were claimed
 pub whole_claim : (room start n : ℕ) (items : List ℕ) (v : View) (m : Me ℕ View) → length items ≤ n → min (length items) room ≡ length items → HasClaimed room (min (length items) room) v start (take n items) m → HasClaimed room (length items) v start items m
 whole_claim room start n items v m all most h = subst (λ (z : List ℕ). HasClaimed room (length items) v start z m) (take_whole items n all) (subst (λ (z : ℕ). HasClaimed room z v start (take n items) m) most h)
 

@@ -1,4 +1,4 @@
--- A store of a mark gives home all slots that the end holds: where it publishes them, and where it gives them back.
+-- A store of a mark gives back to the table all slots that the end holds: it publishes them, or it gives places back.
 use Rattle.batch_queue.proofs.Common.{Allows, Batch, BatchState, Becomes, EndRecord, FIRST_MARK, Grows, HasRun, HeldSlots, Holds, HomeShows, IsBatch, IsEdge, IsParted, IsRest, IsUsed, Lawful, List, MarkSays, Option, OwnShows, Positions, Rule, Shape, Stepped, View, ViewsShow, WordsShow, [], ap, append_assoc, arith, at_map, at_set, blank, by_mark, change, concat, concat-append, dec_lt, dite, free_word, get_elem?, get_or, get_or-set_other, get_or-set_same, give_all, head_word, homes_after, inl, inr, items_of, length, length-set, listed_look, map, mark_word, mod-lt, no_slots, none, part_of, phase_at, positions_of, raised_run, refl, releases, set, slots_of, some, step, subst, suc, sym, tail_word, times_shut, unused_kept, was_given, was_published, with_back, with_mark, with_phase, with_published, with_up, released, mark_of, written_to, zero, ℕ, ℕ_discrete, ⊎_elim, ◌%◌, ◌*◌, ◌++◌, ◌+◌, ◌-◌, ◌/◌, ◌<◌, ◌∙◌, ◌∷◌, ◌≡◌, ◌≤◌, ◌⊎◌}
 use Rattle.table_theory.proofs.Tables as tables
 use Rattle.table_theory.proofs.Positioned as positioned
@@ -26,7 +26,7 @@ get_behind : (xs ys : List ℕ) (i : ℕ) → get_or (xs ++ ys) (length xs + i) 
 get_behind [] ys i = ap (λ (z : ℕ). get_or ys z 0) (let n : 0 + i ≡ i = omega arith in n)
 get_behind (x ∷ xs) ys i = ap (λ (z : ℕ). get_or (x ∷ (xs ++ ys)) z 0) (let n : suc (length xs) + i ≡ suc (length xs + i) = omega arith in n) ∙ get_behind xs ys i
 
--- the items of a claim that the end has seen stand in the queue as it is
+-- the items of a claim that the end has seen are in the queue as it is
 pub claim_stands : (o now : BatchState) (start : ℕ) (claim before rest : List ℕ) → Grows o now → length before ≡ start → items_of o ≡ before ++ (claim ++ rest) → (i : ℕ) → i < length claim → get_or claim i 0 ≡ get_or (items_of now) (start + i) 0
 claim_stands o now start claim before rest g at is i h =
     let all : items_of now ≡ before ++ (claim ++ (rest ++ concat g.more.0)) = ap concat (sym g.more.1) ∙ (concat-append o.batches g.more.0 ∙ (ap (λ (z : List ℕ). z ++ concat g.more.0) is ∙ (append_assoc before (claim ++ rest) (concat g.more.0) ∙ ap (λ (z : List ℕ). before ++ z) (append_assoc claim rest (concat g.more.0))))) in

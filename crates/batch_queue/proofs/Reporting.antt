@@ -1,4 +1,4 @@
--- What the number of a real step says of the queue.
+-- The meaning of the number that a real step found, for the queue.
 use Rattle.batch_queue.proofs.Common.{IsParted, IsStop, IsRest, AreIn, BatchState, IsBatch, IsEdge, IsReal, MarkSays, POSITIONS, SHUT, Step, arith, dec_lt, dite, free_word, head_word, items_of, length, mark, mark_of, mark_word, of_batches, phase_at, subst, sym, tail_word, taking, ℕ, ⊎_elim, ◌%◌, ◌*◌, ◌+◌, ◌/◌, ◌<◌, ◌∙◌, ◌≡◌, ◌≢◌, ◌≤◌}
 use Rattle.table_theory.proofs.Saying.{at_word}
 use Rattle.batch_queue.proofs.Settling.{low_of}

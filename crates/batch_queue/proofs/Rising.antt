@@ -38,7 +38,7 @@ module _ (v w : View) (x : IsHonest of_batches v) (y : IsHonest of_batches w) wh
   pub frees_in_order : (before between after : List (Step BatchState)) (e f : Step BatchState) → Adds v (before ++ e ∷ (between ++ f ∷ after)) w → e.word ≡ free_word → f.word ≡ free_word → e.found ≤ f.found
   frees_in_order before between after e f a is is' = let r = both_grow before between after e f a in let t = free_says e is r.0 in let t' = free_says f is' r.1 in let g = r.2.freed in omega arith
 
--- what an end has that took in another
+-- the runs and takings of an end that took in another end
 module _ (w : View) (r : IsRuled w) (l m : List Batch) where
   pub runs_apart : w.own.runs ≡ l ++ m → AreApart l m
   runs_apart is = let q : Positions = positions_of r.rule.now.object in let parts : List QueueView = map part_of r.state.views in let k = r.rule.listed.lists in

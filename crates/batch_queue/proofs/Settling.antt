@@ -1,4 +1,4 @@
--- What is read of a closed table.
+-- The items and numbers that are read from a closed table.
 use Rattle.batch_queue.proofs.Common.{parts_of, AreInOrder, AreSolid, Batch, BatchState, Bool, Cell, ClosedNow, EndRecord, HeldSlots, Holds, IsBatch, IsRuled, IsSettled, IsWhole, List, Moment, OwnShows, Owned, POSITIONS, PartsShow, QueueView, Rule, SHUT, Shape, View, ViewsShow, WordsShow, [], ap, arith, at_map, concat, dec_lt, dite, drop, ends_word, entry_of, false, get_elem?, get_or, head_word, inl, item_of, items_of, left_from, left_is, length, line_of, map, mark, no_slots, nothing_did, part_of, phase_at, positions_of, refl, shuts_of, some, some-injective, some-ne-none, subst, suc, sym, tail_word, take, true, zero, ℕ, ℕ_discrete, ◌%◌, ◌+◌, ◌-◌, ◌<◌, ◌∙◌, ◌∷◌, ◌≡◌, ◌≢◌, ◌≤◌}
 use Rattle.std.specs.Prelude.{Some, None}
 use Rattle.std.specs.List.{slice_get}
@@ -73,7 +73,7 @@ sole key s k id w at whole = listed_sole (positions_of k.now.object) (map part_o
 none_held : (d : EndRecord) (i : ℕ) → d.held ≡ no_slots → Holds d.held i → ⊥
 none_held d i e h = let h' : Holds no_slots i = subst (λ (z : HeldSlots). Holds z i) e h in let l = h'.0 in let r = h'.1 in omega arith
 
--- where nobody holds a slot, each item that is left is in the slot of its place
+-- if no end holds a slot, each item that is left is in the slot of its place
 left_home : (key : Shape) (s : St) (k : Rule key s) (id : ℕ) (w : View) → get_elem? s.views id ≡ some w → w.own.held ≡ no_slots → ((i : ℕ) (u : View) → get_elem? s.views i ≡ some u → i ≢ id → u.own ≡ nothing_did)
     → (p : ℕ) → k.now.object.taken ≤ p → p < length (items_of k.now.object) → get_elem? s.homes (p % k.now.object.room) ≡ some (some (get_or (items_of k.now.object) p 0))
 left_home key s k id w at bare idle p from below = let o : BatchState = k.now.object in let a = k.stands.lawful.after p from in let f = freed_taken o k.stands.lawful in let r = k.stands.lawful.within in

@@ -1,4 +1,4 @@
--- An end that has the whole finds where a taking of so many items ends: no other end changes a mark meanwhile.
+-- An end with the whole share always finds the end of a taking of some items: no other end changes a mark meanwhile.
 use Rattle.batch_queue.proofs.Common.{BatchState, EndRecord, IsHonest, IsReal, IsWhole, Lawful, List, Made, MarkSays, Moment, Step, View, [], ap, append_assoc, arith, items_of, length, load, mark_of, mark_word, of_batches, refl, subst, sym, tail_word, with_part, ℕ, ⊎_elim, ◌++◌, ◌+◌, ◌/◌, ◌<◌, ◌∙◌, ◌∷◌, ◌≡◌, ◌≤◌}
 use Rattle.std.specs.List.{AllByRecursion}
 use Rattle.table_theory.specs.Courses.{Continues}

@@ -1,4 +1,4 @@
--- What every step keeps and tells, by the theory of tables.
+-- Every step keeps the rule and reports to its end, by the theory of tables.
 use Rattle.batch_queue.proofs.Common.{parts_of, Act, Allows, Apart, BatchState, Becomes, EndRecord, Grows, Holds, HomeShows, IsHeld, IsHonest, IsReal, IsRuled, IsTable, IsUsed, List, MarkSays, Me, Moment, Option, OwnShows, Rule, Shape, Stands, State, Stays, Step, Stepped, Valid, View, ViewsShow, WordsShow, ap, arith, at_below, at_set, by_ends, carried_after, change, dec_le, dite, empty, ends_word, finds, free_word, get_elem?, get_or, get_or-set_other, head_word, homes_after, inl, inr, items_of, length, length-set, map, map-set, mark_word, none, nothing_did, of_batches, one_turn, part_of, phase_at, positions_of, refl, set, set_else, set_here, shuts, shuts_of, some, some-injective, step, subst, sym, tail_word, times_shut, total_kept, total_set, unused_kept, ℕ, ℕ_discrete, ⊎_elim, ◌%◌, ◌+◌, ◌<◌, ◌∙◌, ◌≡◌, ◌≢◌, ◌≤◌, ◌⊎◌}
 use Rattle.table_theory.proofs.Listing.{look_in}
 use Rattle.table_theory.proofs.Ruling as ruling
@@ -90,7 +90,7 @@ table key = record {
 pub first_room : (key : Shape) (s : St) (k : Rule key s) (id : ℕ) (v : View) → get_elem? s.views id ≡ some v → v.first.room ≡ k.now.object.room
 first_room key s k id v at = ap (λ (z : BatchState). z.room) (k.stands.true_ends.first_is id v at) ∙ sym k.room
 
--- the end stands under the rule that is kept by its step
+-- the end is under the rule that its step keeps
 pub ruled_now : (key : Shape) (words : List ℕ) (homes : List (Option ℕ)) (s : St) (id : ℕ) (v w : View) → get_elem? s.views id ≡ some v → (r : Rule key record { words = words; homes = homes; views = set s.views id w }) × (w.seen ≡ r.now) → IsRuled w
 ruled_now key words homes s id v w at r = ruling.ruled_now Rule now_of key words homes s id v w at r
 
@@ -102,7 +102,7 @@ pub step_real : (v w : View) (e : Step BatchState) (own : EndRecord) → Stepped
 step_real v w e own s = ruling.step_real Rule now_of (λ key s k. k.stands) v w e own s.ruled s.made
 
 module _ (key : Shape) (n id : ℕ) (me : Me ℕ View) (s : St) (k : Rule key s) (at : get_elem? s.views id ≡ some me.0) where
-  -- what a look tells
+  -- the report of a look
   pub found : (i : ℕ) → tables.Behind (table key) n id me s i (get_or s.words i 0) (ends.looked k.stands id me.0 at i) → finds (step n i 0 0 none) me (get_or s.words i 0) (ends.looked k.stands id me.0 at i, me.1)
   found i r = let w : View = ends.looked k.stands id me.0 at i in let ruled = ruled_now key (set s.words i (get_or s.words i 0)) s.homes s id me.0 w at r in
       ((refl, refl, ∣ ruled ∣₁), refl, record { made = ends.made_now k.stands id me.0 at me.0.own i (get_or s.words i 0) k.now; ruled = ruled; grows = k.seen id me.0 at })

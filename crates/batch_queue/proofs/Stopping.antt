@@ -1,4 +1,4 @@
--- Where a taking of so many items ends, by all loads and the parting that led there.
+-- The end of a taking of some items, by all loads and the parting that led there.
 use Rattle.batch_queue.proofs.Common.{BatchState, EndRecord, Found, HasStop, List, Made, Moment, Step, View, [], ap, arith, inl, inr, load, mark_word, append_assoc, refl, subst, sym, tail_word, ℕ, ⊎_elim, ◌++◌, ◌+◌, ◌/◌, ◌<◌, ◌∙◌, ◌∷◌, ◌≡◌, ◌≤◌}
 use Rattle.table_theory.proofs.Parting.{made_on}
 use Rattle.batch_queue.specs.Parts.{FoundRest, FoundStop, LostStop, LostWithin, Reached, StoppedWithin, WhyNoStop, after_walk, all, at_tail, no_more, not_parted, one_more, passed, within, with_parts}

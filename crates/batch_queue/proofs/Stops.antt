@@ -1,4 +1,4 @@
--- Where takings may end: at the ends of batches, and where batches were parted.
+-- Takings may end at the ends of batches, and at positions at which batches were parted.
 use Rattle.batch_queue.proofs.Common.{BatchState, Grows, IsBatch, IsEdge, List, [], ap, append-nil, arith, concat, concat-append, drop, get_elem?, inl, inr, length, refl, some, some-ne-none, subst, sym, take, with_batch, ℕ, ◌++◌, ◌-◌, ◌∙◌, ◌∷◌, ◌≡◌, ◌≤◌, ⊎_elim}
 use Rattle.std.proofs.Math.Seq.{take-add}
 use Rattle.atomic_table.proofs.Lists.{at_longer}

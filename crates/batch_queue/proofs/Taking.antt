@@ -1,4 +1,4 @@
--- One exchange of the tail takes all positions that were found published, and their slots with the items.
+-- One compare-and-swap of the tail takes all positions that were found published, and their slots with the items.
 use Rattle.batch_queue.proofs.Common.{Allows, Batch, BatchState, EndRecord, Grows, HasStop, HomeShows, IsBatch, IsStop, IsUsed, Lawful, List, MarkSays, Me, Option, OwnShows, Positions, Rule, Shape, Stepped, View, ViewsShow, WordsShow, [], ap, append-nil, arith, at_map, at_snoc, by_tail, change, concat, drop, either, eqb, free_word, get_elem?, get_or, get_or-set_other, get_or-set_same, head_word, homes_after, inl, inr, items_of, length, length-drop, length-set, length-take-le, listed_take, map, mark_word, none, part_of, phase_at, positions_of, refl, set, slots_of, some, some-injective, some-ne-none, step, subst, suc, sym, tail_of, tail_word, take, take_all, takes_tail, taking, unused_kept, was_taken, with_take, with_taken, with_taking, zero, ℕ, ⊎_elim, ◌%◌, ◌+◌, ◌-◌, ◌<◌, ◌∙◌, ◌∷◌, ◌≡◌, ◌≢◌, ◌≤◌}
 use Rattle.table_theory.proofs.Tables as tables
 use Rattle.table_theory.proofs.Positioned as positioned

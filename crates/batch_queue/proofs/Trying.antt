@@ -1,4 +1,4 @@
--- Puts and takings that are tried again.
+-- Puts and takings that are retried.
 use Rattle.batch_queue.proofs.Common.{BatchState, List, Made, Step, View, [], ap, append-nil, append_assoc, arith, drop, inl, inr, length, map, refl, subst, sym, take, true, false, ℕ, ◌++◌, ◌∙◌, ◌∷◌, ◌≡◌}
 use Rattle.std.proofs.Common.{true≢false, Result, Ok, Err}
 use Rattle.std.specs.Prelude.{MatchResult, IfErr, IfOk}
@@ -34,7 +34,7 @@ looks_own v u (x ∷ xs) h = h.did
 
 -- PUTS
 
--- the entries of a refused put, of which it says the same wherever they are
+-- the entries of a refused put: the refusal says the same of them in any longer list of entries
 pub refused_at : (Added : List (Step BatchState) → Type 0) (room count : ℕ) (r : PutRefusal) → RefusedPutBy Added room count r → (entries : List (Step BatchState)) × Added entries × ((Behind : List (Step BatchState) → Type 0) → Behind entries → RefusedPutBy Behind room count r)
 refused_at Added room count NoItems (none_there, a) = (_, a, λ Behind b. (none_there, b))
 refused_at Added room count TooLong (long, a) = (_, a, λ Behind b. (long, b))
@@ -208,7 +208,7 @@ pub waited_buffer : (now new : List ℕ) (u w : View) (r : Result ℕ TakeRefusa
 waited_buffer now new u w (Ok n) is h = absurd (true≢false (sym is))
 waited_buffer now new u w (Err e) is h = h.1
 
--- the same, where the buffer is the one that the call began with
+-- the answer of a call whose buffer is still the one that the call began with
 pub take_error_in : (room : ℕ) (old now : List ℕ) (v u w : View) (r : Result ℕ TakeRefusal) → now ≡ old → Waited room (length old) v u → IfErr r (λ e. WhyNotTaken u (length now) e w) → IfErr r (λ e. WhyNotTaken v (length old) e w)
 take_error_in room old now v u w r same t h = take_error room (length old) v u w r t (subst (λ (z : List ℕ). IfErr r (λ e. WhyNotTaken u (length z) e w)) same h)
 

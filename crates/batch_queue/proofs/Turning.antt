@@ -47,12 +47,12 @@ set_front : (got more : List ℕ) (y x : ℕ) → set (got ++ y ∷ more) (lengt
 set_front [] more y x = refl
 set_front (z ∷ got) more y x = ap (λ (l : List ℕ). z ∷ l) (set_front got more y x)
 
--- the first slot that is left stands in front
+-- the first slot that is left is in front
 pub front : (room p : ℕ) (left : List ℕ) (done c : List Slot) (slot : ℕ) → 0 < length left → slot ≡ p % room → c ≡ slots_of room p left ++ done → (old : ℕ) × (c ≡ (slot, old) ∷ rest c)
 front room p [] done c slot h e is = absurd (omega arith)
 front room p (x ∷ xs) done c slot h e is = (x, is ∙ (λ k. (sym e k, x) ∷ rest (sym is k)))
 
--- written and turned, it stands behind the others
+-- after it is written and turned, it comes after the others
 record Turns (room p start : ℕ) (left done : List ℕ) (new : ℕ) (old : ℕ) (c : List Slot) : Type 0 where
   more : List ℕ
   left_is : left ≡ old ∷ more

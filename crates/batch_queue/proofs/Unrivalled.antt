@@ -1,4 +1,4 @@
--- An end that has the whole steps alone: what it found it finds again.
+-- An end with the whole share steps alone: a number that it found, it finds again.
 use Rattle.batch_queue.proofs.Common.{BatchState, Bool, IsHonest, IsReal, IsWhole, List, Made, Moment, SHUT, Step, View, [], ap, append_assoc, arith, free_word, head_word, items_of, length, load, of_batches, refl, subst, sym, tail_word, true, with_freed, ℕ, ⊎_elim, ◌++◌, ◌+◌, ◌/◌, ◌<◌, ◌∙◌, ◌∷◌, ◌≡◌}
 use Rattle.std.proofs.Common.{true≢false}
 use Rattle.std.specs.List.{AllByRecursion}

@@ -1,4 +1,4 @@
--- What a walk along the marks finds.
+-- The result of a walk along the marks.
 use Rattle.batch_queue.proofs.Common.{IsStop, IsRest, ◌⊎◌, BatchState, Found, Grows, IsEdge, IsReal, IsRuled, IsSame, IsSeated, Lawful, List, Made, MarkSays, Moment, Stays, Step, View, WordsShow, [], add-mod_right, ap, append-nil, arith, concat, dec_le, dec_lt, dite, get_or, inl, inr, items_of, length, load, mark_word, of_batches, phase_at, refl, subst, suc, sym, zero, ℕ, ⊎_elim, ◌%◌, ◌++◌, ◌+◌, ◌/◌, ◌<◌, ◌∙◌, ◌∷◌, ◌≡◌, ◌≤◌}
 use Rattle.atomic_table.specs.Seated.{TableId}
 use Rattle.atomic_table.specs.declared.shared.Seat.{Seat}
@@ -35,7 +35,7 @@ found_real v w word r f = step_real v w (load word r w.seen) v.own f
 
 -- THE MARKS
 
--- a mark of a position of the window, or of the position behind it, that leads on says what it says
+-- a mark that leads on, of a position of the window or of the next position after it, says what it says
 pub mark_at : (o : BatchState) (words : List ℕ) (p m : ℕ) → Lawful o → WordsShow o words → o.freed ≤ p → p ≤ length (items_of o) → get_or words (mark_word o.room p) 0 ≡ m → p < m / 2 → MarkSays o p m
 mark_at o words p m l h from to is on = dite (dec_lt p (o.freed + o.room))
     (λ y. subst (MarkSays o p) is (h.marks p from y))

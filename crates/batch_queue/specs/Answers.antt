@@ -1,4 +1,4 @@
--- What a refusal says of the queue, at a moment of the call.
+-- The meaning of a refusal for the queue, at a moment of the call.
 use Rattle.std.specs.Prelude.{◌≡◌, ◌⊎◌, ◌+◌, ◌<◌, ◌≤◌, ℕ, min, true}
 use Rattle.batch_queue.specs.declared.layout.TheConstants.{POSITIONS}
 use Rattle.batch_queue.specs.declared.refusals.PutRefusal.{PutRefusal}
@@ -9,7 +9,7 @@ use Rattle.batch_queue.specs.Moments.{WasSo, Changed, claimed, IsGivenBackTo}
 use Rattle.batch_queue.specs.Object.{phase_at, IsRest, IsStop}
 use Rattle.batch_queue.specs.Own.{View}
 
--- why none of up to `want` items were claimed, and no fewer than `least`
+-- the meaning of a refused claim of at least `least` and at most `want` items
 abbrev pub WhyNotClaimed : View → ℕ → ℕ → ℕ → PutRefusal → View → Type 0
 WhyNotClaimed v room want least not_put.Closed w = WasSo v w (λ o. o.shut ≡ true)
 WhyNotClaimed v room want least not_put.Spent w = WasSo v w (λ o. POSITIONS ≤ claimed o + want)
@@ -19,18 +19,18 @@ WhyNotClaimed v room want least (not_put.Lost head) w =
     Changed v w (λ o later. (claimed o < claimed later) ⊎ (o.freed < later.freed))
 WhyNotClaimed v room want least refusal w = ⊥
 
--- why nothing was put of so many items
+-- the meaning of a refused put of `count` items
 abbrev pub WhyNotPut : View → ℕ → ℕ → PutRefusal → View → Type 0
 WhyNotPut v room count not_put.NoItems w = (count ≡ 0) × (w ≡ v)
 WhyNotPut v room count not_put.TooLong w = (room < count) × (w ≡ v)
 WhyNotPut v room count refusal w = WhyNotClaimed v room count count refusal w
 
--- why not even the first of so many items was put
+-- the meaning of a refused put of as many of `count` items as there is room for: not even one was put
 abbrev pub WhyNotPutSome : View → ℕ → ℕ → PutRefusal → View → Type 0
 WhyNotPutSome v room count not_put.NoItems w = (count ≡ 0) × (w ≡ v)
 WhyNotPutSome v room count refusal w = WhyNotClaimed v room (min count room) 1 refusal w
 
--- why nothing was taken into a buffer of so many items
+-- the meaning of a refused taking into a buffer of `most` items
 abbrev pub WhyNotTaken : View → ℕ → TakeRefusal → View → Type 0
 WhyNotTaken v most (not_taken.Empty at) w = WasSo v w (λ o. (o.taken ≡ at) × (phase_at o at ≡ 0))
     × WasSo v w (λ o. o.shut ≡ true → o.taken < claimed o)

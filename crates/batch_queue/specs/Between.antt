@@ -1,4 +1,4 @@
--- What holds between any two steps: a lawful queue of the core that the words, the slots and the views show.
+-- The state between any two steps: a lawful queue of the core that the words, the slots and the views show.
 use Rattle.std.specs.Prelude.{◌≡◌, ◌⊎◌, ℕ, ◌+◌, ◌*◌, ◌%◌, ◌<◌, ◌≤◌, true, false, if◌then◌else◌, List, map, length, take}
 use Rattle.std.specs.Prelude.{slice_index_or}
 use Rattle.std.specs.List.{slice_get}
@@ -28,8 +28,8 @@ use Rattle.batch_queue.specs.Placed.{positions_of}
 use Rattle.batch_queue.specs.Rules.{shuts_of, parts_of}
 use Rattle.batch_queue.specs.Shown.{WordsShow}
 
--- How the run with the number k is shown, which is e. All its items are raised, or none. If they are, and not taken,
--- its mark has its end, and the slot of each of its places has its item
+-- The state shows the run e, which has the number k. All its items are raised, or none. If they are raised and the tail
+-- has not passed its start, its mark has its end. The slot of each place that is raised and not taken has its item
 pub record RunShows (key : Shape) (s : State ℕ View) (c : Queue) (k : ℕ) (e : Batch) : Type 0 where
   pub whole : ((i : ℕ) → i < length e.places → c.raised k i ≡ true)
       ⊎ ((i : ℕ) → i < length e.places → c.raised k i ≡ false)
@@ -42,14 +42,14 @@ pub record RunShows (key : Shape) (s : State ℕ View) (c : Queue) (k : ℕ) (e 
 pub record IsShown (key : Shape) (s : State ℕ View) (c : Queue) : Type 0 where
   pub runs : List (Owned Batch)
   pub history : c.history ≡ map run_in runs
-  -- each run of a view is one of the history, and each of the history is of one view, at one place of its list
+  -- each run of a view is in the history, and each run of the history is in one view, once
   pub once : ListedOnce runs (map (λ view. view.own.runs) s.views)
-  -- each run begins where the one before it ends: no two overlap, and none lies within another
+  -- each run begins where the previous run ends: no two runs overlap, and no run is within another
   pub side_by_side : Adjacent 0 runs
   pub raised : (run index : ℕ) → c.raised run index ≡ up_in (slice_get runs run) index
   pub each : (k : ℕ) (run : Owned Batch) → get_elem? runs k ≡ some run → RunShows key s c k run.2
   pub takings : List (Owned Batch)
-  -- each taking is in one view, and they take each position below the tail once, with the item that its run gave it
+  -- each taking is in one view, once; the takings have each position below the tail once, with the item of its run
   pub taken_once : ListedOnce takings (map (λ view. view.own.takes) s.views)
   pub taken_in_order : Adjacent 0 takings
   pub taken_items : map item_of (all_places takings) ≡ take c.taken (flat c.history)
@@ -58,14 +58,14 @@ pub record IsShown (key : Shape) (s : State ℕ View) (c : Queue) : Type 0 where
   pub bounded : length (flat c.history) < POSITIONS
   pub head : slice_index_or s.words head_word 0 ≡ length (flat c.history) + mark c.shut
   pub tail : slice_index_or s.words tail_word 0 ≡ c.taken
-  -- the window begins no later than the tail, and has all that is claimed from there on
+  -- the window begins no later than the tail, and has all positions that are claimed from its beginning on
   pub free : slice_index_or s.words free_word 0 ≤ c.taken
   pub within : length (flat c.history) ≤ slice_index_or s.words free_word 0 + key.room
-  -- a word that is neither the head's, the tail's, the free position's, that of the ends nor a mark is 0
+  -- each word is 0 except the head, the tail, the free position, the number of ends, and the marks
   pub unused : AreZero (IsUsed key.room) s.words
 
--- There is a lawful queue that is shown. Its runs are the batches, and its takings are the first items, each in the
--- order of claims. If no end parted a batch, the takings are batches in groups
+-- A lawful queue is shown. Its runs are the batches, and its takings are the first items, each in the order of claims.
+-- If no end parted a batch, each taking is a group of whole batches
 pub record ShowsQueue (key : Shape) (s : State ℕ View) : Type 0 where
   pub now : Moment BatchState
   pub state_lawful : Lawful now.object
@@ -79,14 +79,14 @@ pub record ShowsQueue (key : Shape) (s : State ℕ View) : Type 0 where
   pub words : WordsShow now.object s.words
   -- each end has seen the queue no later than now
   pub seen : (j : ℕ) (v : View) → get_elem? s.views j ≡ some v → Grows v.seen.object now.object
-  -- one end has shut the queue if it is shut, and none if it is open
+  -- if the queue is shut, one end has shut it, once; if the queue is open, no end has
   pub shut_once : total shuts_of s.views ≡ (if queue.shut then 1 else 0)
   pub parted_once : total parts_of s.views ≡ length now.object.parted
-  -- the word has the number of the ends that exist
+  -- the ends word is the number of ends that exist
   pub number : slice_index_or s.words ends_word 0 ≡ now.ends
 
--- The queue is shown. The ends' steps lead to it from the empty queue, each end has seen all of them up to its own last
--- one, and the number of ends is that of the ends that exist
+-- A lawful queue is shown. The ends' steps lead to it from the empty queue, and each end has seen all steps up to its
+-- own last step. The number of ends is the number of ends that exist
 pub record ShowsEnds (key : Shape) (s : State ℕ View) : Type 0 where
   pub shows : ShowsQueue key s
   pub true_ends : AreTrue of_batches nothing_did (empty key) shows.now s.views

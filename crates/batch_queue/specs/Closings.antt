@@ -1,4 +1,4 @@
--- What closing a queue and shutting it answer.
+-- Answers of closing and of shutting a queue.
 use Rattle.std.specs.Prelude.{◌≡◌, ◌+◌, ◌≤◌, ℕ, Bool, List, [], ◌∷◌, length, drop, nat_lt}
 use Rattle.table_theory.specs.declared.views.Moment.{Moment}
 use Rattle.table_theory.specs.Ledgers as ends
@@ -13,15 +13,15 @@ use Rattle.batch_queue.specs.Own.{View, part_of, with_shutting}
 use Rattle.batch_queue.specs.Placed.{positions_of}
 use Rattle.batch_queue.specs.Rules.{times_shut}
 
--- the queue is shut, and was open exactly if the head word that was found had no mark
+-- the queue is shut; the queue was open exactly if the head word that was found had no shut mark
 abbrev pub ShutNow : View → Bool → View → Type 0
 ShutNow v was_open w = (head : ℕ) × (m : Moment BatchState) × (was_open ≡ nat_lt head SHUT)
     × ends.Made v (ends.change head_word head m (with_shut m.object) ∷ []) (with_shutting v.own was_open) w
 
--- The queue is closed, by an end that has the whole and so has seen all of it, and each split was joined. The items put
--- are those taken and then those left, no more than the queue has places. The batches put are the queue's, each once,
--- and the lines taken are its first items in order, each once. If no end parted a batch, they are the first batches in
--- groups: so each batch was taken whole, or is left whole
+-- The queue is closed by an end with the whole share, which has seen all of the queue, and each split was joined. The
+-- items put are those taken and then those left, at most one left for each place. The batches put are the queue's, each
+-- once, and the lines taken are its first items in order, each once. If no end parted a batch, the lines taken are the
+-- first batches in groups: so each batch was taken whole, or is left whole
 pub record ClosedNow (v : View) (put taken : ℕ) (left : List ℕ) : Type 0 where
   pub whole : IsWhole v.member.share
   pub sole : v.seen.ends ≡ 1

@@ -1,23 +1,23 @@
--- What a clause says of a queue and of an end.
+-- Names in the clauses for parts of a queue and of an end.
 use Rattle.std.specs.Prelude.{◌≡◌, ◌≤◌, ℕ}
 use Rattle.table_theory.specs.Sharing.{IsWhole}
 use Rattle.batch_queue.specs.declared.ends.BatchEnd.{BatchEnd}
 use Rattle.batch_queue.specs.declared.ends.BatchQueue.{BatchQueue}
 use Rattle.batch_queue.specs.Own.{View}
 
--- what the end knows
+-- the end's view: all that the end knows
 abbrev pub view_of : BatchEnd → View
 view_of end = end.seat.me.0
 
--- the number of the end, which is the call of its events
+-- the number of the end: the core's events name the end by it, as their call
 abbrev pub call_of : BatchEnd → ℕ
 call_of end = end.seat.id
 
--- how many places the queue has
+-- the number of places of the queue
 abbrev pub room_of : BatchQueue → ℕ
 room_of queue = queue.room
 
--- every other end was joined
+-- the end has the whole share: every other end was joined
 abbrev pub IsOnlyEnd : BatchEnd → Type 0
 IsOnlyEnd end = IsWhole end.seat.me.0.member.share
 
@@ -25,11 +25,11 @@ IsOnlyEnd end = IsWhole end.seat.me.0.member.share
 abbrev pub IsDivisible : BatchEnd → Type 0
 IsDivisible end = 2 ≤ end.seat.me.0.member.share
 
--- it is an end of this queue
+-- the end is an end of this queue
 abbrev pub IsEndOf : BatchQueue → BatchEnd → Type 0
 IsEndOf queue end = end.seat.table_id ≡ queue.table.shared.table_id
 
--- it is the same end of the same queue
+-- both are the same end of the same queue, at two moments
 abbrev pub IsSameEnd : BatchEnd → BatchEnd → Type 0
 IsSameEnd old new = (new.seat.table_id ≡ old.seat.table_id) × (new.seat.id ≡ old.seat.id)
 

@@ -1,4 +1,4 @@
--- What a hint of the number of items says, and what a look at the queue says.
+-- The answers of a hint of the number of items, and of a look at the queue.
 use Rattle.std.specs.Prelude.{◌≡◌, ◌⊎◌, ◌+◌, ◌-◌, ◌%◌, ◌<◌, ◌≤◌, ℕ, List, [], ◌∷◌, ◌++◌, MatchBool}
 use Rattle.table_theory.specs.declared.views.Moment.{Moment}
 use Rattle.table_theory.specs.Ledgers.{Step, load, Made}
@@ -10,7 +10,7 @@ use Rattle.batch_queue.specs.Object.{phase_at}
 use Rattle.batch_queue.specs.Own.{View}
 use Rattle.batch_queue.specs.Walks.{FollowedBy}
 
--- the tail was loaded, and then the head, which is so far past it
+-- the tail was loaded, and then the head: `count` is how far the head is past the tail
 pub record LookedAround (v : View) (count : ℕ) (w : View) : Type 0 where
   pub tail : ℕ
   pub at_tail : Moment BatchState
@@ -19,19 +19,19 @@ pub record LookedAround (v : View) (count : ℕ) (w : View) : Type 0 where
   pub is : count ≡ head % SHUT - tail
   pub made : Made v (load tail_word tail at_tail ∷ load head_word head at_head ∷ []) v.own w
 
--- by what the end has found, all from the tail up to there is published, or the tail has moved on
+-- by what the end has found, all positions from the tail and before `to` are published, or the tail has moved on
 abbrev pub IsUpTo : View → ℕ → ℕ → Type 0
 IsUpTo w tail to = (tail < w.seen.object.taken)
     ⊎ ((i : ℕ) → tail ≤ i → i < to → 1 ≤ phase_at w.seen.object i)
 
--- the tail was loaded, and then marks of published batches were followed from it, as far as they lead within the places
+-- the tail was loaded, and then marks of published batches were followed from it, as far as they lead within `room`
 pub record FoundUp (room tail to : ℕ) (v w : View) : Type 0 where
   pub at_tail : Moment BatchState
   pub loads : List (Step BatchState)
   pub followed : FollowedBy 0 (tail + room) room tail to loads
   pub made : Made v (load tail_word tail at_tail ∷ loads) v.own w
 
--- the same, and then the head was loaded
+-- the tail was loaded, then marks of published batches were followed from it (`FoundUp`), and then the head was loaded
 pub record Looked (room : ℕ) (v : View) (look : QueueLook) (w : View) : Type 0 where
   pub at_tail : Moment BatchState
   pub loads : List (Step BatchState)

@@ -4,7 +4,7 @@ use Rattle.std.specs.Mem.Slots.{slots_items}
 use Rattle.table_theory.specs.Reads.{read_from}
 use Rattle.batch_queue.specs.declared.left.LeftItems.{LeftItems}
 
--- what the slots of the n positions from p on have
+-- the numbers in the slots of the n positions from p on
 abbrev pub left_from : ℕ → List ℕ → ℕ → ℕ → List ℕ
 left_from room slots p n = read_from (λ position. slice_index_or slots (position % room) 0) p n
 

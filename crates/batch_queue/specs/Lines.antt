@@ -1,4 +1,4 @@
--- What an end of a queue put and took, as lines: a line is one batch that was put, or the batches of one taking.
+-- The lines that an end of a queue put and took: a line is one batch that was put, or the items of one taking.
 use Rattle.std.specs.Prelude.{◌≡◌, ℕ, List, [], ◌∷◌, map}
 pub use Rattle.table_theory.specs.Batches.{line_of}
 use Rattle.table_theory.specs.Filing.{Owned, entry_of, ListedOnce}
@@ -18,19 +18,19 @@ lines_taken v = map line_of v.own.takes
 abbrev pub times_parted : View → ℕ
 times_parted v = v.own.parts
 
--- nothing was put and nothing taken, no batch was parted, and the end has the share that it had
+-- the end put no batch, took nothing and parted no batch, and its share is unchanged
 abbrev pub SameLines : View → View → Type 0
 SameLines v w = lines.SameLines lines_put lines_taken v w × (times_parted w ≡ times_parted v)
 
--- one batch more was put, none was parted, and the end has the share that it had
+-- the end put this one batch more, took nothing and parted no batch, and its share is unchanged
 abbrev pub PutLine : List ℕ → View → View → Type 0
 PutLine line v w = lines.PutLine lines_put lines_taken line v w × (times_parted w ≡ times_parted v)
 
--- one line more was taken, no batch was parted, and the end has the share that it had
+-- the end took this one line more, put nothing and parted no batch, and its share is unchanged
 abbrev pub TookLine : List ℕ → View → View → Type 0
 TookLine line v w = lines.TookLine lines_put lines_taken line v w × (times_parted w ≡ times_parted v)
 
--- these lines, each once, in an order
+-- `ordered` has these lines, each once, in some order
 pub record AreInOrder (ordered lines : List (List ℕ)) : Type 0 where
   pub log : List (Owned (List ℕ))
   pub once : ListedOnce log (lines ∷ [])

@@ -1,15 +1,15 @@
--- How the queue was at a moment of a call.
+-- The queue at a moment of a call.
 use Rattle.std.specs.Prelude.{◌≢◌, ◌<◌, ◌≤◌, ℕ, length}
 pub use Rattle.table_theory.specs.Moments.{AtSomeMoment, AtTwoMoments}
 use Rattle.batch_queue.specs.declared.rule.BatchState.{BatchState}
 use Rattle.batch_queue.specs.Object.{items_of, mark_of, phase_at}
 use Rattle.batch_queue.specs.Own.{View}
 
--- how many items were claimed
+-- the number of items that were claimed
 abbrev pub claimed : BatchState → ℕ
 claimed o = length (items_of o)
 
--- the places of all positions before this one are given back, and its own is not
+-- the places of all positions before `free` are given back, and the place of `free` is not
 abbrev pub IsGivenBackTo : BatchState → ℕ → Type 0
 IsGivenBackTo o free = ((i : ℕ) → i < free → 3 ≤ phase_at o i) × (phase_at o free < 3)
 

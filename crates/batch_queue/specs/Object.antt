@@ -1,4 +1,4 @@
--- A queue by its positions: what keeps it lawful, and its events.
+-- A queue by its positions: when it is lawful, and its events.
 use Rattle.std.specs.Prelude.{◌≡◌, ◌⊎◌, ℕ, zero, suc, ◌+◌, ◌<◌, ◌≤◌, List, [], ◌∷◌, ◌++◌, length, replicate}
 use Rattle.std.specs.Prelude.{◌-◌, ◌*◌, ◌%◌, slice_index_or, slice_set, map, take, drop, true, false}
 use Rattle.std.specs.List.{concat, flat_map}
@@ -20,7 +20,7 @@ phase_at o i = slice_index_or o.phases i 0
 abbrev pub mark_of : BatchState → ℕ → ℕ
 mark_of o p = slice_index_or o.marks (p % o.room) 0
 
--- a batch ends at this position, or it is the first
+-- a batch ends at this position, or the position is the first one
 pub record IsEdge (batches : List (List ℕ)) (p : ℕ) : Type 0 where
   pub before : List (List ℕ)
   pub rest : List (List ℕ)
@@ -44,7 +44,7 @@ IsParted o p = (k : ℕ) × (get_elem? o.parted k ≡ some p)
 abbrev pub IsStop : BatchState → ℕ → Type 0
 IsStop o p = IsEdge o.batches p ⊎ IsParted o p
 
--- the positions from p on and before e are a batch, or the rest of one
+-- the positions from p on and before e are a batch, or the rest of a batch, and there is such a position
 pub record IsRest (batches : List (List ℕ)) (p e : ℕ) : Type 0 where
   pub start : ℕ
   pub batch : IsBatch batches start e
@@ -74,9 +74,9 @@ pub record AreGroups (batches takings : List (List ℕ)) : Type 0 where
   pub all : flat_map (λ group. group) groups ++ left ≡ batches
   pub each : map concat groups ≡ takings
 
--- The positions that are claimed and not given back are no more than the places. At the tail a batch ends or was
--- parted, and so at the end of each taking; if none was parted, each taking is of whole batches. The takings are the
--- first items. At the beginning of the window a taking ends
+-- A lawful queue: from the beginning of the window on, no more positions are claimed than there are places. At the
+-- tail, and at the end of each taking, a batch ends or was parted; if none was parted, each taking is of whole batches.
+-- The takings are the first items. At the beginning of the window a taking ends
 pub record Lawful (o : BatchState) : Type 0 where
   pub some_room : 0 < o.room
   pub long : length o.phases ≡ length (items_of o)
@@ -163,7 +163,7 @@ pub data Becomes (o r : BatchState) : Type 0 where
   was_shut : r ≡ with_shut o → Becomes o r
   was_parted : (p e : ℕ) → IsWithin o p e → r ≡ with_part o p e → Becomes o r
 
--- r is o, or o some events later
+-- r is no earlier than o: its batches, takings and parted positions extend those of o, and nothing went back
 pub record Grows (o r : BatchState) : Type 0 where
   pub room : r.room ≡ o.room
   pub more : (rest : List (List ℕ)) × (o.batches ++ rest ≡ r.batches)

@@ -1,5 +1,5 @@
--- What is an end's own: its runs, what it took, how often it shut the queue and parted a batch, and the slots that it
--- holds.
+-- An end's own part of its view: its runs, its takings, how often it shut the queue and parted a batch, and the slots
+-- that it holds.
 use Rattle.std.specs.Prelude.{◌≡◌, ℕ, ◌+◌, ◌<◌, ◌≤◌, List, [], ◌∷◌, ◌++◌, length, slice_set}
 use Rattle.std.specs.Prelude.{slice_index_or, Bool, if◌then◌else◌}
 use mathlib.Core.Option.{some}
@@ -19,11 +19,11 @@ use Rattle.batch_queue.specs.Object.{Lawful, Becomes}
 use Rattle.batch_queue.specs.Placed.{positions_of, raised_run}
 use Rattle.batch_queue.specs.Shown.{WordsShow}
 
--- what an end of a queue knows
+-- the view of an end of a queue: all that the end knows
 abbrev pub View : Type 0
 View = Ledger EndRecord BatchState
 
--- the slots of so many positions from this one on, in this phase
+-- the slots of `count` positions from `start` on, in this phase
 abbrev pub holding : ℕ → ℕ → ℕ → HeldSlots
 holding phase start count = record { phase = phase; start = start; count = count }
 
@@ -34,11 +34,11 @@ no_slots = record { phase = 0; start = 0; count = 0 }
 abbrev pub Holds : HeldSlots → ℕ → Type 0
 Holds h i = (h.start ≤ i) × (i < h.start + h.count)
 
--- what an end did that did nothing
+-- the record of an end that did nothing yet
 abbrev pub nothing_did : EndRecord
 nothing_did = record { runs = []; takes = []; shuts = 0; parts = 0; held = no_slots }
 
--- what two ends did that hold no slots
+-- the records of two ends together, which hold no slots
 abbrev pub did_both : EndRecord → EndRecord → EndRecord
 did_both d e = record {
   runs = d.runs ++ e.runs;
@@ -48,7 +48,7 @@ did_both d e = record {
   held = no_slots;
 }
 
--- what the table of a queue says of it
+-- queues as a subject of the theory of tables: the ends word, and what the words show, what is lawful, what can happen
 abbrev pub of_batches : Subject BatchState
 of_batches = record { ends_word = ends_word; Shows = WordsShow; IsLawful = Lawful; Happens = Becomes }
 
@@ -56,14 +56,14 @@ of_batches = record { ends_word = ends_word; Shows = WordsShow; IsLawful = Lawfu
 abbrev pub part_of : View → QueueView
 part_of v = record { queue = positions_of v.seen.object; runs = v.own.runs; takes = v.own.takes }
 
--- one run more was claimed, and its slots are held
+-- the record with one more run, whose slots are held
 abbrev pub with_run : EndRecord → ℕ → List ℕ → EndRecord
 with_run d head items = record d {
   runs = d.runs ++ run head items ∷ [];
   held = holding 0 head (length items);
 }
 
--- one taking more was made, and its slots are held
+-- the record with one more taking, whose slots are held
 abbrev pub with_taking : EndRecord → BatchState → ℕ → EndRecord
 with_taking d o n = record d {
   takes = d.takes ++ taking (positions_of o) n ∷ [];
@@ -79,21 +79,21 @@ pub record HasRun (d : EndRecord) : Type 0 where
   pub long : length run.places ≡ d.held.count
   pub low : (i : ℕ) → i < length run.places → (slice_index_or run.places i blank).written < 2
 
--- that run is published, and no slots are held
+-- the record after that run was published: no slots are held
 abbrev pub with_published : (d : EndRecord) → HasRun d → EndRecord
 with_published d h = record d {
   runs = slice_set d.runs h.number (raised_run h.run 0 (length h.run.places));
   held = no_slots;
 }
 
--- no slots are held
+-- the record with no slots held
 abbrev pub with_no_slots : EndRecord → EndRecord
 with_no_slots d = record d { held = no_slots }
 
--- a batch was parted once more
+-- the record with one more parting of a batch
 abbrev pub with_parting : EndRecord → EndRecord
 with_parting d = record d { parts = d.parts + 1 }
 
--- a shut counts where the queue was open
+-- the record with one more shut, if the queue was open
 abbrev pub with_shutting : EndRecord → Bool → EndRecord
 with_shutting d was_open = record d { shuts = d.shuts + (if was_open then 1 else 0) }

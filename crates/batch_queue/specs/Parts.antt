@@ -1,4 +1,4 @@
--- What a taking of so many items answers, which may part the last batch.
+-- Answers of a taking of up to a given number of items, which may part the last batch.
 use Rattle.std.specs.Prelude.{◌≡◌, ◌≢◌, ◌⊎◌, ◌+◌, ◌/◌, ◌<◌, ◌≤◌, ℕ, min, List, [], ◌∷◌, ◌++◌, length, take, drop}
 use Rattle.std.specs.Prelude.{Bool, MatchBool}
 use Rattle.atomic_table.specs.Table.{Me}
@@ -20,12 +20,12 @@ use Rattle.batch_queue.specs.Steps.{HoldsRange}
 use Rattle.batch_queue.specs.Takings.{NoneBy, PassedEmpty, RefusedTake, with_line}
 use Rattle.batch_queue.specs.Walks.{LeadsOn, FollowedBy}
 
--- a batch was parted so often more
+-- the record with n more partings of a batch
 abbrev pub with_parts : EndRecord → ℕ → EndRecord
 with_parts d n = record d { parts = d.parts + n }
 
--- A taking can end at this position, within the batch that ends at `end`, by what was found: its mark led on already, was
--- exchanged now, or led on when it was found again. `parts` counts the exchange
+-- By what was found, a taking can end at this position, within the batch that ends at `end`. Its mark led on already,
+-- or a compare-and-swap changed the mark now, or the mark led on when it was found again. `parts` counts the change
 pub data PartedBy (room position end parts : ℕ) (entries : List (Step BatchState)) : Type 0 where
   already : (mark : ℕ) (m : Moment BatchState) → LeadsOn 0 position mark → parts ≡ 0
       → entries ≡ load (mark_word room position) mark m ∷ [] → PartedBy room position end parts entries
@@ -38,7 +38,8 @@ pub data PartedBy (room position end parts : ℕ) (entries : List (Step BatchSta
       → entries ≡ load (mark_word room position) mark m ∷ load (mark_word room position) found n ∷ []
       → PartedBy room position end parts entries
 
--- nothing is known of a stop at this position: its place was given back, or its mark was changed to another number
+-- it is not known that a taking can end at this position: its place was given back, or its mark was changed to another
+-- number
 pub data NotPartedBy (room position : ℕ) (entries : List (Step BatchState)) : Type 0 where
   given : (mark : ℕ) (m : Moment BatchState) → LeadsOn 1 position mark
       → entries ≡ load (mark_word room position) mark m ∷ [] → NotPartedBy room position entries
@@ -47,14 +48,14 @@ pub data NotPartedBy (room position : ℕ) (entries : List (Step BatchState)) : 
       → entries ≡ load (mark_word room position) mark m ∷ load (mark_word room position) found n ∷ []
       → NotPartedBy room position entries
 
--- the same, by the end
+-- the end found that a taking can end at this position (`stop` is true), or that this is not known, by these entries
 pub record PartedLook (room position end : ℕ) (stop : Bool) (v w : View) : Type 0 where
   pub entries : List (Step BatchState)
   pub parts : ℕ
   pub by : MatchBool stop (PartedBy room position end parts entries) ((parts ≡ 0) × NotPartedBy room position entries)
   pub made : Made v entries (with_parts v.own parts) w
 
--- the mark of this position was found to be this one: it is the tail, or marks of published batches were followed there
+-- this mark was found at the position `at`: `at` is the tail, or marks of published batches were followed to it
 pub data Reached (room tail most at mark : ℕ) (loads : List (Step BatchState)) : Type 0 where
   at_tail : at ≡ tail → (m : Moment BatchState) → loads ≡ load (mark_word room tail) mark m ∷ []
       → Reached room tail most at mark loads
@@ -62,8 +63,8 @@ pub data Reached (room tail most at mark : ℕ) (loads : List (Step BatchState))
       → (m : Moment BatchState) → loads ≡ walk ++ load (mark_word room at) mark m ∷ []
       → Reached room tail most at mark loads
 
--- Where a taking of so many items ends: as far as it may; or where nothing more is published; or where the batch ends
--- that was published meanwhile; or within a batch, after the tail was found again
+-- The end of a taking of up to `most` items: the limit itself; or where nothing more is published; or the end of a
+-- batch that was published meanwhile; or within a batch, after the tail was found unchanged
 pub data StopBy (room tail most to parts : ℕ) (loads : List (Step BatchState)) : Type 0 where
   all : FollowedBy 0 (tail + most) room tail to loads → to ≡ tail + most → parts ≡ 0
       → StopBy room tail most to parts loads
@@ -76,8 +77,8 @@ pub data StopBy (room tail most to parts : ℕ) (loads : List (Step BatchState))
       → PartedBy room to (mark / 2) parts after → loads ≡ before ++ load tail_word tail again ∷ after
       → StopBy room tail most to parts loads
 
--- Why no taking ends within the batch that is too long: the tail had passed when it was found again, or nothing was
--- known of a stop there, and the tail was found once more
+-- No taking ends within the batch that is too long: the tail had moved on when it was found again; or it was not known
+-- that a taking can end there (`NotPartedBy`), and the tail was then found once more
 pub data LostBy (room tail most now : ℕ) (loads : List (Step BatchState)) : Type 0 where
   passed : (at mark : ℕ) (before : List (Step BatchState)) (again : Moment BatchState)
       → Reached room tail most at mark before → LeadsOn 0 at mark → tail + most < mark / 2 → tail < now
@@ -94,7 +95,7 @@ abbrev pub FoundRest : View → ℕ → ℕ → ℕ → Type 0
 FoundRest v tail p e = (tail < v.seen.object.taken)
     ⊎ (((i : ℕ) → tail ≤ i → i < e → 1 ≤ phase_at v.seen.object i) × IsRest v.seen.object.batches p e)
 
--- the same, by the end, after the tail's mark was found to be `first`
+-- the end found where the taking ends, after it found the mark `first` at the tail
 pub record FoundStop (room tail most first to : ℕ) (v w : View) : Type 0 where
   pub loads : List (Step BatchState)
   pub parts : ℕ
@@ -106,7 +107,7 @@ pub record LostStop (room tail most first now : ℕ) (v w : View) : Type 0 where
   pub by : (m : Moment BatchState) → LostBy room tail most now (load (mark_word room tail) first m ∷ loads)
   pub made : Made v loads v.own w
 
--- the tail was found again, and the batch was parted
+-- the tail was found unchanged, and then a taking can end at `last`, within the batch that ends at `end`
 pub record StoppedWithin (room tail last end : ℕ) (v w : View) : Type 0 where
   pub again : Moment BatchState
   pub after : List (Step BatchState)
@@ -114,7 +115,8 @@ pub record StoppedWithin (room tail last end : ℕ) (v w : View) : Type 0 where
   pub by : PartedBy room last end parts after
   pub made : Made v (load tail_word tail again ∷ after) (with_parts v.own parts) w
 
--- the tail had passed, or was found again, and nothing was known of a stop, and then it was found once more
+-- the tail had moved on; or it was found unchanged, it was not known that a taking can end there, and the tail was
+-- found once more
 pub data LostWithin (room tail last now : ℕ) (v w : View) : Type 0 where
   passed : tail < now → (again : Moment BatchState) → Made v (load tail_word now again ∷ []) v.own w
       → LostWithin room tail last now v w
@@ -122,7 +124,7 @@ pub data LostWithin (room tail last now : ℕ) (v w : View) : Type 0 where
       → Made v (load tail_word tail again ∷ (after ++ load tail_word now end ∷ [])) v.own w
       → LostWithin room tail last now v w
 
--- the tail was found to be this one at a moment of the call: past the one before, or a mark was changed meanwhile
+-- the tail was `now` at a moment of the call: past the earlier tail, or a mark was changed during the call
 abbrev pub WhyNoStop : ℕ → ℕ → View → View → Type 0
 WhyNoStop tail now v w = WasSo v w (λ o. (tail < o.taken) × (o.taken ≡ now))
     ⊎ (WasSo v w (λ o. o.taken ≡ now) × MarkChanged v w)
@@ -132,8 +134,8 @@ pub record AreSome (o : BatchState) (items : List ℕ) : Type 0 where
   pub items_are : take (length items) (drop o.taken (items_of o)) ≡ items
   pub stop : IsStop o (o.taken + length items)
 
--- The tail was loaded, and it was found where a taking of up to `most` items ends; then the tail that was found was
--- exchanged. Added says where these entries are, of the moment of the exchange and of how often a batch was parted
+-- The tail was loaded, the end of a taking of up to `most` items was found, and then a compare-and-swap moved the tail
+-- there. Added says which list has these entries, given the moment of the compare-and-swap and the number of partings
 pub record SomeBy (Added : Moment BatchState → ℕ → List (Step BatchState) → Type 0) (room most tail : ℕ)
     (items : List ℕ) : Type 0 where
   pub some_item : 0 < length items
@@ -155,14 +157,14 @@ pub record HasTakenSome (room most : ℕ) (v : View) (tail : ℕ) (items : List 
   pub range : HoldsRange 2 tail (length items) m.0
   pub slots : m.1 ≡ slots_of room tail items
 
--- up to so many items were taken, and after they were read, their places were given back by one store, of the mark of
+-- up to `most` items were taken, and after they were read, their places were given back by one store, of the mark of
 -- the first
 abbrev pub TookSome : ℕ → View → ℕ → List ℕ → View → Type 0
 TookSome room v most items w = (tail mark : ℕ) × (m : Moment BatchState) × SomeBy (λ at parts entries. Made v
     (entries ++ change (mark_word room tail) mark m (with_back m.object tail (tail + length items)) ∷ [])
     (with_line (with_parts v.own parts) at.object (length items)) w) room most tail items
 
--- it was found where the taking ends, but the exchange found another tail, past the one loaded
+-- the end of the taking was found, but the compare-and-swap found another tail, past the one loaded
 pub record PassedStop (Added : ℕ → List (Step BatchState) → Type 0) (room most now : ℕ) : Type 0 where
   pub tail : ℕ
   pub to : ℕ
@@ -174,7 +176,7 @@ pub record PassedStop (Added : ℕ → List (Step BatchState) → Type 0) (room 
   pub at_exchange : Moment BatchState
   pub added : Added parts (load tail_word tail at_tail ∷ (looks ++ load tail_word now at_exchange ∷ []))
 
--- it was not found where the taking ends
+-- the end of the taking was not found
 pub record NoStop (Added : ℕ → List (Step BatchState) → Type 0) (room most now : ℕ) : Type 0 where
   pub tail : ℕ
   pub at_tail : Moment BatchState
@@ -182,26 +184,26 @@ pub record NoStop (Added : ℕ → List (Step BatchState) → Type 0) (room most
   pub lost : LostBy room tail (min most room) now looks
   pub added : Added 0 (load tail_word tail at_tail ∷ looks)
 
--- what a refused taking of some items says of its entries, and of how often a batch was parted
+-- the entries of a refused taking of some items, and how often a batch was parted
 abbrev pub RefusedSomeBy : (ℕ → List (Step BatchState) → Type 0) → ℕ → ℕ → TakeRefusal → Type 0
 RefusedSomeBy Added room most (Lost now) =
     PassedEmpty (Added 0) room now ⊎ (PassedStop Added room most now ⊎ NoStop Added room most now)
 RefusedSomeBy Added room most refusal = NoneBy (Added 0) room refusal
 
--- the taking of some items was refused; into a buffer without room it is as a taking of whole batches
+-- the taking of some items was refused; a taking into a buffer without room may be refused as a taking of whole batches
 abbrev pub RefusedTakeSome : ℕ → View → ℕ → TakeRefusal → View → Type 0
 RefusedTakeSome room v most refusal w = ((most ≡ 0) × RefusedTake room v most refusal w)
     ⊎ RefusedSomeBy (λ parts entries. Made v entries (with_parts v.own parts) w) room most refusal
 
--- Why nothing was taken. It is ShortBuffer only if the buffer has no room. It is Lost too if a mark was changed during
--- the call, which another end's event did
+-- The meaning of a refused taking of some items. ShortBuffer comes only if the buffer has no room. Lost also comes if a
+-- mark was changed during the call
 abbrev pub WhyNotTakenSome : View → ℕ → TakeRefusal → View → Type 0
 WhyNotTakenSome v most (ShortBuffer at count) w = (most ≡ 0) × WhyNotTaken v most (ShortBuffer at count) w
 WhyNotTakenSome v most (Lost now) w = WhyNotTaken v most (Lost now) w
     ⊎ (WasSo v w (λ o. o.taken ≡ now) × MarkChanged v w)
 WhyNotTakenSome v most refusal w = WhyNotTaken v most refusal w
 
--- the end parted a batch once, or none
+-- the end parted at most one batch more
 abbrev pub MayPart : View → View → Type 0
 MayPart v w = (times_parted v ≤ times_parted w) × (times_parted w ≤ times_parted v + 1)
 
@@ -214,6 +216,6 @@ pub record FilledSome (n : ℕ) (old new : List ℕ) (v w : View) : Type 0 where
   pub took : lines.TookLine lines_put lines_taken line v w
   pub parts : MayPart v w
 
--- nothing was put and nothing taken
+-- the end put nothing and took nothing, and parted at most one batch
 abbrev pub SameSome : View → View → Type 0
 SameSome v w = lines.SameLines lines_put lines_taken v w × MayPart v w

@@ -1,4 +1,4 @@
--- What the puts answer: the entries that they added, all of them, and how their numbers compare.
+-- Answers of puts: all entries that a put added, and how their numbers compare.
 use Rattle.std.specs.Prelude.{◌≡◌, ◌⊎◌, ◌+◌, ◌<◌, ◌≤◌, ℕ, Bool, true, false, List, [], ◌∷◌, ◌++◌, length, map, min}
 use Rattle.std.specs.Prelude.{take, Result, Ok, Err}
 use Rattle.std.specs.List.{AllByRecursion}
@@ -19,11 +19,11 @@ use Rattle.batch_queue.specs.Slots.{slots_of}
 use Rattle.batch_queue.specs.Steps.{HoldsRange, IsClaim}
 use Rattle.batch_queue.specs.Walks.{FreeBy}
 
--- a number of items that a batch may have
+-- a batch in a queue of `room` places can have `count` items: at least 1, and at most `room`
 abbrev pub Fits : ℕ → ℕ → Type 0
 Fits room count = (0 < count) × (count ≤ room)
 
--- a place that is published
+-- the place of an item that is published
 abbrev pub published : ℕ → Cell
 published item = record { item = item; written = 2 }
 
@@ -31,8 +31,8 @@ published item = record { item = item; written = 2 }
 abbrev pub with_put : EndRecord → ℕ → List ℕ → EndRecord
 with_put d start items = record d { runs = d.runs ++ record { start = start; places = map published items } ∷ [] }
 
--- The head was loaded, and then the free position; then the head that was found was exchanged. Of `want` items as many
--- were claimed as there was room for. Added says where these entries are
+-- The head was loaded, then the free position, and then a compare-and-swap of that head claimed positions for the
+-- items: of `want` items as many as there was room for. Added says which list has these entries
 pub record ClaimedBy (Added : List (Step BatchState) → Type 0) (room want start : ℕ) (items : List ℕ) : Type 0 where
   pub fits : Fits room (length items)
   pub at_head : Moment BatchState
@@ -79,7 +79,7 @@ pub record FoundShut (Added : List (Step BatchState) → Type 0) : Type 0 where
   pub marked : SHUT ≤ head
   pub added : Added (load head_word head at_head ∷ [])
 
--- so many more would go past the last position
+-- `want` more items would go past the last position
 pub record WasSpent (Added : List (Step BatchState) → Type 0) (want : ℕ) : Type 0 where
   pub head : ℕ
   pub at_head : Moment BatchState
@@ -87,8 +87,8 @@ pub record WasSpent (Added : List (Step BatchState) → Type 0) (want : ℕ) : T
   pub spent : POSITIONS ≤ head + want
   pub added : Added (load head_word head at_head ∷ [])
 
--- There was no room for the least that was wanted, by the free position that was found. `moved` says that another end
--- moved it meanwhile
+-- There was no room for `least` items, by the free position that was found. `moved` is true if another end moved the
+-- free position meanwhile
 pub record LackedRoom (Added : List (Step BatchState) → Type 0) (room want least head free : ℕ) (moved : Bool)
     : Type 0 where
   pub at_head : Moment BatchState
@@ -98,7 +98,7 @@ pub record LackedRoom (Added : List (Step BatchState) → Type 0) (room want lea
   pub over : free + room < head + least
   pub added : Added (load head_word head at_head ∷ looks)
 
--- there was room, but the exchange found another head
+-- there was room, but the compare-and-swap found another head word, `now`
 pub record FoundOther (Added : List (Step BatchState) → Type 0) (room want least head now : ℕ) : Type 0 where
   pub at_head : Moment BatchState
   pub bounded : head + want < POSITIONS
@@ -110,7 +110,7 @@ pub record FoundOther (Added : List (Step BatchState) → Type 0) (room want lea
   pub at_exchange : Moment BatchState
   pub added : Added (load head_word head at_head ∷ (looks ++ load head_word now at_exchange ∷ []))
 
--- what a refused claim of up to `want` items, and no fewer than `least`, says of its entries
+-- the entries of a refused claim of at least `least` and at most `want` items
 abbrev pub RefusedClaimBy : (List (Step BatchState) → Type 0) → ℕ → ℕ → ℕ → PutRefusal → Type 0
 RefusedClaimBy Added room want least Closed =
     FoundShut Added ⊎ ((head now : ℕ) × (SHUT ≤ now) × FoundOther Added room want least head now)
@@ -120,13 +120,13 @@ RefusedClaimBy Added room want least (Lost now) = ((free : ℕ) × LackedRoom Ad
     ⊎ ((head : ℕ) × (head < now) × (now < SHUT) × FoundOther Added room want least head now)
 RefusedClaimBy Added room want least refusal = ⊥
 
--- what a refused put says of its entries
+-- the entries of a refused put
 abbrev pub RefusedPutBy : (List (Step BatchState) → Type 0) → ℕ → ℕ → PutRefusal → Type 0
 RefusedPutBy Added room count NoItems = (count ≡ 0) × Added []
 RefusedPutBy Added room count TooLong = (room < count) × Added []
 RefusedPutBy Added room count refusal = Fits room count × RefusedClaimBy Added room count count refusal
 
--- what a refused put of the longest front says of its entries
+-- the entries of a refused put of as many of the first items as there is room for
 abbrev pub RefusedSomeBy : (List (Step BatchState) → Type 0) → ℕ → ℕ → PutRefusal → Type 0
 RefusedSomeBy Added room count NoItems = (count ≡ 0) × Added []
 RefusedSomeBy Added room count refusal = (0 < count) × RefusedClaimBy Added room (min count room) 1 refusal
@@ -135,7 +135,7 @@ RefusedSomeBy Added room count refusal = (0 < count) × RefusedClaimBy Added roo
 abbrev pub RefusedPut : ℕ → View → ℕ → PutRefusal → View → Type 0
 RefusedPut room v count refusal w = RefusedPutBy (λ entries. Looks v entries w) room count refusal
 
--- the same, of a put of the longest front
+-- the put of as many of the first items as there is room for was refused; if no step was made, all is as it was
 abbrev pub RefusedSome : ℕ → View → ℕ → PutRefusal → View → Type 0
 RefusedSome room v count refusal w = RefusedSomeBy (λ entries. Looks v entries w) room count refusal
 
@@ -152,7 +152,7 @@ abbrev pub tried : List (List (Step BatchState)) → List (Step BatchState)
 tried [] = []
 tried (entries ∷ tries) = entries ++ tried tries
 
--- One try was answered, after tries that were lost. Lost is no answer
+-- after tries that were lost, one try put the items or was refused for another reason; Lost is no answer
 abbrev pub PutAnswer : ℕ → View → List ℕ → Result ℕ PutRefusal → View → Type 0
 PutAnswer room v items (Ok start) w = (tries : List (List (Step BatchState)))
     × AllByRecursion (IsLostTry room (length items)) tries

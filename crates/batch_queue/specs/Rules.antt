@@ -18,15 +18,15 @@ use Rattle.batch_queue.specs.Object.{items_of, phase_at, IsBatch, Grows, empty}
 use Rattle.batch_queue.specs.Own.{View, nothing_did, part_of, of_batches, Holds, HasRun}
 use Rattle.batch_queue.specs.Placed.{positions_of}
 
--- What the home of a slot has, where p is the position of the window with that place. A position that is published and
--- not taken has its item there; one that is not claimed, or whose place is given back, has some number
+-- The home of a slot, if p is the position of the window with its place. If p is published and not taken, the home has
+-- the item of p. If p is not claimed, or its place is given back, the home has some number
 pub record HomeShows (o : BatchState) (p : ℕ) (home : Option (Option ℕ)) : Type 0 where
   pub free : length (items_of o) ≤ p → (y : ℕ) × (home ≡ some (some y))
   pub up : phase_at o p ≡ 1 → home ≡ some (some (slice_index_or (items_of o) p 0))
   pub back : 3 ≤ phase_at o p → (y : ℕ) × (home ≡ some (some y))
 
--- What an end lists and holds is so. Each of its runs is a batch, and each of its takings one of the queue's. The slots
--- that it holds are of claimed positions of one phase: those of a run of which nothing is published, or of a taking
+-- An end's record agrees with the queue. Each of its runs is a batch, and each of its takings is a taking of the queue.
+-- The slots that it holds are of claimed positions of one phase: of a run with nothing published, or of a taking
 pub record OwnShows (o : BatchState) (d : EndRecord) : Type 0 where
   pub runs : (m : ℕ) (e : Batch) → get_elem? d.runs m ≡ some e → IsBatch o.batches e.start (e.start + length e.places)
   pub takes : (m : ℕ) (e : Batch) → get_elem? d.takes m ≡ some e → IsBatch o.takings e.start (e.start + length e.places)
@@ -51,7 +51,7 @@ pub record IsHeld (views : List View) (i : ℕ) : Type 0 where
 abbrev pub shuts_of : View → ℕ
 shuts_of v = v.own.shuts
 
--- how often the queue was shut: at most once
+-- the number of times that the queue was shut: 0 or 1
 abbrev pub times_shut : BatchState → ℕ
 times_shut o = if o.shut then 1 else 0
 
@@ -74,14 +74,14 @@ pub record Rule (key : Shape) (s : State ℕ View) : Type 0 where
   pub owned : (i : ℕ) → i < length (items_of now.object)
       → (phase_at now.object i ≡ 0) ⊎ (phase_at now.object i ≡ 2) → IsHeld s.views i
 
--- what the first end of a queue knows
+-- the view of the first end of a new queue
 abbrev pub newcomer : Shape → View
 newcomer key = first_of nothing_did (empty key)
 
--- the queue as the rule has it
+-- the queue and the number of ends that the rule names
 abbrev pub now_of : (key : Shape) (s : State ℕ View) → Rule key s → Moment BatchState
 now_of key s k = k.now
 
--- at the end's last step the rule held, and the end saw the queue as it was
+-- at the end's last step the rule held, and the end saw the queue of that moment
 abbrev pub IsRuled : View → Type 0
 IsRuled v = ruled.IsRuled Rule now_of v

@@ -1,5 +1,5 @@
--- What each step says to its end: its entry, what the end has done then, what it sees, and the slots that it holds. The
--- calls' answers are made of the entries.
+-- The report of each step to its end: its entry, what the end has then done, what it sees, and the slots that it holds.
+-- The calls' answers are made of the entries.
 use Rattle.std.specs.Prelude.{◌≡◌, ◌≢◌, ◌⊎◌, ℕ, zero, suc, ◌+◌, ◌-◌, ◌<◌, ◌≤◌, List, [], ◌∷◌, ◌++◌}
 use Rattle.std.specs.Prelude.{length, take, drop, nat_lt}
 use Rattle.atomic_table.specs.Seated.{TableId}
@@ -19,7 +19,7 @@ use Rattle.batch_queue.specs.Own.{with_shutting, with_parting}
 use Rattle.batch_queue.specs.Rules.{IsRuled}
 use Rattle.batch_queue.specs.Slots.{slots_of}
 
--- it is a live end of this table, which is one of a queue of so many places
+-- the seat is a live end of this table, which is the table of a queue of `room` places, a power of two
 pub record IsSeated (room : ℕ) (table : TableId) (seat : Seat ℕ View) : Type 0 where
   pub one : seat.table_id ≡ table
   pub live : 1 ≤ seat.me.0.member.ends
@@ -30,13 +30,14 @@ pub record IsSeated (room : ℕ) (table : TableId) (seat : Seat ℕ View) : Type
   pub most : room ≤ MOST_PLACES
   pub power : IsPowerOfTwo room
 
--- By a step of this entry the end did this. The rule held at it, and the queue was no earlier than the end had seen it
+-- The end made one step with this entry, and its record is then `own`. The rule held at the step, and the queue that
+-- the step found is no earlier than the queue that the end had seen
 pub record Stepped (v : View) (e : ends.Step BatchState) (own : EndRecord) (w : View) : Type 0 where
   pub made : Made v (e ∷ []) own w
   pub ruled : IsRuled w
   pub grows : Grows v.seen.object e.then.object
 
--- what the type of an end asks of its view stays
+-- the first queue of the end's view and its membership are unchanged; at its last step the rule held
 abbrev pub Stays : View → View → Type 0
 Stays v w = (w.first ≡ v.first) × (w.member ≡ v.member) × ∥ IsRuled w ∥₁
 
@@ -47,11 +48,11 @@ Found v word found w = Stepped v (load word found w.seen) v.own w
 abbrev pub finds : Step ℕ → Me ℕ View → ℕ → Me ℕ View → Type 0
 finds st m r m' = Stays m.0 m'.0 × (m'.1 ≡ m.1) × Found m.0 st.word r m'.0
 
--- an exchange missed: another number was found
+-- if the compare-and-swap failed: another number was found, and nothing else changed for the end
 abbrev pub Missed : Step ℕ → Me ℕ View → ℕ → Me ℕ View → Type 0
 Missed st m r m' = r ≢ st.first → (m'.1 ≡ m.1) × Found m.0 st.word r m'.0
 
--- The items were claimed, at the head of the queue as it was at that step. The end holds the slots
+-- The items were claimed at the head that the queue had at that step. The end holds their slots, and nothing else
 pub record Claimed (v : View) (head : ℕ) (items : List ℕ) (m : Me ℕ View) : Type 0 where
   pub at : Moment BatchState
   pub head_is : length (items_of at.object) ≡ head
@@ -63,12 +64,12 @@ pub record Claimed (v : View) (head : ℕ) (items : List ℕ) (m : Me ℕ View) 
 abbrev pub claims : List ℕ → Step ℕ → Me ℕ View → ℕ → Me ℕ View → Type 0
 claims items st m r m' = Stays m.0 m'.0 × (r ≡ st.first → Claimed m.0 st.first items m') × Missed st m r m'
 
--- The positions from a on and before b, all in the phase x, are one phase on: published, or given back
+-- the queue after the positions from a on and before b, in the phase x, are one phase on: published, or given back
 abbrev pub released : BatchState → ℕ → ℕ → ℕ → BatchState
 released o zero a b = with_up o a b
 released o (suc x) a b = with_back o a b
 
--- the positions whose slots the end held, in the phase x, are one phase on, and the slots are home
+-- the positions whose slots the end held, in the phase x, are one phase on, and the end holds no slots
 pub record Released (v : View) (word start end x : ℕ) (m : Me ℕ View) : Type 0 where
   pub at : Moment BatchState
   pub found : ℕ
@@ -82,7 +83,7 @@ abbrev pub releases : Step ℕ → Me ℕ View → ℕ → Me ℕ View → Type 
 releases st m r m' = Stays m.0 m'.0 × Released m.0 st.word m.0.own.held.start
     (m.0.own.held.start + m.0.own.held.count) m.0.own.held.phase m'
 
--- the end holds the slots of so many positions from this one on, in this phase
+-- the end holds the slots of `count` positions from `start` on, in this phase, and at least one slot
 pub record HoldsRange (phase start count : ℕ) (v : View) : Type 0 where
   pub in_phase : v.own.held.phase ≡ phase
   pub start_is : v.own.held.start ≡ start
@@ -90,17 +91,19 @@ pub record HoldsRange (phase start count : ℕ) (v : View) : Type 0 where
   pub some_slot : 0 < count
   pub bounded : start + count < POSITIONS
 
--- these items are the ones from this position on in the queue that the end has seen
+-- in the queue that the end has seen, these items are the ones from `start` on
 abbrev pub IsClaim : ℕ → List ℕ → View → Type 0
 IsClaim start items v = (before rest : List ℕ) × (length before ≡ start)
     × (items_of v.seen.object ≡ before ++ (items ++ rest))
 
--- from the tail up to there all was found published, and there a batch ends; or the tail was passed meanwhile
+-- all positions from `tail` on and before `new` were found published, and at `new` a batch ends; or the queue's tail is
+-- past `tail`
 abbrev pub HasFound : View → ℕ → ℕ → Type 0
 HasFound v tail new = (tail < v.seen.object.taken)
     ⊎ (((i : ℕ) → tail ≤ i → i < new → 1 ≤ phase_at v.seen.object i) × IsEdge v.seen.object.batches new)
 
--- the same, up to where a batch ends or was parted
+-- all positions from `tail` on and before `new` were found published, and at `new` a batch ends or was parted; or the
+-- queue's tail is past `tail`
 abbrev pub HasStop : View → ℕ → ℕ → Type 0
 HasStop v tail new = (tail < v.seen.object.taken)
     ⊎ (((i : ℕ) → tail ≤ i → i < new → 1 ≤ phase_at v.seen.object i) × IsStop v.seen.object new)
@@ -118,8 +121,8 @@ pub record Took (v : View) (tail new : ℕ) (m : Me ℕ View) : Type 0 where
 abbrev pub takes_tail : Step ℕ → Me ℕ View → ℕ → Me ℕ View → Type 0
 takes_tail st m r m' = Stays m.0 m'.0 × (r ≡ st.first → Took m.0 st.first st.second m') × Missed st m r m'
 
--- from the free position up to there all places were found given back, and there a taking ends; or the free position
--- was passed meanwhile
+-- the places of all positions from `free` on and before `new` were found given back, and at `new` a taking ends; or the
+-- queue's free position is past `free`
 abbrev pub HasBack : View → ℕ → ℕ → Type 0
 HasBack v free new = (free < v.seen.object.freed)
     ⊎ (((i : ℕ) → free ≤ i → i < new → 3 ≤ phase_at v.seen.object i) × IsEdge v.seen.object.takings new)
@@ -131,7 +134,7 @@ Freed v free new w = (at : Moment BatchState) × Stepped v (change free_word fre
 abbrev pub frees : Step ℕ → Me ℕ View → ℕ → Me ℕ View → Type 0
 frees st m r m' = Stays m.0 m'.0 × (r ≡ st.first → (m'.1 ≡ m.1) × Freed m.0 st.first st.second m'.0) × Missed st m r m'
 
--- the batch that ends there was parted at this position, by the exchange of its mark
+-- the batch that ends at `end` was parted at this position, by a compare-and-swap of the mark of the position
 abbrev pub Parted : View → ℕ → ℕ → ℕ → ℕ → View → Type 0
 Parted v word found position end w = (at : Moment BatchState)
     × Stepped v (change word found at (with_part at.object position end)) (with_parting v.own) w
@@ -140,7 +143,7 @@ abbrev pub parts : ℕ → ℕ → Step ℕ → Me ℕ View → ℕ → Me ℕ V
 parts position end st m r m' = Stays m.0 m'.0
     × (r ≡ st.first → (m'.1 ≡ m.1) × Parted m.0 st.word st.first position end m'.0) × Missed st m r m'
 
--- the queue is shut, and this head word was found
+-- the queue was shut, and the step found this head word
 abbrev pub Shut : View → ℕ → View → Type 0
 Shut v found w = (at : Moment BatchState)
     × Stepped v (change head_word found at (with_shut at.object)) (with_shutting v.own (nat_lt found SHUT)) w

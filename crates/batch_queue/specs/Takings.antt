@@ -1,4 +1,4 @@
--- What the takings answer: the entries that they added, all of them, and how their numbers compare.
+-- Answers of takings: all entries that a taking added, and how their numbers compare.
 use Rattle.std.specs.Prelude.{◌≡◌, ◌≢◌, ◌⊎◌, ◌+◌, ◌/◌, ◌<◌, ◌≤◌, ℕ, min, List, [], ◌∷◌, ◌++◌, length, drop, take}
 use Rattle.std.specs.Prelude.{Bool, true, false, IsTrue, IsFalse}
 use Rattle.std.specs.Prelude.{Result, Ok, Err}
@@ -29,7 +29,7 @@ pub record FilledBuffer (n : ℕ) (old new : List ℕ) (v w : View) : Type 0 whe
   pub buffer : new ≡ line ++ drop n old
   pub took : TookLine line v w
 
--- the first batches left are these, and these are their items
+-- the first batches left have these items
 pub record AreBatches (o : BatchState) (items : List ℕ) : Type 0 where
   pub before : List (List ℕ)
   pub batches : List (List ℕ)
@@ -38,20 +38,19 @@ pub record AreBatches (o : BatchState) (items : List ℕ) : Type 0 where
   pub from : length (concat before) ≡ o.taken
   pub items_are : concat batches ≡ items
 
--- The first items left are these, and a batch ends after them. They are whole batches if at the tail a batch ends,
--- which is so unless one was parted there
+-- The first items left are these, and a batch ends after them. If a batch ends at the tail, they are whole batches
 pub record AreFirst (o : BatchState) (items : List ℕ) : Type 0 where
   pub items_are : take (length items) (drop o.taken (items_of o)) ≡ items
   pub end : IsEdge o.batches (o.taken + length items)
   pub whole : IsEdge o.batches o.taken → AreBatches o items
 
--- n items from the tail on were taken
+-- the record with one more taking, of n items from the tail on
 abbrev pub with_line : EndRecord → BatchState → ℕ → EndRecord
 with_line d o n = record d { takes = d.takes ++ taking (positions_of o) n ∷ [] }
 
--- The tail was loaded, and then marks of published batches were followed from it, as far as they lead within the buffer
--- and the places; then the tail that was found was exchanged: the items up to there were the first ones left. Added
--- says where these entries are, of the moment of the exchange
+-- The tail was loaded, and marks of published batches were followed from it, as far as they lead within the buffer and
+-- the places. Then a compare-and-swap of that tail took the items, which were the first ones left. Added says which
+-- list has these entries, given the moment of the compare-and-swap
 pub record TakenBy (Added : Moment BatchState → List (Step BatchState) → Type 0) (room most tail : ℕ) (items : List ℕ)
     : Type 0 where
   pub some_item : 0 < length items
@@ -78,19 +77,19 @@ TookBy Added room most items = (tail mark : ℕ) × (m : Moment BatchState)
     × TakenBy (λ at entries. Added at (entries ++ change (mark_word room tail) mark m
     (with_back m.object tail (tail + length items)) ∷ [])) room most tail items
 
--- the items were taken into a buffer of so many
+-- the items were taken into a buffer of `most` items, and the end has one line more
 abbrev pub TookBatches : ℕ → View → ℕ → List ℕ → View → Type 0
 TookBatches room v most items w =
     TookBy (λ at entries. Made v entries (with_line v.own at.object (length items)) w) room most items
 
--- a taking up to the mark of the tail
+-- the first loads of a taking: the tail, and the mark of the tail
 pub record Glance : Type 0 where
   pub tail : ℕ
   pub at_tail : Moment BatchState
   pub mark : ℕ
   pub at_mark : Moment BatchState
 
--- its loads
+-- the entries of a glance
 abbrev pub glanced : ℕ → Glance → List (Step BatchState)
 glanced room g = load tail_word g.tail g.at_tail ∷ load (mark_word room g.tail) g.mark g.at_mark ∷ []
 
@@ -98,11 +97,12 @@ glanced room g = load tail_word g.tail g.at_tail ∷ load (mark_word room g.tail
 abbrev pub FoundNone : Glance → Type 0
 FoundNone g = LeadsOn 0 g.tail g.mark → ⊥
 
--- the batch at that tail has so many items, more than the buffer or the queue
+-- the batch at that tail has `count` items, more than the buffer or the queue has room for
 abbrev pub FoundLong : ℕ → ℕ → ℕ → Glance → Type 0
 FoundLong room most count g = LeadsOn 0 g.tail g.mark × (g.tail + count ≡ g.mark / 2) × (min most room < count)
 
--- The tail was found again after the mark, and the queue was not shut at that tail
+-- No batch was published at the tail `at`, the queue was not shut with that tail as its head, and then the tail was
+-- found unchanged
 pub record WasEmpty (Added : List (Step BatchState) → Type 0) (room at : ℕ) : Type 0 where
   pub glance : Glance
   pub none : FoundNone glance
@@ -113,7 +113,7 @@ pub record WasEmpty (Added : List (Step BatchState) → Type 0) (room at : ℕ) 
   pub again : Moment BatchState
   pub added : Added (glanced room glance ++ load head_word head at_head ∷ load tail_word at again ∷ [])
 
--- the tail was found again after the mark
+-- the batch at the tail `at` has `count` items, too many, and then the tail was found unchanged
 pub record WasLong (Added : List (Step BatchState) → Type 0) (room most at count : ℕ) : Type 0 where
   pub glance : Glance
   pub long : FoundLong room most count glance
@@ -121,7 +121,7 @@ pub record WasLong (Added : List (Step BatchState) → Type 0) (room most at cou
   pub again : Moment BatchState
   pub added : Added (glanced room glance ++ load tail_word at again ∷ [])
 
--- no batch was published at the tail, the queue was not shut at that tail, and another tail was found
+-- no batch was published at the tail, the queue was not shut with that tail as its head, and a later tail was found
 pub record PassedEmpty (Added : List (Step BatchState) → Type 0) (room now : ℕ) : Type 0 where
   pub glance : Glance
   pub none : FoundNone glance
@@ -132,7 +132,7 @@ pub record PassedEmpty (Added : List (Step BatchState) → Type 0) (room now : �
   pub again : Moment BatchState
   pub added : Added (glanced room glance ++ load head_word head at_head ∷ load tail_word now again ∷ [])
 
--- the batch at the tail was too long, and another tail was found
+-- the batch at the tail was too long, and then a later tail was found
 pub record PassedLong (Added : List (Step BatchState) → Type 0) (room most now : ℕ) : Type 0 where
   pub glance : Glance
   pub count : ℕ
@@ -141,7 +141,7 @@ pub record PassedLong (Added : List (Step BatchState) → Type 0) (room most now
   pub again : Moment BatchState
   pub added : Added (glanced room glance ++ load tail_word now again ∷ [])
 
--- batches were found, but the exchange found another tail, past the one loaded
+-- batches were found, but the compare-and-swap found another tail, past the one loaded
 pub record PassedFound (Added : List (Step BatchState) → Type 0) (room most now : ℕ) : Type 0 where
   pub tail : ℕ
   pub new : ℕ
@@ -160,14 +160,14 @@ pub record WasDone (Added : List (Step BatchState) → Type 0) (room : ℕ) : Ty
   pub at_head : Moment BatchState
   pub added : Added (glanced room glance ++ load head_word (SHUT + glance.tail) at_head ∷ [])
 
--- what a taking that found nothing published at the tail says of its entries
+-- the entries of a taking that found nothing published at the tail
 abbrev pub NoneBy : (List (Step BatchState) → Type 0) → ℕ → TakeRefusal → Type 0
 NoneBy Added room (Empty at) = WasEmpty Added room at
 NoneBy Added room (Lost now) = PassedEmpty Added room now
 NoneBy Added room Closed = WasDone Added room
 NoneBy Added room refusal = ⊥
 
--- what a refused taking says of its entries
+-- the entries of a refused taking
 abbrev pub RefusedTakeBy : (List (Step BatchState) → Type 0) → ℕ → ℕ → TakeRefusal → Type 0
 RefusedTakeBy Added room most (Empty at) = WasEmpty Added room at
 RefusedTakeBy Added room most (ShortBuffer at count) = (most < count) × WasLong Added room most at count
@@ -175,22 +175,23 @@ RefusedTakeBy Added room most (Lost now) =
     PassedEmpty Added room now ⊎ (PassedLong Added room most now ⊎ PassedFound Added room most now)
 RefusedTakeBy Added room most Closed = WasDone Added room
 
--- the taking into a buffer of so many was refused
+-- the taking into a buffer of `most` items was refused, and the end did nothing else
 abbrev pub RefusedTake : ℕ → View → ℕ → TakeRefusal → View → Type 0
 RefusedTake room v most refusal w = RefusedTakeBy (λ entries. Made v entries v.own w) room most refusal
 
--- a taking that waits tries again after this answer
+-- a taking that waits retries after this answer
 abbrev pub must_wait : Result ℕ TakeRefusal → Bool
 must_wait (Err (Empty at)) = true
 must_wait (Err (Lost tail)) = true
 must_wait _ = false
 
--- the entries of a try after which a taking that waits tries again
+-- the entries of a try after which a taking that waits retries
 abbrev pub IsIdleTry : ℕ → ℕ → List (Step BatchState) → Type 0
 IsIdleTry room most entries = (r : TakeRefusal) × IsTrue (must_wait (Err r))
     × RefusedTakeBy (λ e. e ≡ entries) room most r
 
--- One try was answered, after tries that were not. Empty and Lost are no answers
+-- after tries that were Empty or Lost, one try took items or was refused for another reason; Empty and Lost are no
+-- answers
 abbrev pub TakeAnswer : ℕ → View → ℕ → List ℕ → Result ℕ TakeRefusal → View → Type 0
 TakeAnswer room v most line (Ok n) w = (tries : List (List (Step BatchState)))
     × AllByRecursion (IsIdleTry room most) tries
@@ -206,14 +207,14 @@ pub record LookedTwice (head tail : ℕ) (v w : View) : Type 0 where
   pub head_is : Found v head_word head between
   pub tail_is : Found between tail_word tail w
 
--- why nothing is taken at a tail where nothing was found published
+-- the refusal at a tail at which nothing was found published: by the head and, except for Closed, by the tail after it
 abbrev pub IsNone : ℕ → View → TakeRefusal → View → Type 0
 IsNone tail v (Empty at) w = (at ≡ tail) × (head : ℕ) × (head ≢ SHUT + tail) × LookedTwice head tail v w
 IsNone tail v (Lost now) w = (now ≢ tail) × (head : ℕ) × (head ≢ SHUT + tail) × LookedTwice head now v w
 IsNone tail v Closed w = Found v head_word (SHUT + tail) w
 IsNone tail v refusal w = ⊥
 
--- why nothing is taken at a tail where a batch of so many items was found
+-- the refusal at a tail at which a batch of `count` items, too many, was found: by the tail that was found again
 abbrev pub IsShort : ℕ → ℕ → View → TakeRefusal → View → Type 0
 IsShort tail count v (ShortBuffer at n) w = (at ≡ tail) × (n ≡ count) × Found v tail_word tail w
 IsShort tail count v (Lost now) w = (now ≢ tail) × Found v tail_word now w

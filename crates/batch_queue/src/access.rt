@@ -1,4 +1,4 @@
-//! Plain reads and writes of the slots that an end holds. Each access turns to the next slot, so after all of them the
+//! Plain reads and writes of the slots that an end holds. Each access turns to the next slot, so after all accesses the
 //! slots are in their order again.
 ghost use Rattle.std.specs.Prelude.{◌≡◌, ◌+◌, ◌<◌, ◌≤◌, ◌++◌, ◌∷◌, ℕ, List, length, map, drop};
 ghost use Rattle.atomic_table.specs.Table.{rest};

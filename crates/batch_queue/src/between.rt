@@ -1,4 +1,4 @@
-//! What holds between any two steps of any threads.
+//! The state between any two steps of any threads.
 
 ghost use Rattle.std.specs.Prelude.{◌≡◌, ℕ};
 ghost use Rattle.atomic_table.specs.Table.{State};
@@ -10,24 +10,24 @@ use crate::ends::BatchQueue;
 use crate::rule::{BatchRule, Shape, View};
 use atomic_table::{Shared, TableRule};
 
-/// Whatever the rule holds of is a lawful queue of the core, shown by the words, the slots and what the ends list. Of
-/// each batch all items are raised or none, and no two batches overlap.
+/// A state for which the rule holds is a lawful queue of the core, shown by the words, the slots and the lists of the
+/// ends. All items of a batch are raised, or none, and no two batches overlap.
 ///
-/// Every atomic step of this crate keeps the rule, so it holds between any two steps, whoever makes them.
+/// Every atomic step of this crate keeps the rule, so the rule holds between any two steps of any ends.
 pub fn between_steps()
     ensures { (key : Shape) (state : State ℕ View)
         → ⟦<BatchRule as TableRule<u64, View, Shape>>⟧.holds key state → ShowsQueue key state }
 {}
 
-/// The same of its ends: the number of ends is that of the ends that exist, and their steps, all in one order, lead
-/// from the empty queue to the queue that is shown.
+/// In a state for which the rule holds, the ends word is the number of ends that exist. Their steps, all in one order,
+/// lead from the empty queue to the queue that is shown.
 pub fn ends_between_steps()
     ensures { (key : Shape) (state : State ℕ View)
         → ⟦<BatchRule as TableRule<u64, View, Shape>>⟧.holds key state → ShowsEnds key state }
 {}
 
 impl BatchQueue {
-    /// The table of the queue. By its type it is under the rule that `between_steps` speaks of.
+    /// The table of the queue. By its type, the table has the rule of `between_steps`.
     pub fn table(&self) -> &Shared<u64, View, Shape, BatchRule>
         ensures { result.now ≡ self.now.table.shared }
     {

@@ -14,7 +14,7 @@ use std::marker::Brand;
 use table_theory::OpenEnds;
 use table_theory::last_end::{close_by, count};
 
-/// What a queue had at its end: how many items were put and taken, and those left, in the order of their claims.
+/// The contents of a closed queue: how many items were put and taken, and the items left, in the order of their claims.
 #[derive(Drop)]
 pub struct Closed {
     pub put: u64,
@@ -25,19 +25,21 @@ pub struct Closed {
 impl BatchQueue {
     ghost use Rattle.batch_queue.specs.Handles.{view_of, IsEndOf, IsOnlyEnd, IsSameEnd};
 
-    /// Shuts the queue for claims, for good; what was put can still be taken. Returns true if it was open, to one end
-    /// alone.
+    /// Shuts the queue for claims, for good; items that were put can still be taken. Returns true if the queue was
+    /// open: only one call for a queue ever returns true.
     pub fn shut(&self, end: &mut BatchEnd) -> bool
         requires { IsEndOf self.now end.old }
         ensures effect { SameLines (view_of end.old) (view_of end.new) × ((view_of end.new).seen.object.shut ≡ true) }
         ensures trace { ShutNow (view_of end.old) result (view_of end.new) }
         ensures handle { IsSameEnd end.old end.new }
     {
+        // linearization point: the queue is shut. One fetch-or suffices: it sets the mark whatever the head is, and the
+        // word that it finds shows whether the queue was open.
         or_head(&self.table.shared, &mut end.seat) < SHUT
     }
 
-    /// Closes the queue if every other end has been joined. Else the queue and the end come back, and the number of the
-    /// others. It takes no memory.
+    /// Closes the queue if every other end has been joined. Else it returns the queue, the end and the number of the
+    /// other ends. It allocates no memory.
     pub fn close(self, end: BatchEnd) -> Result<Closed, (BatchQueue, BatchEnd, OpenEnds)>
         requires { IsEndOf self end }
         ensures only { IsOnlyEnd end → MatchResult result (λ c. Unit {0}) (λ e. ⊥) }
@@ -46,6 +48,7 @@ impl BatchQueue {
         ensures handle { IfErr result (λ e. (e.0 ≡ self) × IsSameEnd end e.1) }
     {
         let BatchEnd { seat } = end;
+        // One load suffices: if the number is 1, this is the only end, and no other end can step after the load.
         let last = match count::<_, _, _, _, Brand>(&self.table.shared, seat, ENDS) {
             Ok(last) => last,
             Err((seat, ends)) => {

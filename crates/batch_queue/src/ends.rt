@@ -27,8 +27,8 @@ pub struct BatchQueue {
 
 /// An end of a queue. It has no bytes.
 ///
-/// What it lists is true: each entry of its steps, and of the steps of all ends that it has seen, found the number that
-/// was in its word then, and found the queue as the step before it left it, lawful and shown by the words.
+/// Its list is true for its own steps and for the steps of all ends that it has seen. The step of each entry found the
+/// number that its word had then. It found the queue as the previous step left it, lawful and shown by the words.
 #[derive(Drop)]
 pub struct BatchEnd {
     pub(crate) seat: Seat<u64, View>,
@@ -42,9 +42,9 @@ pub struct BatchEnd {
 impl BatchQueue {
     ghost use Rattle.batch_queue.specs.Handles.{view_of, room_of, IsDivisible, IsEndOf, IsSameEnd, AreOfOneQueue};
 
-    /// An empty queue of so many places, and its only end.
+    /// An empty queue of `room` places, and its only end.
     ///
-    /// Condition: the number of places is a power of two, 2^24 at most.
+    /// Condition: the number of places is a power of two, at most 2^24.
     pub fn new(alloc: Global, room: usize) -> Result<(BatchQueue, BatchEnd), OutOfMemory>
         requires { (0 < room) × (room ≤ MOST_PLACES) × IsPowerOfTwo room }
         ensures { IfOk result (λ r. IsEndOf r.0 r.1 × (room_of r.0 ≡ room)
@@ -61,12 +61,12 @@ impl BatchQueue {
         Ok((BatchQueue { table, room }, BatchEnd { seat }))
     }
 
-    /// A new end, which has put and taken nothing. Both ends are to be joined again before the queue can be closed; an
-    /// end that is dropped can never be joined. Besides the step that counts it, the first word is loaded once, and
-    /// what is found there is not used.
+    /// A new end, which has put and taken nothing. Both ends must be joined again before the queue can be closed; an
+    /// end that is dropped can never be joined. Besides the step that counts the new end, the first word is loaded
+    /// once, and the number found there is not used.
     ///
-    /// Condition: the end has two parts or more of its queue's 2^64 - 1. The first end can be split two million
-    /// times without a join, and each of those ends 43 times in a chain.
+    /// Condition: the end has two or more of its queue's 2^64 - 1 parts. The first end can be split two million times
+    /// without a join, and each of those ends 43 times in a chain.
     pub fn split(&self, end: &mut BatchEnd) -> BatchEnd
         requires queue { IsEndOf self.now end.old }
         requires parts { IsDivisible end.old }
@@ -77,13 +77,14 @@ impl BatchQueue {
         ensures trace { Divided (view_of end.old) (view_of end.new) }
         ensures handle { IsSameEnd end.old end.new × AreOfOneQueue end.old result }
     {
+        // linearization point: the new end is counted, before it exists, so a close cannot miss it
         count_up(&self.table.shared, &mut end.seat, ENDS);
         let seat = split_off(&self.table.shared, &mut end.seat);
         BatchEnd { seat }
     }
 
-    /// The first end then has all that both had: what they put, what they took, and their parts of the queue. Besides
-    /// the step that counts one end less, the first word is loaded once, and what is found there is not used.
+    /// The first end then has all that both ends had: their puts, their takings, and their parts of the queue. Besides
+    /// the step that counts one end less, the first word is loaded once, and the number found there is not used.
     pub fn join(&self, end: &mut BatchEnd, other: BatchEnd)
         requires { IsEndOf self.now end.old × IsEndOf self.now other }
         ensures effect { (lines_put (view_of end.new) ≡ lines_put (view_of end.old) ++ lines_put (view_of other))
@@ -94,6 +95,7 @@ impl BatchQueue {
     {
         let BatchEnd { seat } = other;
         take_in::<_, _, _, _, _, Brand>(&self.table.shared, &mut end.seat, seat);
+        // linearization point: one end less is counted, after the other end was taken in
         count_down(&self.table.shared, &mut end.seat, ENDS);
     }
 }

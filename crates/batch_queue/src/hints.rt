@@ -1,4 +1,4 @@
-//! How many places a queue has, and a hint of how many items are in it.
+//! The number of places of a queue, and a hint of how many items are in the queue.
 ghost use Rattle.std.specs.Prelude.{◌≡◌};
 ghost use Rattle.batch_queue.specs.Hints.{LookedAround};
 ghost use Rattle.batch_queue.specs.Lines.{SameLines};
@@ -11,15 +11,15 @@ use crate::take::load_tail;
 impl BatchQueue {
     ghost use Rattle.batch_queue.specs.Handles.{view_of, room_of, IsEndOf, IsSameEnd};
 
-    /// How many places the queue has.
+    /// The number of places of the queue.
     pub fn room(&self) -> usize
         ensures { result ≡ room_of self.now }
     {
         self.room
     }
 
-    /// A hint of how many items are in the queue, published or not: how far the head that is found is past the tail
-    /// that was found before it. Both may have moved on when the call returns.
+    /// A hint of how many items are in the queue, published or not: the head minus the tail that was loaded before it.
+    /// Both may have moved on when the call returns.
     pub fn len(&self, end: &mut BatchEnd) -> u64
         requires { IsEndOf self.now end.old }
         ensures effect { SameLines (view_of end.old) (view_of end.new) }
@@ -27,6 +27,7 @@ impl BatchQueue {
         ensures handle { IsSameEnd end.old end.new }
     {
         let words = &self.table.shared;
+        // The tail is loaded first: the head never falls, so the head loaded after it is not below this tail.
         let tail = load_tail(words, &mut end.seat);
         let head = load_head(words, &mut end.seat);
         head % SHUT - tail

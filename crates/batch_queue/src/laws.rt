@@ -1,4 +1,4 @@
-//! What an end lists is true, and each change is an event of the core: statements over plain data.
+//! The list of an end is true, and each change is an event of the core: statements over plain data.
 
 ghost use Rattle.std.specs.Prelude.{◌≡◌, ◌≢◌, ◌+◌, ◌*◌, ◌-◌, ◌/◌, ◌%◌, ◌<◌, ◌≤◌, ◌⊎◌, ℕ, true, false, List, [], ◌∷◌};
 ghost use Rattle.std.specs.Prelude.{◌++◌, length, slice_set, Ok};
@@ -35,9 +35,9 @@ ghost use Rattle.batch_queue.specs.Placed.{positions_of, raised_run};
 ghost use Rattle.batch_queue.specs.Puts.{RefusedPut, RefusedSome};
 ghost use Rattle.batch_queue.specs.Takings.{RefusedTake};
 
-/// What an end lists is true: each entry that a call adds is a real step. It found a lawful queue that the words
-/// showed, and the number in its word, and made one event, or none. Real steps lead from what the end had seen to each
-/// of these entries, in their order, and the last of them left what the end sees then.
+/// The list of an end is true: each entry that a call adds is a real step. The step found a lawful queue that the words
+/// showed, and the number in its word, and made one event, or none. Real steps lead from the queue that the end had
+/// seen to each of these entries, in their order. The last of them left the queue that the end sees then.
 pub fn lists_are_true()
     ensures end { (end : BatchEnd) → ∥ IsHonest of_batches (view_of end) ∥₁ }
     ensures entries { (old : View) (new : BatchEnd) (entries : List (Step BatchState))
@@ -53,8 +53,8 @@ pub fn lists_are_true()
     ensures lawful { (e : Step BatchState) → IsReal of_batches e → Lawful e.next.object }
 {}
 
-/// The same of a join: real steps lead from what either end had seen to what the one sees then, and the entry of the
-/// step that counts one end less is real.
+/// The list of an end is true after a join: real steps lead from the queue that either end had seen to the queue that
+/// the joined end sees. The entry of the step that counts one end less is a real step.
 pub fn joins_are_true()
     ensures since { (old other new : BatchEnd) → TookIn (view_of old) (view_of other) (view_of new)
         → ∥ Reaches of_batches (view_of old).seen (view_of new).seen ∥₁
@@ -63,8 +63,9 @@ pub fn joins_are_true()
         → ∥ IsReal of_batches (count_down ends_word t.found) ∥₁ }
 {}
 
-/// What an end has seen: a queue with as many places as its own, which is shut for good, and which the views of all
-/// ends list, this end's among them. An end that has the whole lists it alone.
+/// An end sees a queue with as many places as its own queue has, at least one. If the queue was shut it stays shut, and
+/// its tail never falls. Some views list the queue, this end's view among them. An end with the whole share lists it
+/// alone.
 pub fn ends_list_queues()
     ensures room { (queue : BatchQueue) (end : BatchEnd) → IsEndOf queue end
         → ((view_of end).seen.object.room ≡ room_of queue) × (0 < room_of queue) }
@@ -81,9 +82,9 @@ pub fn ends_list_queues()
         → ∥ ViewsShow (positions_of (view_of end).seen.object) (part_of (view_of end) ∷ []) ∥₁ }
 {}
 
-/// What the number says that a step found: the number of ends, the head and the mark of a shut queue, the tail, the
-/// free position, or the mark of a place: so no step but one of an event changes a word. A mark of a position of the
-/// window says in both directions what is published and what is given back.
+/// The meaning of the number that a step found: the number of ends, the head and the shut mark, the tail, the free
+/// position, or the mark of a place. So the queue determines each of these words. A mark of a position of the window
+/// says, in both directions, what is published and what is given back.
 pub fn numbers_say()
     ensures ends { (found : ℕ) (m : Moment BatchState) → IsReal of_batches (load ends_word found m) → found ≡ m.ends }
     ensures head { (e : Step BatchState) → e.word ≡ head_word → IsReal of_batches e
@@ -114,9 +115,9 @@ pub fn numbers_say()
         → phase_at e.then.object p < 3 }
 {}
 
-/// Each change that an answer lists is the event of the core that its name says, for all views that list the queue as
-/// the step found it, if one of them is that of the end. A publication is a raise of each item of the batch, in their
-/// order, at one step. Giving places back, moving the window and parting a batch are no event.
+/// Each change that an answer lists is the event of the core with that name. This holds for all views that list the
+/// queue as the step found it, if one of them is the end's view. A publication is a raise of each item of the batch, in
+/// their order, at one step. Giving places back, moving the window and parting a batch are no event.
 pub fn changes_are_events()
     ensures claimed { (head : ℕ) (items : List ℕ) (m : Moment BatchState) (views : List QueueView) (seat : ℕ)
         (v w : QueueView) → IsReal of_batches (change head_word head m (with_batch m.object items)) → 0 < length items
@@ -166,10 +167,10 @@ pub fn changes_are_events()
         → IsEvent (positions_of m.object) (positions_of (with_shut m.object)) seat v w (λ c. Ok (shut c)) }
 {}
 
-/// Each change that an answer lists is the event of the core that its name says, whoever made the runs that the queue
-/// had then: for each history of the queue as the step found it, and there is one. The event leaves a history of the
-/// queue as the step left it. A publication raises each item of the batch, in their order, at one step, wherever the
-/// history has their places; if the batch is a run of the history, it is a raise of all of that run.
+/// Each change that an answer lists is the event of the core with that name, whichever ends made the runs: for each
+/// history of the queue as the step found it, and a history exists. The event leaves a history of the queue as the step
+/// left it. A publication raises each item of the batch, in their order, at one step, wherever the history has their
+/// places; if the batch is a run of the history, the publication is a raise of all of that run.
 pub fn changes_are_events_of_histories()
     ensures history { (e : Step BatchState) → IsReal of_batches e
         → (runs : List (Owned Batch)) × IsHistory (positions_of e.then.object) runs }
@@ -211,9 +212,9 @@ pub fn changes_are_events_of_histories()
         → IsEventOf (positions_of m.object) runs (λ c. Ok (shut c)) (positions_of (with_shut m.object)) runs }
 {}
 
-/// No head, tail or free position that a call has found is below one that the end had seen: a number that an entry
-/// found is no less than what the end had seen before the call, no less than what an earlier entry of the call found in
-/// the same word, and no more than what the end sees then.
+/// No head, tail or free position falls. A number that an entry of a call found is no less than what the end had seen
+/// before the call, and no more than what the end sees then. It is no less than the number that an earlier entry of the
+/// call found in the same word.
 pub fn never_below()
     ensures head { (old new : BatchEnd) (before after : List (Step BatchState)) (e : Step BatchState)
         → Adds (view_of old) (before ++ e ∷ after) (view_of new) → e.word ≡ head_word
@@ -236,8 +237,7 @@ pub fn never_below()
         → e.word ≡ free_word → f.word ≡ free_word → e.found ≤ f.found }
 {}
 
-/// If one end takes in another, nothing was owned by both: no position is in a batch of both, and none in a taking of
-/// both.
+/// If one end takes in another, no position is in a batch of both ends, and no position is in a taking of both.
 pub fn joins_are_apart()
     ensures runs { (old other new : BatchEnd) → TookIn (view_of old) (view_of other) (view_of new)
         → AreApart (view_of old).own.runs (view_of other).own.runs }
@@ -245,7 +245,7 @@ pub fn joins_are_apart()
         → AreApart (view_of old).own.takes (view_of other).own.takes }
 {}
 
-/// An end that has the whole is never answered Lost: between its steps, no other end makes one.
+/// A call of an end with the whole share never returns Lost: no other end steps between its steps.
 pub fn only_ends_are_never_lost()
     ensures put { (old new : BatchEnd) (room count head : ℕ) → IsOnlyEnd old
         → RefusedPut room (view_of old) count (not_put.Lost head) (view_of new) → ⊥ }
@@ -257,8 +257,8 @@ pub fn only_ends_are_never_lost()
         → RefusedTakeSome (room_of queue) (view_of old) most (not_taken.Lost tail) (view_of new) → ⊥ }
 {}
 
-/// The numbers of the layout: where the words are, how many words a queue has, how many places it can have, the number
-/// below which its positions are, and the mark of a shut queue.
+/// The numbers of the layout: where the words are, and how many words and places a queue can have. The bound of its
+/// positions, and the mark of a shut queue.
 ///
 /// A cache line has 8 words, and a processor fetches lines in pairs. The head, the tail, the free position and the
 /// first mark are 16 words apart, so they are in pairs of their own. Each of them begins a pair if the table's memory

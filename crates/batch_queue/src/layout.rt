@@ -1,9 +1,9 @@
-//! Where the words of a queue's table are: the head and the number of ends, then the tail, then the free position, and
-//! then a mark for each place of the queue. The place of a position is the position modulo the number of places, which
-//! is a power of two.
+//! The words of a queue's table: the head and the number of ends, then the tail, then the free position, and then a
+//! mark for each place of the queue. The place of a position is the position modulo the number of places, which is a
+//! power of two.
 //!
-//! The head, the tail, the free position and the marks are 16 words apart, so that no two of them are in one cache line
-//! or in a pair of lines that a processor fetches together. The words between them are never used: each stays 0.
+//! The head, the tail, the free position and the marks are 16 words apart. So no two of them are in one cache line, or
+//! in a pair of lines that a processor fetches together. The words between them are never used: each stays 0.
 ghost use Rattle.std.specs.Prelude.{◌≡◌, ◌%◌, ◌<◌, ◌≤◌};
 ghost use Rattle.batch_queue.specs.Layout.{IsPowerOfTwo, mark_word, width};
 ghost use Rattle.batch_queue.specs.declared.layout.TheConstants.{MOST_PLACES};
@@ -23,7 +23,7 @@ pub(crate) const FREE: usize = 32;
 /// The mark of the first place.
 pub(crate) const FIRST_MARK: usize = 48;
 
-/// A queue has at most so many places, 2^24.
+/// The greatest number of places of a queue, 2^24.
 pub const MOST_PLACES: usize = 16_777_216;
 
 /// No claim ends at this position or after it, 2^62.
@@ -32,7 +32,7 @@ pub(crate) const POSITIONS: u64 = 4_611_686_018_427_387_904;
 /// The mark of a shut queue in the head word: its top bit.
 pub(crate) const SHUT: u64 = 9_223_372_036_854_775_808;
 
-/// How many words a queue of so many places has.
+/// The number of words of a queue of `room` places.
 pub(crate) fn width(room: usize) -> usize
     requires { room ≤ MOST_PLACES }
     ensures { result ≡ width room }

@@ -53,7 +53,7 @@ impl LeftItems {
         closed
     }
 
-    /// How many items are left.
+    /// The number of items left.
     pub fn len(&self) -> usize
         ensures { result ≡ length (items_left self.now) }
     {

@@ -1,6 +1,5 @@
-//! A queue in which a batch of items is claimed by one exchange, published by one store, taken by one exchange, and
-//! given back by one store; the items are in plain memory. It has many producers and many consumers (Massalin 1992, the
-//! buffered queues; the bursts of DPDK's rings).
+//! A queue with many producers and many consumers. A batch of items is claimed by one compare-and-swap, published by
+//! one store, taken by one compare-and-swap, and given back by one store. The items are in plain memory.
 //!
 //! ```rust
 //! let Ok((queue, mut sender)) = BatchQueue::new(rt.alloc(), 256) else {
@@ -18,17 +17,18 @@
 //! assert!(rt; (closed.put, closed.taken, closed.left.len()) == (3, 3, 0));
 //! ```
 //!
-//! The number of places is chosen at run time, a power of two up to 2^24. An item is a `u64`. A position is a place of
-//! the queue from its beginning on, and is used once: no claim reaches 2^62. The numbers in an answer are positions.
+//! The number of places is chosen at run time, a power of two up to 2^24. An item is a `u64`. Items are numbered by
+//! positions, from the beginning of the queue on, and each position is used once: no claim reaches 2^62. The numbers in
+//! an answer are positions.
 //!
-//! A batch is taken whole, as it was put, unless an end takes by `try_take_some`, which may part a batch: it is then
-//! taken in pieces, side by side. Between any two steps all of its items are published or none. An end that stalls
-//! between its claim and its publication keeps all takers from what is claimed after it; one that stalls between its
-//! taking and its giving back keeps putters from these places, once the others are used up. An end that is dropped is
-//! never joined, so the queue can't be closed any more; all else goes on.
+//! A batch is taken whole, as it was put, unless an end takes by `try_take_some`, which may part a batch: the batch is
+//! then taken in pieces, side by side. Between any two steps all of its items are published, or none. If an end stalls
+//! between its claim and its publication, takers can't get past its items. If an end stalls between its taking and its
+//! giving back, producers can't use these places: once the other places are used up, puts are Full. An end that is
+//! dropped is never joined, so the queue can't be closed any more; everything else still works.
 //!
-//! `BatchRule`, `BatchState`, `EndRecord`, `HeldSlots`, `Shape` and `View` are for the proofs alone: they are in the
-//! contracts of what the ends list.
+//! `BatchRule`, `BatchState`, `EndRecord`, `HeldSlots`, `Shape` and `View` are for the proofs alone: the contracts
+//! about the lists of the ends use them.
 #![tactic(auto)]
 
 mod access;

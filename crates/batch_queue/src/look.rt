@@ -1,4 +1,5 @@
-//! A look at a queue, for whoever watches it: how much is in it, how much of that is published, and whether it is shut.
+//! A look at a queue, for monitoring: how many items are in the queue, how many of them are published, and whether the
+//! queue is shut.
 ghost use Rattle.std.specs.Prelude.{◌≡◌, ◌≤◌, ◌<◌};
 ghost use Rattle.table_theory.specs.Seating.{IsSame};
 ghost use Rattle.batch_queue.specs.Hints.{FoundUp, IsUpTo, Looked};
@@ -16,12 +17,13 @@ use crate::take::load_tail;
 use crate::walk::{PUBLISHED, leads_on, load_mark, walk};
 use atomic_table::Seat;
 
-/// What a look at a queue found. The positions were found one after the other, and may have moved on since.
+/// The positions that a look at a queue found. They were loaded one after the other, and may have moved on since.
 #[derive(Clone, Copy, Debug, PartialEq, Eq, Drop)]
 pub struct QueueLook {
     /// The position of the next item that is taken.
     pub tail: u64,
-    /// All items before this position are published. If it stays below the head, a put that claimed it hasn't ended.
+    /// All items before this position are published. If it stays below the head, a put that claimed this position
+    /// hasn't ended.
     pub published: u64,
     /// The position of the next item that is claimed.
     pub head: u64,
@@ -29,7 +31,7 @@ pub struct QueueLook {
     pub shut: bool,
 }
 
-// The tail, and the position up to which items are found published from it on.
+// Returns the tail, and the position up to which items from the tail on are found published.
 fn find_published(words: &Words, seat: &mut Seat<u64, View>, room: usize) -> (u64, u64)
     requires queue { IsSeated room words.now.table_id seat.old }
     ensures queue { IsSame seat.old seat.new × Stays seat.old.me.0 seat.new.me.0 }
@@ -38,6 +40,7 @@ fn find_published(words: &Words, seat: &mut Seat<u64, View>, room: usize) -> (u6
     ensures up { (result.0 ≤ result.1) × IsUpTo seat.new.me.0 result.0 result.1 }
     ensures trace { FoundUp room result.0 result.1 seat.old.me.0 seat.new.me.0 }
 {
+    // The tail is loaded first. Items that are published stay so, whether or not they are then taken.
     let tail = load_tail(words, seat);
     let most = tail + room as u64;
     let first = load_mark(words, seat, room, tail);
@@ -54,8 +57,8 @@ fn find_published(words: &Words, seat: &mut Seat<u64, View>, room: usize) -> (u6
 impl BatchQueue {
     ghost use Rattle.batch_queue.specs.Handles.{view_of, room_of, IsEndOf, IsSameEnd};
 
-    /// A look at the tail, at the marks of the batches that are published from there on, and then at the head. It makes
-    /// as many loads as there are such batches, and three more at most.
+    /// Loads the tail, the marks of the batches that are published from there on, and then the head. It makes at most
+    /// as many loads as there are such batches, and three more.
     pub fn look(&self, end: &mut BatchEnd) -> QueueLook
         requires { IsEndOf self.now end.old }
         ensures effect { SameLines (view_of end.old) (view_of end.new) }
@@ -66,6 +69,7 @@ impl BatchQueue {
     {
         let words = &self.table.shared;
         let (tail, published) = find_published(words, &mut end.seat, self.room);
+        // The head is loaded last: it never falls, so it is not below the positions found before.
         let head = load_head(words, &mut end.seat);
         QueueLook {
             tail,

@@ -1,4 +1,4 @@
-//! What each step says to its end. These types are for the proofs alone.
+//! The report of each step to its end. These types are for the proofs alone.
 ghost use Rattle.std.specs.Prelude.{ℕ, List, []};
 ghost use Rattle.batch_queue.specs.Steps.{finds, claims, releases, takes_tail, frees, shuts, parts};
 

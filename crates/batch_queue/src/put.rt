@@ -1,5 +1,5 @@
-//! Puts: an end claims positions by one exchange of the head, writes the items into their slots, and publishes all of
-//! them by one store.
+//! Puts: an end reserves positions by one compare-and-swap of the head, writes the items into their slots, and
+//! publishes all of them by one store.
 ghost use Rattle.std.specs.Prelude.{◌≡◌, ◌+◌, ◌<◌, ◌≤◌, ℕ, true, [], length, min, take, MatchResult, IfErr};
 ghost use Rattle.table_theory.specs.Seating.{IsSame};
 ghost use Rattle.batch_queue.specs.Answers.{WhyNotClaimed, WhyNotPut, WhyNotPutSome};
@@ -63,6 +63,7 @@ fn claim(
         (min (length items.now) room) least r) }
 {
     let most = items.len().min(room);
+    // linearization point of Closed and Spent. One load suffices: a shut queue stays shut, and the head never falls.
     let head = load_head(words, seat);
     if head >= SHUT {
         return Err(PutRefusal::Closed);
@@ -71,6 +72,9 @@ fn claim(
     if new >= POSITIONS {
         return Err(PutRefusal::Spent);
     }
+    // linearization point of Full: the last load of a mark in this look. The place of `free` was not given back then,
+    // and the head was at least this one. Room that is found remains while the head is unchanged: the free position
+    // never falls.
     let look = look_free(words, seat, room, new);
     let end = new.min(look.free + room as u64);
     if end < head + least as u64 {
@@ -81,6 +85,8 @@ fn claim(
         return Err(PutRefusal::Full { head, free });
     }
     let count = (end - head) as usize;
+    // linearization point: the positions are reserved, with their slots, if the head is unchanged. No position is used
+    // again, so an equal head means that no claim came in between.
     let found = exchange_head::<Brand>(words, seat, head, end, &items[..count]);
     if found == head {
         return Ok((head, count));
@@ -91,7 +97,7 @@ fn claim(
     Err(PutRefusal::Lost { head: found })
 }
 
-// Another end was first.
+// Another end claimed first, or moved the free position.
 fn was_lost(answer: &Result<u64, PutRefusal>) -> bool
     ensures { result ≡ is_lost answer.now }
 {
@@ -101,10 +107,10 @@ fn was_lost(answer: &Result<u64, PutRefusal>) -> bool
 impl BatchQueue {
     ghost use Rattle.batch_queue.specs.Handles.{view_of, room_of, IsEndOf, IsSameEnd};
 
-    /// One try to put the items as one batch: all of them or none. Returns the position of the first. The refusals are
-    /// checked in the order in which `PutRefusal` lists them.
+    /// One try to put the items as one batch: all of them or none. Returns the position of the first item. The refusals
+    /// are checked in the order in which `PutRefusal` lists them.
     ///
-    /// The items can be taken once the call has published them: all at the same step.
+    /// The items can be taken after the call has published them, all at one step.
     pub fn try_put(&self, end: &mut BatchEnd, items: &[u64]) -> Result<u64, PutRefusal>
         requires { IsEndOf self.now end.old }
         ensures effect { MatchResult result (λ start. PutLine items.now (view_of end.old) (view_of end.new))
@@ -128,13 +134,15 @@ impl BatchQueue {
             return Err(PutRefusal::TooLong);
         }
         let (start, _) = claim(words, &mut end.seat, room, items, count)?;
+        // Plain writes suffice: only this end holds the slots until it publishes them.
         write_items(words, &mut end.seat, room, start, items);
+        // linearization point: all items of the batch are published, by one store after their writes
         publish(words, &mut end.seat, room, start, items);
         Ok(start)
     }
 
-    /// One try to put the longest front of the items for which there is room, as one batch. Returns the position of the
-    /// first, and the number of items. It is never TooLong, and Full only if there is no room for one.
+    /// One try to put as many of the first items as there is room for, as one batch. Returns the position of the first
+    /// item, and the number of items. It never returns TooLong, and returns Full only if there is no room for one item.
     pub fn try_put_some(
         &self,
         end: &mut BatchEnd,
@@ -159,13 +167,15 @@ impl BatchQueue {
         let (words, room) = (&self.table.shared, self.room);
         let (start, count) = claim(words, &mut end.seat, room, items, 1)?;
         let front = &items[..count];
+        // Plain writes suffice: only this end holds the slots until it publishes them.
         write_items(words, &mut end.seat, room, start, front);
+        // linearization point: all items of the batch are published, by one store after their writes
         publish(words, &mut end.seat, room, start, front);
         Ok((start, count))
     }
 
-    /// `try_put`, tried again for as long as other ends are first. It gives up on every other refusal, so it answers
-    /// Full if takers are slow, and never Lost.
+    /// Retries `try_put` while it returns Lost. It returns every other refusal, so it returns Full if takers are slow,
+    /// and never Lost.
     pub fn put<R: Wait>(&self, rt: &R, end: &mut BatchEnd, items: &[u64]) -> Result<u64, PutRefusal>
         requires { IsEndOf self.now end.old }
         ensures effect { MatchResult result (λ start. PutLine items.now (view_of end.old) (view_of end.new))

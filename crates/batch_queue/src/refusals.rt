@@ -10,20 +10,20 @@ pub enum PutRefusal {
     /// There are more items than places. No step was made.
     #[error("more items than places")]
     TooLong,
-    /// The queue is shut: the head that was loaded, or the one that the exchange found, has the shut mark.
+    /// The queue is shut: the head that was loaded, or the head that the compare-and-swap found, has the shut mark.
     #[error("the queue is shut")]
     Closed,
     /// The items would reach the position 2^62, which no claim reaches. At a billion items a second that takes 146
     /// years.
     #[error("no positions left")]
     Spent,
-    /// There was no room for so many: this head and the number of items exceed `free` and the number of places. At one
-    /// moment of the call the places of all positions before `free` were given back, and that of `free` was not.
+    /// There was no room for so many items: `head` plus their number exceeds `free` plus the number of places. At one
+    /// moment of the call the places of all positions before `free` were given back, and the place of `free` was not.
     #[error("full at head {head}, free {free}")]
     Full { head: u64, free: u64 },
-    /// Another end was first. Either it claimed, and `head` is the head that the exchange found, past the one that was
-    /// loaded; or it moved the free position during the call, still not far enough, and `head` is the head that was
-    /// loaded.
+    /// Another end was first. Either it claimed, and `head` is the head that the compare-and-swap found, past the one
+    /// that was loaded. Or it moved the free position during the call, still not far enough, and `head` is the head
+    /// that was loaded.
     #[error("lost, head {head}")]
     Lost { head: u64 },
 }
@@ -37,8 +37,8 @@ pub enum TakeRefusal {
     /// The batch at the tail, which is this position, or what is left of it, has `count` items, more than the buffer.
     #[error("a batch of {count} at {at}")]
     ShortBuffer { at: u64, count: u64 },
-    /// Another end took first: this is the tail that was found, past the one that was loaded. A taking of some items is
-    /// lost too if the mark at which it parts a batch was changed meanwhile; this is then the tail that was found last.
+    /// Another end took first: `tail` was found, past the tail that was loaded. A taking of some items is also lost if
+    /// the mark at which it parts a batch was changed meanwhile; then `tail` is the tail that was found last.
     #[error("lost, tail {tail}")]
     Lost { tail: u64 },
     /// The queue is shut, and all that was put is taken.

@@ -1,10 +1,10 @@
-//! The rule of the table. Its types are for the proofs alone: no program makes a value of them but the queue itself.
+//! The rule of the table. Its types are for the proofs alone: no program except the queue makes a value of them.
 use atomic_table::TableRule;
 use std::collections::LinkedList;
 use table_theory::queues::Batch;
 use table_theory::views::Ledger;
 
-/// What the rule is given when the table is made.
+/// The parameters of the rule, given when the table is made.
 #[derive(Drop)]
 pub struct Shape {
     pub room: u64,
@@ -17,8 +17,8 @@ pub struct HeldSlots {
     pub count: u64,
 }
 
-/// What an end did: its runs, each claimed or published, what it took, how often it shut the queue where it was open,
-/// how often it parted a batch, and which slots it holds. Proofs alone speak of it.
+/// The record of what an end did: its runs, each claimed or published, its takings, how often it shut the queue when
+/// the queue was open, how often it parted a batch, and which slots it holds. Only proofs use it.
 pub struct EndRecord {
     pub runs: LinkedList<Batch>,
     pub takes: LinkedList<Batch>,
@@ -27,10 +27,11 @@ pub struct EndRecord {
     pub held: HeldSlots,
 }
 
-/// A queue: its batches in the order of their claims, its takings in their order, the phase of each position, the
-/// position of the next item that is taken, the position that the window begins at, whether it is shut, the positions
-/// at which batches were parted, so that a taking may end there, and the mark of each place. A position's phase is 0
-/// from its claim on, 1 once it is published, 2 once it is taken, and 3 once its place is given back.
+/// A queue: its batches in the order of their claims, its takings in their order, and the phase of each position. The
+/// position of the next item that is taken, the first position of the window, and whether the queue is shut. The
+/// positions at which batches were parted, so that a taking may end there, and the mark of each place. The phase of a
+/// position is 0 from its claim on, 1 from its publication on, 2 from its taking on, and 3 after its place is given
+/// back.
 pub struct BatchState {
     pub room: u64,
     pub batches: LinkedList<LinkedList<u64>>,
@@ -43,7 +44,7 @@ pub struct BatchState {
     pub marks: LinkedList<u64>,
 }
 
-/// What an end knows: what it did, its steps, and all ends' steps up to its own last one.
+/// The view of an end: what it did, its steps, and all ends' steps up to its own last step.
 pub type View = Ledger<EndRecord, BatchState>;
 
 pub struct BatchRule;

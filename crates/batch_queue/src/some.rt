@@ -1,5 +1,6 @@
-//! Takings of so many items: where the last batch is longer than that, its mark is written anew at the first position
-//! that is left, before the tail is exchanged, so no published item is ever out of a taker's reach.
+//! Takings of up to a given number of items. If the last batch is too long, its mark is written again at the first
+//! position that will be left, before the compare-and-swap of the tail. So takers can reach each published item at any
+//! time.
 ghost use Rattle.std.specs.Prelude.{◌≡◌, ◌⊎◌, ◌+◌, ◌/◌, ◌<◌, ◌≤◌, ℕ, List, [], length, take};
 ghost use Rattle.std.specs.Prelude.{MatchResult, IfErr, IsTrue, IsFalse};
 ghost use Rattle.table_theory.specs.Seating.{IsSame};
@@ -26,8 +27,8 @@ use crate::walk::{PUBLISHED, leads_on, load_mark, walk};
 use atomic_table::Seat;
 use std::marker::Brand;
 
-// Parts the batch that ends at `end`, at this position, if it is not parted there. Returns whether a taking can end
-// there by what was found; if not, another end has changed the mark.
+// Parts the batch that ends at `end`, at this position, if it is not parted there. Returns true if a taking can end
+// there, by what was found; if not, another end has changed the mark.
 fn part(words: &Words, seat: &mut Seat<u64, View>, room: usize, position: u64, end: u64) -> bool
     requires queue { IsSeated room words.now.table_id seat.old }
     requires ruled { ∥ IsRuled seat.old.me.0 ∥₁ }
@@ -42,6 +43,7 @@ fn part(words: &Words, seat: &mut Seat<u64, View>, room: usize, position: u64, e
         → (position < seat.new.me.0.seen.object.taken) ⊎ MarkChanged seat.old.me.0 seat.new.me.0 }
     ensures trace { PartedLook room position end result seat.old.me.0 seat.new.me.0 }
 {
+    // A mark that leads on: the batch was already parted here, or the tail has passed.
     let mark = load_mark(words, seat, room, position);
     if leads_on(PUBLISHED, position, mark) {
         return true;
@@ -49,6 +51,7 @@ fn part(words: &Words, seat: &mut Seat<u64, View>, room: usize, position: u64, e
     if mark / 2 > position {
         return false;
     }
+    // linearization point: the batch is parted here, if the mark is unchanged
     let found = exchange_mark::<Brand>(words, seat, room, position, mark, end);
     if found == mark {
         return true;
@@ -80,19 +83,21 @@ fn stop_within(
     ensures trace { MatchResult result (λ to. StoppedWithin room tail last end seat.old.me.0 seat.new.me.0)
         (λ r. (now : ℕ) × (r ≡ refusals.Lost now) × LostWithin room tail last now seat.old.me.0 seat.new.me.0) }
 {
+    // If the tail is unchanged, the marks that were followed were true of the first items left: a batch ends at `end`.
     let now = load_tail(words, seat);
     if now != tail {
         return Err(TakeRefusal::Lost { tail: now });
     }
     if !part(words, seat, room, last, end) {
+        // Another end has changed the mark: this load is only for the answer.
         let now = load_tail(words, seat);
         return Err(TakeRefusal::Lost { tail: now });
     }
     Ok(last)
 }
 
-// Where a taking of up to `most` items ends that begins at the tail, whose mark led on. If that is within a batch, the
-// batch is parted there.
+// The position at which a taking of up to `most` items from this tail ends; the mark of the tail led on. If the
+// position is within a batch, the batch is parted there.
 fn find_stop(
     words: &Words,
     seat: &mut Seat<u64, View>,
@@ -118,10 +123,13 @@ fn find_stop(
     if first / 2 > last {
         return stop_within(words, seat, room, tail, tail, first / 2, last);
     }
+    // One load of each mark suffices: items that are published stay published until they are taken.
     let at = walk(words, seat, room, tail, first / 2, last, PUBLISHED);
     if at == last {
         return Ok(at);
     }
+    // The mark at which the walk stopped is loaded again: nothing is published there, or its batch is too long, or the
+    // batch was published meanwhile.
     let mark = load_mark(words, seat, room, at);
     if !leads_on(PUBLISHED, at, mark) {
         return Ok(at);
@@ -150,7 +158,10 @@ fn take_some(
     ensures refused { IfErr result (λ r. RefusedSomeBy (λ parts entries. Made seat.old.me.0 entries
         (with_parts seat.old.me.0.own parts) seat.new.me.0) room most r) }
 {
+    // The tail never falls, and no position is used again: if the compare-and-swap finds this tail, nothing was taken
+    // in between.
     let tail = load_tail(words, seat);
+    // linearization point of Empty, if the tail is then found unchanged
     let first = load_mark(words, seat, room, tail);
     if !leads_on(PUBLISHED, tail, first) {
         return Err(why_none(words, seat, tail));
@@ -160,6 +171,7 @@ fn take_some(
         Ok(new) => new,
         Err(refusal) => return Err(refusal),
     };
+    // linearization point: the items are taken together, with their slots, if the tail is unchanged
     let found = exchange_tail(words, seat, tail, new);
     if found != tail {
         return Err(TakeRefusal::Lost { tail: found });
@@ -170,13 +182,13 @@ fn take_some(
 impl BatchQueue {
     ghost use Rattle.batch_queue.specs.Handles.{view_of, room_of, IsEndOf, IsSameEnd};
 
-    /// One try to take up to so many items as the buffer has room for: those of the batches that are published side by
-    /// side at the tail. The last batch is parted if it does not fit; its other items stay published, and the next
-    /// taking begins with them. The items are then the first of the buffer, in order. Returns the number of items. It
-    /// answers ShortBuffer only if the buffer has no room at all.
+    /// One try to take as many items as the buffer has room for, of the batches that are published side by side at the
+    /// tail. If the last batch does not fit, it is parted: its other items stay published, and the next taking begins
+    /// with them. The items taken are then the first items of the buffer, in order. Returns the number of items. It
+    /// returns ShortBuffer only if the buffer has no room at all.
     ///
-    /// Where no end calls this, each batch is taken whole. Where one does, a batch may be taken in several pieces, side
-    /// by side and in order.
+    /// If no end calls this, each batch is taken whole. Otherwise a batch may be taken in several pieces, side by side
+    /// and in order.
     pub fn try_take_some(&self, end: &mut BatchEnd, items: &mut [u64]) -> Result<usize, TakeRefusal>
         requires { IsEndOf self.now end.old }
         ensures effect { MatchResult result
@@ -194,7 +206,9 @@ impl BatchQueue {
         }
         let (words, room) = (&self.table.shared, self.room);
         let (start, count) = take_some(words, &mut end.seat, room, items.len())?;
+        // Plain reads suffice: only this end holds the slots until it gives them back.
         read_items(words, &mut end.seat, room, start, count, items);
+        // linearization point: the places are given back, by one store after the reads
         give_back(words, &mut end.seat, room, start, count);
         Ok(count)
     }

@@ -1,4 +1,5 @@
-//! The atomic steps: the loads, the three exchanges, and the store that publishes a run or gives a taking back.
+//! The atomic steps: the loads, the compare-and-swaps, the fetch-or, and the store that publishes a run or gives a
+//! taking back.
 ghost use Rattle.std.specs.Prelude.{◌≡◌, ◌≢◌, ◌+◌, ◌/◌, ◌<◌, ◌≤◌, ℕ, List, [], length};
 ghost use Rattle.table_theory.specs.Seating.{IsSame};
 ghost use Rattle.batch_queue.specs.declared.layout.TheConstants.{FIRST_MARK, POSITIONS};
@@ -48,7 +49,7 @@ pub(crate) fn exchange_head<J: ClaimItems>(
     words.compare_exchange::<Claims<J>>(seat, HEAD, head, new)
 }
 
-/// Publishes the items of the end's run, and gives their slots home: by one store.
+/// Publishes the items of the end's run, and gives their slots back to the table: by one store.
 pub(crate) fn publish(
     words: &Words,
     seat: &mut Seat<u64, View>,
@@ -67,8 +68,8 @@ pub(crate) fn publish(
     words.store::<Releases>(seat, mark_word(room, start), 2 * end);
 }
 
-/// Takes the positions from the tail up to where all was found published, and a batch ends or was parted, and their
-/// slots.
+/// Takes the positions from the tail up to `new`, and their slots: all of them were found published, and at `new` a
+/// batch ends or was parted.
 pub(crate) fn exchange_tail(words: &Words, seat: &mut Seat<u64, View>, tail: u64, new: u64) -> u64
     requires queue { (seat.old.table_id ≡ words.now.table_id) × (FIRST_MARK ≤ words.now.table_id.words) }
     requires live { 1 ≤ seat.old.me.0.member.ends }
@@ -82,8 +83,8 @@ pub(crate) fn exchange_tail(words: &Words, seat: &mut Seat<u64, View>, tail: u64
     words.compare_exchange::<Takes>(seat, TAIL, tail, new)
 }
 
-/// Parts the batch that ends at `end`, at this position, if its mark is still the one that was found, which says
-/// nothing of the position. A taking may end there then, and another begin.
+/// Parts the batch that ends at `end`, at this position, if the mark is still the mark that was found. That mark says
+/// nothing of the position. After the step a taking may end there, and another may begin.
 pub(crate) fn exchange_mark<J: PartPosition>(
     words: &Words,
     seat: &mut Seat<u64, View>,

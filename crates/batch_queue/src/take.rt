@@ -1,5 +1,5 @@
-//! Takings: an end follows the marks of published batches from the tail on, takes all of them by one exchange of the
-//! tail, reads their items, and gives their places back by one store.
+//! Takings: an end follows the marks of published batches from the tail on, and takes all of them by one
+//! compare-and-swap of the tail. Then it reads their items, and gives their places back by one store.
 ghost use Rattle.std.specs.Prelude.{◌≡◌, ◌+◌, ◌<◌, ◌≤◌, ℕ, List, [], length, take, MatchResult, IfErr, IfOk};
 ghost use Rattle.table_theory.specs.Seating.{IsSame};
 ghost use Rattle.batch_queue.specs.Answers.{WhyNotTaken};
@@ -35,7 +35,7 @@ pub(crate) fn load_tail(words: &Words, seat: &mut Seat<u64, View>) -> u64
     load(words, seat, TAIL)
 }
 
-// Why nothing is taken at this tail, whose mark said nothing of a batch.
+// Why nothing is taken at this tail: its mark showed no published batch.
 pub(crate) fn why_none(words: &Words, seat: &mut Seat<u64, View>, tail: u64) -> TakeRefusal
     requires queue { (seat.old.table_id ≡ words.now.table_id) × (FIRST_MARK ≤ words.now.table_id.words) }
     requires live { 1 ≤ seat.old.me.0.member.ends }
@@ -44,10 +44,13 @@ pub(crate) fn why_none(words: &Words, seat: &mut Seat<u64, View>, tail: u64) -> 
     ensures slots { seat.new.me.1 ≡ seat.old.me.1 }
     ensures why { IsNone tail seat.old.me.0 result seat.new.me.0 }
 {
+    // linearization point of Closed: the queue's tail is at least `tail` and at most the head. If they are equal,
+    // nothing is left, and a shut queue stays shut.
     let head = load_head(words, seat);
     if head == SHUT + tail {
         return TakeRefusal::Closed;
     }
+    // Empty is exact: the tail never falls. If it is the same again, it was the same when the mark was loaded.
     let now = load_tail(words, seat);
     if now != tail {
         return TakeRefusal::Lost { tail: now };
@@ -55,7 +58,7 @@ pub(crate) fn why_none(words: &Words, seat: &mut Seat<u64, View>, tail: u64) -> 
     TakeRefusal::Empty { at: tail }
 }
 
-// Why nothing is taken at this tail, whose mark said that a batch of `count` items is there.
+// Why nothing is taken at this tail: its mark showed a batch of `count` items, too many for the buffer or the queue.
 fn why_short(words: &Words, seat: &mut Seat<u64, View>, tail: u64, count: u64) -> TakeRefusal
     requires queue { (seat.old.table_id ≡ words.now.table_id) × (FIRST_MARK ≤ words.now.table_id.words) }
     requires live { 1 ≤ seat.old.me.0.member.ends }
@@ -63,6 +66,7 @@ fn why_short(words: &Words, seat: &mut Seat<u64, View>, tail: u64, count: u64) -
     ensures slots { seat.new.me.1 ≡ seat.old.me.1 }
     ensures why { IsShort tail count seat.old.me.0 result seat.new.me.0 }
 {
+    // ShortBuffer is exact: the tail never falls. If it is the same again, it was the same when the mark was loaded.
     let now = load_tail(words, seat);
     if now != tail {
         return TakeRefusal::Lost { tail: now };
@@ -86,7 +90,10 @@ fn take_batches(
     ensures error { IfErr result (λ r. WhyNotTaken seat.old.me.0 most r seat.new.me.0) }
     ensures refused { IfErr result (λ r. RefusedTake room seat.old.me.0 most r seat.new.me.0) }
 {
+    // The tail never falls, and no position is used again: if the compare-and-swap finds this tail, nothing was taken
+    // in between.
     let tail = load_tail(words, seat);
+    // linearization point of Empty and ShortBuffer, if the tail is then found unchanged
     let first = load_mark(words, seat, room, tail);
     if !leads_on(PUBLISHED, tail, first) {
         return Err(why_none(words, seat, tail));
@@ -96,7 +103,10 @@ fn take_batches(
     if count > most {
         return Err(why_short(words, seat, tail, count));
     }
+    // One load of each mark suffices: items that are published stay published until they are taken, and then the
+    // compare-and-swap fails.
     let new = walk(words, seat, room, tail, first / 2, tail + most, PUBLISHED);
+    // linearization point: the batches are taken together, with their slots, if the tail is unchanged
     let found = exchange_tail(words, seat, tail, new);
     if found != tail {
         return Err(TakeRefusal::Lost { tail: found });
@@ -104,7 +114,7 @@ fn take_batches(
     Ok((tail, (new - tail) as usize))
 }
 
-// A taking that waits tries again after this answer.
+// A taking that waits retries after this answer.
 fn must_wait(answer: &Result<usize, TakeRefusal>) -> bool
     ensures { result ≡ must_wait answer.now }
 {
@@ -118,8 +128,8 @@ impl BatchQueue {
     ghost use Rattle.batch_queue.specs.Handles.{view_of, room_of, IsEndOf, IsSameEnd};
 
     /// One try to take batches: as many whole batches as are published side by side at the tail and fit the buffer. If
-    /// the batch at the tail was parted by `try_take_some`, the first of them is what is left of it. Their items are
-    /// then the first of the buffer, in order. Returns the number of items.
+    /// `try_take_some` parted the batch at the tail, the first of them is the rest of that batch. Their items are then
+    /// the first items of the buffer, in order. Returns the number of items.
     // In line, the answer stays in registers.
     #[inline(always)]
     pub fn try_take(&self, end: &mut BatchEnd, items: &mut [u64]) -> Result<usize, TakeRefusal>
@@ -136,13 +146,15 @@ impl BatchQueue {
     {
         let (words, room) = (&self.table.shared, self.room);
         let (start, count) = take_batches(words, &mut end.seat, room, items.len())?;
+        // Plain reads suffice: only this end holds the slots until it gives them back.
         read_items(words, &mut end.seat, room, start, count, items);
+        // linearization point: the places are given back, by one store after the reads
         give_back(words, &mut end.seat, room, start, count);
         Ok(count)
     }
 
-    /// `try_take`, tried again while nothing is published at the tail, and while other ends are first: it waits for a
-    /// batch. It answers Closed once the queue is shut and empty.
+    /// Retries `try_take` while nothing is published at the tail, and while other ends take first: it waits for a
+    /// batch. It returns Closed if the queue is shut and empty.
     pub fn take<R: Wait>(
         &self,
         rt: &R,

@@ -1,4 +1,4 @@
-//! Walks along the marks, and the free position, which a walk helps on.
+//! Walks along the marks, and the free position, which a walk moves on.
 ghost use Rattle.std.specs.Prelude.{◌≡◌, ◌≢◌, ◌+◌, ◌<◌, ◌≤◌, IsFalse, IsTrue, MatchBool};
 ghost use Rattle.table_theory.specs.Seating.{IsSame};
 ghost use Rattle.batch_queue.specs.declared.layout.TheConstants.{FIRST_MARK, POSITIONS};
@@ -34,7 +34,7 @@ pub(crate) fn load_mark(
     load(words, seat, mark_word(room, position))
 }
 
-/// The mark of this position leads on, to its half.
+/// Returns true if the mark of this position leads on, to its half.
 pub(crate) fn leads_on(parity: u64, position: u64, mark: u64) -> bool
     ensures { MatchBool result (LeadsOn parity position mark) (LeadsOn parity position mark → ⊥) }
 {
@@ -43,7 +43,7 @@ pub(crate) fn leads_on(parity: u64, position: u64, mark: u64) -> bool
 
 /// Follows marks of this parity from `from` on, no further than to `most`. Returns the position to which they lead.
 ///
-/// Condition: by what the end has found, all from `base` to `from` is published, or all is given back.
+/// Condition: by what the end has found, all positions from `base` to `from` are published, or all are given back.
 pub(crate) fn walk(
     words: &Words,
     seat: &mut Seat<u64, View>,
@@ -70,6 +70,8 @@ pub(crate) fn walk(
 {
     let mut at = from;
     while at < most {
+        // One load suffices: what a mark shows stays true, as phases only rise. It is the mark of `at`, unless the tail
+        // (or the free position) has passed `base`.
         let mark = load_mark(words, seat, room, at);
         if !leads_on(parity, at, mark) || mark / 2 > most {
             return at;
@@ -79,7 +81,7 @@ pub(crate) fn walk(
     at
 }
 
-/// How far places are given back, by a look at the free position.
+/// The result of a look at the free position: how far places are given back.
 #[derive(Clone, Copy, Drop)]
 pub(crate) struct FreeLook {
     /// The places of the positions before this one are given back.
@@ -99,7 +101,7 @@ pub(crate) fn load_free(words: &Words, seat: &mut Seat<u64, View>) -> u64
     load(words, seat, FREE)
 }
 
-// Moves the free position from `free` to `to`, if that is further on. Returns the free position that was found.
+// Moves the free position from `free` to `to`, if `to` is further on. Returns the free position that was found.
 fn move_free(words: &Words, seat: &mut Seat<u64, View>, free: u64, to: u64) -> u64
     requires queue { (seat.old.table_id ≡ words.now.table_id) × (FIRST_MARK ≤ words.now.table_id.words) }
     requires live { 1 ≤ seat.old.me.0.member.ends }
@@ -114,12 +116,14 @@ fn move_free(words: &Words, seat: &mut Seat<u64, View>, free: u64, to: u64) -> u
     ensures trace { Helped free to result seat.old.me.0 seat.new.me.0 }
 {
     if to == free {
+        // Nothing more is given back. If this load finds `free` again, the free position was unchanged during the walk.
         return load_free(words, seat);
     }
+    // linearization point: the free position moves on, if it is unchanged
     exchange_free(words, seat, free, to)
 }
 
-/// Helps the free position on over places that are given back.
+/// Moves the free position on over places that are given back.
 fn help(words: &Words, seat: &mut Seat<u64, View>, room: usize, free: u64) -> FreeLook
     requires queue { IsSeated room words.now.table_id seat.old }
     requires ruled { ∥ IsRuled seat.old.me.0 ∥₁ }
@@ -156,8 +160,8 @@ fn help(words: &Words, seat: &mut Seat<u64, View>, room: usize, free: u64) -> Fr
     }
 }
 
-/// Looks up how far places are given back, and helps the free position on if that is not enough for a claim up to
-/// `new`.
+/// Loads the free position. If there is not enough room for a claim up to `new`, moves it on over places that are given
+/// back.
 pub(crate) fn look_free(
     words: &Words,
     seat: &mut Seat<u64, View>,
@@ -175,6 +179,7 @@ pub(crate) fn look_free(
     ensures passed { IsTrue result.moved → Changed seat.old.me.0 seat.new.me.0 (λ o later. o.freed < later.freed) }
     ensures trace { LookedFree room new result.free result.moved seat.old.me.0 seat.new.me.0 }
 {
+    // One load suffices: the free position never falls, so the room that it shows is really there.
     let free = load_free(words, seat);
     if new <= free + room as u64 {
         return FreeLook { free, moved: false };

@@ -1,4 +1,4 @@
-//! Lists of calls at a queue with their answers, and what makes these calls.
+//! Lists of calls at a queue with their answers, and the functions that make these calls.
 ghost use Rattle.batch_queue.specs.Handles.{IsEndOf};
 
 use crate::fixtures::{Room, close_queue, new_queue};
@@ -7,17 +7,17 @@ use std::alloc::Global;
 use std::process::Abort;
 use std::sync::Wait;
 
-/// What is in a buffer before a taking. It is no item of a script.
+/// The content of a buffer before a taking. It is no item of a script.
 const NOTHING: u64 = 9_999;
 
-/// A call at a queue, and its answer. A taking has a buffer of so many items. Its answer has the items that are taken.
+/// A call at a queue, and its answer. A taking has the size of its buffer. Its answer has the items that are taken.
 pub(crate) enum Act {
     Put(&'static [u64], Result<u64, PutRefusal>),
-    /// The put that tries again when the head is lost.
+    /// The put that retries when it is lost.
     PutAgain(&'static [u64], Result<u64, PutRefusal>),
     PutSome(&'static [u64], Result<(u64, usize), PutRefusal>),
     Take(usize, Result<&'static [u64], TakeRefusal>),
-    /// The taking of so many items, which may part a batch.
+    /// The taking of up to this number of items, which may part a batch.
     TakeSome(usize, Result<&'static [u64], TakeRefusal>),
     /// The taking that waits.
     TakeAgain(usize, Result<&'static [u64], TakeRefusal>),

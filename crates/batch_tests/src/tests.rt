@@ -69,10 +69,10 @@ fn parts_in_eight_places(rt: HostRuntime) {
     plays_all(&rt, rt.alloc(), PARTS_OF_8);
 }
 
-/// What an end does before it is dropped.
+/// The calls of an end before it is dropped.
 const PUT_AND_TAKEN: [Act; 2] = [Act::PutSome(&[7, 8], Ok((0, 2))), Act::Take(2, Ok(&[7, 8]))];
 
-/// What another end does then.
+/// The calls of another end after that.
 const PUT_AND_TAKEN_AGAIN: [Act; 4] = [
     Act::Len(0),
     Act::PutSome(&[1, 2, 3, 4, 5], Ok((2, 4))),

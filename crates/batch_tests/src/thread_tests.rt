@@ -17,7 +17,7 @@ use std::thread::Threads;
 /// The longest batch of a producer, and the most that a taker takes at once.
 const MOST: usize = 1_024;
 
-/// What an item has in it: its producer, 0 or 1, its number among the items of that producer, and how many items of its
+/// The content of an item: its producer, 0 or 1, its number among the items of that producer, and how many items of its
 /// batch are before it and after it.
 #[derive(Clone, Copy, Drop)]
 struct Mark {
@@ -53,7 +53,7 @@ impl Mark {
     }
 }
 
-/// Random numbers (xorshift, Marsaglia 2003).
+/// Random numbers (xorshift).
 #[derive(Drop)]
 struct Random {
     state: u64,
@@ -71,14 +71,14 @@ impl Random {
     }
 }
 
-/// So many times a wait of `Backoff` spins before it gives the processor to others.
+/// The number of times that a wait of `Backoff` spins before it gives the processor to others.
 const SPINS: u32 = 7;
 
-/// So many times a producer gives the processor to others. Then it puts no more: on a busy machine each time costs the
-/// time slices of all others, so this bounds the time of a test.
+/// The number of times that a producer gives the processor to others. Then it puts no more: on a busy machine each time
+/// costs the time slices of all others, so this bounds the time of a test.
 const PATIENCE: u32 = 200;
 
-/// What a producer has to put: so many items, in batches of up to `most`.
+/// The work of a producer: how many items it has to put, in batches of up to `most`.
 #[derive(Clone, Copy, Drop)]
 struct Work {
     producer: u64,
@@ -86,8 +86,8 @@ struct Work {
     most: u64,
 }
 
-/// What a producer put: how many items, their sum, how often it may still give the processor to others, and whether no
-/// put was refused except for Full and Lost.
+/// The result of a producer: how many items it put, their sum, how often it may still give the processor to others, and
+/// whether no put was refused except for Full and Lost.
 #[derive(Drop)]
 struct Put {
     items: u64,
@@ -96,8 +96,8 @@ struct Put {
     is_right: bool,
 }
 
-/// What a taker got: how often each item came, their sum, and whether each came in the order of its producer, and, if
-/// no batch is parted, with its whole batch.
+/// The result of a taker: how often each item came, their sum, and whether each item came in the order of its producer,
+/// and, if no batch is parted, with its whole batch.
 #[derive(Drop)]
 struct Had {
     times: Vec<u8>,
@@ -131,7 +131,8 @@ impl Put {
         }
     }
 
-    /// Waits for room, after so many waits for the same. Returns false if the producer has waited long enough.
+    /// Waits for room, after this number of waits for the same room. Returns false if the producer has waited long
+    /// enough.
     fn waits(&mut self, backoff: &Backoff, waited: u32) -> bool {
         if waited >= SPINS {
             if self.patience == 0 {
@@ -514,7 +515,7 @@ fn feed_and_drain_two<R: Threads + Wait + Sync>(
     )
 }
 
-/// A taker that got nothing yet, with a count for each of so many items of either producer.
+/// A taker that got nothing yet, with a count for each item of either producer, of which each puts `items`.
 fn nothing_had<R: Abort>(rt: &R, alloc: Global, items: u64, is_whole: bool) -> Had {
     let Ok(times) = Vec::from_elem(alloc, 0u8, items.wrapping_mul(2) as usize) else {
         panic!(rt; "no memory")
@@ -538,7 +539,7 @@ fn came_once(one: &Had, other: &Had) -> u64 {
     once
 }
 
-/// Closes the queue with its only end: so many items were put, and all are taken.
+/// Closes the queue with its only end: `items` items were put, and all are taken.
 fn closes<R: Abort>(rt: &R, queue: BatchQueue, end: BatchEnd, items: u64)
     requires { IsEndOf queue end }
 {

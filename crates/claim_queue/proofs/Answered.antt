@@ -1,11 +1,11 @@
--- What the end did, and its place among the ends, by each answer of a queue.
+-- The record of the end, and its place among the ends, after each answer of a queue.
 use Rattle.claim_queue.proofs.Common.{ℕ, List, ◌++◌, inl, inr, ⊎_elim, Result, Ok, Err, Positions, Step, Did, ClaimRefusal, NoItems, TooLong, Closed, Spent, Full, Lost, TakeRefusal, RefusedBy, Refused, ClaimedItems, run_of, View, run, taking, with_run, with_taking, Looks, Try, tried, IsPut, PutAnswer, TookItems, RefusedTake}
 use Rattle.std.specs.Prelude.{length}
 use Rattle.claim_queue.specs.declared.take.TakeRefusal.TheVariants as takes
 pub use Rattle.table_theory.proofs.Looking.{Does, does}
 use Rattle.table_theory.proofs.Looking.{looks_does}
 
--- the entries of a refused claim, of which it says the same wherever they stand
+-- the entries of a refused claim: the refusal says the same of them in any longer list of entries
 pub refused_at : (Added : List (Step Positions) → Type 0) (room count : ℕ) (r : ClaimRefusal) → RefusedBy Added room count r → (entries : List (Step Positions)) × Added entries × ((Behind : List (Step Positions) → Type 0) → Behind entries → RefusedBy Behind room count r)
 refused_at Added room count NoItems (none_there, a) = (_, a, λ Behind b. (none_there, b))
 refused_at Added room count TooLong (long, a) = (_, a, λ Behind b. (long, b))
@@ -24,7 +24,7 @@ claimed_own room v w head items (past, (tail, m, n, o, fits, there, made)) = doe
 pub put_own : (room : ℕ) (v w : View) (start : ℕ) (items : List ℕ) → IsPut room v start items w → Does v (with_run v.own (run_of start items (length items))) w
 put_own room v w start items (past, (raises, are, (tail, m, n, o, fits, there, made))) = does v w _ _ made
 
--- what the end did where a put was answered so
+-- the record of the end after a put with this answer
 abbrev pub did_put : View → List ℕ → Result ℕ ClaimRefusal → Did
 did_put v items (Ok start) = with_run v.own (run_of start items (length items))
 did_put v items (Err refusal) = v.own

@@ -1,4 +1,4 @@
--- Whatever the rule holds of is a lawful queue of the core, shown by the words and the views.
+-- A state for which the rule holds is a lawful queue of the core, shown by the words and the views.
 use Rattle.claim_queue.proofs.Common.{◌≡◌, ℕ, ◌+◌, ◌%◌, ◌<◌, ◌≤◌, Bool, false, List, ◌∙◌, map, length, get_or, refl, sym, ap, subst, arith, get_or-map, Batch, Positions, written_at, blank, place_at, Owned, ListedOnce, all_places, Shape, mark, data_in, flag_in, part_of, Rule, IsUsed}
 use Rattle.table_theory.specs.Unused.{AreZero}
 use Rattle.std.proofs.lemmas.Simd.{map-map}

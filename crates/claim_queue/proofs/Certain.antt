@@ -1,4 +1,4 @@
--- What is certain where an end's list is true: the proof of it is cut off, and what can be decided needs none.
+-- Facts that are certain if an end's list is true: the proof of that is truncated, and decidable facts need none.
 use Rattle.claim_queue.proofs.Common.{◌≡◌, ℕ, ◌≤◌, ◌<◌, ap, true, List, ◌∙◌, arith, ∥∥₁_elim, ∥∥₁_map, Bool-set, le_prop, ℕ_set, Positions, Moment, Step, Adds, IsHonest, Grows, tail_of, reaches_since, QueueEnd, view_of, View, of_queues, Distinct}
 use Rattle.table_theory.proofs.Certainty as surely
 use Rattle.claim_queue.proofs.Growing.{reaches_grow}

@@ -1,4 +1,4 @@
--- The exchange of the head keeps the rule.
+-- The compare-and-swap of the head keeps the rule.
 use Rattle.claim_queue.proofs.Common.{◌≡◌, ℕ, ◌+◌, ◌<◌, ◌≤◌, false, eqb, List, [], ◌∷◌, ◌++◌, map, length, get_or, set, sym, refl, ap, ◌∙◌, arith, length-set, length-append, get_or-set_same, get_or-set_other, length-map, none, either, Me, step, Allows, at_map, Positions, Lawful, fresh, head_of, tail_of, with_claim, run_stands, grows_refl, exchanges, Shape, was_claimed, head_word, tail_word, mark, data_in, flag_in, View, part_of, run, with_run, Rule, WordsShow, IsUsed, by_head, unused_kept}
 use Rattle.table_theory.proofs.Listing.{listed_claim}
 use Rattle.table_theory.proofs.Rests.{rests_claim}

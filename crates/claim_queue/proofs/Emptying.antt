@@ -1,4 +1,4 @@
--- What the steps of a taking say together.
+-- The steps of a taking, taken together.
 use Rattle.claim_queue.proofs.Common.{◌≡◌, ◌≢◌, ℕ, ◌+◌, ◌-◌, ◌<◌, ◌≤◌, inl, List, [], ◌∷◌, ◌++◌, length, get_or, map, take, drop, sym, refl, ap, ◌∙◌, subst, arith, length-drop, get_or-map, get_or-drop, length-map, length-take-le, Cell, Positions, Step, load, change, Made, blank, item_of, item_at, with_take, raised_below, Did, TakeRefusal, Empty, tail_word, View, taking, with_taking, Found, HasFound, IsScanned, IsStopped, scanned, stopping, TookItems, RefusedTake, HasRaised, made_then}
 use Rattle.std.proofs.lemmas.List.{ext_get_or, get_or-take}
 use Rattle.claim_queue.specs.declared.take.TakeRefusal.TheVariants.{Lost, Closed}
@@ -18,7 +18,7 @@ items_taken q xs room each = let n : ℕ = length xs in let l : List Cell = drop
     let ml : length (map item_of (take n l)) ≡ n = length-map (take n l) item_of ∙ tl in
     ext_get_or 0 (map item_of (take n l)) xs ml (λ i h. get_or-map item_of (take n l) i blank 0 (omega arith) ∙ (ap item_of (get_or-take n l i blank (omega arith) ∙ get_or-drop q.taken q.places i blank) ∙ each i (omega arith)))
 
--- the items were found behind the tail that was loaded
+-- the items were found from the loaded tail on
 module _ (room : ℕ) (u l v w : View) (tail : ℕ) (xs : List ℕ) (a : Found u tail_word tail l) (s : IsScanned room l tail xs v) (found : HasFound v tail xs) where
   -- and then taken
   pub took_after : (new : ℕ) → Took v tail (new - tail) w → new - tail ≡ length xs → TookItems room u xs w
@@ -39,7 +39,7 @@ module _ (room : ℕ) (u l v w : View) (tail : ℕ) (xs : List ℕ) (a : Found u
   passed_meanwhile Enough now enough e ne = let started = found.started in let at = (found_tail v w now e).0 in let f = e.grows.first in let m = e.grows.further in
       (tail, l.seen, w.seen, s.0, subst Enough (sym s.1) enough, omega arith, made_then u l w (load tail_word tail l.seen ∷ []) (scanned room tail s.0 ++ load tail_word now w.seen ∷ []) u.own (λ d. d) a.made (then_look l v w (scanned room tail s.0) tail_word now s.2 e))
 
--- the end stopped behind these items, which are too few
+-- the end stopped after these items, which are too few
 module _ (Few : List ℕ → Type 0) (room : ℕ) (u v s w : View) (tail : ℕ) (xs : List ℕ) (t : Found u tail_word tail v) (few : Few xs) (h : IsStopped room v tail xs s) where
   abbrev stop : Stop
   stop = record { tail = tail; at_tail = v.seen; scan = h.0; flag = h.2; at_flag = h.3 }
@@ -69,7 +69,7 @@ module _ (Few : List ℕ → Type 0) (room : ℕ) (u v s w : View) (tail : ℕ) 
   refused_few Enough at (Lost now) e last = inl (passed_before at now last)
   refused_few Enough at Closed e (n, last) = (stop, n, is_stop, on _ last)
 
--- where a taking of one item was refused before its exchange, its pause was not called
+-- if a taking of one item was refused before its compare-and-swap, its pause was not called
 pub refused_unpaused : {P : Type 0} → (Called : P → P → Type 0) (room : ℕ) (u v s w : View) (tail at : ℕ) (r : TakeRefusal) (p : P) → Found u tail_word tail v → IsStopped room v tail [] s → IsRefusedAt s tail at r w → PausedTake Called room u r w p p
 refused_unpaused Called room u v s w tail at (Empty position) p t stopped h = refl
 refused_unpaused Called room u v s w tail at (Lost now) p t stopped h = inl (passed_before (λ xs. xs ≡ []) room u v s w tail [] t refl stopped at now h, refl)

@@ -1,4 +1,4 @@
--- What the steps of a claim say together.
+-- The steps of a claim, taken together.
 use Rattle.claim_queue.proofs.Common.{◌≢◌, ℕ, ◌+◌, ◌<◌, ◌≤◌, List, [], ◌∷◌, ◌++◌, length, subst, arith, Batch, Positions, IsPast, Step, load, Made, made_then, head_word, tail_word, View, run, with_run, Looks, Found, Claimed, Fits, Refused, ClaimedItems, Lost}
 use Rattle.claim_queue.specs.Answers.{ShutMeanwhile}
 use Rattle.claim_queue.proofs.Reading.{found_head}

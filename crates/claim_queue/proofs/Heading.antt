@@ -35,7 +35,7 @@ module _ (v w : View) (x : IsHonest of_queues v) (y : IsHonest of_queues w) wher
   pub tails_in_order : (before between after : List (Step Positions)) (e f : Step Positions) → Adds v (before ++ e ∷ (between ++ f ∷ after)) w → e.word ≡ tail_word → f.word ≡ tail_word → e.found ≤ f.found
   tails_in_order before between after e f a is is' = let r = both before between after e f a in let t = tail_says e is r.0 in let t' = tail_says f is' r.1 in let g = r.2 in let s = g.first in let m = g.further in omega arith
 
--- what an end has that took in another
+-- the runs and takings of an end that took in another end
 module _ (w : View) (r : IsRuled w) (l m : List Batch) where
   pub runs_apart : w.own.runs ≡ l ++ m → AreApart l m
   runs_apart is = let q : Positions = r.rule.now.object in let parts : List QueueView = map part_of r.state.views in let k = r.rule.listed.lists in

@@ -1,4 +1,4 @@
--- What the number of a real step says, and which event its change is.
+-- The meaning of the number that a real step found, and the event of its change.
 use Rattle.claim_queue.proofs.Common.{◌≡◌, ◌≢◌, ℕ, ◌+◌, ◌-◌, ◌*◌, ◌%◌, ◌<◌, ◌≤◌, Bool, true, false, List, [], ◌∷◌, ◌++◌, map, length, length-append, get_or, set, refl, sym, ap, ◌∙◌, subst, arith, Ok, length-map, some, get_elem?, Batch, Cell, Positions, QueueView, Moment, Step, load, change, IsReal, ViewsShow, written_to, Lawful, Grows, blank, fresh, place_at, item_at, written_at, head_of, tail_of, with_claim, with_take, with_shut, spot, own, run_stands, IsPlace, head_word, tail_word, data_word, flag_word, mark, data_in, flag_in, of_queues, run, taking}
 use Rattle.event_theory.specs.Marks.{shut}
 use Rattle.event_theory.specs.Queues.{claim, raise, take_first}
@@ -47,7 +47,7 @@ item_says e position is r from to up = let q : Positions = e.then.object in let 
 
 -- CHANGES
 
--- where items were claimed, the queue was open
+-- if items were claimed, the queue was open
 pub claim_open : (q : Positions) (items : List ℕ) → Grows q (with_claim q items) → 0 < length items → q.shut ≡ false
 claim_open q items g any = by q.shut g.still
   where

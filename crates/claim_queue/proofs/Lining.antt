@@ -38,7 +38,7 @@ all_places start [] i h = absurd (omega arith)
 all_places start (x ∷ xs) zero h = omega arith
 all_places start (x ∷ xs) (suc i) h = all_places start xs i (omega arith)
 
--- after a put, all runs are raised where they were before
+-- after a put, all runs are raised if they were before
 pub raised_put : (room : ℕ) (v w : View) (start : ℕ) (items : List ℕ) → IsPut room v start items w → AllRaised v.own.runs → AllRaised w.own.runs
 raised_put room v w start items h old = let d = put_own room v w start items h in let e : Batch = run_of start items (length items) in
     subst AllRaised (λ k. (sym d.did k).runs) (λ m f has i below. ⊎_elim (λ o. old m f o i below) (λ n. subst (λ (z : Batch). 2 ≤ (get_or z.places i blank).written) n.1 (all_places start items i (subst (λ (z : Batch). i < length z.places) (sym n.1) below))) (at_push v.own.runs e f m has))

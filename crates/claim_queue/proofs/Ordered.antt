@@ -41,7 +41,7 @@ module _ (v w : View) (x : IsHonest of_queues v) (y : IsHonest of_queues w) wher
   pub shut_order : (was_open : Bool) → ShutNow v was_open w → TakesInOrder v → TakesInOrder w
   shut_order was_open h = does_order _ refl (does v w _ _ h.3)
 
-  -- a taking is behind the others
+  -- a new taking is at later positions than the earlier takings
   pub took_order : (room : ℕ) (items : List ℕ) → 0 < length items → TookItems room v items w → TakesInOrder v → TakesInOrder w
   took_order room items some_item (tail, m, o, scan, are, first, made) up =
       let q : Positions = o.object in

@@ -1,4 +1,4 @@
--- A put that is tried again, and what is raised by one that wins.
+-- A put that is retried, and the items raised by a put that succeeds.
 use Rattle.claim_queue.proofs.Common.{◌≡◌, ℕ, suc, ◌+◌, ◌<◌, List, [], ◌∷◌, ◌++◌, length, get_or, set, take, refl, sym, ap, subst, ◌∙◌, arith, true, false, Result, Ok, Err, some, get_elem?, Batch, Positions, Step, Made, Distinct, number_of, at_last, made_none, made_then, Did, ClaimRefusal, NoItems, TooLong, Closed, Spent, Full, Lost, IsPast, RefusedBy, Refused, ClaimedItems, run_of, Owns, View, run, with_run, with_changed, Looks, Raised, RaisedFrom, IsPut, Try, tried, PutAnswer, length-take-le, set_again}
 use Rattle.std.proofs.Common.{true≢false}
 use Rattle.std.specs.Prelude.{MatchResult}
@@ -68,7 +68,7 @@ put_of room v u w start items distinct own (past, (tail, m, n, o, fits, room_the
 
 -- TRIES
 
--- what a lost answer tells
+-- the lost try of a Lost answer
 pub lost_by : (room : ℕ) (v w : View) (items : List ℕ) (r : Result ℕ ClaimRefusal) → is_lost r ≡ true → MatchResult r (λ start. IsPut room v start items w) (λ e. Refused room v (length items) e w)
     → (t : Try) × IsLost room (length items) t × Made v (tried (t ∷ [])) v.own w
 lost_by room v w items (Ok start) is h = absurd (true≢false (sym is))
@@ -96,7 +96,7 @@ pub tried_more : (room count : ℕ) (v u w : View) → Tried room count v u → 
 tried_more room count v u w (tries, all, a) t lost b =
     (tries ++ t ∷ [], all_on (IsLost room count) tries (t ∷ []) all (lost, tt), subst (λ (z : List (Step Positions)). Looks v z w) (sym (tried_on tries (t ∷ []))) (looks_on v u w (tried tries) (tried (t ∷ [])) a b))
 
--- a refusal says the same of entries that stand behind tries
+-- a refusal says the same of its entries after the entries of lost tries
 tried_refused : (room : ℕ) (v u w : View) (items : List ℕ) (r : ClaimRefusal) → (t : Tried room (length items) v u) → Refused room u (length items) r w → RefusedBy (λ entries. Looks v (tried t.0 ++ entries) w) room (length items) r
 tried_refused room v u w items r (tries, all, a) h = let at = refused_at (λ entries. Looks u entries w) room (length items) r h in at.2 (λ entries. Looks v (tried tries ++ entries) w) (looks_on v u w (tried tries) at.0 a at.1)
 

@@ -90,13 +90,13 @@ number_more start [] r e has = absurd (some-ne-none e (sym has))
 number_more start (x ∷ xs) r e has = if_suc (eqb x.start start) (number_of start (xs ++ r)) (number_of start xs)
     (λ is. number_more start xs r e (subst (λ (b : Bool). get_elem? (x ∷ xs) (if b then 0 else suc (number_of start xs)) ≡ some e) is has))
 
--- a run that stands behind the others changes no number
+-- a run that is appended to the others changes no number
 pub owns_more : (v w : View) (r : List Batch) → w.own.runs ≡ v.own.runs ++ r → KeepsClaims v w
 owns_more v w r runs start xs n own = let e : Batch = run_of start xs n in
     subst (λ (z : List Batch). get_elem? z (number_of start z) ≡ some e) (sym runs)
     (subst (λ (z : ℕ). get_elem? (v.own.runs ++ r) z ≡ some e) (sym (number_more start v.own.runs r e own)) (at_longer v.own.runs r (number_of start v.own.runs) e own))
 
--- what the other end had stands behind what this end had
+-- the other end's runs are appended to this end's runs
 pub owns_behind : (u w : View) (l : List Batch) → w.own.runs ≡ l ++ u.own.runs → Distinct w.own.runs → KeepsClaims u w
 owns_behind u w l runs distinct start xs n own = let e : Batch = run_of start xs n in let k : ℕ = number_of start u.own.runs in
     let at : get_elem? w.own.runs (length l + k) ≡ some e = subst (λ (z : List Batch). get_elem? z (length l + k) ≡ some e) (sym runs) (at_behind l u.own.runs k e own) in

@@ -1,10 +1,10 @@
--- What a number that was found says of the queue that the end then sees.
+-- The meaning of a number that was found, for the queue that the end then sees.
 use Rattle.claim_queue.proofs.Common.{◌≡◌, ◌≢◌, ℕ, ◌+◌, ◌-◌, ◌<◌, ◌≤◌, false, map, get_or, refl, sym, ap, ◌∙◌, subst, arith, at_map, Cell, Positions, Moment, load, IsReal, Distinct, blank, item_at, written_at, head_of, tail_of, run_stands, head_word, tail_word, data_word, flag_word, View, of_queues, part_of, IsRuled, Found, HasRaised}
 use Rattle.table_theory.proofs.Listing.{distinct}
 use Rattle.claim_queue.proofs.Lawful.{head_open, tail_says, raised_says, low_says, item_says}
 use Rattle.claim_queue.proofs.Stepping.{first_room, step_real}
 
--- the room stands in what the end knows from the beginning
+-- the end's view has the room from the beginning
 pub room_of : (w : View) → IsRuled w → w.seen.object.room ≡ w.first.room
 room_of w r = ap (λ (z : Moment Positions). z.object.room) r.seen ∙ sym (first_room r.key r.state r.rule r.number w r.here)
 

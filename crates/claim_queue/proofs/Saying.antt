@@ -1,4 +1,4 @@
--- What a refusal says of the queue, by the real steps that lead to it.
+-- The meaning of a refusal for the queue, by the real steps that lead to it.
 use Rattle.claim_queue.proofs.Common.{◌≡◌, ◌≢◌, ℕ, ◌+◌, ◌-◌, ◌<◌, ◌≤◌, Bool, true, false, List, [], ◌∷◌, ◌++◌, length, refl, sym, ap, ◌∙◌, subst, arith, ⊎_elim, append_assoc, Positions, Moment, Step, load, Adds, IsReal, IsHonest, written_at, head_of, tail_of, IsWhole, passes_since, Refused, head_word, tail_word, flag_word, mark, View, of_queues, Scan, scanned, stopping, behind, RefusedTake, passes_split}
 use Rattle.table_theory.specs.Courses.{Continues}
 use Rattle.table_theory.specs.Ledgers.{Passes}

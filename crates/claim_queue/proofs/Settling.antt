@@ -1,4 +1,4 @@
--- What is read of a closed table.
+-- The items and numbers that are read from a closed table.
 use Rattle.claim_queue.proofs.Common.{◌≡◌, ◌≢◌, ℕ, zero, suc, ◌+◌, ◌-◌, ◌%◌, ◌<◌, ◌≤◌, Bool, true, false, Some, None, List, [], ◌∷◌, length, get_or, map, drop, sym, ap, ◌∙◌, subst, arith, lt-ltb, le-ltb, if◌then◌else◌, dite, dec_lt, get_elem?, Positions, QueueView, Moment, Part, PartsShow, ViewsShow, blank, place_at, item_at, written_at, head_of, IsWhole, grows_refl, at_map, Shape, left_at, left_from, shown, head_word, tail_word, ends_word, data_word, flag_word, mark, data_in, flag_in, View, part_of, shuts_of, Rule, IsRuled, WordsShow}
 use Rattle.std.proofs.Common.{eq-eqb, ne_eqb, Option}
 use Rattle.std.proofs.lemmas.List.{drop_more, drop_all}

@@ -1,4 +1,4 @@
--- What every step keeps and tells: the rule after an event and after a look.
+-- Every step keeps the rule and reports to its end: the rule after an event and after a look.
 use Rattle.claim_queue.proofs.Common.{◌≡◌, ◌≢◌, ◌≤◌, ◌<◌, ◌+◌, ◌*◌, ℕ, List, map, get_or, get_or-set_other, set, length-set, sym, refl, ap, ◌∙◌, subst, arith, map-set, some, none, get_elem?, Me, step, Allows, at_map, Positions, Moment, Step, change, IsReal, IsHonest, ViewsShow, Grows, grows_refl, Goes, total_set, total_kept, Did, Shape, Becomes, empty, FIRST_PLACE, head_word, tail_word, ends_word, data_in, flag_in, View, of_queues, nothing_did, part_of, shuts_of, times_shut, Rule, IsRuled, WordsShow, Stepped, IsUsed, by_ends, unused_kept}
 use Rattle.atomic_table.specs.Table.{State, keeps}
 use Rattle.table_theory.specs.Ledgers.{Stands}
@@ -18,12 +18,12 @@ use Rattle.claim_queue.proofs.Growing.{becomes_grows, becomes_lawful}
 abbrev pub St : Type 0
 St = State Unit View
 
--- the places are shown as before where a word before theirs becomes y
+-- the places are shown as before if a word before theirs becomes y
 pub window_kept : (q : Positions) (words : List ℕ) (i y : ℕ) → i < FIRST_PLACE → PlacesShow q (flag_in words) (data_in words) → PlacesShow q (flag_in (set words i y)) (data_in (set words i y))
 window_kept q words i y low h = window_same q (flag_in words) (data_in words) (flag_in (set words i y)) (data_in (set words i y)) h
     (λ k b. get_or-set_other words i (2 * k + 17) y 0 (λ e. omega arith)) (λ k b. get_or-set_other words i (2 * k + 16) y 0 (λ e. omega arith))
 
--- and so is what they have that aren't written yet
+-- the places not written yet have their numbers as before if a word before theirs becomes y
 pub rests_kept : (q : Positions) (words : List ℕ) (i y : ℕ) → i < FIRST_PLACE → 0 < q.room → PlacesRest q (flag_in words) (data_in words) → PlacesRest q (flag_in (set words i y)) (data_in (set words i y))
 rests_kept q words i y low room h = rests_same q (flag_in words) (data_in words) (flag_in (set words i y)) (data_in (set words i y)) room h
     (λ k b. get_or-set_other words i (2 * k + 17) y 0 (λ e. omega arith)) (λ k b. get_or-set_other words i (2 * k + 16) y 0 (λ e. omega arith))
@@ -43,7 +43,7 @@ shows_count q words y h = record {
 pub seen_grows : (key : Shape) (s : St) (k : Rule key s) (id : ℕ) (v : View) → get_elem? s.views id ≡ some v → Grows v.seen.object k.now.object
 seen_grows key s k id v at = k.listed.seen id (part_of v) (at_map part_of s.views id v at)
 
--- the queue's first position and its room stand in what the end knows
+-- the end's view has the queue's first position and its room
 pub first_room : (key : Shape) (s : St) (k : Rule key s) (id : ℕ) (v : View) → get_elem? s.views id ≡ some v → v.first.room ≡ k.now.object.room
 first_room key s k id v at = ap (λ (z : Positions). z.room) (k.stands.true_ends.first_is id v at) ∙ sym k.room
 
@@ -72,7 +72,7 @@ table key = record {
   recounted = λ q words y h. shows_count q words y h;
 }
 
--- the end stands under the rule that is kept by its step
+-- the end is under the rule that its step keeps
 pub ruled_now : (key : Shape) (words : List ℕ) (s : St) (id : ℕ) (v w : View) → get_elem? s.views id ≡ some v → (r : Rule key record { words = words; homes = s.homes; views = set s.views id w }) × (w.seen ≡ r.now) → IsRuled w
 ruled_now key words s id v w at r = ruling.ruled_now Rule now_of key words s.homes s id v w at r
 
@@ -105,7 +105,7 @@ module _ (key : Shape) (n id : ℕ) (me : Me Unit View) (s : St) (k : Rule key s
         tells w (refl, refl, refl, ∣ ruled ∣₁) (record { made = ends.made_now k.stands id me.0 at own i found (record k.now { object = o }); ruled = ruled; grows = seen_grows key s k id me.0 at }),
       )
 
-  -- what a look tells
+  -- the report of a look
   pub found : (i : ℕ) → tables.Behind (table key) n id me s i (get_or s.words i 0) (ends.looked k.stands id me.0 at i) → finds (step n i 0 0 none) me (get_or s.words i 0) (ends.looked k.stands id me.0 at i, me.1)
   found i r = let w : View = ends.looked k.stands id me.0 at i in let ruled = ruled_now key (set s.words i (get_or s.words i 0)) s id me.0 w at r in
       ((refl, refl, refl, ∣ ruled ∣₁), record { made = ends.made_now k.stands id me.0 at me.0.own i (get_or s.words i 0) k.now; ruled = ruled; grows = seen_grows key s k id me.0 at })

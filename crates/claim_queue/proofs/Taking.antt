@@ -1,4 +1,4 @@
--- The exchange of the tail keeps the rule.
+-- The compare-and-swap of the tail keeps the rule.
 use Rattle.claim_queue.proofs.Common.{◌≡◌, ℕ, ◌+◌, ◌-◌, ◌<◌, ◌≤◌, eqb, List, [], ◌∷◌, ◌++◌, map, length, get_or, set, sym, refl, ◌∙◌, subst, arith, length-set, get_or-set_same, get_or-set_other, none, either, Me, step, Allows, at_map, Positions, written_at, Lawful, with_take, tail_of, grows_refl, take_lawful, exchanges, Shape, was_taken, head_word, tail_word, data_in, flag_in, View, part_of, taking, with_taking, Rule, WordsShow, IsUsed, by_tail, unused_kept}
 use Rattle.table_theory.proofs.Listing.{listed_take}
 use Rattle.table_theory.proofs.Rests.{rests_take}

@@ -39,7 +39,7 @@ splits key id v two s k at = let q : Positions = k.now.object in let later = see
   shut_once = total_split shuts_of s.views id v left right at refl refl ∙ k.shut_once;
 }
 
--- both ends of a split stand under the rule
+-- both ends of a split are under the rule
 module _ (v : View) (two : v.member.ends ≡ 2) (r : IsRuled v) where
   pub rest_ruled : IsRuled (rest_of v)
   unfolding splits
@@ -92,7 +92,7 @@ opens key zs are room fits = let q : Positions = empty key in let f : ℕ = key.
       shut_once = omega arith;
     }
 
--- the first end stands under the rule
+-- the first end is under the rule
 pub new_ruled : (key : Shape) → 0 < key.room → key.first < 4294967296 → IsRuled (newcomer key)
 unfolding opens
 new_ruled key room fits = let zs : List ℕ = replicate (width key.room) 0 in record {

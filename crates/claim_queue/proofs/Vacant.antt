@@ -1,4 +1,4 @@
--- What was left before a place that was found not raised.
+-- The items left before a place that was found not raised.
 use Rattle.claim_queue.proofs.Common.{◌≡◌, ℕ, zero, suc, ◌+◌, ◌-◌, ◌<◌, ◌≤◌, List, [], ◌∷◌, ◌++◌, length, drop, take, get_or, get_or-drop, get_or-map, sym, refl, ap, ◌∙◌, subst, arith, append_assoc, Positions, Moment, Step, load, IsHonest, passes_since, passes_split, blank, item_at, item_of, written_at, tail_of, raised_below, head_word, tail_word, data_word, flag_word, View, of_queues, Scan, scanned, stopping, behind, RefusedTake, Empty}
 use Rattle.std.proofs.lemmas.List.{get_or-take, length-drop}
 use Rattle.table_theory.specs.Ledgers.{Passes}
@@ -11,8 +11,8 @@ use Rattle.claim_queue.proofs.Lawful.{tail_says, raised_says, item_says}
 abbrev pub Has : Positions → ℕ → ℕ → Type 0
 Has q position item = (2 ≤ written_at q (position - q.first)) × (item_at q (position - q.first) ≡ item)
 
--- The tail stayed from one moment to the other. Between them each of these items was found, and then a flag, at which
--- their places have them
+-- The tail stayed unchanged from one moment to the other. Between them each of these items was found, and then a flag.
+-- At the load of the flag the places have these items
 module _ (room tail : ℕ) (flag : Step Positions) (rest : List (Step Positions)) (n : Moment Positions) (to : tail_of n.object ≡ tail) where
   first_has : (m : Moment Positions) (p : ℕ) (f : ℕ × Moment Positions × Moment Positions) (more : Scan) → Passes of_queues m (scanned room p (f ∷ more) ++ flag ∷ rest) n → tail_of m.object ≡ tail → m.object.room ≡ room → tail ≤ p → p < tail + room
       → Has flag.then.object p f.0 × (tail_of f.2.object ≡ tail) × (f.2.object.room ≡ room)
@@ -38,7 +38,7 @@ module _ (room tail : ℕ) (flag : Step Positions) (rest : List (Step Positions)
       subst (λ (z : ℕ). Has flag.then.object z (get_or (items_of more) i 0)) e (scan_has f.2 (p + 1) more h.2.2 a.1 a.2 (omega arith) (omega arith) i (omega arith))
 
 module _ (v w : View) (x : IsHonest of_queues v) (y : IsHonest of_queues w) (Few Enough : List ℕ → Type 0) (room at : ℕ) where
-  -- each item that was found stood there when the flag was found
+  -- each item that was found was still in its place when the flag was found
   pub found_there : (r : RefusedTake Few Enough room v (Empty at) w) → v.seen.object.room ≡ room → length r.0.scan < room → (i : ℕ) → i < length r.0.scan → Has r.0.at_flag.object (r.0.tail + i) (get_or (items_of r.0.scan) i 0)
   found_there (s, head, m, n, stop, is, going, mine, made) rooms short i below =
       let flag : Step Positions = load (flag_word room (behind s)) s.flag s.at_flag in let scan : List (Step Positions) = scanned room s.tail s.scan in let last : List (Step Positions) = load head_word head m ∷ load tail_word s.tail n ∷ [] in
@@ -47,7 +47,7 @@ module _ (v w : View) (x : IsHonest of_queues v) (y : IsHonest of_queues w) (Few
       let c = (passes_split of_queues s.at_tail w.seen scan flag last whole).2.2 in let t' = tail_says (load tail_word s.tail n) refl c.1 in let last_is : tail_of w.seen.object ≡ s.tail = ap (λ (z : Moment Positions). tail_of z.object) (sym c.2) ∙ sym t' in
       let r0 = (reaches_grow v.seen s.at_tail p.0).room in scan_has room s.tail flag last w.seen last_is s.at_tail s.tail s.scan whole (sym t) (omega arith) (omega arith) (omega arith) i below
 
--- the items that are left, from the first on, where their places have them
+-- the items that are left, from the first on, if their places have them
 pub left_items : (q : Positions) (tail : ℕ) (xs : List ℕ) (i : ℕ) → tail_of q ≡ tail → i < length xs → Has q (tail + i) (get_or xs i 0) → get_or (take (length xs) (left_of q)) i 0 ≡ get_or xs i 0
 left_items q tail xs i is below h = let e : tail + i - q.first ≡ q.taken + i = omega arith in let there = raised_below q (tail + i - q.first) (let up = h.0 in omega arith) in let long = length-drop q.taken q.places in
     get_or-take (length xs) (left_of q) i 0 below ∙ (get_or-map item_of (drop q.taken q.places) i blank 0 (omega arith) ∙ (ap item_of (get_or-drop q.taken q.places i blank) ∙ (ap (item_at q) (sym e) ∙ h.1)))

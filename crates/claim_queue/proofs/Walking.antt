@@ -1,4 +1,4 @@
--- Walks over the flags from the tail on, and what a look at the queue says.
+-- Walks over the flags from the tail on, and the answer of a look at the queue.
 use Rattle.claim_queue.proofs.Common.{◌≡◌, ◌≢◌, ℕ, suc, ◌+◌, ◌-◌, ◌%◌, ◌<◌, ◌≤◌, Bool, true, false, List, [], ◌∷◌, ◌++◌, length, sym, refl, ap, ◌∙◌, subst, arith, length-append, dite, dec_lt, Positions, Moment, Step, load, IsReal, Made, Grows, written_at, head_of, tail_of, made_none, made_then, View, of_queues, head_word, tail_word, flag_word, mark, Found}
 use Rattle.std.specs.Prelude.{min}
 use Rattle.std.proofs.Math.Dec.{leb}

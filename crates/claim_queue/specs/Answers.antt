@@ -1,4 +1,4 @@
--- What the claims answer: the entries that they added, all of them, and how their numbers compare.
+-- Answers of claims: all entries that a claim added, and how their numbers compare.
 use Rattle.std.specs.Prelude.{◌≡◌, ◌⊎◌, ◌+◌, ◌<◌, ◌≤◌, ℕ, List, [], ◌∷◌, length}
 use Rattle.table_theory.specs.Batches.{IsPast}
 use Rattle.table_theory.specs.declared.positions.TheConstants.{POSITIONS}
@@ -12,22 +12,22 @@ use Rattle.claim_queue.specs.declared.layout.TheConstants.{SHUT}
 use Rattle.claim_queue.specs.Layout.{head_word, tail_word}
 use Rattle.claim_queue.specs.Own.{View, run, with_run, Looks}
 
--- a number of items that a run may have
+-- a run in a queue of `room` places can have n items: at least 1, and at most `room`
 abbrev pub Fits : ℕ → ℕ → Type 0
 Fits room n = (0 < n) × (n ≤ room)
 
--- there are n positions behind this head, and room for n before this tail
+-- n positions are left from this head on, and n more items fit: head + n is at most tail + room
 abbrev pub HasRoom : ℕ → ℕ → ℕ → ℕ → Type 0
 HasRoom room n head tail = (head + n < POSITIONS) × (head + n ≤ tail + room)
 
--- The head was loaded, then the tail, with room between them; then the head that was found was exchanged, and the items
--- claimed. Added says where these entries stand
+-- The head was loaded, then the tail, with room for the items. Then a compare-and-swap of that head claimed places for
+-- them. Added says which list has these entries
 abbrev pub ClaimedBy : (List (Step Positions) → Type 0) → ℕ → ℕ → List ℕ → Type 0
 ClaimedBy Added room head items = (tail : ℕ) × (m n o : Moment Positions)
     × Fits room (length items) × HasRoom room (length items) head tail
     × Added (load head_word head m ∷ load tail_word tail n ∷ change head_word head o (with_claim o.object items) ∷ [])
 
--- the items were claimed, at or past the end of each earlier run of the end
+-- the items were claimed from `head` on, at or past the end of each earlier run: the end has one run more
 abbrev pub ClaimedItems : ℕ → View → ℕ → List ℕ → View → Type 0
 ClaimedItems room v head items w = IsPast v.own.runs head
     × ClaimedBy (λ entries. Made v entries (with_run v.own (run head items)) w) room head items
@@ -36,14 +36,14 @@ ClaimedItems room v head items w = IsPast v.own.runs head
 abbrev pub FoundShut : (List (Step Positions) → Type 0) → Type 0
 FoundShut Added = (head : ℕ) × (m : Moment Positions) × (SHUT ≤ head) × Added (load head_word head m ∷ [])
 
--- there was room, but the exchange found the shut mark
+-- there was room, but the compare-and-swap of the head failed: it found the shut mark
 abbrev pub ShutMeanwhile : (List (Step Positions) → Type 0) → ℕ → ℕ → Type 0
 ShutMeanwhile Added room count = (head tail now : ℕ) × (m n o : Moment Positions)
     × HasRoom room count head tail × (SHUT ≤ now)
     × Added (load head_word head m ∷ load tail_word tail n ∷ load head_word now o ∷ [])
 
--- What a refused claim says of its entries. Spent: so many more would go past the last position. Full: there was no
--- room between the head and the tail. Lost: there was, but the exchange found another head, past the one loaded
+-- The entries of a refused claim. Spent: `count` more items would go past the last position. Full: there was no room
+-- between the head and the tail. Lost: there was room, but the compare-and-swap found another head, past the one loaded
 abbrev pub RefusedBy : (List (Step Positions) → Type 0) → ℕ → ℕ → ClaimRefusal → Type 0
 RefusedBy Added room count NoItems = (count ≡ 0) × Added []
 RefusedBy Added room count TooLong = (room < count) × Added []
@@ -57,12 +57,12 @@ RefusedBy Added room count (Lost now) = Fits room count × (head tail : ℕ) × 
     × HasRoom room count head tail × (now < SHUT) × (head < now)
     × Added (load head_word head m ∷ load tail_word tail n ∷ load head_word now o ∷ [])
 
--- the claim was refused; where no step was made, all is as it was
+-- the claim was refused, and did nothing except load; if it made no step, all is as it was
 abbrev pub Refused : ℕ → View → ℕ → ClaimRefusal → View → Type 0
 Refused room v count refusal w = RefusedBy (λ entries. Looks v entries w) room count refusal
 
--- What a refused claim did to its pause: called it once where it came to its exchange, and else left it as it was.
--- Closed comes with the exchange and without it, as the entries tell: head, tail and head, or the head alone
+-- A refused claim called its pause once if it came to its compare-and-swap, and else left the pause as it was. For
+-- Closed the entries show which: head, tail and head with the compare-and-swap, or the head alone without it
 abbrev pub PausedClaim : {P : Type 0} → (P → P → Type 0) → ℕ → View → ℕ → ClaimRefusal → View → P → P → Type 0
 PausedClaim Called room v count Closed w old new = (FoundShut (λ entries. Looks v entries w) × (new ≡ old))
     ⊎ (ShutMeanwhile (λ entries. Looks v entries w) room count × Called old new)

@@ -1,4 +1,4 @@
--- What holds between any two steps: a lawful queue of the core that the words and the views show.
+-- The state between any two steps: a lawful queue of the core that the words and the views show.
 use Rattle.std.specs.Prelude.{◌≡◌, ℕ, ◌+◌, ◌%◌, ◌<◌, ◌≤◌, true, false, if◌then◌else◌, List, map, length, take}
 use Rattle.std.specs.Prelude.{slice_index_or}
 use Rattle.std.specs.List.{slice_get}
@@ -30,8 +30,8 @@ use Rattle.claim_queue.specs.Layout.{head_word, tail_word, ends_word, width, IsU
 abbrev pub pair_at : Queue → ℕ → ℕ × ℕ
 pair_at c i = slice_index_or (pairs c.history) i (0, 0)
 
--- The place of the item with the number i is at the position p. Where the item is raised, the flag is one more than
--- the position, and the data word is the item; else the flag is at most the position
+-- The item with the number i has the position p. If the item is raised, the flag of the place is p + 1 and the data
+-- word is the item. Else the flag is at most p
 pub record PlaceIs (c : Queue) (room : ℕ) (words : List ℕ) (i p : ℕ) : Type 0 where
   pub raised : is_raised c (pair_at c i) ≡ true → flag_in words (p % room) ≡ p + 1
   pub item : is_raised c (pair_at c i) ≡ true → data_in words (p % room) ≡ slice_index_or (flat c.history) i 0
@@ -41,13 +41,13 @@ pub record PlaceIs (c : Queue) (room : ℕ) (words : List ℕ) (i p : ℕ) : Typ
 pub record IsShown (key : Shape) (s : State Unit View) (c : Queue) : Type 0 where
   pub runs : List (Owned Batch)
   pub history : c.history ≡ map run_in runs
-  -- each run of a view is one of the history, and each of the history is of one view, at one place of its list
+  -- each run of a view is in the history, and each run of the history is in one view, once
   pub once : ListedOnce runs (map (λ view. view.own.runs) s.views)
-  -- each run begins where the one before it ends, the first at the first position
+  -- the first run begins at the first position, and each other run begins where the previous run ends
   pub side_by_side : Adjacent key.first runs
   pub raised : (run index : ℕ) → c.raised run index ≡ up_in (slice_get runs run) index
   pub takings : List (Owned Batch)
-  -- each taking is in one view, and they take each position below the tail once, with the item that its run gave it
+  -- each taking is in one view, once; the takings have each position below the tail once, with the item of its run
   pub taken_once : ListedOnce takings (map (λ view. view.own.takes) s.views)
   pub taken_in_order : Adjacent key.first takings
   pub taken_items : map item_of (all_places takings) ≡ take c.taken (flat c.history)
@@ -57,7 +57,7 @@ pub record IsShown (key : Shape) (s : State Unit View) (c : Queue) : Type 0 wher
   pub head : slice_index_or s.words head_word 0 ≡ key.first + length (flat c.history) + mark c.shut
   pub tail : slice_index_or s.words tail_word 0 ≡ key.first + c.taken
   pub places : (i : ℕ) → c.taken ≤ i → i < length (flat c.history) → PlaceIs c key.room s.words i (key.first + i)
-  -- a word that is neither the head's, the tail's, that of the ends nor one of a place is 0
+  -- each word is 0 except the head, the tail, the number of ends, and the items and flags of the places
   pub unused : AreZero (IsUsed key.room) s.words
 
 -- there is a lawful queue that is shown
@@ -71,15 +71,15 @@ pub record ShowsQueue (key : Shape) (s : State Unit View) : Type 0 where
   pub history : IsHistory now.object shown.runs
   -- each end has seen the queue no later than now
   pub seen : (j : ℕ) (v : View) → get_elem? s.views j ≡ some v → Grows v.seen.object now.object
-  -- one end has shut the queue where it is shut, and none where it is open
+  -- if the queue is shut, one end has shut it, once; if the queue is open, no end has
   pub shut_once : total shuts_of s.views ≡ (if queue.shut then 1 else 0)
-  -- the word has the number of the ends that stand
+  -- the ends word is the number of ends that exist
   pub number : slice_index_or s.words ends_word 0 ≡ now.ends
-  -- a place that isn't written yet has the flag and the item of the position one round before, and zeros in the first
+  -- a place not written yet has the flag and the item of the position one lap earlier, and zeros in the first lap
   pub rests : PlacesRest now.object (flag_in s.words) (data_in s.words)
 
--- The queue is shown. The ends' steps lead to it from the empty queue, each end has seen all of them up to its own last
--- one, and the number of ends is that of the ends that stand
+-- A lawful queue is shown. The ends' steps lead to it from the empty queue, and each end has seen all steps up to its
+-- own last step. The number of ends is the number of ends that exist
 pub record ShowsEnds (key : Shape) (s : State Unit View) : Type 0 where
   pub shows : ShowsQueue key s
   pub true_ends : AreTrue of_queues nothing_did (empty key) shows.now s.views

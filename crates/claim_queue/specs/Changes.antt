@@ -1,4 +1,4 @@
--- How a queue changes: by one event at a time, or by the store of an item.
+-- Changes of a queue: one event, or one store of an item, at a time.
 use Rattle.std.specs.Prelude.{◌≡◌, ℕ, ◌+◌, ◌-◌, ◌<◌, ◌≤◌, false, List, [], length}
 use Rattle.table_theory.specs.declared.queues.Cell.{Cell}
 use Rattle.table_theory.specs.declared.queues.Positions.{Positions}
@@ -9,7 +9,7 @@ use Rattle.claim_queue.specs.declared.rule.Shape.{Shape}
 abbrev pub empty : Shape → Positions
 empty key = record { first = key.first; room = key.room; places = []; taken = 0; shut = false }
 
--- the place at this position was claimed, and is so
+-- this position was claimed, and `place` is its place
 pub record IsPlace (q : Positions) (position : ℕ) (place : Cell) : Type 0 where
   pub from : q.first ≤ position
   pub below : position < head_of q
@@ -19,8 +19,8 @@ pub record IsPlace (q : Positions) (position : ℕ) (place : Cell) : Type 0 wher
 abbrev pub written : Positions → ℕ → ℕ → Positions
 written q position n = with_write q (position - q.first) n
 
--- one event makes r of q, or one store of an item: items were claimed, one step of writing more was done at a place, n
--- were taken, or it was shut
+-- one event, or one store of an item, makes r of q: items were claimed, one more step of writing was done at a place,
+-- n items were taken, or the queue was shut
 pub data Becomes (q r : Positions) : Type 0 where
   was_claimed : (items : List ℕ) → 0 < length items → q.shut ≡ false
       → length q.places + length items ≤ q.taken + q.room → r ≡ with_claim q items → Becomes q r

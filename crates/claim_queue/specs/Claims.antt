@@ -1,4 +1,4 @@
--- A claim, as the runs of its end list it.
+-- A claim in the list of its end's runs.
 use Rattle.std.specs.Prelude.{◌≡◌, ◌≢◌, ℕ, zero, suc, List, [], ◌∷◌}
 use mathlib.Core.Option.{some}
 use lib.ListN.{get_elem?}
@@ -8,7 +8,7 @@ use Rattle.table_theory.specs.Positioned.{fresh}
 use Rattle.table_theory.specs.Listing.{number_of}
 use Rattle.claim_queue.specs.Own.{View}
 
--- the first r of the items are raised
+-- the places of these items, of which the first r are raised
 abbrev pub places_of : List ℕ → ℕ → List Cell
 places_of [] r = []
 places_of (x ∷ xs) zero = fresh x ∷ places_of xs zero
@@ -17,14 +17,14 @@ places_of (x ∷ xs) (suc r) = record { item = x; written = 2 } ∷ places_of xs
 abbrev pub run_of : ℕ → List ℕ → ℕ → Batch
 run_of start xs r = record { start = start; places = places_of xs r }
 
--- the claim is one of the end's own
+-- the end has the run from `start` on with the items xs, of which the first r are raised
 abbrev pub Owns : View → ℕ → List ℕ → ℕ → Type 0
 Owns v start xs r = get_elem? v.own.runs (number_of start v.own.runs) ≡ some (run_of start xs r)
 
--- each claim that was the end's own still is, as far as it was raised
+-- each claim that the end had, the end still has, raised as far as before
 abbrev pub KeepsClaims : View → View → Type 0
 KeepsClaims v w = (start : ℕ) (xs : List ℕ) (r : ℕ) → Owns v start xs r → Owns w start xs r
 
--- each of the end's claims but the one with this start still is its own, as far as it was raised
+-- each claim that the end had, except the claim from `start` on, the end still has, raised as far as before
 abbrev pub KeepsOthers : ℕ → View → View → Type 0
 KeepsOthers start v w = (other : ℕ) (xs : List ℕ) (r : ℕ) → other ≢ start → Owns v other xs r → Owns w other xs r

@@ -1,4 +1,4 @@
--- What closing a queue and shutting it answer.
+-- Answers of closing and of shutting a queue.
 use Rattle.std.specs.Prelude.{◌≡◌, ◌+◌, ◌%◌, ◌==◌, ◌≤◌, ℕ, Bool, List, [], ◌∷◌, Option, Some, None}
 use Rattle.std.specs.Prelude.{if◌then◌else◌, length, map, drop, nat_lt}
 use Rattle.table_theory.specs.declared.queues.Positions.{Positions}
@@ -15,22 +15,22 @@ use Rattle.claim_queue.specs.Lines.{lines_put, lines_taken, IsSettled}
 use Rattle.claim_queue.specs.Own.{View, part_of, with_shutting}
 use Rattle.claim_queue.specs.Rules.{times_shut}
 
--- the queue is shut, and was open exactly where the head word that was found had no mark
+-- the queue is shut; the queue was open exactly if the head word that was found had no shut mark
 abbrev pub ShutNow : View → Bool → View → Type 0
 ShutNow v was_open w = (head : ℕ) × (m : Moment Positions) × (was_open ≡ nat_lt head SHUT)
     × ends.Made v (ends.change head_word head m (with_shut m.object) ∷ []) (with_shutting v.own was_open) w
 
--- what is read at the position p: the item of its place, if the flag says that it was raised there
+-- the answer for the position p: the item of its place if the flag is p + 1, else none
 abbrev pub left_at : ℕ → List ℕ → ℕ → Option ℕ
 left_at room words p = if flag_in words (p % room) == p + 1 then Some (data_in words (p % room)) else None
 
--- what is read at the n positions from p on
+-- the answers for the n positions from p on
 abbrev pub left_from : ℕ → List ℕ → ℕ → ℕ → List (Option ℕ)
 left_from room words p n = read_from (left_at room words) p n
 
--- The queue is closed, by an end that has the whole and so has seen all of it, and each split was joined: what is left
--- is what was put behind what was taken, no more than the queue has places; the lines put are the items put, and the
--- lines taken the items taken. Where the end has raised all that it claimed, each place left has its item
+-- The queue is closed by an end with the whole share, which has seen all of the queue, and each split was joined. The
+-- items left are those put after the items taken, at most one for each place. The lines put are the items put, and the
+-- lines taken are the items taken. If the end has raised all that it claimed, each place left has its item
 pub record ClosedNow (v : View) (first put taken : ℕ) (left : List (Option ℕ)) : Type 0 where
   pub whole : IsWhole v.member.share
   pub sole : v.seen.ends ≡ 1

@@ -1,16 +1,16 @@
--- What making and joining ends does to what they know.
+-- The effect of a split and of a join on the views of the ends.
 use Rattle.table_theory.specs.Ledgers as ends
 use Rattle.claim_queue.specs.Layout.{ends_word}
 use Rattle.claim_queue.specs.Own.{View, nothing_did, did_both}
 
--- the end was counted once more, and gave a part of its share away
+-- the number of ends was made one more, and the end gave a part of its share away
 abbrev pub Divided : View → View → Type 0
 Divided v w = ends.Divided ends_word v w
 
--- the new end has nothing but the part of the share, and has seen what the other end had seen
+-- the new end has nothing except the part of the share, and has seen what the other end had seen
 abbrev pub IsNewborn : View → View → View → Type 0
 IsNewborn old new born = ends.IsNewborn nothing_did old new born
 
--- the end has what both had, and was counted once less
+-- the end has what both ends had, and the number of ends was made one less
 abbrev pub TookIn : View → View → View → Type 0
 TookIn v u w = ends.TookIn did_both ends_word v u w

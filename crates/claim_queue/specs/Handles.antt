@@ -1,19 +1,19 @@
--- What a clause says of a queue, of an end and of a claim.
+-- Names in the clauses for parts of a queue and of an end.
 use Rattle.std.specs.Prelude.{◌≡◌, ◌≤◌, ℕ}
 use Rattle.claim_queue.specs.declared.ends.ClaimQueue.{ClaimQueue}
 use Rattle.claim_queue.specs.declared.ends.QueueEnd.{QueueEnd}
 use Rattle.claim_queue.specs.Own.{View}
 use Rattle.table_theory.specs.Sharing.{IsWhole}
 
--- what the end knows
+-- the end's view: all that the end knows
 abbrev pub view_of : {n : ℕ} → QueueEnd n → View
 view_of end = end.seat.me.0
 
--- the number of the end, which is the call of its events
+-- the number of the end: the core's events name the end by it, as their call
 abbrev pub call_of : {n : ℕ} → QueueEnd n → ℕ
 call_of end = end.seat.id
 
--- every other end was joined
+-- the end has the whole share: every other end was joined
 abbrev pub IsOnlyEnd : {n : ℕ} → QueueEnd n → Type 0
 IsOnlyEnd end = IsWhole end.seat.me.0.member.share
 
@@ -21,11 +21,11 @@ IsOnlyEnd end = IsWhole end.seat.me.0.member.share
 abbrev pub IsDivisible : {n : ℕ} → QueueEnd n → Type 0
 IsDivisible end = 2 ≤ end.seat.me.0.member.share
 
--- it is an end of this queue
+-- the end is an end of this queue
 abbrev pub IsEndOf : {n : ℕ} → ClaimQueue n → QueueEnd n → Type 0
 IsEndOf queue end = end.seat.table_id ≡ queue.table.shared.table_id
 
--- it is the same end of the same queue
+-- both are the same end of the same queue, at two moments
 abbrev pub IsSameEnd : {n : ℕ} → QueueEnd n → QueueEnd n → Type 0
 IsSameEnd old new = (new.seat.table_id ≡ old.seat.table_id) × (new.seat.id ≡ old.seat.id)
 

@@ -1,10 +1,10 @@
--- Where the words of a queue's table stand: head and number of ends, then the tail, then two words for each place, its
--- item and beside it its flag. A cache line has 8 words: the tail is 8 words behind the head, and the first place 8
--- words behind the tail. So they are in lines of their own, and each line begins at one of them if the table's memory
--- begins at a line.
+-- The words of a queue's table: the head and the number of ends, then the tail, then two words for each place, its item
+-- and beside it its flag. A cache line has 8 words: the tail is 8 words after the head, and the first place 8 words
+-- after the tail. So they are in lines of their own, and each line begins at one of them if the table's memory begins
+-- at a line.
 use Rattle.std.specs.Prelude.{◌≡◌, ℕ, ◌+◌, ◌*◌, ◌%◌, Bool, true, false, List, slice_index_or}
 
--- the number of the word that has the head, and the mark where the queue is shut
+-- the number of the word that has the head, and the shut mark if the queue is shut
 abbrev pub head_word : ℕ
 head_word = 0
 
@@ -24,11 +24,11 @@ data_word room position = 2 * (position % room) + 16
 abbrev pub flag_word : ℕ → ℕ → ℕ
 flag_word room position = 2 * (position % room) + 17
 
--- how many words a queue of so many places has
+-- the number of words of a queue of `room` places
 abbrev pub width : ℕ → ℕ
 width room = room + room + 16
 
--- the word with this number has a use: it is one of these. Each other word stays 0
+-- the word with this number is used: for the head, the number of ends, the tail, an item or a flag
 pub data IsUsed (room word : ℕ) : Type 0 where
   by_head : word ≡ head_word → IsUsed room word
   by_ends : word ≡ ends_word → IsUsed room word
@@ -36,7 +36,7 @@ pub data IsUsed (room word : ℕ) : Type 0 where
   by_item : (position : ℕ) → word ≡ data_word room position → IsUsed room word
   by_flag : (position : ℕ) → word ≡ flag_word room position → IsUsed room word
 
--- what the head word has beside the head: 2^32 where the queue is shut, and else nothing
+-- the shut mark, which is added to the head in the head word: 2^32 if the queue is shut, else 0
 abbrev pub mark : Bool → ℕ
 mark true = 4294967296
 mark false = 0

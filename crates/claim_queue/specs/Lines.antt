@@ -1,4 +1,4 @@
--- What an end of a queue put and took, as lines: a line is one claim, or one taking.
+-- The lines that an end of a queue put and took: a line is one claim, or one taking.
 use Rattle.std.specs.Prelude.{ℕ, List, map}
 pub use Rattle.table_theory.specs.Batches.{line_of}
 pub use Rattle.table_theory.specs.Lines.{IsCut, IsSettled}
@@ -13,14 +13,14 @@ lines_put v = map line_of v.own.runs
 abbrev pub lines_taken : View → List (List ℕ)
 lines_taken v = map line_of v.own.takes
 
--- nothing was put and nothing taken, and the end has the share that it had
+-- the end put no line and took none, and its share is unchanged
 abbrev pub SameLines : View → View → Type 0
 SameLines v w = lines.SameLines lines_put lines_taken v w
 
--- one line more was put, and the end has the share that it had
+-- the end put this one line more and took none, and its share is unchanged
 abbrev pub PutLine : List ℕ → View → View → Type 0
 PutLine line v w = lines.PutLine lines_put lines_taken line v w
 
--- one line more was taken, and the end has the share that it had
+-- the end took this one line more and put none, and its share is unchanged
 abbrev pub TookLine : List ℕ → View → View → Type 0
 TookLine line v w = lines.TookLine lines_put lines_taken line v w

@@ -1,4 +1,4 @@
--- What is an end's own: its runs, what it took, and how often it shut the queue.
+-- An end's own part of its view: its runs, its takings, and how often it shut the queue.
 use Rattle.std.specs.Prelude.{◌+◌, Bool, if◌then◌else◌, [], ◌∷◌, ◌++◌, slice_set}
 use Rattle.table_theory.specs.declared.queues.Batch.{Batch}
 use Rattle.table_theory.specs.declared.queues.Positions.{Positions}
@@ -14,19 +14,19 @@ use Rattle.claim_queue.specs.Changes.{Becomes}
 use Rattle.claim_queue.specs.Layout.{ends_word}
 use Rattle.claim_queue.specs.Shown.{WordsShow}
 
--- what an end of a queue knows
+-- the view of an end of a queue: all that the end knows
 abbrev pub View : Type 0
 View = Ledger Did Positions
 
--- what an end did that did nothing
+-- the record of an end that did nothing yet
 abbrev pub nothing_did : Did
 nothing_did = record { runs = []; takes = []; shuts = 0 }
 
--- what two ends did
+-- the records of two ends together
 abbrev pub did_both : Did → Did → Did
 did_both d e = record { runs = d.runs ++ e.runs; takes = d.takes ++ e.takes; shuts = d.shuts + e.shuts }
 
--- what the table of a queue says of it
+-- queues as a subject of the theory of tables: the ends word, and what the words show, what is lawful, what can happen
 abbrev pub of_queues : Subject Positions
 of_queues = record { ends_word = ends_word; Shows = WordsShow; IsLawful = Lawful; Happens = Becomes }
 
@@ -34,18 +34,18 @@ of_queues = record { ends_word = ends_word; Shows = WordsShow; IsLawful = Lawful
 abbrev pub part_of : View → QueueView
 part_of v = record { queue = v.seen.object; runs = v.own.runs; takes = v.own.takes }
 
--- one run more was claimed
+-- the record with one more run
 abbrev pub with_run : Did → Batch → Did
 with_run d e = record d { runs = d.runs ++ e ∷ [] }
 
--- the run with this start is now so
+-- the record with the run that has this start replaced by e
 abbrev pub with_changed : Did → Batch → Did
 with_changed d e = record d { runs = slice_set d.runs (number_of e.start d.runs) e }
 
--- one stretch more was taken
+-- the record with one more taking
 abbrev pub with_taking : Did → Batch → Did
 with_taking d e = record d { takes = d.takes ++ e ∷ [] }
 
--- a shut counts where the queue was open
+-- the record with one more shut, if the queue was open
 abbrev pub with_shutting : Did → Bool → Did
 with_shutting d was_open = record d { shuts = d.shuts + (if was_open then 1 else 0) }

@@ -1,4 +1,4 @@
--- What the items that were found so far say of the queue as it is.
+-- The items that a taking has found so far, and the queue that its end sees.
 use Rattle.std.specs.Prelude.{◌≡◌, ◌≢◌, ◌+◌, ◌-◌, ◌<◌, ◌≤◌, ℕ, List, [], ◌∷◌, ◌++◌, length, slice_index_or}
 use Rattle.table_theory.specs.declared.queues.Positions.{Positions}
 use Rattle.table_theory.specs.declared.views.Moment.{Moment}
@@ -11,7 +11,8 @@ use Rattle.claim_queue.specs.Layout.{head_word, tail_word, flag_word}
 use Rattle.claim_queue.specs.Own.{View}
 use Rattle.claim_queue.specs.Takings.{Scan, items_of, scanned, HasRaised}
 
--- The items stand raised, one behind the other from the position `tail` on
+-- The places from the position `tail` on are raised, one for each of xs, and xs are their items unless the queue's tail
+-- is past `tail`. That position is not before the first one, nor past the queue's tail
 pub record HasFound (v : View) (tail : ℕ) (xs : List ℕ) : Type 0 where
   pub first : v.seen.object.first ≤ tail
   pub started : tail ≤ tail_of v.seen.object
@@ -19,18 +20,19 @@ pub record HasFound (v : View) (tail : ℕ) (xs : List ℕ) : Type 0 where
   pub items : (i : ℕ) → i < length xs → tail_of v.seen.object ≤ tail
       → slice_index_or xs i 0 ≡ item_at v.seen.object (tail - v.seen.object.first + i)
 
--- where a taking is while it finds items: these were found behind that tail by these entries
+-- the entries of a taking so far: these items were found from `tail` on, one after the other
 abbrev pub IsScanned : ℕ → View → ℕ → List ℕ → View → Type 0
 IsScanned room v tail items w = (scan : Scan) × (items_of scan ≡ items) × Made v (scanned room tail scan) v.own w
 
--- the same, and then the next flag was found not raised, at a place that the end has not raised
+-- These items were found from `tail` on, and then the next flag was not raised. The end itself has not raised that
+-- place, unless the queue's tail is past `tail`
 abbrev pub IsStopped : ℕ → View → ℕ → List ℕ → View → Type 0
 IsStopped room v tail items w = (scan : Scan) × (items_of scan ≡ items) × (flag : ℕ) × (m : Moment Positions)
     × (flag ≢ tail + length scan + 1)
     × (tail_of w.seen.object ≤ tail → HasRaised w.own.runs (tail + length scan) → ⊥)
     × Made v (scanned room tail scan ++ load (flag_word room (tail + length scan)) flag m ∷ []) v.own w
 
--- why nothing can be taken at this tail, by the head that was loaded and the tail that was found again
+-- the refusal of a taking at this tail: by the head that was loaded then and, except for Closed, by the tail after it
 abbrev pub IsRefusedAt : View → ℕ → ℕ → TakeRefusal → View → Type 0
 IsRefusedAt v tail at (Empty position) w = (position ≡ at) × (tail_of v.seen.object ≤ tail) × (head : ℕ)
     × (m n : Moment Positions) × (head ≢ SHUT + tail)

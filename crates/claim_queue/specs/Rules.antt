@@ -14,7 +14,7 @@ use Rattle.claim_queue.specs.Own.{View, nothing_did, of_queues, part_of}
 abbrev pub shuts_of : View → ℕ
 shuts_of v = v.own.shuts
 
--- how often the queue was shut: at most once
+-- the number of times that the queue was shut: 0 or 1
 abbrev pub times_shut : Positions → ℕ
 times_shut q = if q.shut then 1 else 0
 
@@ -26,14 +26,14 @@ pub record Rule (key : Shape) (s : State Unit View) : Type 0 where
   pub listed : ViewsShow now.object (map part_of s.views)
   pub shut_once : total shuts_of s.views ≡ times_shut now.object
 
--- what the first end of a queue knows
+-- the view of the first end of a new queue
 abbrev pub newcomer : Shape → View
 newcomer key = first_of nothing_did (empty key)
 
--- the queue as the rule has it
+-- the queue and the number of ends that the rule names
 abbrev pub now_of : (key : Shape) (s : State Unit View) → Rule key s → Moment Positions
 now_of key s k = k.now
 
--- at the end's last step the rule held, and the end saw the queue as it was
+-- at the end's last step the rule held, and the end saw the queue of that moment
 abbrev pub IsRuled : View → Type 0
 IsRuled v = ruled.IsRuled Rule now_of v

@@ -1,4 +1,4 @@
--- What the words of the table show of the queue's positions.
+-- The words of the table, and the positions of the queue that they show.
 use Rattle.std.specs.Prelude.{◌≡◌, ℕ, ◌+◌, ◌<◌, List, length, slice_index_or}
 use Rattle.table_theory.specs.declared.positions.TheConstants.{POSITIONS}
 use Rattle.table_theory.specs.declared.queues.Positions.{Positions}
@@ -8,8 +8,8 @@ use Rattle.table_theory.specs.Unused.{AreZero}
 use Rattle.table_theory.specs.Windows.{PlacesShow}
 use Rattle.claim_queue.specs.Layout.{head_word, tail_word, width, IsUsed, mark, data_in, flag_in}
 
--- The words show the queue's head, mark, tail, and the places from the tail on. A place that isn't written yet has what
--- was left there, and a word without a use is 0: so no number in a word is free
+-- The words show the queue's head, shut mark, tail, and the places from the tail on. A place that isn't written yet has
+-- its numbers of one lap earlier, and an unused word is 0. So the queue determines the number in each word
 pub record WordsShow (q : Positions) (words : List ℕ) : Type 0 where
   pub wide : length words ≡ width q.room
   pub bounded : head_of q < POSITIONS

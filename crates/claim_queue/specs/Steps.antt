@@ -1,5 +1,5 @@
--- What each step tells its end: its entry, what the end has done then, and what it sees. The calls' answers are made of
--- the entries.
+-- The report of each step to its end: its entry, what the end has then done, and what the end sees. The calls' answers
+-- are made of the entries.
 use Rattle.std.specs.Prelude.{◌≡◌, ◌≢◌, ◌+◌, ◌-◌, ◌*◌, ◌<◌, ◌≤◌, ℕ, List, [], ◌∷◌, length, slice_index_or, nat_lt}
 use mathlib.Core.Option.{some}
 use lib.ListN.{get_elem?}
@@ -23,28 +23,30 @@ use Rattle.claim_queue.specs.Layout.{head_word, tail_word, width}
 use Rattle.claim_queue.specs.Own.{View, run, taking, with_run, with_changed, with_taking, with_shutting}
 use Rattle.claim_queue.specs.Rules.{IsRuled}
 
--- it is a live end of this table, which is one of a queue of so many places
+-- the seat is a live end of this table, which is the table of a queue of `room` places, 1 to MOST_PLACES
 abbrev pub IsSeated : ℕ → TableId → Seat Unit View → Type 0
 IsSeated room table seat = (seat.table_id ≡ table) × (1 ≤ seat.me.0.member.ends) × (seat.me.0.first.room ≡ room)
     × (table.words ≡ width room) × (0 < room) × (room ≤ MOST_PLACES)
 
--- the position is none before the first, and the end has seen the places before it taken, all but the room's
+-- the position is not before the first one, is before the tail that the end has seen plus `room`, and is below
+-- 2 * POSITIONS
 abbrev pub IsNear : View → ℕ → ℕ → Type 0
 IsNear v room position = (v.seen.object.first ≤ position) × (position < tail_of v.seen.object + room)
     × (position < 2 * POSITIONS)
 
--- this is the place i of the end's run at this start
+-- `place` is the place i of the end's run from `start` on
 abbrev pub HasPlace : View → ℕ → ℕ → Cell → Type 0
 HasPlace v start i place = (e : Batch) × (get_elem? v.own.runs (number_of start v.own.runs) ≡ some e)
     × (e.start ≡ start) × (i < length e.places) × (slice_index_or e.places i blank ≡ place)
 
--- By a step of this entry the end did this. The rule held at it, and the queue was no earlier than the end had seen it
+-- The end made one step with this entry, and its record is then `own`. The rule held at the step, and the queue that
+-- the step found is no earlier than the queue that the end had seen
 pub record Stepped (v : View) (e : ends.Step Positions) (own : Did) (w : View) : Type 0 where
   pub made : Made v (e ∷ []) own w
   pub ruled : IsRuled w
   pub grows : Grows v.seen.object e.then.object
 
--- what the end holds stays, and what the type of an end asks of its view
+-- what the end holds, the first queue of its view and its membership are unchanged; at its last step the rule held
 abbrev pub Stays : Me Unit View → Me Unit View → Type 0
 Stays m m' = (m'.1 ≡ m.1) × (m'.0.first ≡ m.0.first) × (m'.0.member ≡ m.0.member) × ∥ IsRuled m'.0 ∥₁
 
@@ -55,7 +57,7 @@ Found v word found w = Stepped v (load word found w.seen) v.own w
 abbrev pub finds : Step Unit → Me Unit View → ℕ → Me Unit View → Type 0
 finds st m r m' = Stays m m' × Found m.0 st.word r m'.0
 
--- the items were claimed, at the head of the queue as it was at that step
+-- the items were claimed at the head that the queue had at that step, at or past the end of each earlier run of the end
 abbrev pub Claimed : View → ℕ → List ℕ → View → Type 0
 Claimed v head items w = (at : Moment Positions) × IsPast v.own.runs head
     × Stepped v (change head_word head at (with_claim at.object items)) (with_run v.own (run head items)) w
@@ -64,13 +66,13 @@ abbrev pub claims : List ℕ → Step Unit → Me Unit View → ℕ → Me Unit 
 claims items st m r m' = Stays m m' × (r ≡ st.first → Claimed m.0 st.first items m'.0)
     × (r ≢ st.first → Found m.0 st.word r m'.0)
 
--- one step of writing more is done at the place i of the end's run e, which then are n
+-- the end stored in the word of the place i of its run e: n steps of writing are then done there
 abbrev pub Wrote : View → Batch → ℕ → ℕ → ℕ → View → Type 0
 Wrote v e i n word w = (found : ℕ) × (at : Moment Positions)
     × IsPlace at.object (e.start + i) (slice_index_or e.places i blank)
     × Stepped v (change word found at (written at.object (e.start + i) n)) (with_changed v.own (written_to e i n)) w
 
--- the same, whatever is the end's run at this start
+-- the end stored in the word of the place i of its run from `start` on: n steps of writing are then done there
 abbrev pub WroteAt : ℕ → ℕ → ℕ → ℕ → View → View → Type 0
 WroteAt start i n word v w = (e : Batch) → get_elem? v.own.runs (number_of start v.own.runs) ≡ some e → e.start ≡ start
     → Wrote v e i n word w
@@ -78,7 +80,7 @@ WroteAt start i n word v w = (e : Batch) → get_elem? v.own.runs (number_of sta
 abbrev pub writes : ℕ → ℕ → ℕ → Step Unit → Me Unit View → ℕ → Me Unit View → Type 0
 writes start i n st m r m' = Stays m m' × WroteAt start i n st.word m.0 m'.0
 
--- n items were taken, from the tail of the queue as it was at that step on
+-- n items were taken, from the tail that the queue had at that step
 abbrev pub Took : View → ℕ → ℕ → View → Type 0
 Took v tail n w = (at : Moment Positions)
     × Stepped v (change tail_word tail at (with_take at.object n)) (with_taking v.own (taking at.object n)) w
@@ -87,7 +89,7 @@ abbrev pub takes : Step Unit → Me Unit View → ℕ → Me Unit View → Type 
 takes st m r m' = Stays m m' × (r ≡ st.first → Took m.0 st.first (st.second - st.first) m'.0)
     × (r ≢ st.first → Found m.0 st.word r m'.0)
 
--- the queue is shut, and this head word was found
+-- the queue was shut, and the step found this head word
 abbrev pub Shut : View → ℕ → View → Type 0
 Shut v found w = (at : Moment Positions)
     × Stepped v (change head_word found at (with_shut at.object)) (with_shutting v.own (nat_lt found SHUT)) w

@@ -1,4 +1,4 @@
--- What the takings answer: the entries that they added, all of them, and how their numbers compare.
+-- Answers of takings: all entries that a taking added, and how their numbers compare.
 use Rattle.std.specs.Prelude.{◌≡◌, ◌≢◌, ◌⊎◌, ◌+◌, ◌-◌, ◌<◌, ◌≤◌, ℕ, List, [], ◌∷◌, ◌++◌, length, map, slice_index_or}
 use mathlib.Core.Option.{some}
 use lib.ListN.{get_elem?}
@@ -18,26 +18,26 @@ use Rattle.claim_queue.specs.Own.{View, taking}
 abbrev pub Scan : Type 0
 Scan = List (ℕ × Moment Positions × Moment Positions)
 
--- the items
+-- the items that were found
 abbrev pub items_of : Scan → List ℕ
 items_of scan = map (λ found. found.0) scan
 
--- one behind the other from this position on, of each first its flag was loaded, and then its item
+-- the entries of a scan from this position on: for each item, its flag was loaded, and then its data word
 abbrev pub scanned : ℕ → ℕ → Scan → List (Step Positions)
 scanned room position [] = []
 scanned room position (found ∷ more) = load (flag_word room position) (position + 1) found.1
     ∷ load (data_word room position) found.0 found.2 ∷ scanned room (position + 1) more
 
--- no item ends a line
+-- no item is 10, the end of a line
 abbrev pub NoEnd : List ℕ → Type 0
 NoEnd xs = (i : ℕ) → i < length xs → slice_index_or xs i 0 ≢ 10
 
--- up to and with the first end of a line, or as many items as there is room for and no end among them but the last
+-- a line: items up to and with the first 10, or `room` items without a 10 before the last one
 abbrev pub IsLine : ℕ → List ℕ → Type 0
 IsLine room xs = ((i : ℕ) → i + 1 < length xs → slice_index_or xs i 0 ≢ 10) × (0 < length xs)
     × ((slice_index_or xs (length xs - 1) 0 ≡ 10) ⊎ (length xs ≡ room))
 
--- items of a line that has no end yet
+-- the beginning of a line: no 10, and fewer than `room` items
 abbrev pub IsBegun : ℕ → List ℕ → Type 0
 IsBegun room xs = NoEnd xs × (length xs < room)
 
@@ -49,8 +49,8 @@ IsOne xs = length xs ≡ 1
 abbrev pub IsNone : List ℕ → Type 0
 IsNone xs = xs ≡ []
 
--- The tail was loaded, the items were found behind it, and then taken by one exchange of that tail: they were the first
--- items left
+-- The tail was loaded, the items were found from it on, and one compare-and-swap of that tail took them. They were the
+-- first items left
 abbrev pub TookItems : ℕ → View → List ℕ → View → Type 0
 TookItems room v items w = (tail : ℕ) × (m o : Moment Positions) × (scan : Scan)
     × (items_of scan ≡ items) × (line_of (taking o.object (length items)) ≡ items)
@@ -58,7 +58,7 @@ TookItems room v items w = (tail : ℕ) × (m o : Moment Positions) × (scan : S
     ++ change tail_word tail o (with_take o.object (length items)) ∷ [])
     (record v.own { takes = v.own.takes ++ taking o.object (length items) ∷ [] }) w
 
--- a taking that found a place not raised: the tail, the items behind it, and the flag of the next place
+-- a taking that found a place not raised: the tail, the items from it on, and the flag of the next place
 pub record Stop : Type 0 where
   pub tail : ℕ
   pub at_tail : Moment Positions
@@ -66,11 +66,11 @@ pub record Stop : Type 0 where
   pub flag : ℕ
   pub at_flag : Moment Positions
 
--- the position of that place, behind the items
+-- the position of the place that was not raised, directly after the items
 abbrev pub behind : Stop → ℕ
 behind s = s.tail + length s.scan
 
--- the entries up to there
+-- the entries of the taking, up to the load of the flag that was not raised
 abbrev pub stopping : ℕ → Stop → List (Step Positions)
 stopping room s = load tail_word s.tail s.at_tail ∷ scanned room s.tail s.scan
     ++ load (flag_word room (behind s)) s.flag s.at_flag ∷ []
@@ -79,7 +79,7 @@ stopping room s = load tail_word s.tail s.at_tail ∷ scanned room s.tail s.scan
 abbrev pub IsStop : (List ℕ → Type 0) → Stop → Type 0
 IsStop Few s = Few (items_of s.scan) × (s.flag ≢ behind s + 1)
 
--- one of these runs was raised at this position
+-- one of these runs has a raised place at this position
 pub record HasRaised (runs : List Batch) (position : ℕ) : Type 0 where
   pub number : ℕ
   pub run : Batch
@@ -89,20 +89,20 @@ pub record HasRaised (runs : List Batch) (position : ℕ) : Type 0 where
   pub raised : 2 ≤ (slice_index_or run.places index blank).written
   pub is : run.start + index ≡ position
 
--- There were too few items; the queue was not shut at that tail, and the tail was found again. The end itself has not
--- raised the place
+-- There were too few items. The queue was not shut with that tail as its head, and the tail was found unchanged. The
+-- end itself has not raised the place
 abbrev pub WasEmpty : (List ℕ → Type 0) → ℕ → View → ℕ → View → Type 0
 WasEmpty Few room v at w = (s : Stop) × (head : ℕ) × (m n : Moment Positions) × IsStop Few s
     × (at ≡ behind s) × (head ≢ SHUT + s.tail) × (HasRaised v.own.runs at → ⊥)
     × Made v (stopping room s ++ load head_word head m ∷ load tail_word s.tail n ∷ []) v.own w
 
--- there were too few items, the queue was not shut at that tail, and another tail was found, past that one
+-- there were too few items, the queue was not shut with that tail as its head, and then a later tail was found
 abbrev pub PassedBefore : (List ℕ → Type 0) → ℕ → View → ℕ → View → Type 0
 PassedBefore Few room v now w = (s : Stop) × (head : ℕ) × (m n : Moment Positions) × IsStop Few s
     × (head ≢ SHUT + s.tail) × (s.tail < now)
     × Made v (stopping room s ++ load head_word head m ∷ load tail_word now n ∷ []) v.own w
 
--- there were enough items, but the exchange found another tail, past the one loaded
+-- there were enough items, but the compare-and-swap found another tail, past the one loaded
 abbrev pub PassedMeanwhile : (List ℕ → Type 0) → ℕ → View → ℕ → View → Type 0
 PassedMeanwhile Enough room v now w = (tail : ℕ) × (m o : Moment Positions) × (scan : Scan)
     × Enough (items_of scan) × (tail < now)
@@ -113,19 +113,19 @@ abbrev pub WasDone : (List ℕ → Type 0) → ℕ → View → View → Type 0
 WasDone Few room v w = (s : Stop) × (m : Moment Positions) × IsStop Few s
     × Made v (stopping room s ++ load head_word (SHUT + s.tail) m ∷ []) v.own w
 
--- what a refused taking says, where so many items are too few and so many are enough
+-- the refusal of a taking: items with the property Few are too few for the taking, and items with Enough are enough
 abbrev pub RefusedTake : (List ℕ → Type 0) → (List ℕ → Type 0) → ℕ → View → TakeRefusal → View → Type 0
 RefusedTake Few Enough room v (Empty at) w = WasEmpty Few room v at w
 RefusedTake Few Enough room v (Lost tail) w = PassedBefore Few room v tail w ⊎ PassedMeanwhile Enough room v tail w
 RefusedTake Few Enough room v Closed w = WasDone Few room v w
 
--- it holds of takings of one item, and of takings of a line: of what is too few for each, and what is enough
+-- Holds is true for takings of one item and for takings of a line, each with its Few and its Enough
 abbrev pub OfBoth : ℕ → ((List ℕ → Type 0) → (List ℕ → Type 0) → Type 0) → Type 0
 OfBoth room Holds = Holds IsNone IsOne × Holds (IsBegun room) (IsLine room)
 
--- What a refused taking of one item did to its pause: called it once where it came to its exchange, and else left it as
--- it was. Lost comes with the exchange and without it, as the entries tell: tail, flag, data and tail, or tail, flag,
--- head and tail
+-- A refused taking of one item called its pause once if it came to its compare-and-swap, and else left the pause as it
+-- was. For Lost the entries show which: tail, flag, data and tail with the compare-and-swap, or tail, flag, head and
+-- tail without it
 abbrev pub PausedTake : {P : Type 0} → (P → P → Type 0) → ℕ → View → TakeRefusal → View → P → P → Type 0
 PausedTake Called room v (Lost tail) w old new =
     (PassedBefore IsNone room v tail w × (new ≡ old)) ⊎ (PassedMeanwhile IsOne room v tail w × Called old new)

@@ -1,4 +1,4 @@
--- Walks over the flags from the tail on, and what a look at the queue says.
+-- Walks over the flags from the tail on, and the answer of a look at the queue.
 use Rattle.std.specs.Prelude.{◌≡◌, ◌≢◌, ◌+◌, ◌-◌, ◌<◌, ◌≤◌, ℕ, min, true, List, [], ◌∷◌, ◌++◌, length}
 use Rattle.table_theory.specs.declared.queues.Positions.{Positions}
 use Rattle.table_theory.specs.declared.views.Moment.{Moment}
@@ -8,14 +8,14 @@ use Rattle.claim_queue.specs.declared.look.QueueLook.{QueueLook}
 use Rattle.claim_queue.specs.Layout.{head_word, tail_word, flag_word, mark}
 use Rattle.claim_queue.specs.Own.{View}
 
--- flags that were found raised, side by side from this position on, each at its moment
+-- the loads of flags that were found raised, one after the other from this position on, each at its moment
 abbrev pub raised_flags : ℕ → ℕ → List (Moment Positions) → List (Step Positions)
 raised_flags room position [] = []
 raised_flags room position (m ∷ more) =
     load (flag_word room position) (position + 1) m ∷ raised_flags room (position + 1) more
 
--- How a walk ended that found so many flags raised from the tail on: these were the most that it was to find, or the
--- next flag was not raised. These are its loads after the flags that it found raised
+-- The end of a walk that found `count` flags raised from the tail on: `count` is the limit `most`, or the next flag was
+-- not raised. `loads` are the walk's loads after the raised flags
 pub data WalkEnd (room tail most count : ℕ) (loads : List (Step Positions)) : Type 0 where
   at_most : count ≡ most → loads ≡ [] → WalkEnd room tail most count loads
   at_gap : (flag : ℕ) → (m : Moment Positions) → count < most → flag ≢ tail + count + 1
@@ -29,7 +29,7 @@ pub record FlagWalk (room tail most count : ℕ) (loads : List (Step Positions))
   pub ends : WalkEnd room tail most count last
   pub loads_are : loads ≡ raised_flags room tail raised ++ last
 
--- the same, by the end, which did nothing else
+-- the end made a walk over the flags from the tail on, and did nothing else
 pub record HasWalked (room tail most count : ℕ) (v w : View) : Type 0 where
   pub loads : List (Step Positions)
   pub walked : FlagWalk room tail most count loads
@@ -43,8 +43,8 @@ AreRaised q position n = (i : ℕ) → i < n → 2 ≤ written_at q (position - 
 abbrev pub IsNotRaised : Positions → ℕ → Type 0
 IsNotRaised q position = tail_of q ≤ position → written_at q (position - q.first) < 2
 
--- What a look at a queue of so many places says of the queue as its last load found it. Tail and head may have moved on
--- by then
+-- The answer of a look at a queue of `room` places, and the queue that its last load found. The tail and the head may
+-- have moved on by then
 pub record LookAgrees (room : ℕ) (look : QueueLook) (q : Positions) : Type 0 where
   pub ordered : look.tail ≤ look.head
   pub first : q.first ≤ look.tail
@@ -55,8 +55,8 @@ pub record LookAgrees (room : ℕ) (look : QueueLook) (q : Positions) : Type 0 w
   pub raised : AreRaised q look.tail look.raised
   pub next : look.raised < min room (look.head - look.tail) → IsNotRaised q (look.tail + look.raised)
 
--- The tail was loaded, then the head with the mark of a shut queue, and then the flags from that tail on, up to that
--- head and for so many places at most
+-- The tail was loaded, then the head with its shut mark, and then the flags from that tail on, up to that head and for
+-- at most `room` places
 pub record HasLooked (room : ℕ) (v : View) (look : QueueLook) (w : View) : Type 0 where
   pub at_tail : Moment Positions
   pub at_head : Moment Positions

@@ -1,4 +1,4 @@
-//! What holds between any two steps of any threads.
+//! The state between any two steps of any threads.
 
 ghost use Rattle.std.specs.Prelude.{◌≡◌};
 ghost use Rattle.atomic_table.specs.Table.{State};
@@ -10,23 +10,23 @@ use crate::ends::ClaimQueue;
 use crate::rule::{ClaimRule, Shape, View};
 use atomic_table::{Shared, TableRule};
 
-/// Whatever the rule holds of is a lawful queue of the core, shown by the words and by what the ends list.
+/// A state for which the rule holds is a lawful queue of the core, shown by the words and by the lists of the ends.
 ///
-/// Every atomic step of this crate keeps the rule, so it holds between any two steps, whoever makes them.
+/// Every atomic step of this crate keeps the rule, so the rule holds between any two steps of any ends.
 pub fn between_steps()
     ensures { (key : Shape) (state : State Unit View)
         → ⟦<ClaimRule as TableRule<(), View, Shape>>⟧.holds key state → ShowsQueue key state }
 {}
 
-/// The same of its ends: the number of ends is that of the ends that stand, and their steps, all in one order, lead
-/// from the empty queue to the queue that is shown.
+/// In a state for which the rule holds, the ends word is the number of ends that exist. Their steps, all in one order,
+/// lead from the empty queue to the queue that is shown.
 pub fn ends_between_steps()
     ensures { (key : Shape) (state : State Unit View)
         → ⟦<ClaimRule as TableRule<(), View, Shape>>⟧.holds key state → ShowsEnds key state }
 {}
 
 impl<const N: usize> ClaimQueue<N> {
-    /// The table of the queue. By its type it is under the rule that `between_steps` speaks of.
+    /// The table of the queue. By its type, the table has the rule of `between_steps`.
     pub fn table(&self) -> &Shared<(), View, Shape, ClaimRule>
         ensures { result.now ≡ self.now.table.shared }
     {

@@ -1,5 +1,4 @@
-//! Claims: an end stakes out a run of places by one exchange of the head, and then raises them one by one (Massalin and
-//! Pu 1991, the many-producer queue).
+//! Claims: an end reserves a run of places by one compare-and-swap of the head, and then raises the places one by one.
 ghost use Rattle.std.specs.Prelude.{◌≡◌, ◌+◌, ◌<◌, ◌≤◌, ℕ, true, length, MatchResult, MatchBool, IfOk, slice_index};
 ghost use Rattle.table_theory.specs.Listing.{AllRaised};
 ghost use Rattle.claim_queue.specs.Claims.{Owns, KeepsClaims, KeepsOthers};
@@ -20,8 +19,8 @@ use thiserror::Error;
 
 /// A run of places that an end claimed, and how many of them it has raised.
 ///
-/// It is raised by `raise_next`. A claim that is dropped leaves its other places unraised for good: nobody can take
-/// past them, and once N places are claimed behind the tail every claim is Full.
+/// `raise_next` raises its places. A claim that is dropped leaves its other places unraised for good: nobody can take
+/// past them, and once N places are claimed from the tail on, every claim is Full.
 #[derive(Drop)]
 pub struct Claim<const N: usize> {
     pub(crate) start: u32,
@@ -30,7 +29,7 @@ pub struct Claim<const N: usize> {
     ghost within: { raised ≤ length items.items },
 }
 
-/// Why a claim was refused. The refusals stand in the order in which they are checked.
+/// Why a claim was refused. The refusals are listed in the order in which they are checked.
 #[derive(Clone, Copy, Debug, PartialEq, Eq, Drop, Error)]
 pub enum ClaimRefusal {
     /// The run has no item. No step was made.
@@ -39,17 +38,17 @@ pub enum ClaimRefusal {
     /// The run has more items than the queue has places. No step was made.
     #[error("more items than places")]
     TooLong,
-    /// The queue is shut: the head that was loaded, or the one that the exchange found, has the shut mark.
+    /// The queue is shut: the head that was loaded, or the head that the compare-and-swap found, has the shut mark.
     #[error("the queue is shut")]
     Closed,
-    /// The run would go past the last position, 4,294,967,294. Shorter runs may still fit; no position comes back.
+    /// The run would go past the last position, 4,294,967,294. Shorter runs may still fit. No position is used again.
     #[error("no positions left")]
     Spent,
-    /// There was no room for the run between this head and the tail that was loaded after it: `head` and the number of
-    /// items exceed `tail` and N. Both are positions.
+    /// There was no room for the run from this head on, by the tail that was loaded after it: `head` plus the number of
+    /// items exceeds `tail` plus N. Both are positions.
     #[error("full at head {head}, tail {tail}")]
     Full { head: u32, tail: u32 },
-    /// Another end claimed first: the exchange found this head, past the one that was loaded.
+    /// Another end claimed first: the compare-and-swap found this head, past the one that was loaded.
     #[error("lost, head {head}")]
     Lost { head: u32 },
 }
@@ -98,9 +97,9 @@ fn was_lost(answer: &Result<u32, ClaimRefusal>) -> bool
 impl<const N: usize> ClaimQueue<N> {
     ghost use Rattle.claim_queue.specs.Handles.{view_of, IsEndOf, IsSameEnd};
 
-    /// One try to claim a place for each of the items: it loads the head, then the tail, and exchanges the head. The
-    /// items can be taken once they are raised. The refusals are checked in the order in which `ClaimRefusal` lists
-    /// them.
+    /// One try to claim a place for each of the items: it loads the head, then the tail, and makes one compare-and-swap
+    /// of the head. The items can be taken once they are raised. The refusals are checked in the order in which
+    /// `ClaimRefusal` lists them.
     pub fn try_claim(&self, end: &mut QueueEnd<N>, items: &[u64]) -> Result<Claim<N>, ClaimRefusal>
         requires { IsEndOf self.now end.old }
         ensures lines { MatchResult result (λ c. PutLine items.now (view_of end.old) (view_of end.new))
@@ -118,8 +117,8 @@ impl<const N: usize> ClaimQueue<N> {
         self.try_claim_paused(end, items, &mut NoPause)
     }
 
-    /// `try_claim`, with a pause just before the exchange, in which another end may step. A try that is refused before
-    /// its exchange does not call it.
+    /// `try_claim`, with a pause just before the compare-and-swap, in which another end may step. A try that is refused
+    /// before its compare-and-swap does not call the pause.
     pub fn try_claim_paused<P: Pause>(
         &self,
         end: &mut QueueEnd<N>,
@@ -149,7 +148,7 @@ impl<const N: usize> ClaimQueue<N> {
         })
     }
 
-    // One try to claim places for the items, with a pause before the exchange. Gives the first position.
+    // One try to claim places for the items, with a pause before the compare-and-swap. Returns the first position.
     fn claim_places<P: Pause>(
         &self,
         end: &mut QueueEnd<N>,
@@ -174,6 +173,8 @@ impl<const N: usize> ClaimQueue<N> {
         if count > N {
             return Err(ClaimRefusal::TooLong);
         }
+        // linearization point of Closed, Spent and Full. One load suffices: a shut queue stays shut, and the head never
+        // falls.
         let head = load_head(&self.table.shared, &mut end.seat);
         if head >= SHUT {
             return Err(ClaimRefusal::Closed);
@@ -182,6 +183,8 @@ impl<const N: usize> ClaimQueue<N> {
         if new >= SHUT {
             return Err(ClaimRefusal::Spent);
         }
+        // Full is exact: the tail never falls, so when the head was loaded the tail was at most this one, and there was
+        // no room. Room that is found remains while the head is unchanged.
         let tail = load_tail(&self.table.shared, &mut end.seat);
         if new > tail + N as u64 {
             return Err(ClaimRefusal::Full {
@@ -190,6 +193,8 @@ impl<const N: usize> ClaimQueue<N> {
             });
         }
         pause.between();
+        // linearization point: the places are reserved, if the head is unchanged. No position is used again, so an
+        // equal head means that no claim came in between.
         let found = exchange_head::<Brand>(&self.table.shared, &mut end.seat, head, new, items);
         if found == head {
             return Ok(head as u32);
@@ -200,7 +205,7 @@ impl<const N: usize> ClaimQueue<N> {
         Err(ClaimRefusal::Lost { head: found as u32 })
     }
 
-    // Stores the item of this index of the end's run, and then its flag.
+    // Stores the item with this index in the end's run, and then its flag.
     fn raise_place(&self, end: &mut QueueEnd<N>, start: u32, items: &[u64], index: usize)
         requires queue { IsEndOf self.now end.old }
         requires own { Owns (view_of end.old) start items.now index × (length items.now ≤ N) }
@@ -211,12 +216,15 @@ impl<const N: usize> ClaimQueue<N> {
         ensures same { IsSameEnd end.old end.new }
     {
         let (start, item) = (start as u64, items[index]);
+        // The data is stored before the flag, so an end that finds the flag finds the item. Stores suffice: no other
+        // end writes the words of this place until the tail has passed it.
         store_data::<Brand>(&self.table.shared, &mut end.seat, N, start, index, item);
+        // linearization point: the item is raised (published)
         store_flag::<Brand>(&self.table.shared, &mut end.seat, N, start, index);
     }
 
-    /// Stores the next item of the claim in its data word, and then its flag, which raises it. False, and no step,
-    /// where all items were raised.
+    /// Stores the next item of the claim in its data word, and then its flag, which raises the item. If all items were
+    /// raised, it returns false and makes no step.
     ///
     /// Condition: the claim is the end's own.
     pub fn raise_next(&self, end: &mut QueueEnd<N>, claim: &mut Claim<N>) -> bool
@@ -255,7 +263,7 @@ impl<const N: usize> ClaimQueue<N> {
         }
     }
 
-    /// One try to claim a run and, where it wins, all its raises. Gives the position of the first item.
+    /// One try to claim a run; if it succeeds, all items are raised. Returns the position of the first item.
     pub fn try_put(&self, end: &mut QueueEnd<N>, items: &[u64]) -> Result<u32, ClaimRefusal>
         requires { IsEndOf self.now end.old }
         ensures lines { MatchResult result (λ start. PutLine items.now (view_of end.old) (view_of end.new))
@@ -273,8 +281,8 @@ impl<const N: usize> ClaimQueue<N> {
         Ok(start)
     }
 
-    /// `try_put`, tried again for as long as other ends claim first. It gives up on every other refusal, so it answers
-    /// Full where takers are slow, and never Lost.
+    /// Retries `try_put` while other ends claim first. It returns every other refusal, so it returns Full if takers are
+    /// slow, and never Lost.
     pub fn put<R: Wait>(
         &self,
         rt: &R,

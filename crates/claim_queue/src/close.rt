@@ -18,8 +18,8 @@ use std::marker::Brand;
 use table_theory::OpenEnds;
 use table_theory::last_end::{close_by, count};
 
-/// What a queue had at its end: its first position, how many items were put (claimed) and taken, and those left, in the
-/// order of their claims. None stands for a place that was claimed and never raised.
+/// The contents of a closed queue: its first position, how many items were put (claimed) and taken, and the items left,
+/// in the order of their claims. A place that was claimed and never raised has None.
 #[derive(Drop)]
 pub struct Closed<const N: usize> {
     pub first: u32,
@@ -61,8 +61,8 @@ fn read_left<const N: usize>(
 impl<const N: usize> ClaimQueue<N> {
     ghost use Rattle.claim_queue.specs.Handles.{view_of, first_of, IsEndOf, IsOnlyEnd, IsSameEnd};
 
-    /// Shuts the queue for claims, for good; what was put can still be taken. True where it was open, which one end
-    /// alone is ever told.
+    /// Shuts the queue for claims, for good; items that were put can still be taken. Returns true if the queue was
+    /// open: only one call for a queue ever returns true.
     pub fn shut(&self, end: &mut QueueEnd<N>) -> bool
         requires { IsEndOf self.now end.old }
         ensures lines { SameLines (view_of end.old) (view_of end.new) }
@@ -70,11 +70,13 @@ impl<const N: usize> ClaimQueue<N> {
         ensures others { KeepsClaims (view_of end.old) (view_of end.new) }
         ensures same { IsSameEnd end.old end.new }
     {
+        // linearization point: the queue is shut. One fetch-or suffices: it sets the mark whatever the head is, and the
+        // word that it finds shows whether the queue was open.
         or_head(&self.table.shared, &mut end.seat) < SHUT
     }
 
-    /// Closes the queue where every other end has been joined. Else the queue and the end come back, and the number of
-    /// the others. It takes no memory.
+    /// Closes the queue if every other end has been joined. Else it returns the queue, the end and the number of the
+    /// other ends. It allocates no memory.
     pub fn close(
         self,
         end: QueueEnd<N>,
@@ -87,6 +89,7 @@ impl<const N: usize> ClaimQueue<N> {
         ensures same { IfErr result (λ e. (e.0 ≡ self.entry) × IsSameEnd end.entry e.1) }
     {
         let QueueEnd { seat } = end;
+        // One load suffices: if the number is 1, this is the only end, and no other end can step after the load.
         let last = match count::<_, _, _, _, Brand>(&self.table.shared, seat, ENDS) {
             Ok(last) => last,
             Err((seat, ends)) => {

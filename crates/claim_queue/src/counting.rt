@@ -1,4 +1,4 @@
-//! How the ends of a queue are counted: what the steps of the theory of tables take from its rule.
+//! The count of the ends of a queue: the parts of its rule that the steps of the theory of tables use.
 use crate::rule::{ClaimRule, Did, Shape, View};
 use table_theory::end_steps::EndsRule;
 use table_theory::last_end::CountRule;

@@ -26,8 +26,8 @@ pub struct ClaimQueue<const N: usize> {
 
 /// An end of a queue. It has no bytes.
 ///
-/// What it lists is true: each entry of its steps, and of the steps of all ends that it has seen, found the number that
-/// stood in its word then, and found the queue as the step before it left it, lawful and shown by the words.
+/// Its list is true for its own steps and for the steps of all ends that it has seen. The step of each entry found the
+/// number that its word had then. It found the queue as the previous step left it, lawful and shown by the words.
 #[derive(Drop)]
 pub struct QueueEnd<const N: usize> {
     pub(crate) seat: Seat<(), View>,
@@ -59,12 +59,12 @@ impl<const N: usize> ClaimQueue<N> {
         Ok((ClaimQueue { table, first }, QueueEnd { seat }))
     }
 
-    /// A new end, which has claimed and taken nothing. Both ends are to be joined again before the queue can be closed;
-    /// an end that is dropped can never be joined. Besides the step that counts it, the first word is loaded once, and
-    /// what is found there is not used.
+    /// A new end, which has claimed and taken nothing. Both ends must be joined again before the queue can be closed;
+    /// an end that is dropped can never be joined. Besides the step that counts the new end, the first word is loaded
+    /// once, and the number found there is not used.
     ///
-    /// Condition: the end has two parts or more of its queue's 2^64 - 1. The first end can be split two million
-    /// times without a join, and each of those ends 43 times in a chain.
+    /// Condition: the end has two or more of its queue's 2^64 - 1 parts. The first end can be split two million times
+    /// without a join, and each of those ends 43 times in a chain.
     pub fn split(&self, end: &mut QueueEnd<N>) -> QueueEnd<N>
         requires queue { IsEndOf self.now end.old }
         requires parts { IsDivisible end.old }
@@ -75,13 +75,15 @@ impl<const N: usize> ClaimQueue<N> {
         ensures claims { KeepsClaims (view_of end.old) (view_of end.new) }
         ensures same { IsSameEnd end.old end.new × AreOfOneQueue end.old result }
     {
+        // linearization point: the new end is counted, before it exists, so a close cannot miss it
         count_up(&self.table.shared, &mut end.seat, ENDS);
         let seat = split_off(&self.table.shared, &mut end.seat);
         QueueEnd { seat }
     }
 
-    /// The first end then has all that both had: their claims, what they took, and their parts of the queue. Besides
-    /// the step that counts one end less, the first word is loaded once, and what is found there is not used.
+    /// The first end then has all that both ends had: their claims, their takings, and their parts of the queue.
+    /// Besides the step that counts one end less, the first word is loaded once, and the number found there is not
+    /// used.
     pub fn join(&self, end: &mut QueueEnd<N>, other: QueueEnd<N>)
         requires { IsEndOf self.now end.old × IsEndOf self.now other }
         ensures lines { (lines_put (view_of end.new) ≡ lines_put (view_of end.old) ++ lines_put (view_of other.entry))
@@ -93,6 +95,7 @@ impl<const N: usize> ClaimQueue<N> {
     {
         let QueueEnd { seat } = other;
         take_in::<_, _, _, _, _, Brand>(&self.table.shared, &mut end.seat, seat);
+        // linearization point: one end less is counted, after the other end was taken in
         count_down(&self.table.shared, &mut end.seat, ENDS);
     }
 }

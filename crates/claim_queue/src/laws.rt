@@ -1,4 +1,4 @@
-//! What an end lists is true, and each change is an event of the core: statements over plain data.
+//! The list of an end is true, and each change is an event of the core: statements over plain data.
 
 ghost use Rattle.std.specs.Prelude.{◌≡◌, ◌≢◌, ◌+◌, ◌*◌, ◌-◌, ◌%◌, ◌<◌, ◌≤◌, ◌⊎◌, ℕ, true, false, List, [], ◌∷◌, ◌++◌};
 ghost use Rattle.std.specs.Prelude.{length, take, slice_index_or, slice_set, Ok};
@@ -32,9 +32,9 @@ ghost use Rattle.claim_queue.specs.Layout.{head_word, tail_word, ends_word, data
 ghost use Rattle.claim_queue.specs.Own.{View, of_queues, part_of, run, taking};
 ghost use Rattle.claim_queue.specs.Takings.{RefusedTake, OfBoth, behind};
 
-/// What an end lists is true: each entry that a call adds is a real step. It found a lawful queue that the words
-/// showed, and the number in its word, and made one event of the core, or none. Real steps lead from what the end had
-/// seen to each of these entries, in their order, and the last of them left what the end sees then.
+/// The list of an end is true: each entry that a call adds is a real step. The step found a lawful queue that the words
+/// showed, and the number in its word, and made one event of the core, or none. Real steps lead from the queue that the
+/// end had seen to each of these entries, in their order. The last of them left the queue that the end sees then.
 pub fn lists_are_true()
     ensures end { (n : ℕ) (end : QueueEnd n) → ∥ IsHonest of_queues (view_of end) ∥₁ }
     ensures entries { (n : ℕ) (old : View) (new : QueueEnd n) (entries : List (Step Positions))
@@ -50,8 +50,8 @@ pub fn lists_are_true()
     ensures lawful { (e : Step Positions) → IsReal of_queues e → Lawful e.next.object }
 {}
 
-/// The same of a join: real steps lead from what either end had seen to what the one sees then, and the entry of the
-/// step that counts one end less is real.
+/// The list of an end is true after a join: real steps lead from the queue that either end had seen to the queue that
+/// the joined end sees. The entry of the step that counts one end less is a real step.
 pub fn joins_are_true()
     ensures since { (n : ℕ) (old other new : QueueEnd n) → TookIn (view_of old) (view_of other) (view_of new)
         → ∥ Reaches of_queues (view_of old).seen (view_of new).seen ∥₁
@@ -60,8 +60,8 @@ pub fn joins_are_true()
         → ∥ IsReal of_queues (count_down ends_word t.found) ∥₁ }
 {}
 
-/// What an end has seen: a queue with as many places as its type says, which is shut for good, and which the views of
-/// all ends list, this end's among them. An end that has the whole lists it alone.
+/// An end sees a queue with as many places as its type says, at least one. If the queue was shut it stays shut, and its
+/// tail never falls. Some views list the queue, this end's view among them. An end with the whole share lists it alone.
 pub fn ends_list_queues()
     ensures room { (n : ℕ) (end : QueueEnd n) → ((view_of end).seen.object.room ≡ n) × (0 < n) }
     ensures shut { (n : ℕ) (old new : QueueEnd n) (entries : List (Step Positions))
@@ -77,8 +77,8 @@ pub fn ends_list_queues()
         → ∥ ViewsShow (view_of end).seen.object (part_of (view_of end) ∷ []) ∥₁ }
 {}
 
-/// What the number says that a step found: the number of ends, the head and the mark, the tail, whether a place is
-/// raised, or its item. The places from the tail on, as many as the queue has, are those that words show.
+/// The meaning of the number that a step found: the number of ends, the head and the shut mark, the tail, whether a
+/// place is raised, or its item. The words show the places from the tail on, as many as the queue has.
 pub fn numbers_say()
     ensures ends { (found : ℕ) (m : Moment Positions) → IsReal of_queues (load ends_word found m) → found ≡ m.ends }
     ensures head { (e : Step Positions) → e.word ≡ head_word → IsReal of_queues e
@@ -99,8 +99,8 @@ pub fn numbers_say()
         → e.found ≡ item_at e.then.object (position - e.then.object.first) }
 {}
 
-/// Each change that an answer lists is the event of the core that its name says, for all views that list the queue as
-/// the step found it, if one of them is that of the end.
+/// Each change that an answer lists is the event of the core with that name. This holds for all views that list the
+/// queue as the step found it, if one of them is the end's view.
 pub fn changes_are_events()
     ensures claimed { (head : ℕ) (items : List ℕ) (m : Moment Positions) (views : List QueueView) (seat : ℕ)
         (v w : QueueView) → IsReal of_queues (change head_word head m (with_claim m.object items)) → 0 < length items
@@ -138,9 +138,9 @@ pub fn changes_are_events()
         → Grows w.queue (with_shut m.object) → IsEvent m.object (with_shut m.object) seat v w (λ c. Ok (shut c)) }
 {}
 
-/// Each change that an answer lists is the event of the core that its name says, whoever made the runs that the queue
-/// had then: for each history of the queue as the step found it, and there is one. The event leaves a history of the
-/// queue as the step left it. A raise is that of a place of a run, by the call whose run it is.
+/// Each change that an answer lists is the event of the core with that name, whichever ends made the runs: for each
+/// history of the queue as the step found it, and a history exists. The event leaves a history of the queue as the step
+/// left it. A raise is the raise of a place of a run, by the call that has the run.
 pub fn changes_are_events_of_histories()
     ensures history { (e : Step Positions) → IsReal of_queues e
         → (runs : List (Owned Batch)) × IsHistory e.then.object runs }
@@ -170,9 +170,9 @@ pub fn changes_are_events_of_histories()
         → IsEventOf m.object runs (λ c. Ok (shut c)) (with_shut m.object) runs }
 {}
 
-/// No head or tail that a call has found is below one that the end had seen: a number that an entry found is no less
-/// than what the end had seen before the call, no less than what an earlier entry of the call found in the same word,
-/// and no more than what the end sees then.
+/// No head and no tail falls. A number that an entry of a call found is no less than what the end had seen before the
+/// call, and no more than what the end sees then. It is no less than the number that an earlier entry of the call found
+/// in the same word.
 pub fn never_below()
     ensures head { (n : ℕ) (old new : QueueEnd n) (before after : List (Step Positions)) (e : Step Positions)
         → Adds (view_of old) (before ++ e ∷ after) (view_of new) → e.word ≡ head_word
@@ -189,8 +189,7 @@ pub fn never_below()
         → e.word ≡ tail_word → f.word ≡ tail_word → e.found ≤ f.found }
 {}
 
-/// Where one end takes in another, nothing was owned by both: no position is in a run of both, and none in a taking of
-/// both.
+/// If one end takes in another, no position is in a run of both ends, and no position is in a taking of both.
 pub fn joins_are_apart()
     ensures runs { (n : ℕ) (old other new : QueueEnd n) → TookIn (view_of old) (view_of other) (view_of new)
         → AreApart (view_of old).own.runs (view_of other).own.runs }
@@ -198,9 +197,10 @@ pub fn joins_are_apart()
         → AreApart (view_of old).own.takes (view_of other).own.takes }
 {}
 
-/// What a refusal says of the queue. Closed, of a claim: it is shut. Full: there was no room when the head was loaded.
-/// Closed, of a taking: it is shut, and all that was put was taken. Empty: the place was not raised when its flag was
-/// found, at that tail, and then the queue was open or had something left.
+/// The meaning of a refusal. Closed, of a claim: the queue is shut. Full: there was no room when the head was loaded.
+/// Closed, of a taking: the queue is shut, and all that was put was taken. Empty: when the flag was loaded, the tail
+/// was the loaded tail and the place was not raised. When the head was loaded, the queue was open or had something
+/// left.
 pub fn refusals_say()
     ensures closed { (n : ℕ) (old new : QueueEnd n) (count : ℕ)
         → Refused n (view_of old) count not_claimed.Closed (view_of new) → (view_of new).seen.object.shut ≡ true }
@@ -219,9 +219,8 @@ pub fn refusals_say()
         × (r.2.object.shut ≡ true → r.2.object.taken < length r.2.object.places)) }
 {}
 
-/// Empty at a position says that nothing was left before it that the call could take: when the place at it was found
-/// not raised, the items that were left before it were no item, and for a line no whole line, and that place was the
-/// next.
+/// Empty at a position: when the flag of that place was loaded, the place was not raised, and the items left before it
+/// were too few for the call. For one item these were none, and for a line they were no whole line.
 pub fn empty_means_none_before()
     ensures { (n : ℕ) (old new : QueueEnd n) (at : ℕ)
         → OfBoth n (λ Few Enough. (r : RefusedTake Few Enough n (view_of old) (not_taken.Empty at) (view_of new))
@@ -230,7 +229,7 @@ pub fn empty_means_none_before()
         × (written_at r.0.at_flag.object (at - r.0.at_flag.object.first) < 2)) }
 {}
 
-/// An end that has the whole is never answered Lost: between its steps, no other end makes one.
+/// A call of an end with the whole share never returns Lost: no other end steps between its steps.
 pub fn only_ends_are_never_lost()
     ensures claim { (n : ℕ) (old new : QueueEnd n) (count head : ℕ) → IsOnlyEnd old
         → Refused n (view_of old) count (not_claimed.Lost head) (view_of new) → ⊥ }
@@ -238,8 +237,8 @@ pub fn only_ends_are_never_lost()
         → OfBoth n (λ Few Enough. RefusedTake Few Enough n (view_of old) (not_taken.Lost tail) (view_of new) → ⊥) }
 {}
 
-/// The numbers of the layout: where the words are, how many words a queue has, how many places it can have, and the
-/// mark of a shut queue, which is the number below which its positions are.
+/// The numbers of the layout: where the words are, how many words a queue has, and how many places it can have. The
+/// mark of a shut queue is 2^32, and all positions are below it.
 ///
 /// A cache line has 8 words. The head, the tail and the first place are 8 words apart, so they are in lines of their
 /// own. Each of them begins a line if the table's memory begins at one.

@@ -1,5 +1,5 @@
-//! A queue of `N` places in which ends claim runs of places by one exchange of the head, and take by one of the tail
-//! (Massalin and Pu 1991, the queues with many producers and many consumers).
+//! A queue of `N` places with many producers and many consumers. An end claims a run of places by one compare-and-swap
+//! of the head, and takes items by one compare-and-swap of the tail.
 //!
 //! ```rust
 //! let (queue, mut taker) = ClaimQueue::<4>::new(rt.alloc(), 0)?;
@@ -20,21 +20,22 @@
 //! assert!(rt; (closed.put, closed.taken) == (3, 3));
 //! ```
 //!
-//! Producers claim at the *head* and takers take at the *tail*, as in Massalin's papers. It is the other way round in
-//! `crossbeam` and in `VecDeque`, where items leave at the head.
+//! Producers claim at the *head* and takers take at the *tail*. In `crossbeam` and in `VecDeque` the names are the
+//! other way round: items leave at the head.
 //!
-//! `N` is 1 to 256. An item is a `u64`. A position is a place of the queue from its beginning on, and is used once: a
-//! queue takes 4,294,967,295 items less its first position, and is then Spent. The numbers in an answer are positions.
+//! `N` is 1 to 256. An item is a `u64`. Items are numbered by positions, from the first position of the queue on, and
+//! each position is used once: a queue takes 4,294,967,295 items less its first position, and is then Spent. The
+//! numbers in an answer are positions.
 //!
-//! Every end may put and take. No call but `put` waits, and none but `new` takes memory. `put` tries again where
-//! another end claimed first, and gives up for every other reason. A claim that is dropped before all of it is raised
-//! leaves its places unraised: nobody takes past them, and with N places claimed behind the tail every claim is Full.
-//! An end that is dropped is never joined, so the queue can't be closed any more; all else goes on.
+//! Every end may put and take. No call except `put` waits, and no call except `new` allocates memory. `put` retries if
+//! another end claimed first, and returns every other refusal. A claim that is dropped before all of it is raised
+//! leaves its places unraised: nobody takes past them, and with N places claimed from the tail on, every claim is Full.
+//! An end that is dropped is never joined, so the queue can't be closed any more; everything else still works.
 //!
-//! `look` is for whoever watches a queue: it returns how deep the queue is, and whether a put that has not ended holds
-//! it up.
+//! `look` is for monitoring: it returns how many items are in the queue, and whether a put that has not ended holds up
+//! the takers.
 //!
-//! `ClaimRule`, `Shape`, `Did` and `View` are for the proofs alone: they stand in the contracts of what the ends list.
+//! `ClaimRule`, `Shape`, `Did` and `View` are for the proofs alone: the contracts about the lists of the ends use them.
 #![tactic(auto)]
 
 mod between;

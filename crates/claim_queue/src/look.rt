@@ -1,5 +1,5 @@
-//! A look at a queue, for whoever watches it: how much is in it, whether it is shut, and whether a put that has not
-//! ended holds it up.
+//! A look at a queue, for monitoring: how many items are in the queue, whether the queue is shut, and whether a put
+//! that has not ended holds up the takers.
 ghost use Rattle.std.specs.Prelude.{◌≡◌, ◌+◌, ◌<◌, ◌≤◌, min};
 ghost use Rattle.table_theory.specs.declared.positions.TheConstants.{POSITIONS};
 ghost use Rattle.table_theory.specs.Positioned.{Grows, tail_of};
@@ -11,18 +11,18 @@ use crate::ends::{ClaimQueue, QueueEnd};
 use crate::layout::SHUT;
 use crate::steps::{load_flag, load_head, load_tail};
 
-/// What a look at a queue found. The numbers were found one after the other, and may have changed since.
+/// The numbers that a look at a queue found. They were loaded one after the other, and may have changed since.
 #[derive(Clone, Copy, Debug, PartialEq, Eq, Drop)]
 pub struct QueueLook {
     /// The position of the next item that is taken.
     pub tail: u32,
-    /// The position of the next item that is claimed. It was found after the tail.
+    /// The position of the next item that is claimed. It was loaded after the tail.
     pub head: u32,
     /// The queue is shut.
     pub shut: bool,
-    /// So many items are raised from the tail on, without a gap. The count ends at the head, and at N. If it ends
-    /// earlier, the flag of the next position was not raised. Either its put has not ended, and no taking gets past it,
-    /// or the tail has passed it since.
+    /// The number of items that are raised from the tail on, without a gap. The count ends at the head, and at N. If
+    /// the count ends earlier, the flag of the next position was not raised. Either the put of that position has not
+    /// ended, and no taking gets past it, or the tail has passed the position since.
     pub raised: u32,
 }
 
@@ -38,7 +38,7 @@ impl QueueLook {
 impl<const N: usize> ClaimQueue<N> {
     ghost use Rattle.claim_queue.specs.Handles.{view_of, IsEndOf, IsSameEnd};
 
-    // How many items are raised from `tail` on, without a gap: `most` at most.
+    // The number of items that are raised from `tail` on, without a gap, at most `most`.
     fn count_raised(&self, end: &mut QueueEnd<N>, tail: u64, most: usize) -> usize
         requires queue { IsEndOf self.now end.old }
         requires tail { ((view_of end.old).seen.object.first ≤ tail) × (tail ≤ tail_of (view_of end.old).seen.object)
@@ -53,6 +53,7 @@ impl<const N: usize> ClaimQueue<N> {
     {
         for i in 0..most {
             let position = tail + i as u64;
+            // One load suffices: an item that is raised stays raised, whether or not it is then taken.
             let flag = load_flag(&self.table.shared, &mut end.seat, N, position);
             if flag != position + 1 {
                 return i;
@@ -61,8 +62,8 @@ impl<const N: usize> ClaimQueue<N> {
         most
     }
 
-    /// A look at the tail, then at the head, and then at the flags from that tail on. It ends at the first flag that is
-    /// not raised, at that head, or after N flags. It makes at most N + 2 loads, and changes nothing.
+    /// Loads the tail, then the head, and then the flags from that tail on. It ends at the first flag that is not
+    /// raised, at that head, or after N flags. It makes at most N + 2 loads, and changes nothing.
     pub fn look(&self, end: &mut QueueEnd<N>) -> QueueLook
         requires { IsEndOf self.now end.old }
         ensures lines { SameLines (view_of end.old) (view_of end.new) }
@@ -71,6 +72,7 @@ impl<const N: usize> ClaimQueue<N> {
         ensures others { KeepsClaims (view_of end.old) (view_of end.new) }
         ensures same { IsSameEnd end.old end.new }
     {
+        // The tail is loaded first: the head never falls, so the head loaded after it is not below this tail.
         let tail = load_tail(&self.table.shared, &mut end.seat);
         let word = load_head(&self.table.shared, &mut end.seat);
         let head = word % SHUT;

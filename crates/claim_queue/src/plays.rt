@@ -1,4 +1,4 @@
-//! What each step tells. These types are for the proofs alone.
+//! The report of each step. These types are for the proofs alone.
 ghost use Rattle.std.specs.Prelude.{ℕ, List, []};
 ghost use Rattle.claim_queue.specs.Steps.{finds, claims, writes, takes, shuts};
 

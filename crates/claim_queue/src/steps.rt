@@ -1,4 +1,5 @@
-//! The atomic steps. No signature has a const parameter, since a call of such a function could not pick ghost members.
+//! The atomic steps. No signature has a const parameter, since a call of such a function could not choose ghost
+//! members.
 ghost use Rattle.std.specs.Prelude.{◌≡◌, ◌≢◌, ◌+◌, ◌-◌, ◌<◌, ◌≤◌, ℕ, false, length};
 ghost use Rattle.table_theory.specs.declared.positions.TheConstants.{POSITIONS};
 ghost use Rattle.table_theory.specs.Positioned.{fresh, tail_of, item_at, written_at};
@@ -64,7 +65,7 @@ pub(crate) fn exchange_head<J: ClaimItems>(
     words.compare_exchange::<Claims<J>>(seat, HEAD, head, new)
 }
 
-// The place `index` of the end's run that begins at `start`.
+// Stores the item of the place `index` of the end's run that begins at `start`.
 pub(crate) fn store_data<J: Spot>(
     words: &Words,
     seat: &mut Seat<(), View>,

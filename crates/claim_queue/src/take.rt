@@ -1,4 +1,5 @@
-//! Takings: an end reads what is raised behind the tail, and takes it by one exchange of the tail.
+//! Takings: an end reads the items that are raised from the tail on, and takes them by one compare-and-swap of the
+//! tail.
 ghost use Rattle.std.specs.Prelude.{◌≡◌, ◌+◌, ◌-◌, ◌<◌, ◌≤◌, ◌∷◌, [], length, MatchResult, MatchBool, IsFalse};
 ghost use Rattle.table_theory.specs.declared.positions.TheConstants.{POSITIONS};
 ghost use Rattle.table_theory.specs.Positioned.{tail_of};
@@ -17,11 +18,11 @@ use thiserror::Error;
 /// Why nothing was taken.
 #[derive(Clone, Copy, Debug, PartialEq, Eq, Drop, Error)]
 pub enum TakeRefusal {
-    /// The place of this position was not raised, and up to it there was nothing to take: no item, or no whole line.
-    /// The tail was found again after that, and the queue was open or had something left.
+    /// The place of this position was not raised, and before it there was nothing to take: no item, or no whole line.
+    /// After that the tail was found unchanged, and the queue was open or had something left.
     #[error("nothing raised at {at}")]
     Empty { at: u32 },
-    /// Another end took first: this is the tail that was found, past the one that was loaded.
+    /// Another end took first: `tail` was found, past the tail that was loaded.
     #[error("lost, tail {tail}")]
     Lost { tail: u32 },
     /// The queue is shut, and all that was put is taken.
@@ -45,8 +46,8 @@ impl<const N: usize> ClaimQueue<N> {
         self.try_take_paused(end, &mut NoPause)
     }
 
-    /// `try_take`, with a pause just before the exchange, in which another end may step. A try that is refused before
-    /// its exchange does not call it.
+    /// `try_take`, with a pause just before the compare-and-swap, in which another end may step. A try that is refused
+    /// before its compare-and-swap does not call the pause.
     pub fn try_take_paused<P: Pause>(
         &self,
         end: &mut QueueEnd<N>,
@@ -62,13 +63,19 @@ impl<const N: usize> ClaimQueue<N> {
         ensures paused { MatchResult result (λ x. P.paused pause.old pause.new)
             (λ r. PausedTake P.paused N (view_of end.old) r (view_of end.new) pause.old pause.new) }
     {
+        // The tail never falls, and no position is used again: if the compare-and-swap finds this tail, no item was
+        // taken in between.
         let tail = load_tail(&self.table.shared, &mut end.seat);
+        // linearization point of Empty: the item is not raised, if the tail is then found unchanged
         let flag = load_flag(&self.table.shared, &mut end.seat, N, tail);
         if flag != tail + 1 {
             return Err(self.refusal_at(end, tail, tail));
         }
+        // The flag was stored after the data. The place is not written again before the tail has passed it, and then
+        // the compare-and-swap fails.
         let item = load_data(&self.table.shared, &mut end.seat, N, tail);
         pause.between();
+        // linearization point: the item is taken, if the tail is unchanged
         let found = exchange_tail(&self.table.shared, &mut end.seat, tail, tail + 1);
         if found != tail {
             return Err(TakeRefusal::Lost { tail: found as u32 });
@@ -76,7 +83,7 @@ impl<const N: usize> ClaimQueue<N> {
         Ok(item)
     }
 
-    // Why nothing can be taken at this tail, where the place at `at` was found not raised.
+    // Why nothing can be taken at this tail, after the place at `at` was found not raised.
     fn refusal_at(&self, end: &mut QueueEnd<N>, tail: u64, at: u64) -> TakeRefusal
         requires queue { IsEndOf self.now end.old }
         requires bounded { (tail < POSITIONS) × (at < POSITIONS) }
@@ -84,10 +91,13 @@ impl<const N: usize> ClaimQueue<N> {
         ensures why { IsRefusedAt (view_of end.old) tail at result (view_of end.new) }
         ensures same { IsSameEnd end.old end.new }
     {
+        // linearization point of Closed: the queue's tail is between `tail` and the head. If they are equal, nothing is
+        // left, and a shut queue stays shut.
         let head = load_head(&self.table.shared, &mut end.seat);
         if head == SHUT + tail {
             return TakeRefusal::Closed;
         }
+        // Empty is exact: the tail never falls. If it is the same again, it was the same when the flag was loaded.
         let now = load_tail(&self.table.shared, &mut end.seat);
         if now != tail {
             return TakeRefusal::Lost { tail: now as u32 };
@@ -95,7 +105,7 @@ impl<const N: usize> ClaimQueue<N> {
         TakeRefusal::Empty { at: at as u32 }
     }
 
-    // Finds items from `tail` on, up to the end of a line. False where the next place was not raised.
+    // Finds items from `tail` on, up to the end of a line. Returns false if the next place was not raised.
     fn scan(&self, end: &mut QueueEnd<N>, tail: u64, line: &mut ArrayVec<u64, N>) -> bool
         requires queue { IsEndOf self.now end.old }
         requires started { HasFound (view_of end.old) tail [] × (tail < POSITIONS) }
@@ -109,10 +119,13 @@ impl<const N: usize> ClaimQueue<N> {
     {
         for i in 0..N {
             let position = tail + i as u64;
+            // linearization point of Empty: the item is not raised, if the tail is then found unchanged
             let flag = load_flag(&self.table.shared, &mut end.seat, N, position);
             if flag != position + 1 {
                 return false;
             }
+            // The flag was stored after the data. The place is not written again before the tail has passed it, and
+            // then the compare-and-swap fails.
             let item = load_data(&self.table.shared, &mut end.seat, N, position);
             line.push(item);
             if item == 10 {
@@ -122,9 +135,9 @@ impl<const N: usize> ClaimQueue<N> {
         true
     }
 
-    /// One try to take a line: the items up to and with the first 10, or N raised items without one. They are appended
-    /// to `line`, and their number is the answer; where the try is refused the list stays empty. All of them come by
-    /// one exchange, so no other end's item lies between them.
+    /// One try to take a line: the items up to and with the first 10, or N raised items without a 10 before the last
+    /// one. They are appended to `line`, and their number is returned; if the try is refused, the list stays empty. One
+    /// compare-and-swap takes all of them, so no other end takes an item between them.
     ///
     /// Condition: the list is empty.
     pub fn try_take_line(
@@ -143,6 +156,8 @@ impl<const N: usize> ClaimQueue<N> {
         ensures others { KeepsClaims (view_of end.old) (view_of end.new) }
         ensures same { IsSameEnd end.old end.new }
     {
+        // The tail never falls, and no position is used again: if the compare-and-swap finds this tail, no item was
+        // taken in between.
         let tail = load_tail(&self.table.shared, &mut end.seat);
         if !self.scan(end, tail, line) {
             let at = tail + line.len() as u64;
@@ -150,6 +165,7 @@ impl<const N: usize> ClaimQueue<N> {
             return Err(self.refusal_at(end, tail, at));
         }
         let count = line.len();
+        // linearization point: the items of the line are taken together, if the tail is unchanged
         let found = exchange_tail(&self.table.shared, &mut end.seat, tail, tail + count as u64);
         if found != tail {
             line.clear();

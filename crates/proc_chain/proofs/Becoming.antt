@@ -1,4 +1,4 @@
--- What one event makes of the queue and the gate: they stay lawful, and the queue grows.
+-- One event of the queue and the gate: they stay lawful, and the queue grows.
 use Rattle.proc_chain.proofs.Common.{◌≡◌, ℕ, ◌+◌, ◌-◌, ◌≤◌, set, sym, subst, arith, [], ◌∷◌, Moment, Step, IsReal, item_at, written_at, Grows, with_write, grows_refl, grows_trans, claim_grows, write_grows, GatedQueue, IsLawful, Becomes, with_raise, of_chains}
 use Rattle.table_theory.specs.Ledgers.{Reaches}
 use Rattle.table_theory.proofs.Saying.{real_goes, reaches_go}
@@ -25,7 +25,7 @@ becomes_grows o p (notified e) = subst (λ (z : GatedQueue). Grows o.queue z.que
 becomes_grows o p (round up e) = subst (λ (z : GatedQueue). Grows o.queue z.queue) (sym e) (grows_refl o.queue)
 becomes_grows o p (left one e) = subst (λ (z : GatedQueue). Grows o.queue z.queue) (sym e) (grows_refl o.queue)
 
--- behind a real step, and wherever real steps lead
+-- the queue grows by a real step, and wherever real steps lead
 
 abbrev Leads : GatedQueue → GatedQueue → Type 0
 Leads o p = Grows o.queue p.queue

@@ -1,4 +1,4 @@
--- Whatever the rule holds of is a lawful chain of the core, shown by the words and the views.
+-- A state for which the rule holds is a lawful chain of the core, shown by the words and the views.
 use Rattle.proc_chain.proofs.Common.{◌≡◌, ℕ, ◌+◌, ◌%◌, ◌<◌, ◌≤◌, true, false, true≢false, List, ◌∙◌, map, length, take, refl, sym, ap, subst, arith, Some, eqb, eq-eqb, ne_eqb, dite, dec_le, ℕ_discrete, get_elem?, State, Idle, Positions, is_raised, Chain, is_call, is_idle, place_at, runs_of, Adjacent, long_is, history_of, got, at_map, Shape, View, part_of, note_in, mark_in, notes_of, Rule, GateShows, gate_of, runner_from, owes_in, chain_of}
 use Rattle.std.proofs.lemmas.Simd.{map-map}
 use Rattle.std.proofs.lemmas.Bool.{le-leb, leb-true}
@@ -11,7 +11,7 @@ use Rattle.proc_chain.specs.Between.{pair_at, PlaceIs, ShowsChain, ShowsEnds}
 use Rattle.proc_chain.proofs.Gates.{others_still}
 use Rattle.proc_chain.proofs.Events.{runner_none, runner_at, up_is, not_idle, chain_is_lawful}
 
--- a view has the turn exactly where its end is the runner
+-- a view has the turn exactly if its end is the runner
 runner_is : (q : Positions) (gate : ℕ) (views : List View) → GateShows q gate views → (call : ℕ) (v : View) → get_elem? views call ≡ maybe.some v → v.own.runner ≡ is_call call (runner_from 0 views)
 runner_is q gate views g call v at = dite (ℕ_discrete gate 0)
     (λ down. g.still down call v at ∙ ap (is_call call) (sym (runner_none 0 views (g.still down))))

@@ -1,4 +1,4 @@
--- What is known when a chain closes, and what is read of it.
+-- The facts known when a chain closes, and the numbers read from it.
 use Rattle.proc_chain.proofs.Common.{◌≡◌, ◌≢◌, ℕ, zero, suc, ◌+◌, ◌-◌, ◌%◌, ◌<◌, ◌≤◌, Bool, false, true≢false, eq-eqb, ne_eqb, Option, Some, None, List, [], ◌∷◌, map, length, get_or, set, sym, refl, ap, ◌∙◌, subst, arith, length-append, if◌then◌else◌, dite, ℕ_discrete, dec_lt, get_elem?, Cell, Batch, Positions, QueueView, blank, written_at, head_of, Owned, ViewsShow, AllRaised, all_places, runs_of, Moment, grows_refl, at_map, one_at, State, Did, GatedQueue, Shape, place_word, note_in, mark_in, WordsShow, notes_of, View, nothing_did, part_of, Rule, Rests, left_at, left_from, head_word, tail_word, ends_word}
 use Rattle.std.proofs.lemmas.List.{get_or_append_left, get_or-append_right}
 use mathlib.Core.Option as maybe
@@ -21,20 +21,20 @@ pub read_none : (ws : List ℕ) (p u word mark : ℕ) → u ≡ place_word p →
 read_none ws p u word mark at w m is = let r = ap (λ (z : ℕ). get_or ws z 0) (sym at) ∙ read_word ws u word w in
     sym (ap (λ (b : Bool). if b then Some (note_in ws (p % 32)) else None) (ne_eqb (mark_in ws (p % 32)) (p + 1) (λ e. is (m ∙ (ap mark_of (sym r) ∙ e)))))
 
--- the head is not before the tail, within the room behind it and small
+-- the head is at most 32 past the tail and not before it, and is below 2^32; the tail is not before the first position
 pub record Spans (first tail head : ℕ) : Type 0 where
   pub started : first ≤ tail
   pub behind : tail ≤ head
   pub within : head ≤ tail + 32
   pub bounded : head < 4294967296
 
--- where one slot stands and it was emptied, none is filled
+-- if there is one slot and it was emptied, no slot is filled
 pub emptied_slot : (before after : List Bool) (count k : ℕ) → after ≡ set before 0 false → count ≡ 1 → k < count → get_or after k false ≡ false
 emptied_slot [] after count k is one below = ap (λ (z : List Bool). get_or z k false) is
 emptied_slot (x ∷ xs) after count zero is one below = ap (λ (z : List Bool). get_or z 0 false) is
 emptied_slot (x ∷ xs) after count (suc k) is one below = absurd (omega arith)
 
--- all places of a log are raised where those of its entries are
+-- all places of a log are raised if the places of its entries are
 flat_raised : (log : List (Owned Batch)) → ((k : ℕ) (o : Owned Batch) → get_elem? log k ≡ maybe.some o → (i : ℕ) → i < length o.2.places → 2 ≤ (get_or o.2.places i blank).written) → (i : ℕ) → i < length (all_places log) → 2 ≤ (get_or (all_places log) i blank).written
 flat_raised [] h i b = absurd (omega arith)
 flat_raised (o ∷ os) h i b = let n : ℕ = length o.2.places in let long = length-append o.2.places (all_places os) in dite (dec_lt i n)

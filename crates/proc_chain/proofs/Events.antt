@@ -53,7 +53,7 @@ owing_same views id v w at is call = dite (ℕ_discrete call id)
     (λ same. ap (λ (z : ℕ). owes_in (slice_get views z)) same ∙ (ap owes_in (got views id v at) ∙ (sym is ∙ (sym (ap owes_in (set_got views id v w at)) ∙ ap (λ (z : ℕ). owes_in (slice_get (set views id w) z)) (sym same)))))
     (λ ne. ap owes_in (sym (set_other views id call w ne)))
 
--- where a run's place stands in the history
+-- the place of a run in the history
 
 front : {X : Type 0} (xs ys : List X) (i : ℕ) → i < length xs → slice_get (xs ++ ys) i ≡ slice_get xs i
 front [] ys i within = absurd (omega arith)

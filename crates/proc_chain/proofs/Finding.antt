@@ -1,4 +1,4 @@
--- What the numbers say that a step found, and what the steps of an end leave as it was.
+-- The meaning of the numbers that a step found, and what the steps of an end leave unchanged.
 use Rattle.proc_chain.proofs.Common.{◌≡◌, ◌≢◌, ℕ, ◌+◌, ◌/◌, ◌%◌, ◌<◌, ◌≤◌, true, false, List, [], ◌∷◌, ◌++◌, length, get_or, sym, refl, ap, ◌∙◌, subst, arith, true≢false, props, ∥∥₁_elim, Me, Positions, Moment, Step, load, Made, IsReal, AllRaised, item_at, written_at, Grows, head_of, tail_of, spot, made_on, grows_trans, found_not_raised, Did, GatedQueue, place_word, note_in, mark_in, notes_of, View, of_chains, queue_of, IsTold, Rests, Stepped, Found, Carries, HasSlot, IsRunner, KeepsTaken, head_word, tail_word, gate_word, FIRST_PLACE}
 use Rattle.table_theory.proofs.Windows.{found_raised}
 use Rattle.proc_chain.proofs.Becoming.{real_grows}
@@ -42,7 +42,7 @@ tail_found v w tail f = let e = tail_says (load tail_word tail f.0) refl f.1.rea
 pub then_step : (v u w : View) (es : List (Step GatedQueue)) (one : Did) (e : Step GatedQueue) (f : Did → Did) → Made v es one u → Stepped u e (f u.own) w → Made v (es ++ e ∷ []) (f one) w
 then_step v u w es one e f a b = made_on v u w es (e ∷ []) one (f one) a record { adds = b.made.adds; did = b.made.did ∙ ap f a.did; member = b.made.member }
 
--- What an end sees after steps by which it took nothing: no other end took where it has the turn
+-- The view of an end after steps by which it took nothing: if it has the turn, no other end took either
 pub record KeepsSeen (v w : View) : Type 0 where
   pub grows : Grows (queue_of v) (queue_of w)
   pub taken : KeepsTaken v w
@@ -77,7 +77,7 @@ rests_on v w ends runs owes h = record { one = ends ∙ h.one; raised = subst Al
 pub told_behind : (v : View) → ∥ IsTold v ∥₁ → (queue_of v).taken ≤ length (queue_of v).places
 told_behind v t = ∥∥₁_elim t (search props) (λ (h : IsTold v). h.lawful.0.behind)
 
--- the notes taken stay where the end has the turn
+-- the notes taken are unchanged if the end has the turn
 pub seen_notes : (v w : View) → KeepsSeen v w → (queue_of v).taken ≤ length (queue_of v).places → v.own.runner ≡ true → notes_of (queue_of w) ≡ notes_of (queue_of v)
 seen_notes v w s behind r = notes_same (queue_of v) (queue_of w) s.grows (s.taken r) behind
 

@@ -54,7 +54,7 @@ pub gated_same : (q q' : Positions) (gate : ℕ) (views : List View) (id : ℕ) 
     → (w.own.saw ≡ true → (v.own.saw ≡ true) ⊎ IsSettled q' (set views id w)) → (IsSettled q views → IsSettled q' (set views id w)) → GateShows q' gate (set views id w)
 gated_same q q' gate views id v w g at r taken sees same saw settled = gated_set q q' gate gate views id v w g at r taken sees same g.bounded (λ up. up) (λ _. refl) (λ _. saw) (λ _. settled)
 
--- the gate becomes More where it was not idle
+-- the gate becomes More, if it was not Idle
 pub gated_more : (q : Positions) (gate : ℕ) (views : List View) (id : ℕ) (v w : View) → GateShows q gate views → get_elem? views id ≡ some v → gate ≢ 0 → w.own.runner ≡ v.own.runner → w.seen.object.queue.taken ≡ q.taken → w.own.taken ≡ v.own.taken → GateShows q 2 (set views id w)
 gated_more q gate views id v w g at up r sees same = gated_set q q gate 2 views id v w g at r refl (λ _. sees) (λ _. same) (omega arith) (λ _. up) (λ e. absurd (omega arith)) (λ e. absurd (omega arith)) (λ e. absurd (omega arith))
 

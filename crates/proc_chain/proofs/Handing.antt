@@ -1,4 +1,4 @@
--- An end hands over all that it knows but the slot: a new end goes on, and the old one is spent.
+-- An end hands over all that it knows, except the slot: a new end goes on, and the old end is spent.
 use Rattle.proc_chain.proofs.Common.{◌≡◌, ◌≢◌, ◌⊎◌, inl, inr, ⊎_elim, ℕ, ◌<◌, false, true, true≢false, List, [], ◌∷◌, ◌++◌, map, length, set, sym, refl, ap, ◌∙◌, subst, arith, length-set, map-set, map-append, some, dite, ℕ_discrete, get_elem?, Splits, at_map, at_set, set_else, at_last, at_longer, Positions, QueueView, emptied, ViewsShow, listed_new, listed_join, at_push, at_below, one_at, Shape, first_queue, View, nothing_did, of_chains, part_of, GateShows, Rule}
 use Rattle.table_theory.proofs.Moving.{in_place, true_moved}
 use Rattle.proc_chain.proofs.Gates.{gated_as}

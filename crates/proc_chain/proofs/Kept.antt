@@ -1,4 +1,4 @@
--- What the words of places keep while no note is raised there.
+-- The words of places while no note is raised there.
 use Rattle.proc_chain.proofs.Common.{◌≡◌, ◌≢◌, ℕ, ◌+◌, ◌/◌, ◌%◌, ◌<◌, ◌≤◌, List, [], ◌∷◌, length, get_or, set, sym, ap, ◌∙◌, subst, arith, dite, ℕ_discrete, dec_lt, Cell, Positions, item_at, written_at, with_write, with_take, spot, FIRST_PLACE, mark_in, note_in, place_word, raised_word}
 use Rattle.std.proofs.Common.{get_or-set_other}
 use Rattle.atomic_table.proofs.Lists.{one_turn}

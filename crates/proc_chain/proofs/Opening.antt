@@ -1,4 +1,4 @@
--- What is known of a new end, of the two ends of a split, and of an end that took in another.
+-- The views of a new end, of the two ends of a split, and of an end that took in another.
 use Rattle.proc_chain.proofs.Common.{◌≡◌, ℕ, ◌+◌, ◌-◌, ◌<◌, Bool, true, false, ◌||◌, ◌&&◌, true≢false, zero, suc, List, [], ◌∷◌, ◌++◌, length, set, sym, refl, ap, ◌∙◌, subst, arith, props, ∥∥₁_elim, some, some-ne-none, get_elem?, set_here, at_last, Batch, Part, rest_of, newborn, both, AllRaised, head_of, at_below, reaches_one, Did, ends_word, View, nothing_did, did_both, of_chains, queue_of, view_from, IsTold, Rests, Meets, KeepsTaken, GatedQueue, IsLawful, AreShown, notes_of}
 use Rattle.table_theory.specs.Ledgers.{IsHonest, CountedUp, CountedDown}
 use Rattle.table_theory.specs.Ledgers as ends
@@ -17,7 +17,7 @@ none_raised m e has = absurd (some-ne-none e (sym has))
 pub of_newcomer : (first : ℕ) (v : View) → v ≡ view_from first → first < 4294967296 → Rests v × IsTold v
 of_newcomer first v is bounded = subst (λ (z : View). Rests z × IsTold z) (sym is) (record { one = refl; raised = none_raised; settled = refl }, first_told first bounded)
 
--- what an end is after it was split, or took in another, where it was v before
+-- the view of an end that was v, after it was split or took in another
 pub record Parted (v w : View) : Type 0 where
   pub rests : Rests w
   pub told : IsTold w

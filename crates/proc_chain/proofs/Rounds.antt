@@ -1,4 +1,4 @@
--- What the parts of a serving are together, and what its loop keeps.
+-- The parts of a serving taken together, and the invariant of its loop.
 use Rattle.proc_chain.proofs.Common.{◌≡◌, ◌≢◌, ℕ, zero, suc, ◌+◌, ◌/◌, ◌%◌, ◌<◌, ◌≤◌, Option, Some, None, true, false, Bool, List, [], ◌∷◌, ◌++◌, map, take, length, get_or, sym, refl, ap, ◌∙◌, subst, arith, length-append, props, ∥∥₁_elim, map-append, length-map, dite, ℕ_discrete, dec_le, Me, Seat, Batch, Cell, Positions, Moment, Part, line_of, Step, load, change, blank, item_of, item_at, written_at, with_take, tail_of, IsSame, made_on, raised_below, Did, GatedQueue, place_word, raised_word, notes_of, with_taken, with_gate, taking, View, queue_of, Stepped, Found, IsTold, Carries, IsRunner, MadeSince, Serving, tail_word, gate_word}
 use Rattle.std.proofs.Common.{drop}
 use Rattle.std.proofs.lemmas.Grind.{flat_map-append}
@@ -78,15 +78,15 @@ ran_step v w e own runner saw s same is behind r = let sees : queue_of w ≡ e.t
   };
 }
 
--- the same of a look, and of one that found no note raised
+-- a look of the runner, or a look that found no note raised, is one step by which it took nothing
 pub ran_look : (v w : View) (word found : ℕ) (f : Found v word found w) → (queue_of v).taken ≤ length (queue_of v).places → v.own.runner ≡ true → Ran v (load word found f.0 ∷ []) [] true v.own.saw w
 ran_look v w word found f behind r = ran_step v w (load word found f.0) v.own true v.own.saw f.1 refl (λ i. record v.own { runner = r i }) behind r
 
--- and of a change of the gate
+-- a change of the gate by the runner is one step by which it took nothing
 pub ran_gate : (v w : View) (found gate : ℕ) (m : Moment GatedQueue) → Stepped v (change gate_word found m (with_gate m.object gate)) (record v.own { saw = false }) w → (queue_of v).taken ≤ length (queue_of v).places → v.own.runner ≡ true → Ran v (change gate_word found m (with_gate m.object gate) ∷ []) [] true false w
 ran_gate v w found gate m s behind r = ran_step v w (change gate_word found m (with_gate m.object gate)) (record v.own { saw = false }) true false s refl (λ i. record v.own { runner = r i; saw = false }) behind r
 
--- the first cell behind the first i
+-- the first cell after the first i
 first_behind : (i : ℕ) (l : List Cell) → i < length l → map item_of (take 1 (drop i l)) ≡ (get_or l i blank).item ∷ []
 first_behind i [] h = absurd (omega arith)
 first_behind zero (x ∷ xs) h = refl

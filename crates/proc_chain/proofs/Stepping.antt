@@ -1,4 +1,4 @@
--- Each step keeps the rule, and tells its end what it says.
+-- Each step keeps the rule, and reports to its end what it says.
 use Rattle.proc_chain.proofs.Common.{◌≡◌, ◌≢◌, ℕ, ◌+◌, ◌-◌, ◌/◌, ◌%◌, ◌<◌, ◌≤◌, ◌⊎◌, inl, inr, ⊎_elim, true, false, eqb, List, [], ◌∷◌, ◌++◌, map, length, get_or, set, sym, refl, ap, ◌∙◌, subst, arith, length-set, length-append, map-set, some, none, dite, ℕ_discrete, dec_lt, get_elem?, State, Me, step, Allows, at_map, at_set, set_here, set_else, Cell, Batch, Positions, Moment, change, blank, place_at, item_at, written_at, Grows, fresh, with_write, with_take, head_of, tail_of, Lawful, spot, ViewsShow, number_of, written_to, at_below, one_at, grows_refl, claim_grows, write_grows, run_stands, found_not_raised, Did, GatedQueue, Shape, FIRST_PLACE, head_word, tail_word, ends_word, gate_word, note_in, mark_in, place_word, notes_of, WordsShow, Shows, IsPlace, first_queue, IsLawful, Becomes, with_note, with_raise, with_taken, with_gate, taking, AreShown, View, nothing_did, of_chains, part_of, IsSettled, GateShows, SlotShows, Rule, IsTold, Meets, Stepped, Raised, run, IsRunner}
 use Rattle.std.proofs.Common.{mod-lt, get_or-set_same, get_or-set_other}
 use mathlib.Core.Option.{Option}
@@ -28,7 +28,7 @@ use Rattle.proc_chain.specs.Steps as tells
 use Rattle.proc_chain.proofs.Becoming.{raise_is, becomes_lawful}
 use Rattle.proc_chain.proofs.Gates.{others_still, gate_up, Covers, owed_on, covers_same, covers_more, gated_same, gated_runs, gated_more, gated_leaves, notes_same, housed_on}
 
--- no view is doubled, where one is set
+-- no view is doubled after one is set
 pub undoubled_set : (views : List View) (id : ℕ) (w : View) → ((j : ℕ) (u : View) → get_elem? views j ≡ some u → u.own.doubled ≡ false) → w.own.doubled ≡ false → (j : ℕ) (u : View) → get_elem? (set views id w) j ≡ some u → u.own.doubled ≡ false
 undoubled_set views id w old own j u has = ⊎_elim (λ t. ap (λ (z : View). z.own.doubled) (sym t.1) ∙ own) (λ t. old j u t.1) (at_set views id j w u has)
 
@@ -39,7 +39,7 @@ settled_look q views id v w at owes same s up = owed_on q q views id v w at (s u
 pub gated_look : (q : Positions) (gate : ℕ) (views : List View) (id : ℕ) (v w : View) → GateShows q gate views → get_elem? views id ≡ some v → w.own ≡ v.own → w.seen.object.queue.taken ≡ q.taken → GateShows q gate (set views id w)
 gated_look q gate views id v w g at own sees = gated_same q q gate views id v w g at (λ i. (own i).runner) refl (λ _. sees) (λ _ i. (own i).taken) (λ h. inl ((λ i. (sym own i).saw) ∙ h)) (settled_look q views id v w at (λ i. (own i).owes) (λ i. (own i).runs))
 
--- the views' parts, where one sees the queue as it is
+-- the views' parts, if one view sees the queue as it is
 pub listed_part : (q : Positions) (views : List View) (id : ℕ) (v w : View) → ViewsShow q (map part_of views) → get_elem? views id ≡ some v → w.own.runs ≡ v.own.runs → w.own.takes ≡ v.own.takes → w.seen.object.queue ≡ q → ViewsShow q (map part_of (set views id w))
 listed_part q views id v w l at runs taken sees = subst (ViewsShow q) (sym (map-set part_of views id w)) (listed_look q (map part_of views) id (part_of v) (part_of w) l (at_map part_of views id v at) runs taken (subst (λ (z : Positions). Grows z q) (sym sees) (grows_refl q)))
 
@@ -97,7 +97,7 @@ shows_take q words new h l below up is = let wide = h.wide in record {
   unused = λ j u. unused_else words tail_word new j (inr (inr (inl refl))) u ∙ h.unused j u;
 }
 
--- the stored number tells which run was raised, and with what
+-- the stored number determines which run was raised, and with which note
 raised_as : (v w : View) (u found at x start start' note' : ℕ) (m : Moment GatedQueue) (e e' : Batch) → u ≡ place_word start' → at ≡ start' → x ≡ note' → start ≡ start' → e ≡ e'
     → Stepped v (change u found m (with_raise m.object at x)) (raised_run v start e) w → IsPlace m.object.queue at (get_or e.places 0 blank) → Raised v start' note' e' w
 raised_as v w u found at x start start' note' m e e' a b c d f t p = (
@@ -115,7 +115,7 @@ module _ {Q W : Type 0} (made : W → Q → List ℕ → Type 0) (fits : W → Q
   abbrev pub acted : {s : State Q View} → R s → View → Did → ℕ → ℕ → GatedQueue → View
   acted k v own i found o = after v own v.member (past k.stands) (change i found k.now o)
 
-  -- an end that sees the chain as it is, is told the truth
+  -- the view of an end that sees the chain as it is, is true
   pub told : (s : State Q View) (k : R s) (id : ℕ) (v : View) → get_elem? s.views id ≡ some v → v.seen ≡ k.now → IsTold v
   told s k id v at is = let P : GatedQueue → Type 0 = λ o. IsLawful o × (o.queue.room ≡ 32) × (head_of o.queue < 4294967296) × AreShown o s.views in
       let p : P v.seen.object = subst P (λ i. (sym is i).object) (k.stands.lawful, k.stands.shows.0.room, k.stands.shows.0.bounded, record { listed = k.listed; gate = k.gate }) in record { honest = honest k.stands id v at; lawful = p.0; room = p.1; bounded = p.2; views = s.views; shown = p.3; seat = id; here = at }
@@ -134,7 +134,7 @@ module _ {Q W : Type 0} (made : W → Q → List ℕ → Type 0) (fits : W → Q
   abbrev happens : (s : State Q View) (k : R s) (i found id : ℕ) (v : View) (own : Did) (o : GatedQueue) → get_elem? s.views id ≡ some v → Becomes k.now.object o → (kind : Kind) → Does kind k.now.object o → IsChainEvent k.now.object o s.views (shown_by s k) id (acted k v own i found o) (event_by id kind) → Happens k.now.object o
   happens s k i found id v own o at b kind does ev = record { becomes = b; event = record { kind = kind; does = does; views = s.views; shown = shown_by s k; seat = id; view = v; here = at; after = acted k v own i found o; seen = refl; event = ev } }
 
-  -- the rule, and what is told, after an event at a word that is not the number of ends
+  -- the rule, and the report, after an event at a word that is not the number of ends
   module _ (s : State Q View) (k : R s) (i found id : ℕ) (v : View) (own : Did) (o : GatedQueue) (at : get_elem? s.views id ≡ some v) (is : found ≡ get_or s.words i 0) (h : Happens k.now.object o) where
     kept_event : (y : ℕ) (homes : List (Option Q)) → 1 ≤ v.member.ends → i ≢ ends_word → o.queue.first ≡ k.now.object.queue.first → Shows o (set s.words i y) → ViewsShow o.queue (map part_of (set s.views id (acted k v own i found o)))
         → GateShows o.queue o.gate (set s.views id (acted k v own i found o)) → SlotShows made fits key.pact o.queue o.gate homes → own.doubled ≡ v.own.doubled
@@ -152,7 +152,7 @@ module _ {Q W : Type 0} (made : W → Q → List ℕ → Type 0) (fits : W → Q
     event_told : Stepped v (change i found k.now o) own (acted k v own i found o)
     event_told = step_told s k i found id v own o at is (event o h refl)
 
-  -- the rule behind a step that leaves the queue and the gate, of an end that then did this
+  -- the rule after a step that leaves the queue and the gate, of an end that then did this
   pub kept_still : (s : State Q View) (k : R s) (words : List ℕ) (id number : ℕ) (v w : View) → get_elem? s.views id ≡ some v → w.own.runs ≡ v.own.runs → w.own.takes ≡ v.own.takes → w.own.doubled ≡ v.own.doubled → w.seen ≡ record k.now { ends = number }
       → GateShows k.now.object.queue k.now.object.gate (set s.views id w) → ends.Stands of_chains nothing_did (first_queue key.first) (record k.now { ends = number }) words (set s.views id w) → (r : R record { words = words; homes = s.homes; views = set s.views id w }) × (w.seen ≡ r.now)
   kept_still s k words id number v w at runs takes doubled seen gate stands = (
@@ -160,7 +160,7 @@ module _ {Q W : Type 0} (made : W → Q → List ℕ → Type 0) (fits : W → Q
     seen,
   )
 
-  -- what the rule says, and what it says alike of every table
+  -- the rule as the theory of tables has it
   abbrev pub table : IsTable R of_chains nothing_did (first_queue key.first)
   table = record {
     now = λ s k. k.now;
@@ -170,7 +170,7 @@ module _ {Q W : Type 0} (made : W → Q → List ℕ → Type 0) (fits : W → Q
     recounted = λ o words y h. (shows_else o.queue words ends_word y (inl refl) h.0, get_or-set_other words ends_word gate_word y 0 (λ e. omega arith) ∙ h.1);
   }
 
-  -- what is told behind a step
+  -- the view of an end after its step is true
   pub behind_told : (s : State Q View) (words : List ℕ) (id : ℕ) (v w : View) → get_elem? s.views id ≡ some v → (r : R record { words = words; homes = s.homes; views = set s.views id w }) → w.seen ≡ r.now → IsTold w
   behind_told s words id v w at r is = told record { words = words; homes = s.homes; views = set s.views id w } r id w (set_here s.views id w (at_below s.views id v at)) is
 

@@ -1,4 +1,4 @@
--- The chain of the core that a table's positions, its gate and its views are.
+-- The chain of the core that a table's positions, its gate and its views describe.
 use Rattle.std.specs.Prelude.{◌≡◌, ℕ, zero, suc, Bool, false, if◌then◌else◌, List, [], ◌∷◌, map, slice_set}
 use Rattle.std.specs.Prelude.{Option, Some, None, Result, Ok}
 use Rattle.std.specs.List.{slice_get}
@@ -16,13 +16,13 @@ use Rattle.proc_chain.specs.Own.{View, part_of}
 use Rattle.proc_chain.specs.declared.rule.GatedQueue.{GatedQueue}
 use Rattle.proc_chain.specs.Gates.{GateShows}
 
--- the gate that a gate word says: IDLE, RUNNING, or else MORE
+-- the gate of a gate word: IDLE, RUNNING, or else MORE
 abbrev pub gate_of : ℕ → Gate
 gate_of zero = Idle
 gate_of (suc zero) = Running
 gate_of (suc (suc n)) = More
 
--- the first end that has the turn
+-- the number of the first view that has the turn, counted from `number` on; None if no view has it
 abbrev pub runner_from : ℕ → List View → Option ℕ
 runner_from number [] = None
 runner_from number (v ∷ vs) = if v.own.runner then Some number else runner_from (suc number) vs
@@ -31,7 +31,7 @@ abbrev pub owes_in : Option View → Bool
 owes_in None = false
 owes_in (Some v) = v.own.owes
 
--- an end is a call: its runs, its turn and what it owes
+-- the chain of this queue, these runs, this gate and these views; each end is a call, which may have the turn or owe
 abbrev pub chain_of : Positions → List (Owned Batch) → ℕ → List View → Chain
 chain_of q runs gate views = record {
   notes = queue_of q runs;
@@ -40,13 +40,13 @@ chain_of q runs gate views = record {
   owing = λ call. owes_in (slice_get views call);
 }
 
--- the queue, the gate and the views fit: the views list the queue, and the gate is as one of them knows
+-- the views show the queue and the gate: they list the queue, and they agree with the gate (`GateShows`)
 pub record AreShown (o : GatedQueue) (views : List View) : Type 0 where
   pub listed : ViewsShow o.queue (map part_of views)
   pub gate : GateShows o.queue o.gate views
 
--- where the end `seat` then has the view w, it is this event of the chain that the gate and these views show that makes
--- p of o
+-- This event makes p of o. The gate and these views show o as a lawful chain. The views show p after the view of the
+-- end `seat` is replaced by w
 pub record IsChainEvent (o p : GatedQueue) (views : List View) (shown : AreShown o views) (seat : ℕ) (w : View)
     (event : Chain → Result Chain Refusal) : Type 0 where
   pub new_shown : ViewsShow p.queue (slice_set (map part_of views) seat (part_of w))

@@ -1,4 +1,4 @@
--- How the queue of notes and the gate change: by one event at a time. `Chainings` has the core's events that these are.
+-- Changes of the queue of notes and of the gate: one event at a time. `Chainings` has the events of the core.
 use Rattle.std.specs.Prelude.{◌≡◌, ◌≢◌, ℕ, ◌+◌, ◌-◌, ◌<◌, ◌≤◌, false, [], ◌∷◌, length, take, drop, slice_set}
 use Rattle.table_theory.specs.declared.queues.Batch.{Batch}
 use Rattle.table_theory.specs.declared.queues.Cell.{Cell}
@@ -16,15 +16,15 @@ empty_from first = record { first = first; room = PLACES; places = []; taken = 0
 abbrev pub first_queue : ℕ → GatedQueue
 first_queue first = record { queue = empty_from first; gate = IDLE }
 
--- what was taken was raised, what is left is within the room, and the gate is one of the three
+-- all notes taken were raised, the notes left are within the room, and the gate has one of its three states
 abbrev pub IsLawful : GatedQueue → Type 0
 IsLawful o = Lawful o.queue × (o.gate ≤ MORE)
 
--- after each event: a note was claimed, at the head
+-- after an event: this note was claimed, at the head
 abbrev pub with_note : GatedQueue → ℕ → GatedQueue
 with_note o note = record o { queue = with_claim o.queue (note ∷ []) }
 
--- the note was raised at this position
+-- after an event: this note was raised at this position
 abbrev pub with_raise : GatedQueue → ℕ → ℕ → GatedQueue
 with_raise o position note = record o {
   queue = record o.queue {
@@ -32,11 +32,11 @@ with_raise o position note = record o {
   };
 }
 
--- the first note left was taken
+-- after an event: the first note left was taken
 abbrev pub with_taken : GatedQueue → GatedQueue
 with_taken o = record o { queue = with_take o.queue 1 }
 
--- the gate was set to this
+-- after an event: the gate was set to this
 abbrev pub with_gate : GatedQueue → ℕ → GatedQueue
 with_gate o gate = record o { gate = gate }
 
@@ -44,7 +44,7 @@ with_gate o gate = record o { gate = gate }
 abbrev pub taking : Positions → Batch
 taking q = record { start = tail_of q; places = take 1 (drop q.taken q.places) }
 
--- the place at this position was claimed, and is so
+-- this position was claimed, and `place` is its place
 pub record IsPlace (q : Positions) (position : ℕ) (place : Cell) : Type 0 where
   pub from : q.first ≤ position
   pub below : position < head_of q

@@ -1,4 +1,4 @@
--- What closing a chain answers.
+-- Answers of closing a chain.
 use Rattle.std.specs.Prelude.{◌≡◌, ◌+◌, ◌%◌, ◌==◌, ℕ, List, [], ◌∷◌, Option, Some, None, if◌then◌else◌, length}
 use Rattle.table_theory.specs.Ledgers as ends
 use Rattle.table_theory.specs.Listing.{ViewsShow}
@@ -9,17 +9,17 @@ use Rattle.proc_chain.specs.Layout.{ends_word, note_in, mark_in}
 use Rattle.proc_chain.specs.Shown.{notes_of}
 use Rattle.proc_chain.specs.Own.{View, part_of, queue_of}
 
--- what is read at the position p
+-- the answer for the position p: the note of its place if the mark is p + 1, else none
 abbrev pub left_at : List ℕ → ℕ → Option ℕ
 left_at words p = if mark_in words (p % PLACES) == p + 1 then Some (note_in words (p % PLACES)) else None
 
--- what is read at the n positions from p on
+-- the answers for the n positions from p on
 abbrev pub left_from : List ℕ → ℕ → ℕ → List (Option ℕ)
 left_from words p n = read_from (left_at words) p n
 
--- The chain is closed, by an end that has the whole and so has seen and lists all of it, and each split was joined. All
--- that was put was taken, no note is left, and the quaject that comes back was made by the notes taken, in order, and
--- suits the chain
+-- The chain is closed by an end with the whole share, which has seen and lists all of the chain, and each split was
+-- joined. All notes that were put were taken, and none is left. The quaject that is returned was made by the notes
+-- taken, in order, and suits the chain
 pub record ClosedNow {Q : Type 0} (made : Q → List ℕ → Type 0) (fits : Q → Type 0) (v : View) (first put taken : ℕ)
     (left : List (Option ℕ)) (quaject : Q) : Type 0 where
   pub whole : IsWhole v.member.share
@@ -33,6 +33,6 @@ pub record ClosedNow {Q : Type 0} (made : Q → List ℕ → Type 0) (fits : Q �
   pub none_left : left ≡ []
   pub home : made quaject (notes_of (queue_of v)) × fits quaject
 
--- other ends stand: their number was found, with this end's, and this end has not the whole
+-- other ends exist: their number plus one was found, and this end has not the whole share
 abbrev pub WereOpen : View → ℕ → View → Type 0
 WereOpen v others w = ends.WereOpen ends_word v others w

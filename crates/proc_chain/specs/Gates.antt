@@ -20,7 +20,7 @@ pub record IsOwed (q : Positions) (views : List View) : Type 0 where
   pub has : get_elem? view.own.runs number ≡ some run
   pub start : run.start ≡ tail_of q
 
--- where the first note left is raised, the end that owns its run owes a notify
+-- if the first note left is raised, the end that owns its run owes a notify
 abbrev pub IsSettled : Positions → List View → Type 0
 IsSettled q views = 2 ≤ written_at q q.taken → IsOwed q views
 
@@ -31,8 +31,8 @@ pub record HasRunner (views : List View) : Type 0 where
   pub is_view : get_elem? views number ≡ some view
   pub runner : view.own.runner ≡ true
 
--- One end has the turn where the gate is not Idle, and none where it is. That end knows how many notes were taken. In
--- an Idle chain no raised note is forgotten, nor in a Running one whose runner has seen that none was raised
+-- If the gate is not Idle one end has the turn, and knows how many notes were taken; if it is Idle no end has the turn.
+-- A raised first note has a notify owed if the gate is Idle, or Running and the runner has seen that none was raised
 pub record GateShows (q : Positions) (gate : ℕ) (views : List View) : Type 0 where
   pub bounded : gate ≤ MORE
   pub runs : gate ≢ IDLE → HasRunner views
@@ -46,8 +46,8 @@ pub record GateShows (q : Positions) (gate : ℕ) (views : List View) : Type 0 w
   pub seen : (j : ℕ) (v : View) → get_elem? views j ≡ some v → v.own.runner ≡ true → v.own.saw ≡ true
       → gate ≡ RUNNING → IsSettled q views
 
--- Where the gate is Idle the quaject is in the slot, made by the notes taken, and suits the chain; else the slot is
--- held
+-- If the gate is Idle the quaject is in the slot, was made by the notes taken, and suits the chain. Else an end holds
+-- the slot
 pub record SlotShows {Q W : Type 0} (made : W → Q → List ℕ → Type 0) (fits : W → Q → Type 0) (pact : W) (q : Positions)
     (gate : ℕ) (homes : List (Option Q)) : Type 0 where
   pub home : gate ≡ IDLE → (x : Q) × (homes ≡ some x ∷ []) × made pact x (notes_of q) × fits pact x

@@ -1,4 +1,4 @@
--- What a clause says of a chain and of an end.
+-- Names in the clauses for parts of a chain and of an end.
 use Rattle.std.specs.Prelude.{◌≡◌, ◌≤◌, ℕ, Bool}
 use Rattle.table_theory.specs.Seating.{IsSame}
 use Rattle.table_theory.specs.Sharing.{IsWhole}
@@ -12,7 +12,7 @@ use Rattle.proc_chain.specs.Rules.{suits, makes}
 use Rattle.proc_chain.specs.Turns.{HasSlot}
 
 module _ {Q W : Type 0} where
-  -- what binds the chain's quaject
+  -- the pact of the chain's quaject: its world, and the quaject that was given to `new`
   abbrev pub pact_of : ProcChain Q W → Pact W Q
   pact_of chain = chain.table.shared.key.pact
 
@@ -29,11 +29,11 @@ module _ {Q W : Type 0} where
   first_of chain = chain.first
 
 module _ {Q W : Type 0} {g : Ghosts Q W} where
-  -- what the end knows
+  -- the end's view: all that the end knows
   abbrev pub view_of : ChainEnd Q W g → View
   view_of end = end.seat.me.0
 
-  -- what the end knows, and what it holds of the chain's slot
+  -- the end's view, and what it holds of the chain's slot
   abbrev pub me_of : ChainEnd Q W g → Me Q View
   me_of end = end.seat.me
 
@@ -45,20 +45,20 @@ module _ {Q W : Type 0} {g : Ghosts Q W} where
   abbrev pub IsDivisible : ChainEnd Q W g → Type 0
   IsDivisible end = 2 ≤ end.seat.me.0.member.share
 
-  -- every other end was joined
+  -- the end has the whole share: every other end was joined
   abbrev pub IsOnlyEnd : ChainEnd Q W g → Type 0
   IsOnlyEnd end = IsWhole end.seat.me.0.member.share
 
-  -- It is an end of this chain. It holds the quaject where it has the turn, made by the notes taken and suiting the
-  -- chain, and holds nothing else
+  -- The end is an end of this chain. If it has the turn, it holds the quaject, which was made by the notes taken and
+  -- suits the chain. It holds nothing else
   abbrev pub IsEndOf : ProcChain Q W → ChainEnd Q W g → Type 0
   IsEndOf chain end = (end.seat.table_id ≡ chain.table.shared.table_id)
       × HasSlot (makes g.made_by chain.table.shared.key.pact) (suits g.fits chain.table.shared.key.pact) end.seat.me
 
-  -- its turn, and what it holds of the slot, are as they were
+  -- the turn of the end, and what the end holds of the slot, are unchanged
   abbrev pub KeepsTurn : ChainEnd Q W g → ChainEnd Q W g → Type 0
   KeepsTurn old new = (new.turn ≡ old.turn) × (new.seat.me.1 ≡ old.seat.me.1)
 
-  -- it is the same end of the same chain
+  -- both are the same end of the same chain, at two moments
   abbrev pub IsSameEnd : ChainEnd Q W g → ChainEnd Q W g → Type 0
   IsSameEnd old new = IsSame old.seat new.seat

@@ -1,5 +1,5 @@
--- What a change of the queue and the gate is: one event of the core, of a chain that views of ends show. A proof
--- chooses these views.
+-- A change of the queue and the gate is one event of the core, of a chain that views of ends show. A proof chooses
+-- these views.
 use Rattle.std.specs.Prelude.{◌≡◌, ℕ, List, [], ◌∷◌, Result}
 use mathlib.Core.Option.{some}
 use lib.ListN.{get_elem?}
@@ -32,7 +32,7 @@ event_by call notifies = notify call
 event_by call rounds = round call
 event_by call leaves = leave call
 
--- what it makes of the queue and the gate
+-- an event of this kind makes p of the queue and the gate o
 abbrev pub Does : Kind → GatedQueue → GatedQueue → Type 0
 Does (claims note) o p = p ≡ with_note o note
 Does (raises run) o p = (position note : ℕ) × (p ≡ with_raise o position note)
@@ -41,8 +41,8 @@ Does notifies o p = p ≡ with_gate o MORE
 Does rounds o p = p ≡ with_gate o RUNNING
 Does leaves o p = p ≡ with_gate o IDLE
 
--- Some views show the queue and the gate, one of them that of an end that then steps. With its view after the step in
--- that place, they show what the event made
+-- One event makes p of o: some views show o, and one of them is the view of the end that steps. With the end's view
+-- after the step in its place, the views show p
 pub record IsEvent (o p : GatedQueue) : Type 0 where
   pub kind : Kind
   pub does : Does kind o p
@@ -55,11 +55,11 @@ pub record IsEvent (o p : GatedQueue) : Type 0 where
   pub seen : after.seen.object ≡ p
   pub event : IsChainEvent o p views shown seat after (event_by seat kind)
 
--- one event makes p of o
+-- one event makes p of o, as a change of the queue and the gate and as an event of the core
 pub record Happens (o p : GatedQueue) : Type 0 where
   pub becomes : Becomes o p
   pub event : IsEvent o p
 
--- what the table of a chain says of the queue and the gate
+-- chains as a subject of the theory of tables: the ends word, and what the words show, what is lawful, what can happen
 abbrev pub of_chains : Subject GatedQueue
 of_chains = record { ends_word = ends_word; Shows = Shows; IsLawful = IsLawful; Happens = Happens }

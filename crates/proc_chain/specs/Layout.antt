@@ -1,5 +1,5 @@
--- Where the words of a chain's table stand: head and number of ends, then tail, gate and the words of the places, each
--- of them in cache lines of their own; and what the word of a place says.
+-- The words of a chain's table: head and number of ends, then tail, gate and the words of the places, each of them in
+-- cache lines of their own; and the meaning of the word of a place.
 use Rattle.std.specs.Prelude.{◌≢◌, ℕ, ◌+◌, ◌*◌, ◌/◌, ◌%◌, ◌<◌, List, slice_index_or}
 use Rattle.proc_chain.specs.declared.layout.TheConstants.{HEAD, TAIL, ENDS, GATE, FIRST_PLACE, PLACES, WORDS, NOTES}
 
@@ -23,15 +23,15 @@ gate_word = GATE
 abbrev pub place_word : ℕ → ℕ
 place_word position = position % PLACES + FIRST_PLACE
 
--- how many words a chain has
+-- the number of words of a chain
 abbrev pub width : ℕ
 width = WORDS
 
--- the word stands between those that are used: it keeps them 8 words apart
+-- the word is between the used words, and is not used: these words keep the used words 8 words apart
 abbrev pub IsUnused : ℕ → Type 0
 IsUnused word = (ends_word < word) × (word < FIRST_PLACE) × (word ≢ tail_word) × (word ≢ gate_word)
 
--- what the word of a place has once the note is raised there
+-- the word of the place of this position after this note was raised there
 abbrev pub raised_word : ℕ → ℕ → ℕ
 raised_word position note = (position + 1) * NOTES + note
 
@@ -39,7 +39,7 @@ raised_word position note = (position + 1) * NOTES + note
 abbrev pub note_of : ℕ → ℕ
 note_of word = word % NOTES
 
--- the mark in the word of a place: where the place is raised, its position and 1 more
+-- the mark in the word of a place: if the place is raised, its position plus 1
 abbrev pub mark_of : ℕ → ℕ
 mark_of word = word / NOTES
 

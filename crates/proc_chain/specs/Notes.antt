@@ -1,4 +1,4 @@
--- What an end put and took: a run for each note that it chained, and a taking for each note that it ran.
+-- The notes that an end put and took: a run for each note that it chained, and a taking for each note that it ran.
 use Rattle.std.specs.Prelude.{◌≡◌, ℕ, List, [], ◌∷◌, ◌++◌, map}
 pub use Rattle.table_theory.specs.Batches.{line_of}
 use Rattle.proc_chain.specs.Own.{View}

@@ -1,4 +1,4 @@
--- What an end of a chain knows, and what of it is its own.
+-- The view of an end of a chain, and the end's own part of it.
 use Rattle.std.specs.Prelude.{false, ◌||◌, ◌&&◌, [], ◌++◌}
 use Rattle.table_theory.specs.declared.queues.Positions.{Positions}
 use Rattle.table_theory.specs.declared.queues.QueueView.{QueueView}
@@ -6,15 +6,16 @@ use Rattle.table_theory.specs.declared.views.Ledger.{Ledger}
 use Rattle.proc_chain.specs.declared.rule.Did.{Did}
 use Rattle.proc_chain.specs.declared.rule.GatedQueue.{GatedQueue}
 
--- what an end of a chain knows
+-- the view of an end of a chain: all that the end knows
 abbrev pub View : Type 0
 View = Ledger Did GatedQueue
 
--- what an end did that did nothing
+-- the record of an end that did nothing yet
 abbrev pub nothing_did : Did
 nothing_did = record { runs = []; takes = []; runner = false; taken = 0; owes = false; saw = false; doubled = false }
 
--- what two ends did: the first goes on
+-- the records of two ends together: the runs and takings of both, `doubled` if either was or both had the turn, and the
+-- rest of the first end
 abbrev pub did_both : Did → Did → Did
 did_both d e = record {
   runs = d.runs ++ e.runs;
@@ -30,7 +31,7 @@ did_both d e = record {
 abbrev pub queue_of : View → Positions
 queue_of v = v.seen.object.queue
 
--- what an end knows of the queue of notes
+-- the end as the theory of queues has it: its runs and takings, and the queue of notes that it has seen
 abbrev pub part_of : View → QueueView
 part_of v = record {
   queue = v.seen.object.queue;

@@ -1,4 +1,4 @@
--- What the parts of a serving tell.
+-- Reports of the parts of a serving.
 use Rattle.std.specs.Prelude.{◌≡◌, ◌≢◌, ℕ, ◌+◌, ◌<◌, Bool, true, false, List, [], ◌∷◌, ◌++◌, length, Some, None}
 use Rattle.std.specs.List.{AllByRecursion}
 use Rattle.table_theory.specs.declared.views.Moment.{Moment}
@@ -12,7 +12,7 @@ use Rattle.proc_chain.specs.Own.{View}
 use Rattle.proc_chain.specs.Turns.{HasServed}
 use Rattle.proc_chain.specs.Servings.{Use, took, entries_of, IsUse, notes_run, takings, Serving, Leaving, HasRun}
 
--- what the runner has done after these uses; then it has the turn or not, and saw that no note was raised or not
+-- the runner's record after these uses; `runner` is whether it then has the turn, `saw` whether it saw no note raised
 abbrev pub used : Did → List Use → Bool → Bool → Did
 used d uses runner saw = record d {
   takes = d.takes ++ takings uses;
@@ -21,29 +21,30 @@ used d uses runner saw = record d {
   saw = saw;
 }
 
--- the runner's steps added these entries, by which these used the limit, and it took the notes that these ran
+-- the runner's steps added these entries, which are these uses of the limit, and the runner took the notes of these
+-- uses
 pub record Ran (v : View) (entries : List (Step GatedQueue)) (uses : List Use) (runner saw : Bool) (w : View)
     : Type 0 where
   pub fit : AllByRecursion IsUse uses
   pub made : Made v entries (used v.own uses runner saw) w
   pub served : HasServed v (notes_run uses) w
 
--- the tail was loaded, then the note found raised at its place, and taken
+-- the tail was loaded, the note at its place was found raised, and the note was taken
 abbrev pub RanNote : View → View → Type 0
 RanNote v w = (note tail : ℕ) × (m n o : Moment GatedQueue)
     × Ran v (entries_of (took note tail m n o)) (took note tail m n o ∷ []) true false w
 
--- the tail was loaded, and no note found raised at its place
+-- the tail was loaded, and the note at its place was not raised
 abbrev pub FoundNone : View → View → Type 0
 FoundNone v w = (tail word : ℕ) × (m n : Moment GatedQueue) × (mark_of word ≢ tail + 1)
     × Ran v (load tail_word tail m ∷ load (place_word tail) word n ∷ []) [] true true w
 
--- the exchange found the gate Running
+-- the end left: the compare-and-swap found the gate Running
 abbrev pub LeftNow : View → View → Type 0
 LeftNow v w = (m : Moment GatedQueue)
     × Ran v (change gate_word RUNNING m (with_gate m.object IDLE) ∷ []) [] false false w
 
--- the exchange found the gate More, and a round was begun
+-- the end did not leave: the compare-and-swap found the gate More, and a round was begun
 abbrev pub RoundNow : View → View → Type 0
 RoundNow v w = (gate : ℕ) × (m n : Moment GatedQueue)
     × Ran v (load gate_word MORE m ∷ change gate_word gate n (with_gate n.object RUNNING) ∷ []) [] true false w
@@ -52,6 +53,6 @@ RoundNow v w = (gate : ℕ) × (m n : Moment GatedQueue)
 abbrev pub IsDone : View → ℕ → ℕ → View → Type 0
 IsDone v limit ran w = (s : Serving) × (l : Leaving) × (length s.uses < limit) × HasRun v (s ∷ []) (Some l) ran w
 
--- it used its limit up
+-- the serving used its limit up
 abbrev pub IsUsedUp : View → ℕ → ℕ → View → Type 0
 IsUsedUp v limit ran w = (s : Serving) × (length s.uses ≡ limit) × HasRun v (s ∷ []) None ran w

@@ -22,7 +22,7 @@ use Rattle.proc_chain.specs.Chainings.{AreShown}
 abbrev pub suits : {Q W : Type 0} → (W → Q → Type 0) → Pact W Q → Q → Type 0
 suits fits pact x = fits pact.world.value x
 
--- runs of these notes, in order, made it of the quaject that was given to `new`
+-- runs of these notes, in order, made the quaject x of the quaject that was given to `new`
 abbrev pub makes : {Q W : Type 0} → (Q → Q → List ℕ → Type 0) → Pact W Q → Q → List ℕ → Type 0
 makes made_by pact x notes = made_by pact.opening.value x notes
 
@@ -37,8 +37,8 @@ pub record Rule {Q W : Type 0} (made : W → Q → List ℕ → Type 0) (fits : 
   -- no end that had the turn took in another that had it
   pub undoubled : (j : ℕ) (v : View) → get_elem? s.views j ≡ some v → v.own.doubled ≡ false
 
--- What the end lists is true. It sees a lawful queue with the chain's room, whose head is a position, and a gate that
--- some views show, its own among them
+-- The end's list is true. The end sees a lawful queue with the chain's room, whose head is a position, and a gate. Some
+-- views show the queue and the gate, the end's view among them
 pub record IsTold (v : View) : Type 0 where
   pub honest : ends.IsHonest of_chains v
   pub lawful : IsLawful v.seen.object
@@ -49,16 +49,16 @@ pub record IsTold (v : View) : Type 0 where
   pub seat : ℕ
   pub here : get_elem? views seat ≡ some v
 
--- it is one end, has raised all that it claimed, and owes no notify
+-- the end counts as one, has raised all that it claimed, and owes no notify
 pub record Rests (v : View) : Type 0 where
   pub one : v.member.ends ≡ 1
   pub raised : AllRaised v.own.runs
   pub settled : v.own.owes ≡ false
 
--- what the first end of a chain knows that begins there
+-- the view of the first end of a new chain with this first position
 abbrev pub view_from : ℕ → View
 view_from first = ends.first_of nothing_did (first_queue first)
 
--- what the first end of a chain knows
+-- the view of the first end of a new chain
 abbrev pub newcomer : {W : Type 0} → Shape W → View
 newcomer key = view_from key.first

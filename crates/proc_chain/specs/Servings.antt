@@ -1,4 +1,4 @@
--- What serving answers: the entries that it added, all of them, how their numbers compare, and what was run.
+-- Answers of serving: all entries that the call added, how their numbers compare, and the notes that were run.
 use Rattle.std.specs.Prelude.{◌≡◌, ◌≢◌, ℕ, zero, suc, ◌+◌, ◌<◌, Bool, true, false, List, [], ◌∷◌, ◌++◌}
 use Rattle.std.specs.Prelude.{length, Option, Some, None}
 use Rattle.std.specs.List.{AllByRecursion, flat_map}
@@ -20,26 +20,26 @@ use Rattle.proc_chain.specs.Changes.{with_taken, with_gate, taking}
 use Rattle.proc_chain.specs.Own.{View}
 use Rattle.proc_chain.specs.Turns.{HasServed}
 
--- What used one of the limit. A note that was run: the tail was loaded, then the note found raised at its place, and
--- taken by a store of the tail. Or a leave that failed: the tail was loaded, no note found raised at its place, the
--- exchange found the gate More, and a round was begun
+-- One use of the limit. Either a note was run: the tail was loaded, the note at its place was found raised, and a store
+-- of the tail took the note. Or a leave failed: the tail was loaded, the note at its place was not raised, the
+-- compare-and-swap found the gate More, and a round was begun
 pub data Use : Type 0 where
   took : (note tail : ℕ) → Moment GatedQueue → Moment GatedQueue → Moment GatedQueue → Use
   failed : (tail word gate : ℕ) → Moment GatedQueue → Moment GatedQueue → Moment GatedQueue → Moment GatedQueue → Use
 
--- its entries
+-- the entries of a use
 abbrev pub entries_of : Use → List (Step GatedQueue)
 entries_of (took note tail m n o) = load tail_word tail m ∷ load (place_word tail) (raised_word tail note) n
     ∷ change tail_word tail o (with_taken o.object) ∷ []
 entries_of (failed tail word gate m n o p) = load tail_word tail m ∷ load (place_word tail) word n
     ∷ load gate_word MORE o ∷ change gate_word gate p (with_gate p.object RUNNING) ∷ []
 
--- how its numbers compare
+-- how the numbers of a use compare
 abbrev pub IsUse : Use → Type 0
 IsUse (took note tail m n o) = note < NOTES
 IsUse (failed tail word gate m n o p) = mark_of word ≢ tail + 1
 
--- the notes run, in order, and the takings
+-- the notes that these uses ran, in order (`takings` has their takings)
 abbrev pub notes_run : List Use → List ℕ
 notes_run [] = []
 notes_run (took note tail m n o ∷ uses) = note ∷ notes_run uses
@@ -50,17 +50,17 @@ takings [] = []
 takings (took note tail m n o ∷ uses) = taking o.object.queue ∷ takings uses
 takings (failed tail word gate m n o p ∷ uses) = takings uses
 
--- a round that was begun, from this gate, and what then used the limit
+-- a serving: a round was begun, from this gate, and these are the uses of the limit after that
 pub record Serving : Type 0 where
   pub gate : ℕ
   pub begun : Moment GatedQueue
   pub uses : List Use
 
--- its entries
+-- the entries of a serving
 abbrev pub serving : Serving → List (Step GatedQueue)
 serving s = change gate_word s.gate s.begun (with_gate s.begun.object RUNNING) ∷ flat_map entries_of s.uses
 
--- how the end left: the tail was loaded, no note found raised at its place, and the exchange found the gate Running
+-- how the end left: the tail was loaded, its place was not raised, and the compare-and-swap found the gate Running
 pub record Leaving : Type 0 where
   pub tail : ℕ
   pub word : ℕ
@@ -69,22 +69,22 @@ pub record Leaving : Type 0 where
   pub at_place : Moment GatedQueue
   pub at_gate : Moment GatedQueue
 
--- its entries
+-- the entries of leaving, if the end left
 abbrev pub leaving : Option Leaving → List (Step GatedQueue)
 leaving None = []
 leaving (Some l) = load tail_word l.tail l.at_tail ∷ load (place_word l.tail) l.word l.at_place
     ∷ change gate_word RUNNING l.at_gate (with_gate l.at_gate.object IDLE) ∷ []
 
--- whether the end has the turn then
+-- whether the end still has the turn: it did not leave
 abbrev pub goes_on : Option Leaving → Bool
 goes_on None = true
 goes_on (Some l) = false
 
--- all that used the limit in these servings
+-- all uses of the limit in these servings
 abbrev pub all_uses : List Serving → List Use
 all_uses servings = flat_map (λ s. s.uses) servings
 
--- what the end has then done: it took so, and has the turn still, or not
+-- the end's record after these uses, and after it left, if it left: else it still has the turn
 abbrev pub after_all : Did → List Use → Option Leaving → Did
 after_all d uses left = record d {
   takes = d.takes ++ takings uses;
@@ -93,7 +93,7 @@ after_all d uses left = record d {
   saw = false;
 }
 
--- These servings were made, one behind the other, and then the end left, if it did. So many notes were run
+-- These servings were made, one after the other, and then the end left, if it left. `ran` notes were run
 pub record HasRun (v : View) (servings : List Serving) (left : Option Leaving) (ran : ℕ) (w : View) : Type 0 where
   pub fit : AllByRecursion IsUse (all_uses servings)
   pub number : length (notes_run (all_uses servings)) ≡ ran
@@ -101,7 +101,8 @@ pub record HasRun (v : View) (servings : List Serving) (left : Option Leaving) (
       (after_all v.own (all_uses servings) left) w
   pub served : HasServed v (notes_run (all_uses servings)) w
 
--- Done: less than the limit was used, and the end left. More: all of it was used. Where there is none, no step was made
+-- Done: less than the limit was used, and the end left. More: the whole limit was used; if the limit is 0, no step was
+-- made
 abbrev pub ServedNow : {Q : Type 0} → Me Q View → ℕ → Served → Me Q View → Type 0
 ServedNow me limit (Done ran) me' = (s : Serving) × (l : Leaving) × (length s.uses < limit)
     × HasRun me.0 (s ∷ []) (Some l) ran me'.0
@@ -109,22 +110,22 @@ ServedNow me zero (More turn ran) me' = (ran ≡ 0) × (me' ≡ me)
 ServedNow me (suc n) (More turn ran) me' = (s : Serving) × (length s.uses ≡ suc n)
     × HasRun me.0 (s ∷ []) None ran me'.0
 
--- the same, of an end that keeps its turn
+-- the answer of `serve_kept` means what the answer of `serve` with the same name means (`ServedNow`)
 abbrev pub KeptNow : {Q : Type 0} → Me Q View → ℕ → ServedKept → Me Q View → Type 0
 KeptNow me limit (kept.Done ran) me' = ServedNow me limit (Done ran) me'
 KeptNow me limit (kept.More ran) me' = (turn : Turn) × ServedNow me limit (More turn ran) me'
 
--- the end still has its turn after it
+-- whether the end still has the turn after `serve_kept`
 abbrev pub goes_on_after : ServedKept → Bool
 goes_on_after (kept.Done ran) = false
 goes_on_after (kept.More ran) = true
 
--- the end still has the turn
+-- whether the end still has the turn after `serve`
 abbrev pub is_more : Served → Bool
 is_more (Done ran) = false
 is_more (More turn ran) = true
 
--- servings of the greatest limit were used up, one behind the other, and in a last one the end left
+-- servings used up the greatest limit, one after the other, and in a last serving the end left
 abbrev pub AllServed : View → ℕ → View → Type 0
 AllServed v ran w = (used_up : List Serving) × (last : Serving) × (l : Leaving)
     × AllByRecursion (λ s. length s.uses ≡ MOST_RUN) used_up × (length last.uses < MOST_RUN)

@@ -1,4 +1,4 @@
--- What the words of the table show of the queue of notes, and of the gate.
+-- The words of the table, and the queue of notes and the gate that they show.
 use Rattle.std.specs.Prelude.{◌≡◌, ℕ, ◌+◌, ◌<◌, ◌≤◌, false, List, length, map, take, slice_index_or}
 use Rattle.table_theory.specs.declared.positions.TheConstants.{POSITIONS}
 use Rattle.table_theory.specs.declared.queues.Positions.{Positions}
@@ -9,15 +9,15 @@ use Rattle.proc_chain.specs.declared.layout.TheConstants.{PLACES}
 use Rattle.proc_chain.specs.Layout.{head_word, tail_word, place_word, raised_word}
 use Rattle.proc_chain.specs.Layout.{width, note_in, mark_in, gate_in, IsUnused}
 
--- What the word of a place is while no note is raised there. It is 0 before the first one, and then the word of the
--- note that was taken there last
+-- The word of a place while no note is raised there: 0 before the first note, and then the word of the note that was
+-- last taken there
 pub record PlacesKeep (q : Positions) (words : List ℕ) : Type 0 where
   pub never : (i : ℕ) → q.taken ≤ i → i < PLACES → written_at q i < 2
       → slice_index_or words (place_word (q.first + i)) 0 ≡ 0
   pub last : (i : ℕ) → i < q.taken → q.taken ≤ i + PLACES → written_at q (i + PLACES) < 2
       → slice_index_or words (place_word (q.first + i)) 0 ≡ raised_word (q.first + i) (item_at q i)
 
--- the words show the queue's head and tail, and the places from the tail on; the words between those used are 0
+-- the words show the queue's head and tail, and the places from the tail on; the words between the used words are 0
 pub record WordsShow (q : Positions) (words : List ℕ) : Type 0 where
   pub wide : length words ≡ width
   pub room : q.room ≡ PLACES
@@ -29,7 +29,7 @@ pub record WordsShow (q : Positions) (words : List ℕ) : Type 0 where
   pub kept : PlacesKeep q words
   pub unused : (word : ℕ) → IsUnused word → slice_index_or words word 0 ≡ 0
 
--- they show the queue, and the gate
+-- the words show the queue and the gate
 abbrev pub Shows : GatedQueue → List ℕ → Type 0
 Shows o words = WordsShow o.queue words × (gate_in words ≡ o.gate)
 

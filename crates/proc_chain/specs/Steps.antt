@@ -1,4 +1,4 @@
--- What each step tells its end: its entry, what the end has done then, and what the queue was that the step found.
+-- The report of each step to its end: its entry, what the end has then done, and the queue that the step found.
 use Rattle.std.specs.Prelude.{◌≡◌, ◌≢◌, ◌+◌, ◌<◌, ℕ, true, false, List, [], ◌∷◌, ◌++◌, slice_index_or, slice_set}
 use mathlib.Core.Option.{some}
 use lib.ListN.{get_elem?}
@@ -20,14 +20,15 @@ use Rattle.proc_chain.specs.Happenings.{of_chains}
 use Rattle.proc_chain.specs.Rules.{IsTold}
 use Rattle.proc_chain.specs.Turns.{Carries}
 
--- The queue that a step of the end finds is no earlier than what the end had seen. No other end took where this one has
--- the turn
+-- The queue that a step of the end finds is no earlier than the queue that the end had seen. If the end has the turn,
+-- no other end took notes since, and its count of the notes taken is right
 pub record Meets (v : View) (o : GatedQueue) : Type 0 where
   pub grows : Grows (queue_of v) o.queue
   pub turn : v.own.runner ≡ true → o.queue.taken ≡ (queue_of v).taken
   pub count : v.own.runner ≡ true → o.queue.taken ≡ v.own.taken
 
--- the end made one real step, of this entry, and then has done so; what it is among the ends stays
+-- the end made one real step with this entry, its record is then `own`, and the queue that the step found fits
+-- (`Meets`)
 pub record Stepped (v : View) (e : Step GatedQueue) (own : Did) (w : View) : Type 0 where
   pub made : Made v (e ∷ []) own w
   pub seen : w.seen ≡ e.next
@@ -38,12 +39,12 @@ pub record Stepped (v : View) (e : Step GatedQueue) (own : Did) (w : View) : Typ
 abbrev pub Found : View → ℕ → ℕ → View → Type 0
 Found v word found w = (m : Moment GatedQueue) × Stepped v (load word found m) v.own w
 
--- the same, by the runner, which found the first place left not raised
+-- a number was found in a word, and the runner records that it saw the first place left not raised
 abbrev pub FoundNotRaised : View → ℕ → ℕ → View → Type 0
 FoundNotRaised v word found w =
     (m : Moment GatedQueue) × Stepped v (load word found m) (record v.own { saw = true }) w
 
--- the runner looked at the word of the first place left
+-- the runner looked at the word of the first place left, and recorded it if that place was not raised
 pub record LookedAtFirst (v : View) (word found : ℕ) (w : View) : Type 0 where
   pub up : mark_of found ≡ tail_of (queue_of v) + 1 → Found v word found w
   pub low : mark_of found ≢ tail_of (queue_of v) + 1 → FoundNotRaised v word found w
@@ -52,27 +53,27 @@ pub record LookedAtFirst (v : View) (word found : ℕ) (w : View) : Type 0 where
 abbrev pub run : ℕ → ℕ → Batch
 run head note = record { start = head; places = fresh note ∷ [] }
 
--- the note was claimed, at the head that was found
+-- a place was claimed for this note at this head, at or past the end of each earlier run of the end
 abbrev pub Claimed : View → ℕ → ℕ → View → Type 0
 Claimed v head note w = (m : Moment GatedQueue)
     × Stepped v (change head_word head m (with_note m.object note))
     (record v.own { runs = v.own.runs ++ run head note ∷ [] }) w
     × Distinct w.own.runs × IsPast v.own.runs head
 
--- the end's run with this start, after its place was raised
+-- the end's record after the place of its run with this start was raised: the end then owes a notify
 abbrev pub raised_run : View → ℕ → Batch → Did
 raised_run v start e = record v.own {
   runs = slice_set v.own.runs (number_of start v.own.runs) (written_to e 0 2);
   owes = true;
 }
 
--- the place of the end's run that starts there was raised with this note, and the end owes a notify
+-- the place of the end's run e, which begins at `start`, was raised with this note, and the end owes a notify
 abbrev pub Raised : View → ℕ → ℕ → Batch → View → Type 0
 Raised v start note e w = (found : ℕ) × (m : Moment GatedQueue)
     × Stepped v (change (place_word start) found m (with_raise m.object start note)) (raised_run v start e) w
     × IsPlace m.object.queue start (slice_index_or e.places 0 blank)
 
--- the runner took the first note left, where the tail was found
+-- the runner took the first note left, and the step found this tail
 abbrev pub Took : View → ℕ → View → Type 0
 Took v tail w = (m : Moment GatedQueue) × Stepped v (change tail_word tail m (with_taken m.object))
     (record v.own {
@@ -81,12 +82,12 @@ Took v tail w = (m : Moment GatedQueue) × Stepped v (change tail_word tail m (w
       saw = false;
     }) w
 
--- the end has notified, and found this gate, at which the turn is another's or its own
+-- the end has notified, and found this gate, which was not Idle: some end already had the turn
 abbrev pub Notified : View → ℕ → View → Type 0
 Notified v gate w = (gate ≢ IDLE) × ((m : Moment GatedQueue)
     × Stepped v (change gate_word gate m (with_gate m.object MORE)) (record v.own { owes = false }) w)
 
--- the end has notified, and found the gate Idle: it has the turn now, and the slot
+-- the end has notified, and found the gate Idle: the end now has the turn and the slot
 abbrev pub GotTurn : {Q : Type 0} → (Q → List ℕ → Type 0) → (Q → Type 0) → Me Q View → Me Q View → Type 0
 GotTurn made fits me me' = (me.0.own.runner ≡ false) × ((m : Moment GatedQueue)
     × Stepped me.0 (change gate_word IDLE m (with_gate m.object MORE))
@@ -104,48 +105,48 @@ HasLeft v w = (m : Moment GatedQueue)
     × Stepped v (change gate_word RUNNING m (with_gate m.object IDLE)) (record v.own { runner = false; saw = false }) w
 
 module _ {Q : Type 0} where
-  -- what the end holds stays, and what is told of it is true
+  -- what the end holds is unchanged, and its view is true (`IsTold`)
   abbrev pub Stays : Me Q View → Me Q View → Type 0
   Stays m m' = (m'.1 ≡ m.1) × IsTold m'.0
 
-  -- what a look at a word tells
+  -- the report of a look at a word
   abbrev pub finds : Doing Q → Me Q View → ℕ → Me Q View → Type 0
   finds st m r m' = Stays m m' × Found m.0 st.word r m'.0
 
-  -- what an exchange of the head tells that is to claim a place for this note
+  -- the report of a compare-and-swap of the head that is to claim a place for this note
   abbrev pub claims : ℕ → Doing Q → Me Q View → ℕ → Me Q View → Type 0
   claims note st m r m' = Stays m m' × (r ≡ st.first → Claimed m.0 st.first note m'.0)
       × (r ≢ st.first → Found m.0 st.word r m'.0)
 
-  -- what a store tells that is to raise the note of a run
+  -- the report of a store that is to raise the note of a run
   abbrev pub raises : Doing Q → Me Q View → ℕ → Me Q View → Type 0
   raises st m r m' = Stays m m' × ((start note : ℕ) (e : Batch) → note < NOTES → r ≡ raised_word start note
       → st.word ≡ place_word start → get_elem? m.0.own.runs (number_of start m.0.own.runs) ≡ some e
       → Raised m.0 start note e m'.0)
 
-  -- what the runner's look at the first place left tells
+  -- the report of the runner's look at the first place left
   abbrev pub spies : Doing Q → Me Q View → ℕ → Me Q View → Type 0
   spies st m r m' = Stays m m' × LookedAtFirst m.0 st.word r m'.0
 
-  -- what a store of the tail tells
+  -- the report of a store of the tail
   abbrev pub takes : Doing Q → Me Q View → ℕ → Me Q View → Type 0
   takes st m r m' = Stays m m' × ((tail : ℕ) → r ≡ tail + 1 → Took m.0 tail m'.0)
 
-  -- what a swap of the gate to More tells
+  -- the report of a swap of the gate to More
   abbrev pub notifies : (Q → List ℕ → Type 0) → (Q → Type 0) → Doing Q → Me Q View → ℕ → Me Q View → Type 0
   notifies made fits st m r m' = IsTold m'.0 × (r ≡ IDLE → GotTurn made fits m m')
       × (r ≢ IDLE → (m'.1 ≡ m.1) × Notified m.0 r m'.0)
 
-  -- what a swap of the gate to Running tells
+  -- the report of a swap of the gate to Running
   abbrev pub rounds : Doing Q → Me Q View → ℕ → Me Q View → Type 0
   rounds st m r m' = Stays m m' × BegunRound m.0 r m'.0
 
-  -- what an exchange of the gate for Idle tells
+  -- the report of a compare-and-swap of the gate from Running to Idle
   abbrev pub leaves : Doing Q → Me Q View → ℕ → Me Q View → Type 0
   leaves st m r m' = IsTold m'.0 × (r ≡ RUNNING → (m'.1 ≡ rest m.1) × HasLeft m.0 m'.0)
       × (r ≢ RUNNING → (m'.1 ≡ m.1) × Found m.0 st.word r m'.0 × (r ≡ MORE))
 
-  -- what counting one end more or less tells
+  -- the report of counting one end more (here) or less (below)
   abbrev pub counts_up : Doing Q → Me Q View → ℕ → Me Q View → Type 0
   counts_up st m r m' = Stays m m' × CountedUp ends_word m.0 m'.0 × Meets m.0 m'.0.seen.object
 
@@ -153,6 +154,6 @@ module _ {Q : Type 0} where
   counts_down st m r m' = Stays m m' × CountedDown ends_word m.0 m'.0 × Meets m.0 m'.0.seen.object
       × (m.0.own.doubled ≡ false)
 
--- what an end knows that found the number of ends
+-- the view of an end that found the number of ends
 abbrev pub HasTallied : View → ℕ → View → Type 0
 HasTallied v number w = IsTold w × Tallied ends_word v number w × Meets v w.seen.object

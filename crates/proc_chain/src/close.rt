@@ -18,8 +18,8 @@ use std::marker::Brand;
 use table_theory::OpenEnds;
 use table_theory::last_end::{close_by, count};
 
-/// What a chain had at its end: its quaject, how many notes were put (claimed) and taken, and those left, of which
-/// there are none, since each end has raised and told of all that it claimed.
+/// The contents of a closed chain: its quaject, how many notes were put (claimed) and taken, and the notes left. None
+/// is left, since each end has raised each note that it claimed, and has notified.
 #[derive(Drop)]
 pub struct ChainClosed<Q> {
     pub quaject: Q,
@@ -57,9 +57,9 @@ impl<Q: Quaject> ProcChain<Q> {
     ghost use Rattle.proc_chain.specs.Handles.{view_of, turn_of, pact_of, first_of};
     ghost use Rattle.proc_chain.specs.Handles.{IsEndOf, IsOnlyEnd, KeepsTurn, IsSameEnd};
 
-    /// Closes the chain where every other end has been joined, and gives the quaject back. Else the chain and the end
-    /// come back, and the number of the others. As each end has raised all that it claimed and told of it, no note is
-    /// left.
+    /// Closes the chain if every other end has been joined, and returns the quaject. Else it returns the chain, the end
+    /// and the number of the other ends. No note is left, since each end has raised each note that it claimed, and has
+    /// notified.
     ///
     /// Condition: the end has no Turn.
     pub fn close(
@@ -76,6 +76,7 @@ impl<Q: Quaject> ProcChain<Q> {
         ensures same { IfErr result (λ e. (e.0 ≡ self) × IsSameEnd end e.1 × KeepsTurn end e.1) }
     {
         let ChainEnd { seat, turn } = end;
+        // One load suffices: if the number is 1, this is the only end, and no other end can step after the load.
         let last = match count::<_, _, _, _, Brand>(&self.table.shared, seat, ENDS) {
             Ok(last) => last,
             Err((seat, ends)) => {

@@ -1,4 +1,4 @@
-//! How the ends of a chain are counted: what the look before a close of the theory of tables takes from its rule.
+//! The count of the ends of a chain: the part of its rule that the theory of tables uses to look before a close.
 use crate::quaject::Quaject;
 use crate::rule::{ChainRule, Pact, Shape, View};
 use table_theory::last_end::CountRule;

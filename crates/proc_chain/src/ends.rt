@@ -18,9 +18,9 @@ use std::marker::Brand;
 use std::mem;
 use std::snapshot::Snapshot;
 
-/// A chain of up to 32 notes, a gate, and the quaject that the notes are for (Massalin and Pu 1991). The gate is Idle
-/// while the quaject is in the chain, Running while the end with the Turn has it, and More where another notify came
-/// since its last round.
+/// A chain of up to 32 notes, a gate, and the quaject that runs the notes. The gate is Idle while the quaject is in the
+/// chain. It is Running while the end with the Turn has the quaject, and More if another notify came since the last
+/// round of that end.
 #[derive(Drop)]
 pub struct ProcChain<Q: Quaject> {
     pub(crate) table: Table<Q, View, Shape<Pact<Q::World, Q>>, ChainRule, Global>,
@@ -29,12 +29,12 @@ pub struct ProcChain<Q: Quaject> {
     ghost shaped: { table.shared.key.first ≡ first },
 }
 
-/// An end of a chain, which chains notes and, with a Turn, serves them. It has all that it claimed raised, and owes no
-/// notify. It has no bytes but the Turn's flag.
+/// An end of a chain, which chains notes and, with a Turn, serves them. The end has raised all that it claimed, and
+/// owes no notify. It has no bytes except the Turn's flag.
 ///
-/// What it lists is true: each entry of its steps, and of the steps of all ends that it has seen, found the number that
-/// stood in its word then, and found the queue and the gate as the step before it left them, lawful and shown by the
-/// words.
+/// Its list is true for its own steps and for the steps of all ends that it has seen. The step of each entry found the
+/// number that its word had then. It found the queue and the gate as the previous step left them, lawful and shown by
+/// the words.
 #[derive(Drop)]
 pub struct ChainEnd<Q: Quaject> {
     pub(crate) seat: Seat<Q, View>,
@@ -59,8 +59,8 @@ impl<Q: Quaject> ProcChain<Q> {
     ghost use Rattle.proc_chain.specs.Handles.{view_of, me_of, turn_of, world_of, opening_of, first_of};
     ghost use Rattle.proc_chain.specs.Handles.{IsDivisible, IsEndOf, KeepsTurn, IsSameEnd};
 
-    /// A chain whose first position is `first`, its gate Idle and the quaject in it, and its only end. Where an
-    /// allocation is refused, the quaject comes back.
+    /// A chain whose first position is `first`, with its gate Idle and the quaject in it, and its only end. If an
+    /// allocation is refused, the quaject is returned.
     pub fn new(
         alloc: Global,
         first: u32,
@@ -102,12 +102,12 @@ impl<Q: Quaject> ProcChain<Q> {
         }
     }
 
-    /// A new end, which has chained and taken nothing and has no Turn. Both ends are to be joined again before the
-    /// chain can be closed; an end that is dropped can never be joined. Besides the step that counts it, the first word
-    /// is loaded once, and what is found there is not used.
+    /// A new end, which has chained and taken nothing and has no Turn. Both ends must be joined again before the chain
+    /// can be closed; an end that is dropped can never be joined. Besides the step that counts the new end, the first
+    /// word is loaded once, and the number found there is not used.
     ///
-    /// Condition: the end has two parts or more of its chain's 2^64 - 1. The first end can be split two million
-    /// times without a join, and each of those ends 43 times in a chain.
+    /// Condition: the end has two or more of its chain's 2^64 - 1 parts. The first end can be split two million times
+    /// without a join, and each of those ends 43 times in a chain.
     pub fn split(&self, end: &mut ChainEnd<Q>) -> ChainEnd<Q>
         requires ends { IsEndOf self.now end.old }
         requires parts { IsDivisible end.old }
@@ -118,15 +118,16 @@ impl<Q: Quaject> ProcChain<Q> {
         ensures ends { IsEndOf self.now end.new × IsEndOf self.now result }
         ensures same { IsSameEnd end.old end.new × KeepsTaken (view_of end.old) (view_of end.new) }
     {
+        // linearization point: the new end is counted, before it exists, so a close cannot miss it
         count_up(&self.table.shared, &mut end.seat);
         let seat = split_off(&self.table.shared, &mut end.seat);
         ChainEnd { seat, turn: false }
     }
 
-    /// The first end then has all that both had: their notes, what they took, their parts of the chain, and the Turn
-    /// that one of them had: no two ends of one chain have one. It goes on under the number of the one that had the
-    /// Turn, or else under its own. Besides the step that counts one end less, the first word is loaded twice, and what
-    /// is found there is not used.
+    /// The first end then has all that both ends had: their notes, their takings, their parts of the chain, and the
+    /// Turn if one of them had it. No two ends of one chain have a Turn. The first end goes on under the number of the
+    /// end that had the Turn, or else under its own. Besides the step that counts one end less, the first word is
+    /// loaded twice, and the numbers found there are not used.
     pub fn join(&self, end: &mut ChainEnd<Q>, other: ChainEnd<Q>)
         requires ends { IsEndOf self.now end.old × IsEndOf self.now other }
         ensures turn { turn_of end.new ≡ (turn_of other || turn_of end.old) }
@@ -145,8 +146,9 @@ impl<Q: Quaject> ProcChain<Q> {
         self.take_over(end, other);
     }
 
-    // The first end then has all that both had. Where the other has a turn, so has the first: the count then tells that
-    // this never is. A seat with the slot can't be taken in, so all but the slot is handed over before.
+    // The first end then has all that both ends had. The condition says that if the other end has a turn, the first has
+    // one too: the count then shows that neither happens. A seat with the slot can't be taken in, so the other end
+    // first hands over all except the slot.
     fn take_over(&self, end: &mut ChainEnd<Q>, other: ChainEnd<Q>)
         requires ends { IsEndOf self.now end.old × IsEndOf self.now other }
         requires turns { turn_of other ≡ true → turn_of end.old ≡ true }
@@ -161,6 +163,7 @@ impl<Q: Quaject> ProcChain<Q> {
         let ChainEnd { mut seat, turn: _ } = other;
         let rest = hand_over(&self.table.shared, &mut seat);
         take_in::<Q, Brand>(&self.table.shared, &mut end.seat, rest);
+        // linearization point: one end less is counted, after the other end was taken in
         count_down(&self.table.shared, &mut end.seat);
     }
 }

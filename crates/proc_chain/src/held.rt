@@ -1,4 +1,4 @@
-//! What the end with the Turn has in its hand: the quaject, and a Turn that it keeps itself.
+//! The hand of the end with the Turn: the quaject, and a Turn that the end keeps itself.
 ghost use Rattle.std.specs.Prelude.{◌≡◌, true, [], ◌∷◌};
 ghost use Rattle.proc_chain.specs.Rules.{suits, makes};
 ghost use Rattle.proc_chain.specs.Turns.{HasOrGave, MadeSince};
@@ -9,20 +9,21 @@ use crate::quaject::Quaject;
 use crate::running::{Turn, set_aside, turn_of_runner};
 use crate::serve::Served;
 
-/// How an end was served that keeps its Turn, and how many notes were run.
+/// How the Turn of an end that keeps it was served, and how many notes were run.
 #[derive(Clone, Copy, Debug, PartialEq, Eq, Drop)]
 pub enum ServedKept {
     /// As `Served::Done`: the end has no Turn any more.
     Done { ran: u32 },
-    /// As `Served::More`: the end has the Turn still.
+    /// As `Served::More`: the end still has the Turn.
     More { ran: u32 },
 }
 
 impl<Q: Quaject> ProcChain<Q> {
     ghost use Rattle.proc_chain.specs.Handles.{view_of, me_of, turn_of, world_of, pact_of, IsEndOf, IsSameEnd};
 
-    /// The end keeps its Turn, for a caller that can't hold a value that must be served, such as a program in C. It is
-    /// served by `serve_kept`. If that is forgotten, notes stay in the chain, as after an end with a Turn is dropped.
+    /// The end keeps its Turn, for a caller that can't hold a value that must be served, such as a program in C.
+    /// `serve_kept` serves the Turn. If it is not called, notes stay in the chain, as after an end with a Turn is
+    /// dropped.
     ///
     /// Condition: the Turn is the end's own.
     pub fn keep(&self, end: &ChainEnd<Q>, turn: Turn)
@@ -31,7 +32,7 @@ impl<Q: Quaject> ProcChain<Q> {
         set_aside(&end.seat, turn);
     }
 
-    /// As `serve`, of an end that keeps its Turn.
+    /// Serves the Turn of an end that keeps it, as `serve` does.
     ///
     /// Conditions: the end has the Turn, and the world is that of `new`.
     pub fn serve_kept(&self, end: &mut ChainEnd<Q>, world: &Q::World, limit: u32) -> ServedKept
@@ -61,7 +62,7 @@ impl<Q: Quaject> ProcChain<Q> {
 impl<Q: Quaject + Copy> ProcChain<Q> {
     ghost use Rattle.proc_chain.specs.Handles.{me_of, turn_of, IsEndOf, IsSameEnd};
 
-    /// A copy of the quaject, which the end with the Turn has, as the notes that were run made it. It makes no step.
+    /// A copy of the quaject of the end with the Turn, as the notes that were run made it. It makes no step.
     ///
     /// Condition: the end has the Turn.
     pub fn quaject(&self, end: &mut ChainEnd<Q>) -> Q

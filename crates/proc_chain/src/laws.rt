@@ -1,4 +1,4 @@
-//! What an end lists is true, and each change is an event of the core: statements over plain data.
+//! The list of an end is true, and each change is an event of the core: statements over plain data.
 
 ghost use Rattle.std.specs.Prelude.{◌≡◌, ◌≢◌, ◌+◌, ◌-◌, ◌<◌, ◌≤◌, ◌⊎◌, ℕ, true, false, List, [], ◌∷◌, ◌++◌, length};
 ghost use Rattle.std.specs.Prelude.{◌*◌, ◌/◌, ◌%◌, slice_set, slice_index_or};
@@ -34,9 +34,9 @@ ghost use Rattle.proc_chain.specs.Steps.{run};
 
 use crate::quaject::Quaject;
 
-/// The numbers of a chain: where its words stand, 8 words apart where different threads write them, how many places it
-/// has, what the numbers of the gate and of a place's word mean, and how many notes and failed leaves one serving of
-/// `serve_all` uses at most. The words in between are 0.
+/// The numbers of a chain: where its words are, 8 words apart if different threads write them, and how many places it
+/// has. The meaning of the numbers of the gate and of a place's word. The greatest number of notes and failed leaves in
+/// one serving of `serve_all`. The words in between are 0.
 pub fn layout_is()
     ensures words { (head_word ≡ 0) × (ends_word ≡ 1) × (tail_word ≡ 8) × (gate_word ≡ 16) × (width ≡ 56)
         × ((position : ℕ) → place_word position ≡ position % 32 + 24) }
@@ -50,10 +50,10 @@ pub fn layout_is()
         → word ≢ 16 → slice_index_or words word 0 ≡ 0 }
 {}
 
-/// What an end lists is true: each entry that a call adds is a real step. It found a lawful queue and a gate that the
-/// words showed, and the number in its word, and made one event, or none. Real steps lead from what the end had seen to
-/// each of these entries, in their order, and the last of them left what the end sees then. Where the end has the
-/// whole, these entries alone lead there.
+/// The list of an end is true: each entry that a call adds is a real step. The step found a lawful queue and a gate
+/// that the words showed, and the number in its word, and made one event, or none. Real steps lead from what the end
+/// had seen to each of these entries, in their order. The last of them left what the end sees then. If the end has the
+/// whole share, these entries alone lead there.
 pub fn lists_are_true<Q: Quaject>()
     ensures end { (end : ChainEnd Q Q.World Q.Quaject) → ∥ IsHonest of_chains (view_of end) ∥₁ }
     ensures entries { (old : View) (new : ChainEnd Q Q.World Q.Quaject) (entries : List (Step GatedQueue))
@@ -72,8 +72,9 @@ pub fn lists_are_true<Q: Quaject>()
     ensures lawful { (e : Step GatedQueue) → IsReal of_chains e → IsLawful e.next.object }
 {}
 
-/// No number of a head or a tail falls. What an end finds there is not below what it had seen, nor below what it found
-/// earlier, and what it sees then is not below that. After a join it is not below what either end had seen.
+/// No head and no tail falls. A number that an end finds there is not below what the end had seen, nor below a number
+/// that it found earlier. What the end sees then is not below that number. After a join, what the end sees is not below
+/// what either end had seen.
 pub fn never_below<Q: Quaject>()
     ensures head { (old new : ChainEnd Q Q.World Q.Quaject) (before : List (Step GatedQueue)) (e : Step GatedQueue)
         (after : List (Step GatedQueue)) → Adds (view_of old) (before ++ e ∷ after) (view_of new) → e.word ≡ head_word
@@ -97,8 +98,8 @@ pub fn never_below<Q: Quaject>()
         × (tail_of (queue_of (view_of other)) ≤ tail_of (queue_of (view_of new))) }
 {}
 
-/// What two ends of one chain own is apart: no position is in runs of both, nor in takings of both. So it is of ends
-/// whose views show the chain at one moment, and of two ends that were joined.
+/// Two ends of one chain own nothing in common: no position is in runs of both ends, nor in takings of both. This holds
+/// for ends whose views show the chain at one moment, and for two ends that were joined.
 pub fn joins_are_apart<Q: Quaject>()
     ensures runs { (o : GatedQueue) (views : List View) → AreShown o views → (i j m n position : ℕ) (u v : View)
         (a b : Batch) → i ≢ j → get_elem? views i ≡ some u → get_elem? views j ≡ some v
@@ -118,8 +119,8 @@ pub fn joins_are_apart<Q: Quaject>()
         → IsAmong position a → IsAmong position b → ⊥ }
 {}
 
-/// The same of a join: real steps lead from what either end had seen to what the one sees then, and the entry of the
-/// step that counts one end less is real.
+/// The list of an end is true after a join: real steps lead from what either end had seen to what the joined end sees.
+/// The entry of the step that counts one end less is a real step.
 pub fn joins_are_true<Q: Quaject>()
     ensures since { (old other new : ChainEnd Q Q.World Q.Quaject)
         → TookIn (view_of old) (view_of other) (view_of new)
@@ -130,8 +131,8 @@ pub fn joins_are_true<Q: Quaject>()
         → ∥ IsReal of_chains (count_down ends_word t.0.found) ∥₁ }
 {}
 
-/// What an end sees is lawful, and some views show it, the end's own among them. Its runs stand in the queue that it
-/// sees.
+/// The queue and the gate that an end sees are lawful. Some views show them, the end's view among them. The queue has
+/// the end's runs and the chain's room, and its head is a position.
 pub fn ends_are_shown<Q: Quaject>()
     ensures lawful { (end : ChainEnd Q Q.World Q.Quaject) → ∥ IsLawful (view_of end).seen.object ∥₁ }
     ensures shown { (end : ChainEnd Q Q.World Q.Quaject) → ∥ ((views : List View) × (seat : ℕ)
@@ -142,8 +143,8 @@ pub fn ends_are_shown<Q: Quaject>()
     ensures bounded { (end : ChainEnd Q Q.World Q.Quaject) → head_of (queue_of (view_of end)) < POSITIONS }
 {}
 
-/// What the number says that a step found: the number of ends, the head, the tail, the gate, or whether a place is
-/// raised, and with which note. The places from the tail on, as many as the chain has, are those that words show.
+/// The meaning of the number that a step found: the number of ends, the head, the tail, the gate, or whether a place is
+/// raised, and with which note. The words show the places from the tail on, as many as the chain has.
 pub fn numbers_say()
     ensures ends { (found : ℕ) (m : Moment GatedQueue) → IsReal of_chains (load ends_word found m) → found ≡ m.ends }
     ensures head { (e : Step GatedQueue) → e.word ≡ head_word → IsReal of_chains e
@@ -161,8 +162,8 @@ pub fn numbers_say()
 {}
 
 /// Each change that an answer lists is one event of the core: some views, which a proof chooses, show the queue and the
-/// gate that the step found, and with one of them changed what it left. It is the event that its name says, for all
-/// views that show the queue and the gate as the step found them, if one of them is that of the end.
+/// gate that the step found. With one of them changed, the views show the queue and the gate that the step left. The
+/// event is the one with that name, for all views that show what the step found, if one of them is the end's view.
 pub fn changes_are_events()
     ensures each { (e : Step GatedQueue) → IsReal of_chains e
         → (e.next.object ≡ e.then.object) ⊎ IsEvent e.then.object e.next.object }
@@ -213,8 +214,8 @@ pub fn changes_are_events()
         → IsChainEvent m.object (with_gate m.object IDLE) views shown seat w (leave seat) }
 {}
 
-/// Where a note was refused as Full, there was no room when the head was loaded. An end that has the whole is never
-/// answered Lost: between its steps, no other end makes one.
+/// If a note was refused as Full, there was no room when the head was loaded. A call of an end with the whole share
+/// never returns Lost: no other end steps between its steps.
 pub fn refusals_say<Q: Quaject>()
     ensures full { (old new : ChainEnd Q Q.World Q.Quaject) (head tail : ℕ)
         (r : NotChained (view_of old) (Full head tail) (view_of new))

@@ -1,18 +1,17 @@
-//! Where the words of a chain's table stand: the head and the number of ends, then the tail, then the gate, and then a
-//! word for each place of the queue of notes. The place of a position is the position modulo the number of places.
+//! The words of a chain's table: the head and the number of ends, then the tail, then the gate, and then a word for
+//! each place of the queue of notes. The place of a position is the position modulo the number of places.
 //!
-//! The head, the tail, the gate and the places stand 8 words apart, so that no two of them are in one cache line of 64
-//! bytes, wherever the block begins. Whoever chains writes the head, the runner alone the tail, and both the gate: in
-//! one line they would take it from each other at every step. So the words 2 to 7, 9 to 15 and 17 to 23 stand empty,
-//! and are
-//! 0. Only `split`, `join` and `close` touch the number of ends, which can stand beside the head.
+//! The head, the tail, the gate and the places are 8 words apart. So no two of them are in one cache line of 64 bytes,
+//! wherever the block begins. Ends that chain write the head, the runner alone writes the tail, and both write the
+//! gate: in one line they would invalidate it for each other at every step. So the words 2 to 7, 9 to 15 and 17 to 23
+//! are not used, and are 0. Only `split`, `join` and `close` use the number of ends, so it can be beside the head.
 ghost use Rattle.std.specs.Prelude.{◌≡◌};
 ghost use Rattle.proc_chain.specs.Layout.{place_word};
 
 /// The position of the next claim.
 pub(crate) const HEAD: usize = 0;
 
-/// The number of ends that stand.
+/// The number of ends that exist.
 pub(crate) const ENDS: usize = 1;
 
 /// The position of the next note that is taken.

@@ -1,7 +1,7 @@
-//! Procedure chaining: work that arises while a quaject runs is chained as a note, and the end that runs the quaject
-//! runs it after what it does. So the runs are serialised without a lock (Massalin and Pu 1991).
+//! Procedure chaining: work that arises while a quaject runs is chained as a note. The end that runs the quaject runs
+//! the note after its present work. So the runs are serialised without a lock.
 //!
-//! Here the quaject is an `Adder`: it adds to its sum what each note says, and the number that is its chain's world.
+//! Here the quaject is an `Adder`: for each note it adds to its sum the note and the number that is its chain's world.
 //!
 //! ```rust
 //! let Ok((chain, mut first)) = ProcChain::new(rt.alloc(), 0, Adder { sum: 0 }, &1) else {
@@ -33,18 +33,18 @@
 //! assert!(rt; (closed.put, closed.taken, closed.quaject.sum) == (2, 2, 32));
 //! ```
 //!
-//! A quaject is a value with one call, `run`, which is handed a note of 16 bits and the chain's world. A chain has a
-//! queue of 32 notes, and a gate, which is one word with three states:
+//! A quaject is a value with one call, `run`, which gets a note of 16 bits and the chain's world. A chain has a queue
+//! of 32 notes, and a gate, which is one word with three states:
 //!
-//! - Idle: nobody runs notes, and the quaject lies in the chain.
+//! - Idle: no end runs notes, and the quaject is in the chain.
 //! - Running: one end has the Turn and the quaject, and has seen all notifies.
-//! - More: one end has the Turn, and a note was raised since it last looked.
+//! - More: one end has the Turn, and a notify came since its last round.
 //!
 //! `try_chain` claims a place, raises its note there and swaps the gate to More. The end whose swap found Idle has the
-//! Turn, and must serve it; every other one goes on at once. `serve` swaps the gate to Running and runs the notes that
-//! are raised, in their order. Where none is left it exchanges Running for Idle; that fails where the gate is More
-//! again, and then it looks once more. So no note is left without an end that will run it, and no two ends run notes at
-//! once.
+//! Turn, and must serve it; every other end goes on at once. `serve` swaps the gate to Running and runs the notes that
+//! are raised, in their order. If none is left, a compare-and-swap sets the gate from Running to Idle. It fails if the
+//! gate is More again, and then `serve` looks once more. So no note is left without an end that will run it, and no two
+//! ends run notes at once.
 #![tactic(auto)]
 
 mod between;

@@ -1,8 +1,9 @@
-//! How an end that is joined passes on what it has.
+//! An end that is joined hands over what it has.
 //!
-//! A seat that holds the slot can't be taken in, so all but the slot goes over to a new seat first, which is then taken
-//! in. Each costs one load of the first word, which stands in no list. The types and the clauses allow no more of them:
-//! a `Rest` can't be let go, copied or handed over again, and neither can a seat that was emptied.
+//! A seat that holds the slot can't be taken in. So all except the slot is first handed over to a new seat, which is
+//! then taken in. Each of the two costs one load of the first word, which is in no list. The types and the clauses
+//! allow no more of them: a `Rest` can't be dropped, copied or handed over again, and neither can a seat that was
+//! emptied.
 ghost use Rattle.std.specs.Prelude.{◌≡◌, ◌≤◌, true, false, []};
 ghost use Rattle.table_theory.specs.Ledgers.{both, emptied};
 ghost use Rattle.table_theory.specs.Seating.{IsSame};
@@ -14,12 +15,12 @@ use crate::quaject::Quaject;
 use crate::rule::{ChainRule, Pact, Shape, View};
 use atomic_table::{Seat, Shared};
 
-/// All that an end had but the slot.
+/// All that an end had, except the slot.
 pub(crate) struct Rest<Q> {
     seat: Seat<Q, View>,
 }
 
-/// The rest has all that the end had but the slot. The end is spent, and may still hold that.
+/// The rest has all that the end had, except the slot. The end is spent, and may still hold the slot.
 pub(crate) fn hand_over<Q: Quaject>(
     words: &Shared<Q, View, Shape<Pact<Q::World, Q>>, ChainRule>,
     seat: &mut Seat<Q, View>,
@@ -35,7 +36,7 @@ pub(crate) fn hand_over<Q: Quaject>(
     }
 }
 
-/// The end has all that both had.
+/// The end then has all that both had.
 pub(crate) fn take_in<Q: Quaject, J: Spent>(
     words: &Shared<Q, View, Shape<Pact<Q::World, Q>>, ChainRule>,
     seat: &mut Seat<Q, View>,

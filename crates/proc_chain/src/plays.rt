@@ -1,4 +1,4 @@
-//! What each step tells. These types are for the proofs alone.
+//! The report of each step. These types are for the proofs alone.
 ghost use Rattle.std.specs.Prelude.{ℕ, List};
 ghost use Rattle.table_theory.specs.Ledgers.{rest_of, newborn, both, emptied};
 ghost use Rattle.proc_chain.specs.Own.{View, nothing_did, did_both};
@@ -52,7 +52,7 @@ impl<Q> Play<Q, View> for Takes {
     ghost then = { takes };
 }
 
-/// What notes make the quaject of an end that may get the turn, and what suits the chain.
+/// For an end that may get the turn: which quajects its notes make, and which quajects suit the chain.
 pub trait Runner<Q> {
     ghost made: { Q → List ℕ → Type 0 };
 

@@ -1,18 +1,18 @@
-//! What a chain runs.
+//! The quaject that a chain runs.
 ghost use Rattle.std.specs.Prelude.{◌≡◌, ℕ, List, [], ◌∷◌, ◌++◌};
 
-/// What a run did.
+/// The answer of a run.
 #[derive(Clone, Copy, Debug, PartialEq, Eq, Drop)]
 pub enum Ran {
-    /// It did some work.
+    /// The run did some work.
     Worked,
     /// There was nothing to do.
     Nothing,
 }
 
-/// A collection of procedures and data that one runner at a time works on, note by note (Massalin 1992).
+/// A collection of procedures and data that one runner at a time works on, note by note.
 pub trait Quaject {
-    /// What its runs work on, and it does not own.
+    /// The data that its runs work on and that the quaject does not own.
     type World;
 
     // Runs of these notes, in order, made the second quaject of the first.

@@ -1,4 +1,4 @@
-//! The rule of the table. Its types are for the proofs alone: no program makes a value of them but the chain itself.
+//! The rule of the table. Its types are for the proofs alone: no program except the chain makes a value of them.
 use crate::quaject::Quaject;
 use atomic_table::TableRule;
 use std::collections::LinkedList;
@@ -6,43 +6,43 @@ use std::snapshot::Snapshot;
 use table_theory::queues::{Batch, Positions};
 use table_theory::views::Ledger;
 
-/// What binds the quaject of a chain: the world that it fits, and the quaject that was given to `new`.
+/// The pact of the quaject of a chain: the world that it fits, and the quaject that was given to `new`.
 #[derive(Drop)]
 pub struct Pact<W, Q> {
     pub world: Snapshot<W>,
     pub opening: Snapshot<Q>,
 }
 
-/// What the rule is told when the table is made.
+/// The parameters of the rule, given when the table is made.
 #[derive(Drop)]
 pub struct Shape<P> {
     pub first: u64,
     pub pact: P,
 }
 
-/// The queue of notes and the gate word at one moment. Proofs alone speak of it.
+/// The queue of notes and the gate word at one moment. Only proofs use it.
 pub struct GatedQueue {
     pub queue: Positions,
     pub gate: u64,
 }
 
-/// What an end did: its runs and its takings in the queue of notes, and its turn. Proofs alone speak of it.
+/// The record of what an end did: its runs and takings in the queue of notes, and its turn. Only proofs use it.
 pub struct Did {
     pub runs: LinkedList<Batch>,
     pub takes: LinkedList<Batch>,
     /// It has the turn to run notes.
     pub runner: bool,
-    /// As the runner: how many notes were taken up to now.
+    /// If the end is the runner: how many notes were taken up to now.
     pub taken: u64,
     /// It raised a note and has not yet notified.
     pub owes: bool,
     /// As the runner it saw, since its last round, that the first note left was not raised.
     pub saw: bool,
-    /// It took in an end that had the turn while it had it itself: the rule says that no end ever did.
+    /// The end took in an end that had the turn while it had the turn itself: the rule says that no end ever did.
     pub doubled: bool,
 }
 
-/// What an end knows: what it did, its steps, and all ends' steps up to its own last one.
+/// The view of an end: what it did, its steps, and all ends' steps up to its own last step.
 pub type View = Ledger<Did, GatedQueue>;
 
 pub struct ChainRule;

@@ -1,9 +1,9 @@
-//! The Turn of an end, and what it gives the right to: to take a note, to run it, and to leave.
+//! The Turn of an end, and the rights that it gives: to take a note, to run it, and to leave.
 //!
-//! The types keep an order. The swap that finds the gate Idle makes a `Turn`. An end that has one can set it aside, and
-//! take it up again only where it has run each note that it took. Taking a note spends the Turn and
-//! gives a `Taken`, which has the note; running it spends the `Taken` and gives the Turn back. Neither can be copied or
-//! let go. So each note is run behind its taking, and before the end takes the next one, begins a round or leaves.
+//! The types keep an order. The swap that finds the gate Idle makes a `Turn`. An end that has a Turn can set it aside,
+//! and take it up again only if it has run each note that it took. Taking a note spends the Turn and gives a `Taken`,
+//! which has the note. Running the note spends the `Taken` and gives the Turn back. Neither can be copied or dropped.
+//! So each note is run after its taking, and before the end takes the next note, begins a round or leaves.
 ghost use Rattle.std.specs.Prelude.{◌≡◌, ◌<◌, ◌≤◌, ℕ, List, true, [], ◌∷◌, ◌++◌, MatchOption};
 ghost use Rattle.table_theory.specs.declared.positions.TheConstants.{POSITIONS};
 ghost use Rattle.table_theory.specs.Positioned.{tail_of, item_at, written_at};
@@ -23,7 +23,7 @@ use crate::rule::{ChainRule, Pact, Shape, View};
 use atomic_table::{Seat, Shared};
 use std::snapshot::Snapshot;
 
-/// The right and the duty to run the notes of a chain. It can't be let go, only served.
+/// The right and the duty to run the notes of a chain. It can't be dropped, only served.
 pub struct Turn(());
 
 /// A note that was taken and isn't run yet, and the end as its taking left it.
@@ -33,15 +33,15 @@ pub(crate) struct Taken<Q> {
     turn: Turn,
 }
 
-/// Sets a Turn aside: the end alone knows then that it has it.
+/// Sets a Turn aside: only the end itself then records that it has the Turn.
 pub(crate) fn set_aside<Q: Quaject>(seat: &Seat<Q, View>, turn: Turn)
     requires { seat.now.me.0.own.runner ≡ true }
 {
     let Turn(()) = turn;
 }
 
-/// The Turn of an end, from the end that has it, and has run each note that it took: the quaject in its hand was made by
-/// all of them. So there is no Turn between a taking and the run of its note.
+/// Returns the Turn of an end that has it and has run each note that it took: the quaject in its hand was made by all
+/// of them. So there is no Turn between a taking and the run of its note.
 pub(crate) fn turn_of_runner<Q: Quaject>(
     words: &Shared<Q, View, Shape<Pact<Q::World, Q>>, ChainRule>,
     seat: &Seat<Q, View>,
@@ -53,7 +53,7 @@ pub(crate) fn turn_of_runner<Q: Quaject>(
     Turn(())
 }
 
-/// The notify. The Turn comes where the gate was found Idle.
+/// The notify. Returns the Turn if the gate was found Idle.
 pub(crate) fn swap_more<Q: Quaject, J: Runner<Q>>(
     words: &Shared<Q, View, Shape<Pact<Q::World, Q>>, ChainRule>,
     seat: &mut Seat<Q, View>,
@@ -73,8 +73,8 @@ pub(crate) fn swap_more<Q: Quaject, J: Runner<Q>>(
     None
 }
 
-/// The taking of one note: a single runner takes, so it stores. The quaject in its hand was made by all notes taken
-/// before, and not yet by this one.
+/// The taking of one note. Only one runner takes, so a store suffices. The quaject in its hand was made by all notes
+/// taken before, and not yet by this one.
 pub(crate) fn store_tail<Q: Quaject>(
     words: &Shared<Q, View, Shape<Pact<Q::World, Q>>, ChainRule>,
     seat: &mut Seat<Q, View>,
@@ -122,7 +122,7 @@ pub(crate) fn run_held<Q: Quaject>(
     turn
 }
 
-/// The leave. The quaject goes back into the table where the gate was Running, and the Turn is spent.
+/// The leave. If the gate was Running, the quaject goes back into the table, and the Turn is spent.
 pub(crate) fn exchange_gate<Q: Quaject>(
     words: &Shared<Q, View, Shape<Pact<Q::World, Q>>, ChainRule>,
     seat: &mut Seat<Q, View>,
@@ -142,8 +142,8 @@ pub(crate) fn exchange_gate<Q: Quaject>(
     Some(turn)
 }
 
-/// Lets go of a Turn whose end holds no quaject, so that nothing can be served by it. It is called only after a loop
-/// that has no end, which nothing reaches.
+/// Drops a Turn whose end holds no quaject, so that nothing can be served by it. The only call is after an endless
+/// loop, and is never reached.
 pub(crate) fn never<Q: Quaject>(seat: &Seat<Q, View>, turn: Turn)
     requires { seat.now.me.1 ≡ [] }
 {

@@ -21,8 +21,8 @@ const MOST_RUN: u32 = u32::MAX;
 
 /// How a Turn was served, and how many notes were run.
 pub enum Served {
-    /// The gate was found Running at a leave: all notes that were notified of were run, and the quaject is in the chain
-    /// again. The Turn is spent.
+    /// The end left: the first place left was not raised, the gate was found Running, and the quaject is in the chain
+    /// again. The Turn is spent. Notes raised after that place are left for a later Turn.
     Done { ran: u32 },
     /// The limit was used up. The Turn is to be served again.
     More { turn: Turn, ran: u32 },
@@ -42,11 +42,15 @@ fn run_next<Q: Quaject>(
     ensures runner { IsRunner (makes Q.made_by words.now.key.pact) (suits Q.fits words.now.key.pact) seat.new.me }
     ensures ran { MatchBool result.0 (RanNote seat.old.me.0 seat.new.me.0) (FoundNone seat.old.me.0 seat.new.me.0) }
 {
+    // One load suffices: only the end with the Turn writes the tail.
     let tail = load(words, seat, TAIL);
+    // One load suffices: the note and its mark are one word. If the note is raised after this load, its notify comes
+    // later still, so it makes the leave fail or finds the gate Idle.
     let word = load_place(words, seat, tail);
     if word.mark != tail + 1 {
         return (false, turn);
     }
+    // linearization point: the note is taken. A store suffices: only the end with the Turn writes the tail.
     let taken = store_tail(words, seat, turn, tail, word.note);
     (true, run_held(words, seat, world, taken))
 }
@@ -67,8 +71,11 @@ fn leave_or_round<Q: Quaject>(
     ensures left { MatchOption result (LeftNow seat.old.me.0 seat.new.me.0)
         (λ turn. RoundNow seat.old.me.0 seat.new.me.0) }
 {
+    // linearization point: the end leaves, if the gate is Running. A notify since the last round has set More, and then
+    // the compare-and-swap fails.
     match exchange_gate(words, seat, turn) {
         Some(turn) => {
+            // linearization point: a new round begins
             swap_running(words, seat);
             Some(turn)
         }
@@ -76,8 +83,8 @@ fn leave_or_round<Q: Quaject>(
     }
 }
 
-// Serves until it leaves, or has run notes and failed to leave `limit` times. The Turn comes where it didn't leave, and
-// the number of notes run.
+// Serves until it leaves, or until notes run and failed leaves together are `limit`. Returns the Turn, if it did not
+// leave, and the number of notes run.
 fn serve_seat<Q: Quaject>(
     words: &Shared<Q, View, Shape<Pact<Q::World, Q>>, ChainRule>,
     seat: &mut Seat<Q, View>,
@@ -100,6 +107,8 @@ fn serve_seat<Q: Quaject>(
 {
     let mut turn = turn;
     let mut ran = 0u32;
+    // linearization point: a round begins. It comes before the loads of the places: a notify after this sets More, and
+    // then the leave fails.
     swap_running(words, seat);
     for used in 0..limit {
         let (was_run, held) = run_next(words, seat, world, turn);
@@ -119,11 +128,11 @@ fn serve_seat<Q: Quaject>(
 impl<Q: Quaject> ProcChain<Q> {
     ghost use Rattle.proc_chain.specs.Handles.{view_of, me_of, turn_of, world_of, pact_of, IsEndOf, IsSameEnd};
 
-    /// Serves the end's Turn: it begins a round, by a swap of the gate to Running, and runs the notes in order. Each is
-    /// taken, by a store of the tail, before it is run. At a place that isn't raised it leaves, by an exchange of a
-    /// gate that is Running, unless an end has notified since its last round, in which case it begins a new one. Each
-    /// note run uses one of `limit`, and so does each leave that failed; the answer is `More` where none is left. With
-    /// a limit of 0 it makes no step.
+    /// Serves the end's Turn: it begins a round, by a swap of the gate to Running, and runs the notes in order. A store
+    /// of the tail takes each note before it is run. At a place that isn't raised the end leaves, by a compare-and-swap
+    /// of the gate from Running to Idle. If an end has notified since its last round, the leave fails, and it begins a
+    /// new round. Each note run and each failed leave uses one of `limit`; if the limit is used up, the answer is
+    /// `More`. With a limit of 0 it makes no step.
     ///
     /// Conditions: the Turn is the end's own, and the world is that of `new`.
     pub fn serve(&self, end: &mut ChainEnd<Q>, world: &Q::World, turn: Turn, limit: u32) -> Served

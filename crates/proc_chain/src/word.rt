@@ -16,7 +16,7 @@ pub(crate) struct PlaceWord {
 }
 
 impl PlaceWord {
-    /// What the place of this position has once the note is raised there.
+    /// The word of the place of this position after the note is raised there.
     pub(crate) fn raised(position: u64, note: u16) -> PlaceWord
         requires { position < POSITIONS }
         ensures { (result.mark ≡ position + 1) × (result.note ≡ note) }

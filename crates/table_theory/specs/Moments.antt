@@ -4,7 +4,7 @@ use Rattle.std.specs.Prelude.{◌≡◌, ◌⊎◌, List, [], ◌∷◌, ◌++�
 use Rattle.table_theory.specs.declared.views.Ledger.{Ledger}
 use Rattle.table_theory.specs.Ledgers.{Step, Adds}
 
--- the object was so at a moment of the call
+-- Holds was true of the object at a moment of the call
 pub record AtSomeMoment {K O : Type 0} (v w : Ledger K O) (Holds : O → Type 0) : Type 0 where
   pub before : List (Step O)
   pub step : Step O
@@ -12,7 +12,7 @@ pub record AtSomeMoment {K O : Type 0} (v w : Ledger K O) (Holds : O → Type 0)
   pub adds : Adds v (before ++ step ∷ after) w
   pub holds : Holds step.then.object
 
--- at a moment of the call and at a later one the objects were so
+-- Holds was true of the object at two moments of the call, the first before the second
 pub record AtTwoMoments {K O : Type 0} (v w : Ledger K O) (Holds : O → O → Type 0) : Type 0 where
   pub before : List (Step O)
   pub first : Step O

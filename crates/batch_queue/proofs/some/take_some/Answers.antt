@@ -25,7 +25,7 @@ returns-in-Err-clause-error c = let e = c.in-Err.ensures.stop in no_stop_error c
 pub returns-in-Err-clause-refused : goal.returns-in-Err-clause-refused
 returns-in-Err-clause-refused c = let is : c.min-most.result ≡ min c.args.most c.args.room = search rules in let e = c.in-Err.ensures.trace in no_stop_refused c.args.room c.args.most _ _ _ _ _ _ e.0 c.load_tail-tail.ensures.found c.load_mark-first.ensures.found _ e.1 (subst (λ (z : ℕ). LostStop c.args.room c.load_tail-tail.result z c.load_mark-first.result e.0 c.load_mark-first.new.seat.me.0 c.find_stop.new.seat.me.0) is e.2)
 
--- the exchange
+-- the compare-and-swap
 pub returns-then-found-tail-clause-error : goal.returns-then-found-tail-clause-error
 returns-then-found-tail-clause-error c = let is : c.min-most.result ≡ min c.args.most c.args.room = search rules in let s = subst (λ (z : ℕ). FoundStop c.args.room c.load_tail-tail.result z c.load_mark-first.result c.in-Ok.new c.load_mark-first.new.seat.me.0 c.find_stop.new.seat.me.0) is c.in-Ok.ensures.trace in let g = c.in-Ok.ensures.stop in let less = g.1 in let far = g.2 in
     passed_error c.args.room c.args.most _ _ _ _ _ _ _ c.requires.queue.rooms c.load_tail-tail.ensures.found c.load_mark-first.ensures.found s (omega arith) (omega arith) c.in-Ok.ensures.grows _ _ c.if-found-tail.true (c.exchange_tail-found.ensures.miss c.if-found-tail.true).1

@@ -25,6 +25,7 @@ IsUpTo w tail to = (tail < w.seen.object.taken)
     ⊎ ((i : ℕ) → tail ≤ i → i < to → 1 ≤ phase_at w.seen.object i)
 
 -- the tail was loaded, and then marks of published batches were followed from it, as far as they lead within `room`
+-- positions
 pub record FoundUp (room tail to : ℕ) (v w : View) : Type 0 where
   pub at_tail : Moment BatchState
   pub loads : List (Step BatchState)

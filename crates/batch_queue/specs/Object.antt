@@ -163,7 +163,8 @@ pub data Becomes (o r : BatchState) : Type 0 where
   was_shut : r ≡ with_shut o → Becomes o r
   was_parted : (p e : ℕ) → IsWithin o p e → r ≡ with_part o p e → Becomes o r
 
--- r is no earlier than o: its batches, takings and parted positions extend those of o, and nothing went back
+-- r is no earlier than o, and has its room: the batches, takings and parted positions of r extend those of o, and no
+-- phase, tail, window or shut mark went back
 pub record Grows (o r : BatchState) : Type 0 where
   pub room : r.room ≡ o.room
   pub more : (rest : List (List ℕ)) × (o.batches ++ rest ≡ r.batches)

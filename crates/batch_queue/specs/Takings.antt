@@ -214,7 +214,7 @@ IsNone tail v (Lost now) w = (now ≢ tail) × (head : ℕ) × (head ≢ SHUT + 
 IsNone tail v Closed w = Found v head_word (SHUT + tail) w
 IsNone tail v refusal w = ⊥
 
--- the refusal at a tail at which a batch of `count` items, too many, was found: by the tail that was found again
+-- the refusal at a tail at which a batch of `count` items was found, by the tail that was loaded after that
 abbrev pub IsShort : ℕ → ℕ → View → TakeRefusal → View → Type 0
 IsShort tail count v (ShortBuffer at n) w = (at ≡ tail) × (n ≡ count) × Found v tail_word tail w
 IsShort tail count v (Lost now) w = (now ≢ tail) × Found v tail_word now w

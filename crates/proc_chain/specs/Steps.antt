@@ -87,7 +87,7 @@ abbrev pub Notified : View → ℕ → View → Type 0
 Notified v gate w = (gate ≢ IDLE) × ((m : Moment GatedQueue)
     × Stepped v (change gate_word gate m (with_gate m.object MORE)) (record v.own { owes = false }) w)
 
--- the end has notified, and found the gate Idle: the end now has the turn and the slot
+-- the end, which had no turn, has notified and found the gate Idle: it now has the turn, and the slot with the quaject
 abbrev pub GotTurn : {Q : Type 0} → (Q → List ℕ → Type 0) → (Q → Type 0) → Me Q View → Me Q View → Type 0
 GotTurn made fits me me' = (me.0.own.runner ≡ false) × ((m : Moment GatedQueue)
     × Stepped me.0 (change gate_word IDLE m (with_gate m.object MORE))

@@ -81,8 +81,8 @@ impl<Q: Quaject> ProcChain<Q> {
         // linearization point: the note is raised (published). One store suffices: the note and its mark are one word,
         // and no other end writes the word until the tail has passed its position.
         store_place(words, &mut end.seat, head, note);
-        // linearization point: the notify. It comes after the raise, so the end with the Turn finds the note. A swap,
-        // so that only one end finds the gate Idle.
+        // linearization point: the notify. It comes after the raise, so an end that finds More finds the note raised.
+        // It is a swap, so that only one end finds the gate Idle.
         match swap_more::<Q, Brand>(words, &mut end.seat) {
             Some(turn) => {
                 end.turn = true;

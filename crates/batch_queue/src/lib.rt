@@ -1,5 +1,6 @@
 //! A queue with many producers and many consumers. A batch of items is claimed by one compare-and-swap, published by
-//! one store, taken by one compare-and-swap, and given back by one store. The items are in plain memory.
+//! one store, taken by one compare-and-swap, and given back by one store. The items are in plain memory (Massalin 1992,
+//! the buffered queues; the bursts of DPDK's rings).
 //!
 //! ```rust
 //! let Ok((queue, mut sender)) = BatchQueue::new(rt.alloc(), 256) else {

@@ -53,7 +53,7 @@ impl Mark {
     }
 }
 
-/// Random numbers (xorshift).
+/// Random numbers (xorshift, Marsaglia 2003).
 #[derive(Drop)]
 struct Random {
     state: u64,

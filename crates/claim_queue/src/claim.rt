@@ -1,4 +1,5 @@
-//! Claims: an end reserves a run of places by one compare-and-swap of the head, and then raises the places one by one.
+//! Claims: an end reserves a run of places by one compare-and-swap of the head, and then raises the places one by one
+//! (Massalin and Pu 1991, the many-producer queue).
 ghost use Rattle.std.specs.Prelude.{◌≡◌, ◌+◌, ◌<◌, ◌≤◌, ℕ, true, length, MatchResult, MatchBool, IfOk, slice_index};
 ghost use Rattle.table_theory.specs.Listing.{AllRaised};
 ghost use Rattle.claim_queue.specs.Claims.{Owns, KeepsClaims, KeepsOthers};

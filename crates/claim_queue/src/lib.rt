@@ -1,5 +1,6 @@
 //! A queue of `N` places with many producers and many consumers. An end claims a run of places by one compare-and-swap
-//! of the head, and takes items by one compare-and-swap of the tail.
+//! of the head, and takes items by one compare-and-swap of the tail (Massalin and Pu 1991, the queues with many
+//! producers and many consumers).
 //!
 //! ```rust
 //! let (queue, mut taker) = ClaimQueue::<4>::new(rt.alloc(), 0)?;
@@ -20,7 +21,7 @@
 //! assert!(rt; (closed.put, closed.taken) == (3, 3));
 //! ```
 //!
-//! Producers claim at the *head* and takers take at the *tail*. In `crossbeam` and in `VecDeque` the names are the
+//! Producers claim at the *head* and takers take at the *tail* (Massalin). In `crossbeam` and in `VecDeque` the names are the
 //! other way round: items leave at the head.
 //!
 //! `N` is 1 to 256. An item is a `u64`. Items are numbered by positions, from the first position of the queue on, and

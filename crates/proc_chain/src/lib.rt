@@ -1,5 +1,5 @@
 //! Procedure chaining: work that arises while a quaject runs is chained as a note. The end that runs the quaject runs
-//! the note after its present work. So the runs are serialised without a lock.
+//! the note after its present work. So the runs are serialised without a lock (Massalin and Pu 1991).
 //!
 //! Here the quaject is an `Adder`: for each note it adds to its sum the note and the number that is its chain's world.
 //!

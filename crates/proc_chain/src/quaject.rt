@@ -10,7 +10,7 @@ pub enum Ran {
     Nothing,
 }
 
-/// A collection of procedures and data that one runner at a time works on, note by note.
+/// A collection of procedures and data that one runner at a time works on, note by note (Massalin 1992).
 pub trait Quaject {
     /// The data that its runs work on and that the quaject does not own.
     type World;

@@ -8,7 +8,7 @@ use Rattle.event_theory.specs.Runs.{flat}
 use Rattle.event_theory.specs.Queues.{Queue}
 use Rattle.table_theory.specs.Listing.{runs_of, takes_of}
 use Rattle.table_theory.specs.Positioned.{place_at}
-use Rattle.table_theory.specs.QueueOf.{run_in, up_in, is_up, queue_of}
+use Rattle.table_theory.specs.QueueOf.{run_in, published_in, is_published, queue_of}
 use Rattle.table_theory.proofs.Batches.{taken_items}
 use Rattle.table_theory.proofs.Listing.{run_stands}
 use Rattle.table_theory.proofs.Owned.{at_map_back}
@@ -21,15 +21,15 @@ use Rattle.batch_queue.proofs.Grouping.{lines_are}
 use Rattle.batch_queue.proofs.Placing.{cell_at, cells_items, cells_length, lawful_positions}
 use Rattle.batch_queue.proofs.Stepping.{St}
 
-up_false : (x p : ℕ) → p ≡ 0 → is_up (cell_of x p) ≡ false
+up_false : (x p : ℕ) → p ≡ 0 → is_published (cell_of x p) ≡ false
 up_false x zero e = refl
 up_false x (suc p) e = absurd (omega arith)
 
-up_true : (x p : ℕ) → 1 ≤ p → is_up (cell_of x p) ≡ true
+up_true : (x p : ℕ) → 1 ≤ p → is_published (cell_of x p) ≡ true
 up_true x zero e = absurd (omega arith)
 up_true x (suc p) e = refl
 
-up_phase : (x p : ℕ) → is_up (cell_of x p) ≡ true → 1 ≤ p
+up_phase : (x p : ℕ) → is_published (cell_of x p) ≡ true → 1 ≤ p
 up_phase x zero e = absurd (true≢false (sym e))
 up_phase x (suc p) e = omega arith
 
@@ -70,8 +70,8 @@ module _ (key : Shape) (s : St) (k : Rule key s) (number : ℕ) (run : Owned Bat
         omega arith,
       )
 
-  raised_is : (i : ℕ) → i < length e.places → queue.raised number i ≡ is_up (cell_of (get_or (items_of o) (e.start + i) 0) (phase_at o (e.start + i)))
-  raised_is i below = ap (λ (z : Option (Owned Batch)). up_in z i) (got k.listed.lists.runs number run at) ∙ ap is_up (cell_is i below).0
+  raised_is : (i : ℕ) → i < length e.places → queue.raised number i ≡ is_published (cell_of (get_or (items_of o) (e.start + i) 0) (phase_at o (e.start + i)))
+  raised_is i below = ap (λ (z : Option (Owned Batch)). published_in z i) (got k.listed.lists.runs number run at) ∙ ap is_published (cell_is i below).0
 
   up_is : (i : ℕ) → i < length e.places → queue.raised number i ≡ true → 1 ≤ phase_at o (e.start + i)
   up_is i below up = up_phase (get_or (items_of o) (e.start + i) 0) (phase_at o (e.start + i)) (sym (raised_is i below) ∙ up)

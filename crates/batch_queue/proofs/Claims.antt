@@ -1,12 +1,12 @@
 -- The steps of a claim, taken together.
-use Rattle.batch_queue.proofs.Common.{BatchState, Bool, Claimed, EndRecord, Found, List, Made, Me, Moment, POSITIONS, SHUT, Step, View, [], ap, append-nil, arith, change, false, head_word, inl, inr, items_of, length, length-take-le, load, mark, refl, slots_of, subst, sym, take, true, with_batch, with_run, ℕ, ◌++◌, ◌+◌, ◌<◌, ◌∙◌, ◌∷◌, ◌≡◌, ◌≢◌, ◌≤◌, ◌⊎◌}
+use Rattle.batch_queue.proofs.Common.{BatchState, Bool, Claimed, EndRecord, Found, List, Performed, Me, AbsState, POSITIONS, SHUT, Step, View, [], ap, append-nil, arith, change, false, head_word, inl, inr, items_of, length, length-take-le, load, mark, refl, slots_of, subst, sym, take, true, with_batch, with_run, ℕ, ◌++◌, ◌+◌, ◌<◌, ◌∙◌, ◌∷◌, ◌≡◌, ◌≢◌, ◌≤◌, ◌⊎◌}
 use Rattle.std.proofs.Common.{true≢false}
 use Rattle.std.specs.Prelude.{min}
 use Rattle.table_theory.proofs.Parting.{made_then}
 use Rattle.table_theory.specs.declared.views.Part.{Part}
-use Rattle.batch_queue.specs.Moments.{WasSo, Changed, claimed, IsGivenBackTo}
+use Rattle.batch_queue.specs.Moments.{AtSomeMoment, AtTwoMoments, claimed, IsGivenBackTo}
 use Rattle.batch_queue.specs.Object.{Grows}
-use Rattle.batch_queue.specs.Own.{Looks}
+use Rattle.batch_queue.specs.Own.{OnlyLoads}
 use Rattle.batch_queue.specs.Puts.{Fits, HasClaimed, FoundOther, LackedRoom}
 use Rattle.batch_queue.specs.Walks.{FreeBy, LookedFree}
 use Rattle.batch_queue.proofs.Growing.{batch_items, items_grow}
@@ -34,10 +34,10 @@ head_shut v w head f high = let h = head_is v w head f in let low = h.1 in marke
 pub still_shut : {A : Type 0} (v w : View) (head : ℕ) → Found v head_word head w → head < SHUT → v.seen.object.shut ≡ true → A
 still_shut v w head f low shut = absurd (true≢false (sym (f.grows.shut shut) ∙ (head_open v w head f low).0))
 
-pub was_shut : (v w : View) (head : ℕ) → Found v head_word head w → SHUT ≤ head → WasSo v w (λ o. o.shut ≡ true)
+pub was_shut : (v w : View) (head : ℕ) → Found v head_word head w → SHUT ≤ head → AtSomeMoment v w (λ o. o.shut ≡ true)
 was_shut v w head f high = was_so_now v w (load head_word head w.seen) v.own _ f.made (head_shut v w head f high)
 
-pub was_spent : (v w : View) (head count : ℕ) → Found v head_word head w → head < SHUT → POSITIONS ≤ head + count → WasSo v w (λ o. POSITIONS ≤ claimed o + count)
+pub was_spent : (v w : View) (head count : ℕ) → Found v head_word head w → head < SHUT → POSITIONS ≤ head + count → AtSomeMoment v w (λ o. POSITIONS ≤ claimed o + count)
 was_spent v w head count f low past = was_so_now v w (load head_word head w.seen) v.own _ f.made (let is = (head_open v w head f low).1 in omega arith)
 
 -- THE HEAD AND THE FREE POSITION
@@ -46,16 +46,16 @@ module _ (room want least : ℕ) (v u b : View) (head free : ℕ) (moved : Bool)
   abbrev first : Step BatchState
   first = load head_word head u.seen
 
-  two : Made v (first ∷ y.entries) v.own b
+  two : Performed v (first ∷ y.entries) v.own b
   two = made_then v u b (first ∷ []) y.entries v.own (λ d. d) x.made y.made
 
   share : u.member.share ≡ v.member.share
   share = ap (λ (z : Part). z.share) x.made.member
 
-  pub lacked : (was : Bool) → moved ≡ was → free + room < head + least → LackedRoom (λ entries. Looks v entries b) room want least head free was
+  pub lacked : (was : Bool) → moved ≡ was → free + room < head + least → LackedRoom (λ entries. OnlyLoads v entries b) room want least head free was
   lacked was is over = record { at_head = u.seen; bounded = bounded; looks = y.entries; looked = subst (λ (z : Bool). FreeBy room (head + want) free z y.entries) is y.by; over = over; added = two }
 
-  pub was_moved : Changed u b (λ o later. o.freed < later.freed) → Changed v b (λ o later. (claimed o < claimed later) ⊎ (o.freed < later.freed))
+  pub was_moved : AtTwoMoments u b (λ o later. o.freed < later.freed) → AtTwoMoments v b (λ o later. (claimed o < claimed later) ⊎ (o.freed < later.freed))
   was_moved c = changed_after v u b (first ∷ []) _ share x.made.adds (changed_map u b _ _ (λ o later less. inr less) c)
 
   -- no room is further on than twice the places
@@ -63,17 +63,17 @@ module _ (room want least : ℕ) (v u b : View) (head free : ℕ) (moved : Bool)
   near fits rooms = let r = found_real v u head_word head x in let is = (head_open v u head x low).1 in let w = r.lawful.within in
       let same : u.seen.object.room ≡ room = seen_room u x.ruled ∙ (ap (λ (z : BatchState). z.room) x.made.adds.first ∙ rooms) in omega arith
 
-  pub was_full : WasSo u b (λ o. Grows u.seen.object o × IsGivenBackTo o free) → WasSo v b (λ o. (head ≤ claimed o) × IsGivenBackTo o free)
+  pub was_full : AtSomeMoment u b (λ o. Grows u.seen.object o × IsGivenBackTo o free) → AtSomeMoment v b (λ o. (head ≤ claimed o) × IsGivenBackTo o free)
   was_full s = was_so_after v u b (first ∷ []) _ share x.made.adds (was_so_map u b _ _ (λ o h. (let is = (head_open v u head x low).1 in let g = items_grow u.seen.object o h.0 in omega arith, h.1)) s)
 
-  pub other : (w : View) (found : ℕ) → head + least ≤ free + room → Found b head_word found w → FoundOther (λ entries. Looks v entries w) room want least head found
+  pub other : (w : View) (found : ℕ) → head + least ≤ free + room → Found b head_word found w → FoundOther (λ entries. OnlyLoads v entries w) room want least head found
   other w found there z = record { at_head = u.seen; bounded = bounded; free = free; moved = moved; looks = y.entries; looked = y.by; there = there; at_exchange = w.seen; added = made_then v b w (first ∷ y.entries) (load head_word found w.seen ∷ []) v.own (λ d. d) two z.made }
 
-  pub other_shut : (w : View) (found : ℕ) → Found b head_word found w → SHUT ≤ found → WasSo v w (λ o. o.shut ≡ true)
+  pub other_shut : (w : View) (found : ℕ) → Found b head_word found w → SHUT ≤ found → AtSomeMoment v w (λ o. o.shut ≡ true)
   other_shut w found z high = was_so_after v b w (first ∷ y.entries) _ (ap (λ (z : Part). z.share) two.member) two.adds (was_shut b w found z high)
 
   -- the head that was found is past the one that was loaded
-  pub other_past : Grows u.seen.object b.seen.object → (w : View) (found : ℕ) → Found b head_word found w → found < SHUT → found ≢ head → (head < found) × Changed v w (λ o later. (claimed o < claimed later) ⊎ (o.freed < later.freed))
+  pub other_past : Grows u.seen.object b.seen.object → (w : View) (found : ℕ) → Found b head_word found w → found < SHUT → found ≢ head → (head < found) × AtTwoMoments v w (λ o later. (claimed o < claimed later) ⊎ (o.freed < later.freed))
   other_past g w found z is_open ne = let h = (head_open v u head x low).1 in let h' = (head_open b w found z is_open).1 in let g1 = items_grow u.seen.object b.seen.object g in let g2 = items_grow b.seen.object w.seen.object z.grows in let less : head < found = omega arith in
       (less, changed_by v u w first v.own _ x.made (was_so_after u b w y.entries _ (ap (λ (z : Part). z.share) y.made.member) y.made.adds (was_so_now b w (load head_word found w.seen) b.own _ z.made (inl (omega arith)))))
 
@@ -82,7 +82,7 @@ module _ (room want least : ℕ) (v u b : View) (head free : ℕ) (moved : Bool)
     claim = record { fits = fits; at_head = u.seen; bounded = bounded; free = free; moved = moved; looks = y.entries; looked = y.by; end = end; at_claim = c.at; added = made_then v b m.0 (first ∷ y.entries) (change head_word head c.at (with_batch c.at.object items) ∷ []) v.own (λ d. with_run d head items) two c.step.made };
     apart = distinct_runs m.0 c.step.ruled;
     range = let own = c.step.made.did in record { in_phase = ap (λ (z : EndRecord). z.held.phase) own; start_is = ap (λ (z : EndRecord). z.held.start) own; count_is = ap (λ (z : EndRecord). z.held.count) own; some_slot = fits.0; bounded = omega arith };
-    is = (items_of c.at.object, [], c.head_is, ap (λ (z : Moment BatchState). items_of z.object) (sym (step_next b m.0 (change head_word head c.at (with_batch c.at.object items)) (with_run b.own head items) c.step)) ∙ (batch_items c.at.object items ∙ ap (λ (z : List ℕ). items_of c.at.object ++ z) (sym (append-nil items))));
+    is = (items_of c.at.object, [], c.head_is, ap (λ (z : AbsState BatchState). items_of z.object) (sym (step_next b m.0 (change head_word head c.at (with_batch c.at.object items)) (with_run b.own head items) c.step)) ∙ (batch_items c.at.object items ∙ ap (λ (z : List ℕ). items_of c.at.object ++ z) (sym (append-nil items))));
     values = c.values;
     many = c.many;
     slots = c.slots ∙ ap (λ (z : ℕ). slots_of z head c.values) (ap (λ (z : BatchState). z.room) two.adds.first ∙ rooms);

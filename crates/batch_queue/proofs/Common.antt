@@ -10,7 +10,7 @@ pub use native.Mathlib.Nat.{add-mod_right}
 pub use prog.Atomic.{either}
 pub use Rattle.atomic_table.proofs.Lists.{at_last, at_longer, at_map, at_set, at_snoc, one_turn, set_else, set_here, some_there}
 pub use Rattle.atomic_table.specs.Table.{Act, Allows, Joins, Me, Splits, State, Valid, carried_after, homes_after, keeps, opening, step}
-pub use Rattle.table_theory.proofs.Common.{ViewsShow, blank, dite, get_elem?, item_at, set_again, some, with_write, written_at, written_to, ℕ_discrete}
+pub use Rattle.table_theory.proofs.Common.{ViewsShow, blank, dite, get_elem?, item_at, set_again, some, with_write, stage_at, with_stage, ℕ_discrete}
 pub use Rattle.table_theory.proofs.Listing.{listed_claim, listed_first, listed_join, listed_look, listed_new, listed_take}
 pub use Rattle.table_theory.proofs.Owned.{at_below, at_joined}
 pub use Rattle.table_theory.proofs.Positioned.{grows_refl, past_written, write_else, write_here}
@@ -25,13 +25,13 @@ pub use Rattle.table_theory.specs.Filing.{ListedOnce, Owned, entry_of}
 pub use Rattle.table_theory.specs.Listing.{Adjacent, PartsShow, all_places}
 pub use Rattle.table_theory.specs.Seating.{IsSame}
 pub use Rattle.table_theory.specs.Sharing.{IsWhole, total}
-pub use Rattle.table_theory.specs.Ledgers.{IsHonest, IsReal, Made, Stands, Step, load, both, change, emptied, newborn, opened, rest_of}
+pub use Rattle.table_theory.specs.Ledgers.{IsValidView, IsValidStep, Performed, TableInv, Step, load, both, change, emptied, newborn, opened, rest_of}
 pub use Rattle.table_theory.specs.Positioned.{fresh, head_of, item_of, left_of, tail_of, with_claim, with_take}
 pub use Rattle.table_theory.specs.declared.queues.Batch.{Batch}
 pub use Rattle.table_theory.specs.declared.queues.Cell.{Cell}
 pub use Rattle.table_theory.specs.declared.queues.Positions.{Positions}
 pub use Rattle.table_theory.specs.declared.queues.QueueView.{QueueView}
-pub use Rattle.table_theory.specs.declared.views.Moment.{Moment}
+pub use Rattle.table_theory.specs.declared.views.AbsState.{AbsState}
 pub use Rattle.batch_queue.specs.Layout.{IsUsed, by_ends, by_free, by_head, by_mark, by_tail, mark, ends_word, free_word, head_word, mark_word, tail_word, width}
 pub use Rattle.batch_queue.specs.Closings.{ClosedNow}
 pub use Rattle.batch_queue.specs.Lefts.{left_from}
@@ -39,7 +39,7 @@ pub use Rattle.batch_queue.specs.Lines.{AreInOrder, IsSettled}
 pub use Rattle.batch_queue.specs.Object.{AreGroups, AreIn, AreSolid, AreWhole, Becomes, Grows, IsBatch, IsEdge, IsParted, IsRest, IsStop, IsWithin, Lawful, empty, items_of, mark_of, phase_at, set_range, was_claimed, was_freed, was_given, was_parted, was_published, was_shut, was_taken, with_back, with_batch, with_freed, with_mark, with_part, with_phase, with_shut, with_taken, with_up}
 pub use Rattle.batch_queue.specs.Own.{HasRun, Holds, View, did_both, holding, no_slots, nothing_did, of_batches, part_of, run, taking, with_no_slots, with_parting, with_published, with_run, with_shutting, with_taking}
 pub use Rattle.batch_queue.specs.Placed.{cell_of, cells, positions_of, raised_run, with_raises}
-pub use Rattle.batch_queue.specs.Rules.{Apart, HomeShows, IsHeld, IsRuled, OwnShows, Rule, newcomer, parts_of, shuts_of, times_shut}
+pub use Rattle.batch_queue.specs.Rules.{Apart, HomeShows, IsHeld, InvHeldOf, OwnShows, Rule, newcomer, parts_of, shuts_of, times_shut}
 pub use Rattle.batch_queue.specs.Shown.{MarkSays, WordsShow}
 pub use Rattle.batch_queue.specs.Slots.{give_all, slots_of, take_all}
 pub use Rattle.batch_queue.specs.Steps.{Claimed, Found, Freed, HasBack, HasFound, HasStop, HoldsRange, IsClaim, IsSeated, Missed, Parted, Released, Stays, Stepped, Took, claims, finds, frees, parts, released, releases, shuts, takes_tail}

@@ -1,13 +1,13 @@
 -- The meaning of the mark of a position at which a batch is parted.
-use Rattle.batch_queue.proofs.Common.{HasStop, POSITIONS, append_assoc, tail_word, BatchState, EndRecord, Found, Grows, IsStop, IsWithin, List, Made, MarkSays, Moment, Parted, Step, View, [], ap, arith, at_last, change, dec_lt, dite, false, get_or, inl, inr, length, load, mark_word, phase_at, refl, subst, sym, true, mark_of, with_part, with_parting, ℕ, ℕ_discrete, ⊎_elim, ◌%◌, ◌++◌, ◌+◌, ◌/◌, ◌<◌, ◌∙◌, ◌∷◌, ◌≡◌, ◌≢◌, ◌≤◌, ◌⊎◌}
+use Rattle.batch_queue.proofs.Common.{HasStop, POSITIONS, append_assoc, tail_word, BatchState, EndRecord, Found, Grows, IsStop, IsWithin, List, Performed, MarkSays, AbsState, Parted, Step, View, [], ap, arith, at_last, change, dec_lt, dite, false, get_or, inl, inr, length, load, mark_word, phase_at, refl, subst, sym, true, mark_of, with_part, with_parting, ℕ, ℕ_discrete, ⊎_elim, ◌%◌, ◌++◌, ◌+◌, ◌/◌, ◌<◌, ◌∙◌, ◌∷◌, ◌≡◌, ◌≢◌, ◌≤◌, ◌⊎◌}
 use Rattle.std.specs.Prelude.{Bool, MatchBool, IsTrue}
 use Rattle.std.proofs.Common.{true≢false}
 use Rattle.table_theory.proofs.Parting.{made_on}
 use Rattle.batch_queue.specs.Moments.{MarkChanged}
 use Rattle.batch_queue.specs.Parts.{FoundRest, LostWithin, PartedLook, StoppedWithin, WhyNoStop, already, changed, given, meanwhile, not_parted, parted, passed, with_parts}
 use Rattle.batch_queue.specs.Walks.{LeadsOn}
-use Rattle.table_theory.proofs.Reaching.{adds_behind}
-use Rattle.table_theory.specs.Ledgers.{Adds}
+use Rattle.table_theory.proofs.Reaching.{adds_after}
+use Rattle.table_theory.specs.Ledgers.{ExtendsTrace}
 use Rattle.table_theory.specs.declared.views.Part.{Part}
 use Rattle.batch_queue.proofs.Growing.{batch_below, claimed_at, freed_taken, grows_trans, real_grows}
 use Rattle.batch_queue.proofs.Looking.{found_tail, step_next}
@@ -20,8 +20,8 @@ pub none_parted : (d : EndRecord) → d ≡ with_parts d 0
 none_parted d = λ i. record d { parts = (let e : d.parts ≡ d.parts + 0 = omega arith in e) i }
 
 -- the end looked, and parted nothing
-pub made_none_parted : (v w : View) (entries : List (Step BatchState)) → Made v entries v.own w → Made v entries (with_parts v.own 0) w
-made_none_parted v w entries m = subst (λ (z : EndRecord). Made v entries z w) (none_parted v.own) m
+pub made_none_parted : (v w : View) (entries : List (Step BatchState)) → Performed v entries v.own w → Performed v entries (with_parts v.own 0) w
+made_none_parted v w entries m = subst (λ (z : EndRecord). Performed v entries z w) (none_parted v.own) m
 
 -- the mark led on, or it is not known to
 pub stop_if : (A B : Type 0) (b : Bool) → MatchBool b A (A → ⊥) → (A → B) → IsTrue b → B
@@ -33,7 +33,7 @@ pub odd_on : (p mark : ℕ) → (LeadsOn 0 p mark → ⊥) → p < mark / 2 → 
 odd_on p mark none past = dite (ℕ_discrete (mark % 2) 0) (λ even. absurd (none (even, past))) (λ odd. (omega arith, past))
 
 -- a mark was changed during a longer call
-changed_on : (v u c w : View) (xs ys : List (Step BatchState)) {a b : EndRecord} → Made v xs a u → Made c ys b w → u.member.share ≡ v.member.share → c.member.share ≡ v.member.share → MarkChanged u c → MarkChanged v w
+changed_on : (v u c w : View) (xs ys : List (Step BatchState)) {a b : EndRecord} → Performed v xs a u → Performed c ys b w → u.member.share ≡ v.member.share → c.member.share ≡ v.member.share → MarkChanged u c → MarkChanged v w
 changed_on v u c w xs ys m n share share' (p, h) = let rest : List (Step BatchState) = h.between ++ h.second ∷ h.after in let l : List (Step BatchState) = h.before ++ h.first ∷ rest in
     let is : (xs ++ l) ++ ys ≡ (xs ++ h.before) ++ h.first ∷ (h.between ++ h.second ∷ (h.after ++ ys)) = append_assoc xs l ys ∙ (ap (λ (z : List (Step BatchState)). xs ++ z) (append_assoc h.before (h.first ∷ rest) ys ∙ ap (λ (z : List (Step BatchState)). h.before ++ h.first ∷ z) (append_assoc h.between (h.second ∷ h.after) ys)) ∙ sym (append_assoc xs h.before (h.first ∷ (h.between ++ h.second ∷ (h.after ++ ys))))) in (
       p,
@@ -43,7 +43,7 @@ changed_on v u c w xs ys m n share share' (p, h) = let rest : List (Step BatchSt
         between = h.between;
         second = h.second;
         after = h.after ++ ys;
-        adds = subst (λ (z : List (Step BatchState)). Adds v z w) is (adds_behind v c w (xs ++ l) ys share' (adds_behind v u c xs l share m.adds h.adds) n.adds);
+        adds = subst (λ (z : List (Step BatchState)). ExtendsTrace v z w) is (adds_after v c w (xs ++ l) ys share' (adds_after v u c xs l share m.adds h.adds) n.adds);
         holds = h.holds;
       },
     )
@@ -87,26 +87,26 @@ module _ (room : ℕ) (v u : View) (p end mark : ℕ) (f : Found v (mark_word ro
   module _ (w : View) (low : mark / 2 ≤ p) where
     pub parted_grows : Parted u (mark_word room p) mark p end w → Grows v.seen.object w.seen.object
     parted_grows t = let e : Step BatchState = change (mark_word room p) mark t.0 (with_part t.0.object p end) in let real = step_real u w e (with_parting u.own) t.1 in
-        grows_trans v.seen.object u.seen.object w.seen.object f.grows (grows_trans u.seen.object t.0.object w.seen.object t.1.grows (subst (λ (z : Moment BatchState). Grows t.0.object z.object) (step_next u w e (with_parting u.own) t.1) (real_grows e real)))
+        grows_trans v.seen.object u.seen.object w.seen.object f.grows (grows_trans u.seen.object t.0.object w.seen.object t.1.grows (subst (λ (z : AbsState BatchState). Grows t.0.object z.object) (step_next u w e (with_parting u.own) t.1) (real_grows e real)))
 
     pub parted_stop : Parted u (mark_word room p) mark p end w → IsStop w.seen.object p
     parted_stop t = let e : Step BatchState = change (mark_word room p) mark t.0 (with_part t.0.object p end) in
-        subst (λ (z : Moment BatchState). IsStop z.object p) (step_next u w e (with_parting u.own) t.1) (inr (length t.0.object.parted, at_last t.0.object.parted p (length t.0.object.parted) refl))
+        subst (λ (z : AbsState BatchState). IsStop z.object p) (step_next u w e (with_parting u.own) t.1) (inr (length t.0.object.parted, at_last t.0.object.parted p (length t.0.object.parted) refl))
 
     pub parted_look : Parted u (mark_word room p) mark p end w → PartedLook room p end true v w
     parted_look t = let e : Step BatchState = change (mark_word room p) mark t.0 (with_part t.0.object p end) in record {
       entries = one ∷ e ∷ [];
       parts = 1;
       by = parted mark u.seen t.0 low refl refl;
-      made = made_on v u w (one ∷ []) (e ∷ []) v.own (with_parts v.own 1) f.made (subst (λ (z : EndRecord). Made u (e ∷ []) z w) (ap with_parting f.made.did) t.1.made);
+      made = made_on v u w (one ∷ []) (e ∷ []) v.own (with_parts v.own 1) f.made (subst (λ (z : EndRecord). Performed u (e ∷ []) z w) (ap with_parting f.made.did) t.1.made);
     }
 
     module _ (found : ℕ) (ne : found ≢ mark) (g : Found u (mark_word room p) found w) where
       abbrev two : Step BatchState
       two = load (mark_word room p) found w.seen
 
-      both : Made v (one ∷ two ∷ []) v.own w
-      both = made_on v u w (one ∷ []) (two ∷ []) v.own v.own f.made (subst (λ (z : EndRecord). Made u (two ∷ []) z w) f.made.did g.made)
+      both : Performed v (one ∷ two ∷ []) v.own w
+      both = made_on v u w (one ∷ []) (two ∷ []) v.own v.own f.made (subst (λ (z : EndRecord). Performed u (two ∷ []) z w) f.made.did g.made)
 
       pub meanwhile_look : LeadsOn 0 p found → PartedLook room p end true v w
       meanwhile_look on = record { entries = one ∷ two ∷ []; parts = 0; by = meanwhile mark found u.seen w.seen low ne on refl refl; made = made_none_parted v w (one ∷ two ∷ []) both }
@@ -158,7 +158,7 @@ stopped_within room tail last end v u w f p = record {
   after = p.entries;
   parts = p.parts;
   by = p.by;
-  made = made_on v u w (load tail_word tail u.seen ∷ []) p.entries v.own (with_parts v.own p.parts) f.made (subst (λ (z : EndRecord). Made u p.entries (with_parts z p.parts) w) f.made.did p.made);
+  made = made_on v u w (load tail_word tail u.seen ∷ []) p.entries v.own (with_parts v.own p.parts) f.made (subst (λ (z : EndRecord). Performed u p.entries (with_parts z p.parts) w) f.made.did p.made);
 }
 
 pub passed_within : (room tail last now : ℕ) (v u : View) → tail ≤ v.seen.object.taken → now ≢ tail → Found v tail_word now u → LostWithin room tail last now v u
@@ -177,8 +177,8 @@ module _ (room tail last finish now : ℕ) (v u c w : View) (f : Found v tail_wo
   own_is : c.own ≡ v.own
   own_is = p.made.did ∙ ((λ i. record u.own { parts = (let n = p.by.0 in let e : u.own.parts + p.parts ≡ u.own.parts = omega arith in e) i }) ∙ f.made.did)
 
-  all : Made v (again ++ (p.entries ++ end)) v.own w
-  all = made_on v u w again (p.entries ++ end) v.own v.own f.made (made_on u c w p.entries end (with_parts u.own p.parts) v.own p.made (subst (λ (z : EndRecord). Made c end z w) own_is t.made))
+  all : Performed v (again ++ (p.entries ++ end)) v.own w
+  all = made_on v u w again (p.entries ++ end) v.own v.own f.made (made_on u c w p.entries end (with_parts u.own p.parts) v.own p.made (subst (λ (z : EndRecord). Performed c end z w) own_is t.made))
 
   pub lost_within : LostWithin room tail last now v w
   lost_within = not_parted u.seen w.seen p.entries p.by.1 all

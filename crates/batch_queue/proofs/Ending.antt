@@ -1,5 +1,5 @@
 -- The table as it is made, and the steps that count, make and join ends.
-use Rattle.batch_queue.proofs.Common.{parts_of, inl, Allows, Apart, Batch, BatchState, Bool, EndRecord, FIRST_MARK, Grows, Holds, IsEdge, IsRuled, IsUsed, Joins, List, Me, OwnShows, Positions, Rule, Shape, Splits, View, [], all_alike, ap, arith, at_joined, at_longer, at_map, at_snoc, both, by_ends, did_both, emptied, empty, ends_word, false, free_word, get_elem?, get_or, get_or-replicate, get_or-set_other, get_or-set_same, head_word, if◌then◌else◌, length, length-replicate, length-set, listed_first, mark_word, mod-lt, nat_lt, newborn, newcomer, no_slots, none, nothing_did, of_batches, opened, opening, part_of, positions_of, refl, replicate, rest_of, set, set_else, shuts_of, some, some-injective, some-ne-none, some_there, step, subst, suc, sym, tail_word, true, unused_kept, width, zero, ℕ, ⊎_elim, ◌%◌, ◌++◌, ◌+◌, ◌-◌, ◌<◌, ◌∙◌, ◌∷◌, ◌≡◌, ◌≢◌, ◌≤◌}
+use Rattle.batch_queue.proofs.Common.{parts_of, inl, Allows, Apart, Batch, BatchState, Bool, EndRecord, FIRST_MARK, Grows, Holds, IsEdge, InvHeldOf, IsUsed, Joins, List, Me, OwnShows, Positions, Rule, Shape, Splits, View, [], all_alike, ap, arith, at_joined, at_longer, at_map, at_snoc, both, by_ends, did_both, emptied, empty, ends_word, false, free_word, get_elem?, get_or, get_or-replicate, get_or-set_other, get_or-set_same, head_word, if◌then◌else◌, length, length-replicate, length-set, listed_first, mark_word, mod-lt, nat_lt, newborn, newcomer, no_slots, none, nothing_did, of_batches, opened, opening, part_of, positions_of, refl, replicate, rest_of, set, set_else, shuts_of, some, some-injective, some-ne-none, some_there, step, subst, suc, sym, tail_word, true, unused_kept, width, zero, ℕ, ⊎_elim, ◌%◌, ◌++◌, ◌+◌, ◌-◌, ◌<◌, ◌∙◌, ◌∷◌, ◌≡◌, ◌≢◌, ◌≤◌}
 use Rattle.table_theory.specs.Plays.{HasTallied, counts, counts_down, counts_up}
 use Rattle.table_theory.specs.Positioned as pos
 use Rattle.table_theory.proofs.Positioned as positioned
@@ -39,7 +39,7 @@ opens room zs slots is many some_room = let key : Shape = record { room = room }
       now = opened o;
       room = refl;
       stands = ends.stands_first of_batches nothing_did o (set zs ends_word 1)
-          record { some_room = some_room; long = refl; mark_each = length-replicate room 0; within = omega arith; before = λ i h. absurd (omega arith); after = λ i h. omega arith; behind = λ i h. absurd (omega arith); whole = λ p e b. absurd (no_batch b.before b.batch b.rest b.all); stop = inl first_edge; solid = λ p e b. absurd (no_batch b.before b.batch b.rest b.all); solid_takings = λ p e b. absurd (no_batch b.before b.batch b.rest b.all); stops = λ p e b. absurd (no_batch b.before b.batch b.rest b.all); groups = λ none. record { groups = []; left = []; all = refl; each = refl }; parts = λ p h. absurd (some-ne-none p (sym h.1)); taken_is = refl; items = refl; freed_edge = first_edge }
+          record { some_room = some_room; long = refl; mark_each = length-replicate room 0; within = omega arith; before = λ i h. absurd (omega arith); after = λ i h. omega arith; taken_within = λ i h. absurd (omega arith); whole = λ p e b. absurd (no_batch b.before b.batch b.rest b.all); stop = inl first_edge; solid = λ p e b. absurd (no_batch b.before b.batch b.rest b.all); solid_takings = λ p e b. absurd (no_batch b.before b.batch b.rest b.all); stops = λ p e b. absurd (no_batch b.before b.batch b.rest b.all); groups = λ none. record { groups = []; left = []; all = refl; each = refl }; parts = λ p h. absurd (some-ne-none p (sym h.1)); taken_is = refl; items = refl; freed_edge = first_edge }
           record {
             wide = omega arith;
             bounded = omega arith;
@@ -65,15 +65,15 @@ opens room zs slots is many some_room = let key : Shape = record { room = room }
     }
 
 module _ (key : Shape) (n id : ℕ) (me : Me ℕ View) where
-  pub ups : me.0.member.ends + 1 ≤ me.0.member.share → Allows (Rule key) n id me ends_word (λ x. (x + 1) % 18446744073709551616) (counts_up IsRuled (step n ends_word 1 0 none) me)
-  ups parts = tables.ups (table key) n id me (counts_up IsRuled (step n ends_word 1 0 none) me) parts (λ s k at r. ((refl, ruled_now key _ s.homes s id me.0 _ at r), ends.counted_up k.stands id me.0 at))
+  pub ups : me.0.member.ends + 1 ≤ me.0.member.share → Allows (Rule key) n id me ends_word (λ x. (x + 1) % 18446744073709551616) (counts_up InvHeldOf (step n ends_word 1 0 none) me)
+  ups parts = tables.ups (table key) n id me (counts_up InvHeldOf (step n ends_word 1 0 none) me) parts (λ s k at r. ((refl, ruled_now key _ s.homes s id me.0 _ at r), ends.counted_up k.stands id me.0 at))
 
-  pub downs : 2 ≤ me.0.member.ends → Allows (Rule key) n id me ends_word (λ x. (x + (18446744073709551616 - 1)) % 18446744073709551616) (counts_down IsRuled (step n ends_word 1 0 none) me)
-  downs two = tables.downs (table key) n id me (counts_down IsRuled (step n ends_word 1 0 none) me) two (λ s k at r. ((refl, ruled_now key _ s.homes s id me.0 _ at r), ends.counted_down k.stands id me.0 at))
+  pub downs : 2 ≤ me.0.member.ends → Allows (Rule key) n id me ends_word (λ x. (x + (18446744073709551616 - 1)) % 18446744073709551616) (counts_down InvHeldOf (step n ends_word 1 0 none) me)
+  downs two = tables.downs (table key) n id me (counts_down InvHeldOf (step n ends_word 1 0 none) me) two (λ s k at r. ((refl, ruled_now key _ s.homes s id me.0 _ at r), ends.counted_down k.stands id me.0 at))
 
   -- the count is found
-  pub tallies : me.0.member.ends ≡ 1 → Allows (Rule key) n id me ends_word (λ x. x) (counts (HasTallied IsRuled ends_word) (step n ends_word 0 0 none) me)
-  tallies one = tables.looks (table key) n id me (counts (HasTallied IsRuled ends_word) (step n ends_word 0 0 none) me) ends_word (omega arith) (λ s k at r. (refl, (ruled_now key _ s.homes s id me.0 _ at r, ends.tallied_now k.stands id me.0 at one)))
+  pub tallies : me.0.member.ends ≡ 1 → Allows (Rule key) n id me ends_word (λ x. x) (counts (HasTallied InvHeldOf ends_word) (step n ends_word 0 0 none) me)
+  tallies one = tables.looks (table key) n id me (counts (HasTallied InvHeldOf ends_word) (step n ends_word 0 0 none) me) ends_word (omega arith) (λ s k at r. (refl, (ruled_now key _ s.homes s id me.0 _ at r, ends.tallied_now k.stands id me.0 at one)))
 
 owns_in : (o : BatchState) (views : List View) → ((j : ℕ) (v : View) → get_elem? views j ≡ some v → OwnShows o v.own) → (w : View) → OwnShows o w.own → (j : ℕ) (v : View) → get_elem? (views ++ w ∷ []) j ≡ some v → OwnShows o v.own
 owns_in o views h w mine j v e = ⊎_elim (λ t. h j v t) (λ t. subst (λ (z : View). OwnShows o z.own) t mine) (at_snoc views w v j e)
@@ -128,7 +128,7 @@ joins key id other v w live bare bare' s k at ne has = let one : View = both did
     }
 
 -- the first end is under the rule
-pub new_ruled : (room : ℕ) → 0 < room → IsRuled (newcomer (record { room = room }))
+pub new_ruled : (room : ℕ) → 0 < room → InvHeldOf (newcomer (record { room = room }))
 unfolding opens
 new_ruled room some_room = let zs : List ℕ = replicate (width room) 0 in let slots : List ℕ = replicate room 0 in record {
   key = record { room = room };
@@ -140,11 +140,11 @@ new_ruled room some_room = let zs : List ℕ = replicate (width room) 0 in let s
 }
 
 -- both ends of a split are under the rule
-module _ (v : View) (two : v.member.ends ≡ 2) (r : IsRuled v) where
-  pub rest_ruled : IsRuled (rest_of v)
+module _ (v : View) (two : v.member.ends ≡ 2) (r : InvHeldOf v) where
+  pub rest_ruled : InvHeldOf (rest_of v)
   unfolding splits
   rest_ruled = ruling.rest_ruled Rule now_of nothing_did splits (λ key id u is s k at. refl) v two r
 
-  pub born_ruled : IsRuled (newborn nothing_did v)
+  pub born_ruled : InvHeldOf (newborn nothing_did v)
   unfolding splits
   born_ruled = ruling.born_ruled Rule now_of nothing_did splits (λ key id u is s k at. refl) v two r

@@ -1,5 +1,5 @@
 -- Which event of the core the change of a real step is.
-use Rattle.batch_queue.proofs.Common.{with_part, AreIn, Batch, BatchState, Becomes, Cell, IsBatch, IsReal, IsStop, Lawful, List, Moment, Owned, Positions, QueueView, Step, ViewsShow, [], ap, arith, at_below, at_map, at_set, blank, cell_of, change, dec_lt, dite, false, free_word, get_elem?, get_or, head_of, head_word, history_of, inl, inr, is_lawful_queue, items_of, length, length-append, map, map-set, mark, of_batches, phase_at, positions_of, raised_run, refl, run, set, set-set, set_again, set_here, some, subst, sym, tail_word, take, taking, was_claimed, was_freed, was_given, was_parted, was_published, was_shut, was_taken, with_batch, with_freed, with_back, with_up, with_raises, with_shut, with_take, with_taken, ℕ, ⊎_elim, ◌++◌, ◌+◌, ◌-◌, ◌<◌, ◌∙◌, ◌∷◌, ◌≡◌, ◌≤◌, ◌⊎◌}
+use Rattle.batch_queue.proofs.Common.{with_part, AreIn, Batch, BatchState, Becomes, Cell, IsBatch, IsValidStep, IsStop, Lawful, List, AbsState, Owned, Positions, QueueView, Step, ViewsShow, [], ap, arith, at_below, at_map, at_set, blank, cell_of, change, dec_lt, dite, false, free_word, get_elem?, get_or, head_of, head_word, history_of, inl, inr, is_lawful_queue, items_of, length, length-append, map, map-set, mark, of_batches, phase_at, positions_of, raised_run, refl, run, set, set-set, set_again, set_here, some, subst, sym, tail_word, take, taking, was_claimed, was_freed, was_given, was_parted, was_published, was_shut, was_taken, with_batch, with_freed, with_back, with_up, with_raises, with_shut, with_take, with_taken, ℕ, ⊎_elim, ◌++◌, ◌+◌, ◌-◌, ◌<◌, ◌∙◌, ◌∷◌, ◌≡◌, ◌≤◌, ◌⊎◌}
 use Rattle.std.specs.Prelude.{Ok}
 use Rattle.event_theory.specs.Marks.{shut}
 use Rattle.event_theory.specs.Queues.{claim, take_first}
@@ -78,14 +78,14 @@ nothing_event q views seat v w l lawful at runs takes later = let a = again q vi
   made = ap (λ (z : List (Owned Batch)). Ok (queue_of q z)) (sym a.same);
 }
 
-module _ (m : Moment BatchState) (views : List QueueView) (seat : ℕ) (v w : QueueView) (l : ViewsShow (positions_of m.object) views) (at : get_elem? views seat ≡ some v) where
+module _ (m : AbsState BatchState) (views : List QueueView) (seat : ℕ) (v w : QueueView) (l : ViewsShow (positions_of m.object) views) (at : get_elem? views seat ≡ some v) where
   abbrev o : BatchState
   o = m.object
 
   abbrev q : Positions
   q = positions_of o
 
-  pub claim_is : (head : ℕ) (items : List ℕ) → IsReal of_batches (change head_word head m (with_batch o items)) → 0 < length items → w.runs ≡ v.runs ++ run head items ∷ [] → w.takes ≡ v.takes → positions.Grows w.queue (positions_of (with_batch o items))
+  pub claim_is : (head : ℕ) (items : List ℕ) → IsValidStep of_batches (change head_word head m (with_batch o items)) → 0 < length items → w.runs ≡ v.runs ++ run head items ∷ [] → w.takes ≡ v.takes → positions.Grows w.queue (positions_of (with_batch o items))
       → (o.shut ≡ false) × (head ≡ length (items_of o)) × IsEvent q (positions_of (with_batch o items)) seat v w (claim o.room seat items)
   claim_is head items r some_item runs takes later = let e : Step BatchState = change head_word head m (with_batch o items) in
       let is_open = claim_open o (with_batch o items) items refl (real_change of_batches e r) in let new = real_lawful e r in let within = new.within in let is = ap length (batch_items o items) in let n = length-append (items_of o) items in
@@ -97,7 +97,7 @@ module _ (m : Moment BatchState) (views : List QueueView) (seat : ℕ) (v w : Qu
             (claim_event q views seat v w items l at (placing.lawful_positions o r.lawful) some_item (omega arith) is_open (runs ∙ ap (λ (z : ℕ). v.runs ++ run z items ∷ []) at_head) takes (subst (λ (z : Positions). positions.Grows w.queue z) same later)),
       )
 
-  pub take_is : (tail new : ℕ) → IsReal of_batches (change tail_word tail m (with_taken o new)) → o.taken < new → w.takes ≡ v.takes ++ taking q (new - o.taken) ∷ [] → w.runs ≡ v.runs → positions.Grows w.queue (positions_of (with_taken o new))
+  pub take_is : (tail new : ℕ) → IsValidStep of_batches (change tail_word tail m (with_taken o new)) → o.taken < new → w.takes ≡ v.takes ++ taking q (new - o.taken) ∷ [] → w.runs ≡ v.runs → positions.Grows w.queue (positions_of (with_taken o new))
       → (tail ≡ o.taken) × IsStop o new × IsEvent q (positions_of (with_taken o new)) seat v w (take_first o.room (new - o.taken))
   take_is tail new r less takes runs later = let e : Step BatchState = change tail_word tail m (with_taken o new) in let t = take_whole o (with_taken o new) new less refl (real_change of_batches e r) in let le = t.0 in let n : ℕ = new - o.taken in let c = placing.cells_length (items_of o) o.phases in
       let same : positions_of (with_taken o new) ≡ with_take q n = placing.taken o new r.lawful (omega arith) le t.2 ∙ (let z : new ≡ o.taken + n = omega arith in λ i. record q { taken = z i }) in (
@@ -107,26 +107,26 @@ module _ (m : Moment BatchState) (views : List QueueView) (seat : ℕ) (v w : Qu
             (take_event q views seat n v w l at (placing.lawful_positions o r.lawful) (omega arith) (omega arith) (λ i h. let up = t.2 (o.taken + i) (omega arith) (omega arith) in placing.cells_up (items_of o) o.phases (o.taken + i) (omega arith) (omega arith)) takes runs (subst (λ (z : Positions). positions.Grows w.queue z) same later)),
       )
 
-  pub shut_is : (head : ℕ) → IsReal of_batches (change head_word head m (with_shut o)) → w.runs ≡ v.runs → w.takes ≡ v.takes → positions.Grows w.queue (positions_of (with_shut o)) → IsEvent q (positions_of (with_shut o)) seat v w (λ c. Ok (shut c))
+  pub shut_is : (head : ℕ) → IsValidStep of_batches (change head_word head m (with_shut o)) → w.runs ≡ v.runs → w.takes ≡ v.takes → positions.Grows w.queue (positions_of (with_shut o)) → IsEvent q (positions_of (with_shut o)) seat v w (λ c. Ok (shut c))
   shut_is head r runs takes later = shut_event q views seat v w l at (placing.lawful_positions o r.lawful) runs takes later
 
-  pub give_is : (word found a b : ℕ) → IsReal of_batches (change word found m (with_back o a b)) → AreIn o 2 a b → a < b → w.runs ≡ v.runs → w.takes ≡ v.takes → positions.Grows w.queue (positions_of (with_back o a b)) → IsEvent q (positions_of (with_back o a b)) seat v w no_event
+  pub give_is : (word found a b : ℕ) → IsValidStep of_batches (change word found m (with_back o a b)) → AreIn o 2 a b → a < b → w.runs ≡ v.runs → w.takes ≡ v.takes → positions.Grows w.queue (positions_of (with_back o a b)) → IsEvent q (positions_of (with_back o a b)) seat v w no_event
   give_is word found a b r was less runs takes later = let same = placing.given o a b r.lawful (below_head o 2 a b r.lawful (omega arith) was less) was in
       subst (λ (z : Positions). IsEvent q z seat v w no_event) (sym same) (nothing_event q views seat v w l (placing.lawful_positions o r.lawful) at runs takes (subst (λ (z : Positions). positions.Grows w.queue z) same later))
 
-  pub free_is : (free new : ℕ) → IsReal of_batches (change free_word free m (with_freed o new)) → w.runs ≡ v.runs → w.takes ≡ v.takes → positions.Grows w.queue (positions_of (with_freed o new)) → (free ≡ o.freed) × IsEvent q (positions_of (with_freed o new)) seat v w no_event
+  pub free_is : (free new : ℕ) → IsValidStep of_batches (change free_word free m (with_freed o new)) → w.runs ≡ v.runs → w.takes ≡ v.takes → positions.Grows w.queue (positions_of (with_freed o new)) → (free ≡ o.freed) × IsEvent q (positions_of (with_freed o new)) seat v w no_event
   free_is free new r runs takes later = (free_says (change free_word free m (with_freed o new)) refl r, nothing_event q views seat v w l (placing.lawful_positions o r.lawful) at runs takes later)
 
-  pub part_is : (word found p end : ℕ) → IsReal of_batches (change word found m (with_part o p end)) → w.runs ≡ v.runs → w.takes ≡ v.takes → positions.Grows w.queue (positions_of (with_part o p end)) → IsEvent q (positions_of (with_part o p end)) seat v w no_event
+  pub part_is : (word found p end : ℕ) → IsValidStep of_batches (change word found m (with_part o p end)) → w.runs ≡ v.runs → w.takes ≡ v.takes → positions.Grows w.queue (positions_of (with_part o p end)) → IsEvent q (positions_of (with_part o p end)) seat v w no_event
   part_is word found p end r runs takes later = nothing_event q views seat v w l (placing.lawful_positions o r.lawful) at runs takes later
 
   -- nothing of such a run is raised
-  low_is : (number : ℕ) (e : Batch) (a : ℕ) {b : ℕ} → get_elem? v.runs number ≡ some e → e.start ≡ a → Lawful o → AreIn o 0 a b → a + length e.places ≤ b → (i : ℕ) → i < length e.places → (get_or e.places i blank).written < 2
+  low_is : (number : ℕ) (e : Batch) (a : ℕ) {b : ℕ} → get_elem? v.runs number ≡ some e → e.start ≡ a → Lawful o → AreIn o 0 a b → a + length e.places ≤ b → (i : ℕ) → i < length e.places → (get_or e.places i blank).stage < 2
   low_is number e a has start lawful was long i below = let t = run_stands q views seat number v e l.lists at has in let s = t.start in let w = t.within in let c = placing.cells_length (items_of o) o.phases in let here : t.at + i ≡ a + i = omega arith in
       let cell : get_or e.places i blank ≡ cell_of (get_or (items_of o) (a + i) 0) (phase_at o (a + i)) = sym (t.same i below) ∙ (ap (positions.place_at q) here ∙ placing.cell_at (items_of o) o.phases (a + i) (omega arith) lawful.long) in
-      let low = placing.cell_none (get_or (items_of o) (a + i) 0) (phase_at o (a + i)) (was (a + i) (omega arith) (omega arith)) in subst (λ (z : Cell). z.written < 2) (sym cell) low
+      let low = placing.cell_none (get_or (items_of o) (a + i) 0) (phase_at o (a + i)) (was (a + i) (omega arith) (omega arith)) in subst (λ (z : Cell). z.stage < 2) (sym cell) low
 
-  pub publish_is : (word found a b number : ℕ) (e : Batch) → IsReal of_batches (change word found m (with_up o a b)) → IsBatch o.batches a b → AreIn o 0 a b → get_elem? v.runs number ≡ some e → e.start ≡ a → a + length e.places ≡ b
+  pub publish_is : (word found a b number : ℕ) (e : Batch) → IsValidStep of_batches (change word found m (with_up o a b)) → IsBatch o.batches a b → AreIn o 0 a b → get_elem? v.runs number ≡ some e → e.start ≡ a → a + length e.places ≡ b
       → w.runs ≡ set v.runs number (raised_run e 0 (length e.places)) → w.takes ≡ v.takes → positions.Grows w.queue (positions_of (with_up o a b))
       → (k : ℕ) × (event : IsEvent q (positions_of (with_up o a b)) seat v w (raise_all seat k 0 (length e.places))) × (get_elem? event.shown.lists.runs k ≡ some (seat, number, e))
   publish_is word found a b number e r batch was has start end runs takes later = let n : ℕ = length e.places in let some_item = r.lawful.solid a b batch in let below = batch_below o a b batch in let lawful = placing.lawful_positions o r.lawful in

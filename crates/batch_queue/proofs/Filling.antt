@@ -1,5 +1,5 @@
 -- A taking: what was taken is in the buffer, and its places are given back.
-use Rattle.batch_queue.proofs.Common.{BatchState, Cell, EndRecord, List, Made, Me, Released, Step, View, [], ap, arith, cells, change, drop, items_of, length, map, map-append, mark_word, no_slots, positions_of, refl, subst, suc, sym, take, taking, with_no_slots, with_back, with_taking, zero, ℕ, ◌++◌, ◌+◌, ◌∙◌, ◌∷◌, ◌≡◌}
+use Rattle.batch_queue.proofs.Common.{BatchState, Cell, EndRecord, List, Performed, Me, Released, Step, View, [], ap, arith, cells, change, drop, items_of, length, map, map-append, mark_word, no_slots, positions_of, refl, subst, suc, sym, take, taking, with_no_slots, with_back, with_taking, zero, ℕ, ◌++◌, ◌+◌, ◌∙◌, ◌∷◌, ◌≡◌}
 use Rattle.std.proofs.Math.Seq.{take-append_seam}
 use Rattle.table_theory.proofs.Parting.{made_on}
 use Rattle.table_theory.specs.Positioned.{item_of}
@@ -28,7 +28,7 @@ took_of room most tail count items v w m m' bare h same many p = let t = h.taken
     at_taking = t.at_taking;
     first = t.first;
     added = let all = made_on v m.0 m'.0 _ (end (length items) ∷ []) (with_taking v.own o (length items)) p.own t.added
-        (subst (λ (z : ℕ). Made m.0 (end z ∷ []) p.own m'.0) many (subst (λ (z : View). Made z (end count ∷ []) p.own m'.0) same p.step.made)) in record {
+        (subst (λ (z : ℕ). Performed m.0 (end z ∷ []) p.own m'.0) many (subst (λ (z : View). Performed z (end count ∷ []) p.own m'.0) same p.step.made)) in record {
           adds = all.adds;
           did = all.did ∙ (p.given refl ∙ line_own v.own w.own o (length items) (ap (λ (z : View). z.own) same ∙ t.added.did) bare);
           member = all.member;

@@ -48,13 +48,13 @@ module _ (key : Shape) (n id : ℕ) (me : Me ℕ View) (old new : ℕ) (more : o
     came : (p : ℕ) → o.freed + o.room ≤ p → (p - o.room + o.room ≡ p) × ((p - o.room) % o.room ≡ p % o.room)
     came p h = let e : p - o.room + o.room ≡ p = omega arith in (e, sym (add-mod_right (p - o.room) o.room) ∙ ap (λ (z : ℕ). z % o.room) e)
 
-    tells : (p m : ℕ) → MarkSays o p m → MarkSays r p m
-    tells p m t = record { up = t.up; back = t.back; bound = t.bound; whole = t.whole; whole_back = t.whole_back }
+    reports : (p m : ℕ) → MarkSays o p m → MarkSays r p m
+    reports p m t = record { up = t.up; back = t.back; bound = t.bound; whole = t.whole; whole_back = t.whole_back }
 
     marks : (p : ℕ) → new ≤ p → p < new + o.room → MarkSays r p (get_or (set s.words free_word new) (mark_word o.room p) 0)
     marks p from to = subst (MarkSays r p) (sym (same_words (mark_word o.room p) (λ e. omega arith))) (let e = free_is in
         dite (dec_lt p (o.freed + o.room))
-        (λ y. tells p _ (shows.marks p (omega arith) y))
+        (λ y. reports p _ (shows.marks p (omega arith) y))
         (λ no. let c = came p (omega arith) in let q : ℕ = p - o.room in let i = inside in let t = shows.marks q (omega arith) (omega arith) in
         subst (λ (z : ℕ). MarkSays r p (get_or s.words (z + FIRST_MARK) 0)) c.1
         (let b = t.bound in record { up = λ z i f g. absurd (omega arith); back = λ z i f g. absurd (omega arith); bound = omega arith; whole = λ z l. absurd (omega arith); whole_back = λ z l. absurd (omega arith) })))

@@ -1,5 +1,5 @@
 -- The steps of a taking, taken together.
-use Rattle.batch_queue.proofs.Common.{HasFound, IsStop, IsRest, inl, ⊎_elim, phase_at, ◌⊎◌, BatchState, EndRecord, Found, Grows, IsEdge, List, Made, Me, Step, Took, View, [], ap, append_assoc, arith, change, concat, concat-append, drop, inr, items_of, length, length-append, load, mark_word, refl, slots_of, subst, sym, tail_word, take, with_taken, with_taking, ℕ, ◌++◌, ◌+◌, ◌-◌, ◌/◌, ◌<◌, ◌∙◌, ◌∷◌, ◌≡◌, ◌≢◌, ◌≤◌}
+use Rattle.batch_queue.proofs.Common.{HasFound, IsStop, IsRest, inl, ⊎_elim, phase_at, ◌⊎◌, BatchState, EndRecord, Found, Grows, IsEdge, List, Performed, Me, Step, Took, View, [], ap, append_assoc, arith, change, concat, concat-append, drop, inr, items_of, length, length-append, load, mark_word, refl, slots_of, subst, sym, tail_word, take, with_taken, with_taking, ℕ, ◌++◌, ◌+◌, ◌-◌, ◌/◌, ◌<◌, ◌∙◌, ◌∷◌, ◌≡◌, ◌≢◌, ◌≤◌}
 use Rattle.std.proofs.Math.Seq.{drop-append_seam, take-append_seam}
 use Rattle.std.specs.Prelude.{min}
 use Rattle.std.proofs.lemmas.List.{length-drop, length-take-le}
@@ -79,11 +79,11 @@ module _ (room most : ℕ) (v u c : View) (tail new : ℕ) (rooms : v.first.room
   abbrev first : Step BatchState
   first = load tail_word tail u.seen
 
-  made : Made v (first ∷ f.loads) v.own c
+  made : Performed v (first ∷ f.loads) v.own c
   made = made_then v u c (first ∷ []) f.loads v.own (λ d. d) x.made f.made
 
   -- another tail was found
-  lost : (now : ℕ) (w : View) → Found c tail_word now w → Made v (first ∷ (f.loads ++ load tail_word now w.seen ∷ [])) v.own w
+  lost : (now : ℕ) (w : View) → Found c tail_word now w → Performed v (first ∷ (f.loads ++ load tail_word now w.seen ∷ [])) v.own w
   lost now w t = made_then v c w (first ∷ f.loads) (load tail_word now w.seen ∷ []) v.own (λ d. d) made t.made
 
   past : (now : ℕ) (w : View) → now ≢ tail → Found c tail_word now w → tail < now
@@ -103,7 +103,7 @@ module _ (room most : ℕ) (v u c : View) (tail new : ℕ) (rooms : v.first.room
   has_taken m t = let o : BatchState = t.at.object in let items : List ℕ = take (new - tail) (drop tail (items_of o)) in let edge = new_edge m t in let within = edge_within o.batches new edge in
       let long : length items ≡ new - tail = (let d = length-drop tail (items_of o) in length-take-le (new - tail) (drop tail (items_of o)) (omega arith)) in let end : new ≡ tail + length items = omega arith in
       let e : Step BatchState = change tail_word tail t.at (with_taken o new) in let bounded = (step_real c m.0 e (with_taking c.own o (new - tail)) t.step).shows.bounded in let own = t.step.made.did in
-      let all : Made v (first ∷ (f.loads ++ e ∷ [])) (with_taking v.own o (new - tail)) m.0 = made_then v c m.0 (first ∷ f.loads) (e ∷ []) v.own (λ d. with_taking d o (new - tail)) made t.step.made in (
+      let all : Performed v (first ∷ (f.loads ++ e ∷ [])) (with_taking v.own o (new - tail)) m.0 = made_then v c m.0 (first ∷ f.loads) (e ∷ []) v.own (λ d. with_taking d o (new - tail)) made t.step.made in (
         items,
         long,
         record {
@@ -115,8 +115,8 @@ module _ (room most : ℕ) (v u c : View) (tail new : ℕ) (rooms : v.first.room
             followed = subst (λ (z : ℕ). FollowedBy 0 (tail + min most room) room tail z f.loads) end f.by;
             at_taking = t.at;
             first = are_first o tail new items t.tail_is less refl (sym end) edge;
-            added = subst (λ (z : ℕ). Made v (first ∷ (f.loads ++ change tail_word tail t.at (with_taken o z) ∷ [])) (with_taking v.own o (length items)) m.0) end
-                (subst (λ (z : ℕ). Made v (first ∷ (f.loads ++ e ∷ [])) (with_taking v.own o z) m.0) (sym long) all);
+            added = subst (λ (z : ℕ). Performed v (first ∷ (f.loads ++ change tail_word tail t.at (with_taken o z) ∷ [])) (with_taking v.own o (length items)) m.0) end
+                (subst (λ (z : ℕ). Performed v (first ∷ (f.loads ++ e ∷ [])) (with_taking v.own o z) m.0) (sym long) all);
           };
           start = t.tail_is;
           range = record { in_phase = ap (λ (z : EndRecord). z.held.phase) own; start_is = ap (λ (z : EndRecord). z.held.start) own ∙ t.tail_is; count_is = ap (λ (z : EndRecord). z.held.count) own ∙ sym long; some_slot = omega arith; bounded = omega arith };

@@ -1,11 +1,11 @@
 -- Why nothing is taken, by the tail and its mark.
-use Rattle.batch_queue.proofs.Common.{IsStop, IsRest, ⊎_elim, BatchState, Found, Lawful, List, Made, SHUT, Step, View, WordsShow, [], ap, arith, dec_lt, dite, get_or, head_word, inl, inr, load, mark_word, phase_at, refl, subst, sym, tail_word, ℕ, ◌+◌, ◌/◌, ◌<◌, ◌∙◌, ◌∷◌, ◌≡◌, ◌≢◌, ◌≤◌}
+use Rattle.batch_queue.proofs.Common.{IsStop, IsRest, ⊎_elim, BatchState, Found, Lawful, List, Performed, SHUT, Step, View, WordsShow, [], ap, arith, dec_lt, dite, get_or, head_word, inl, inr, load, mark_word, phase_at, refl, subst, sym, tail_word, ℕ, ◌+◌, ◌/◌, ◌<◌, ◌∙◌, ◌∷◌, ◌≡◌, ◌≢◌, ◌≤◌}
 use Rattle.std.proofs.Common.{◌*◌}
 use Rattle.std.specs.Prelude.{min}
 use Rattle.batch_queue.specs.Layout as layout
 use Rattle.table_theory.proofs.Parting.{made_then}
 use Rattle.batch_queue.specs.Answers.{WhyNotTaken}
-use Rattle.batch_queue.specs.Moments.{WasSo, claimed}
+use Rattle.batch_queue.specs.Moments.{AtSomeMoment, claimed}
 use Rattle.batch_queue.specs.Takings.{Glance, NoneBy, RefusedTake, LookedTwice, IsNone, IsShort}
 use Rattle.batch_queue.specs.Walks.{LeadsOn}
 use Rattle.batch_queue.specs.declared.refusals.TakeRefusal.{TakeRefusal}
@@ -42,7 +42,7 @@ module _ (room most : ℕ) (v u b : View) (tail mark : ℕ) (x : Found v tail_wo
   abbrev glance : Glance
   glance = record { tail = tail; at_tail = u.seen; mark = mark; at_mark = b.seen }
 
-  made : Made v (one ∷ two ∷ []) v.own b
+  made : Performed v (one ∷ two ∷ []) v.own b
   made = made_then v u b (one ∷ []) (two ∷ []) v.own (λ d. d) x.made y.made
 
   tail_is : u.seen.object.taken ≡ tail
@@ -59,7 +59,7 @@ module _ (room most : ℕ) (v u b : View) (tail mark : ℕ) (x : Found v tail_wo
 
   module _ (none : LeadsOn 0 tail mark → ⊥) where
     -- the head and the tail were loaded
-    looked : (head now : ℕ) (z : View) (t : LookedTwice head now b z) → Made v (one ∷ two ∷ load head_word head t.between.seen ∷ load tail_word now z.seen ∷ []) v.own z
+    looked : (head now : ℕ) (z : View) (t : LookedTwice head now b z) → Performed v (one ∷ two ∷ load head_word head t.between.seen ∷ load tail_word now z.seen ∷ []) v.own z
     looked head now z t = made_then v b z (one ∷ two ∷ []) (load head_word head t.between.seen ∷ load tail_word now z.seen ∷ []) v.own (λ d. d) made
         (made_then b t.between z (load head_word head t.between.seen ∷ []) (load tail_word now z.seen ∷ []) b.own (λ d. d) t.head_is.made t.tail_is.made)
 
@@ -81,7 +81,7 @@ module _ (room most : ℕ) (v u b : View) (tail mark : ℕ) (x : Found v tail_wo
     none_lost z head now ne t = let w = t.between in let is = (found_tail w z now t.tail_is).0 in let g = y.grows.taken in let g1 = t.head_is.grows.taken in let g2 = t.tail_is.grows.taken in let was = tail_is in
         (omega arith, record { before = []; first = one; between = two ∷ load head_word head w.seen ∷ []; second = load tail_word now z.seen; after = []; adds = (looked head now z t).adds; holds = (omega arith, sym is) })
 
-    done : (z : View) → Found b head_word (SHUT + tail) z → Made v (one ∷ two ∷ load head_word (SHUT + tail) z.seen ∷ []) v.own z
+    done : (z : View) → Found b head_word (SHUT + tail) z → Performed v (one ∷ two ∷ load head_word (SHUT + tail) z.seen ∷ []) v.own z
     done z f = made_then v b z (one ∷ two ∷ []) (load head_word (SHUT + tail) z.seen ∷ []) v.own (λ d. d) made f.made
 
     none_closed : (z : View) → Found b head_word (SHUT + tail) z → WhyNotTaken v most Closed z
@@ -94,7 +94,7 @@ module _ (room most : ℕ) (v u b : View) (tail mark : ℕ) (x : Found v tail_wo
     none_error (Lost now) z (ne, head, going, t) = (none_lost z head now ne t).1
     none_error Closed z f = none_closed z f
 
-    pub none_by : (Added : List (Step BatchState) → Type 0) (r : TakeRefusal) (z : View) → ((entries : List (Step BatchState)) → Made v entries v.own z → Added entries) → IsNone tail b r z → NoneBy Added room r
+    pub none_by : (Added : List (Step BatchState) → Type 0) (r : TakeRefusal) (z : View) → ((entries : List (Step BatchState)) → Performed v entries v.own z → Added entries) → IsNone tail b r z → NoneBy Added room r
     none_by Added (Empty at) z f (is, head, going, t) = subst (λ (k : ℕ). NoneBy Added room (Empty k)) (sym is)
         record { glance = glance; none = none; is = refl; head = head; at_head = t.between.seen; going = going; again = z.seen; added = f _ (looked head tail z t) }
     none_by Added (ShortBuffer at count) z f h = absurd h
@@ -109,11 +109,11 @@ module _ (room most : ℕ) (v u b : View) (tail mark : ℕ) (x : Found v tail_wo
     none_refused Closed z f = record { glance = glance; none = none; at_head = z.seen; added = done z f }
 
   module _ (on : LeadsOn 0 tail mark) (count : ℕ) (up : tail + count ≡ mark / 2) (long : min most room < count) where
-    again : (now : ℕ) (z : View) → Found b tail_word now z → Made v (one ∷ two ∷ load tail_word now z.seen ∷ []) v.own z
+    again : (now : ℕ) (z : View) → Found b tail_word now z → Performed v (one ∷ two ∷ load tail_word now z.seen ∷ []) v.own z
     again now z t = made_then v b z (one ∷ two ∷ []) (load tail_word now z.seen ∷ []) v.own (λ d. d) made t.made
 
     -- the batch fits the queue, so it does not fit the buffer
-    short_at : (z : View) → Found b tail_word tail z → (most < count) × WasSo v z (λ o. (o.taken ≡ tail) × IsStop o tail × IsRest o.batches tail (tail + count) × (phase_at o tail ≡ 1))
+    short_at : (z : View) → Found b tail_word tail z → (most < count) × AtSomeMoment v z (λ o. (o.taken ≡ tail) × IsStop o tail × IsRest o.batches tail (tail + count) × (phase_at o tail ≡ 1))
     short_at z t = let now = (found_tail b z tail t).0 in let g = y.grows.taken in let g1 = t.grows.taken in let was = tail_is in let at : b.seen.object.taken ≡ tail = omega arith in
         let h = batch_at at on in let is : IsRest b.seen.object.batches tail (tail + count) = subst (IsRest b.seen.object.batches tail) (sym up) h.1 in
         let l = seen_lawful b y.ruled in let within = edge_within b.seen.object.batches (tail + count) (batch_end b.seen.object.batches _ _ is.batch) in let w = l.within in let a = freed_taken b.seen.object l in

@@ -1,6 +1,6 @@
 -- A queue grows by each event, and stays lawful.
-use Rattle.batch_queue.proofs.Common.{at_snoc, AreIn, BatchState, Becomes, Grows, IsBatch, IsReal, Lawful, List, Moment, Step, [], ap, append-nil, append_assoc, arith, concat, concat-append, dec_lt, dite, drop, inl, inr, items_of, length, length-append, length-set, length-drop, length-take-le, of_batches, phase_at, refl, replicate, subst, suc, sym, take, taking, was_claimed, was_freed, was_given, was_parted, was_published, was_shut, was_taken, with_batch, with_mark, with_phase, with_taken, ℕ, ⊎_elim, ◌*◌, ◌++◌, ◌+◌, ◌%◌, ◌-◌, ◌<◌, ◌∙◌, ◌∷◌, ◌≡◌, ◌≤◌, ◌⊎◌}
-use Rattle.batch_queue.proofs.Ranges.{get_behind, get_longer, is_in, range_at, range_in, range_length, range_out, replicated}
+use Rattle.batch_queue.proofs.Common.{at_snoc, AreIn, BatchState, Becomes, Grows, IsBatch, IsValidStep, Lawful, List, AbsState, Step, [], ap, append-nil, append_assoc, arith, concat, concat-append, dec_lt, dite, drop, inl, inr, items_of, length, length-append, length-set, length-drop, length-take-le, of_batches, phase_at, refl, replicate, subst, suc, sym, take, taking, was_claimed, was_freed, was_given, was_parted, was_published, was_shut, was_taken, with_batch, with_mark, with_phase, with_taken, ℕ, ⊎_elim, ◌*◌, ◌++◌, ◌+◌, ◌%◌, ◌-◌, ◌<◌, ◌∙◌, ◌∷◌, ◌≡◌, ◌≤◌, ◌⊎◌}
+use Rattle.batch_queue.proofs.Ranges.{get_after, get_longer, is_in, range_at, range_in, range_length, range_out, replicated}
 use Rattle.table_theory.specs.Ledgers.{Reaches, Passes}
 use Rattle.table_theory.proofs.Saying as steps
 use Rattle.batch_queue.proofs.Grouping.{groups_claimed, groups_taken, solid_more}
@@ -31,14 +31,14 @@ pub batch_items : (o : BatchState) (claim : List ℕ) → items_of (with_batch o
 batch_items o claim = concat-append o.batches (claim ∷ []) ∙ ap (λ (z : List ℕ). concat o.batches ++ z) (append-nil claim)
 
 pub claimed_at : (o : BatchState) → Lawful o → (i : ℕ) → 1 ≤ phase_at o i → i < length (items_of o)
-claimed_at o l i h = dite (dec_lt i (length o.phases)) (λ y. let long = l.long in omega arith) (λ no. let e = get_behind o.phases i (omega arith) in absurd (omega arith))
+claimed_at o l i h = dite (dec_lt i (length o.phases)) (λ y. let long = l.long in omega arith) (λ no. let e = get_after o.phases i (omega arith) in absurd (omega arith))
 
 pub unclaimed_at : (o : BatchState) → Lawful o → (i : ℕ) → length (items_of o) ≤ i → phase_at o i ≡ 0
 unclaimed_at o l i h = dite (dec_lt 0 (phase_at o i)) (λ y. let c = claimed_at o l i y in absurd (omega arith)) (λ z. omega arith)
 
 -- what was given back was taken, and what was taken was claimed
 pub freed_taken : (o : BatchState) → Lawful o → o.freed ≤ o.taken
-freed_taken o l = dite (dec_lt o.taken o.freed) (λ h. let a = l.behind o.taken h in let b = l.after o.taken (omega arith) in absurd (omega arith)) (λ n. omega arith)
+freed_taken o l = dite (dec_lt o.taken o.freed) (λ h. let a = l.taken_within o.taken h in let b = l.after o.taken (omega arith) in absurd (omega arith)) (λ n. omega arith)
 
 pub taken_claimed : (o : BatchState) → Lawful o → o.taken ≤ length (items_of o)
 taken_claimed o l = dite (dec_lt (length (items_of o)) o.taken) (λ h. let a = l.before (length (items_of o)) h in let b = claimed_at o l (length (items_of o)) (omega arith) in absurd (omega arith)) (λ n. omega arith)
@@ -55,7 +55,7 @@ pub phase_grows : (o : BatchState) (a b x : ℕ) → AreIn o x a b → (i : ℕ)
 phase_grows o a b x was i = ⊎_elim
     (λ t. dite (dec_lt i (length o.phases))
     (λ y. let e = range_at o.phases a b (suc x) i y t.0 t.1 in let w = was i t.0 t.1 in omega arith)
-    (λ no. let e = get_behind o.phases i (omega arith) in omega arith))
+    (λ no. let e = get_after o.phases i (omega arith) in omega arith))
     (λ out. let e = range_out o.phases a b (suc x) i out in omega arith)
     (is_in a b i)
 
@@ -82,7 +82,7 @@ released_lawful o a b x m l le was kind batch = let g = phase_grows o a b x was 
       (λ t. let n = range_in o.phases a b (suc x) i (omega arith) t.0 t.1 in let w = was i t.0 t.1 in ⊎_elim (λ z. let z' : x ≡ 0 = z in omega arith) (λ z. let z' : x ≡ 2 = z in absurd (omega arith)) kind)
       (λ out. let n = range_out o.phases a b (suc x) i out in omega arith)
       (is_in a b i);
-  behind = λ i h. let n = g i in let y = l.behind i h in omega arith;
+  taken_within = λ i h. let n = g i in let y = l.taken_within i h in omega arith;
   whole = whole_raised o a b x l.long le was batch l.whole;
   stop = l.stop;
   solid = l.solid;
@@ -103,7 +103,7 @@ becomes_lawful o r l (was_claimed claim some_item is_open fits e) = subst Lawful
   within = omega arith;
   before = λ i h. let p = get_longer o.phases (length claim) i in let b = l.before i h in omega arith;
   after = λ i h. let p = get_longer o.phases (length claim) i in let b = l.after i h in omega arith;
-  behind = λ i h. let p = get_longer o.phases (length claim) i in let b = l.behind i h in omega arith;
+  taken_within = λ i h. let p = get_longer o.phases (length claim) i in let b = l.taken_within i h in omega arith;
   whole = whole_claimed o claim (unclaimed_at o l) l.whole;
   stop = stop_claimed o claim o.taken l.stop;
   solid = solid_more o.batches claim some_item l.solid;
@@ -124,7 +124,7 @@ becomes_lawful o r l (was_taken new less le stop was e) = subst Lawful (sym e) (
   within = l.within;
   before = λ i h. dite (dec_lt i o.taken) (λ y. let n = g i in let b = l.before i y in omega arith) (λ no. let n = range_in o.phases o.taken new 2 i (omega arith) (omega arith) h in omega arith);
   after = λ i h. let n = range_out o.phases o.taken new 2 i (λ t. let t1 = t.1 in omega arith) in let y = l.after i (omega arith) in omega arith;
-  behind = λ i h. let n = g i in let y = l.behind i h in omega arith;
+  taken_within = λ i h. let n = g i in let y = l.taken_within i h in omega arith;
   whole = whole_raised o o.taken new 1 l.long le was (λ z. absurd (omega arith)) l.whole;
   stop = stop;
   solid = l.solid;
@@ -146,7 +146,7 @@ becomes_lawful o r l (was_freed new less edge was e) = subst Lawful (sym e) reco
   within = let w = l.within in omega arith;
   before = l.before;
   after = l.after;
-  behind = λ i h. dite (dec_lt i o.freed) (λ y. l.behind i y) (λ no. was i (omega arith) h);
+  taken_within = λ i h. dite (dec_lt i o.freed) (λ y. l.taken_within i y) (λ no. was i (omega arith) h);
   whole = l.whole;
   stop = l.stop;
   solid = l.solid;
@@ -158,7 +158,7 @@ becomes_lawful o r l (was_freed new less edge was e) = subst Lawful (sym e) reco
   items = l.items;
   freed_edge = edge;
 }
-becomes_lawful o r l (was_shut e) = subst Lawful (sym e) record { some_room = l.some_room; long = l.long; mark_each = l.mark_each; within = l.within; before = l.before; after = l.after; behind = l.behind; whole = l.whole; stop = l.stop; solid = l.solid; solid_takings = l.solid_takings; stops = l.stops; groups = l.groups; parts = l.parts; taken_is = l.taken_is; items = l.items; freed_edge = l.freed_edge }
+becomes_lawful o r l (was_shut e) = subst Lawful (sym e) record { some_room = l.some_room; long = l.long; mark_each = l.mark_each; within = l.within; before = l.before; after = l.after; taken_within = l.taken_within; whole = l.whole; stop = l.stop; solid = l.solid; solid_takings = l.solid_takings; stops = l.stops; groups = l.groups; parts = l.parts; taken_is = l.taken_is; items = l.items; freed_edge = l.freed_edge }
 becomes_lawful o r l (was_parted p end within e) = subst Lawful (sym e) record {
   some_room = l.some_room;
   long = l.long;
@@ -166,7 +166,7 @@ becomes_lawful o r l (was_parted p end within e) = subst Lawful (sym e) record {
   within = l.within;
   before = l.before;
   after = l.after;
-  behind = l.behind;
+  taken_within = l.taken_within;
   whole = l.whole;
   stop = stop_parted o p end o.taken l.stop;
   solid = l.solid;
@@ -179,14 +179,14 @@ becomes_lawful o r l (was_parted p end within e) = subst Lawful (sym e) record {
   freed_edge = l.freed_edge;
 }
 
-pub real_lawful : (e : Step BatchState) → IsReal of_batches e → Lawful e.next.object
+pub real_lawful : (e : Step BatchState) → IsValidStep of_batches e → Lawful e.next.object
 real_lawful = steps.real_lawful of_batches (λ o r words shows l b. becomes_lawful o r l b)
 
-pub real_grows : (e : Step BatchState) → IsReal of_batches e → Grows e.then.object e.next.object
+pub real_grows : (e : Step BatchState) → IsValidStep of_batches e → Grows e.then.object e.next.object
 real_grows = steps.real_goes of_batches Grows grows_refl grows_trans (λ o r words shows b. becomes_grows o r b)
 
-pub reaches_grow : (m n : Moment BatchState) → Reaches of_batches m n → Grows m.object n.object
+pub reaches_grow : (m n : AbsState BatchState) → Reaches of_batches m n → Grows m.object n.object
 reaches_grow = steps.reaches_go of_batches Grows grows_refl grows_trans (λ o r words shows b. becomes_grows o r b)
 
-pub passes_grow : (m n : Moment BatchState) (entries : List (Step BatchState)) → Passes of_batches m entries n → Grows m.object n.object
+pub passes_grow : (m n : AbsState BatchState) (entries : List (Step BatchState)) → Passes of_batches m entries n → Grows m.object n.object
 passes_grow = steps.passes_go of_batches Grows grows_refl grows_trans (λ o r words shows b. becomes_grows o r b)

@@ -1,11 +1,11 @@
 -- The meaning of the numbers that were found, for the queue.
-use Rattle.batch_queue.proofs.Common.{BatchState, Bool, EndRecord, Found, Freed, Grows, HasBack, IsEdge, IsRuled, List, Made, Lawful, Moment, POSITIONS, Step, Stepped, View, [], ap, arith, at_map, change, dite, false, free_word, inr, items_of, length, load, map, of_batches, part_of, refl, subst, sym, tail_word, true, with_freed, ℕ, ℕ_discrete, ◌++◌, ◌+◌, ◌∷◌, ◌<◌, ◌≤◌, ◌≢◌, ◌∙◌, ◌≡◌}
+use Rattle.batch_queue.proofs.Common.{BatchState, Bool, EndRecord, Found, Freed, Grows, HasBack, IsEdge, InvHeldOf, List, Performed, Lawful, AbsState, POSITIONS, Step, Stepped, View, [], ap, arith, at_map, change, dite, false, free_word, inr, items_of, length, load, map, of_batches, part_of, refl, subst, sym, tail_word, true, with_freed, ℕ, ℕ_discrete, ◌++◌, ◌+◌, ◌∷◌, ◌<◌, ◌≤◌, ◌≢◌, ◌∙◌, ◌≡◌}
 use Rattle.table_theory.proofs.Reaching.{passes_some}
 use Rattle.table_theory.proofs.Listing.{distinct}
 use Rattle.table_theory.proofs.Parting.{made_then}
 use Rattle.table_theory.specs.Listing.{Distinct}
 use Rattle.table_theory.specs.declared.views.Part.{Part}
-use Rattle.batch_queue.specs.Moments.{WasSo, Changed, IsGivenBackTo}
+use Rattle.batch_queue.specs.Moments.{AtSomeMoment, AtTwoMoments, IsGivenBackTo}
 use Rattle.batch_queue.specs.Walks.{StoppedAt, Followed, Helped, HelpedBy, LookedFree, exchanged, still, overtaken, at_once, by_help}
 use Rattle.batch_queue.proofs.Growing.{freed_taken, grows_trans, real_grows, taken_claimed}
 use Rattle.batch_queue.proofs.Timing.{changed_by, was_so_after, was_so_map, was_so_now, was_so_then}
@@ -13,17 +13,17 @@ use Rattle.batch_queue.proofs.Stepping.{honest, step_real}
 use Rattle.batch_queue.proofs.Walking.{found_real}
 
 -- what the end sees is lawful, and its positions are within the bounds
-pub seen_lawful : (w : View) → IsRuled w → Lawful w.seen.object
-seen_lawful w r = subst (λ (z : Moment BatchState). Lawful z.object) (sym r.seen) r.rule.stands.lawful
+pub seen_lawful : (w : View) → InvHeldOf w → Lawful w.seen.object
+seen_lawful w r = subst (λ (z : AbsState BatchState). Lawful z.object) (sym r.seen) r.rule.stands.lawful
 
-pub seen_bounded : (w : View) → IsRuled w → length (items_of w.seen.object) < POSITIONS
-seen_bounded w r = subst (λ (z : Moment BatchState). length (items_of z.object) < POSITIONS) (sym r.seen) r.rule.stands.shows.bounded
+pub seen_bounded : (w : View) → InvHeldOf w → length (items_of w.seen.object) < POSITIONS
+seen_bounded w r = subst (λ (z : AbsState BatchState). length (items_of z.object) < POSITIONS) (sym r.seen) r.rule.stands.shows.bounded
 
-pub freed_bounded : (w : View) → IsRuled w → w.seen.object.freed < POSITIONS
+pub freed_bounded : (w : View) → InvHeldOf w → w.seen.object.freed < POSITIONS
 freed_bounded w r = let l = seen_lawful w r in let a = freed_taken w.seen.object l in let b = taken_claimed w.seen.object l in let c = seen_bounded w r in omega arith
 
 -- no two runs of an end have one start
-pub distinct_runs : (w : View) → IsRuled w → Distinct w.own.runs
+pub distinct_runs : (w : View) → InvHeldOf w → Distinct w.own.runs
 distinct_runs w r = distinct _ (map part_of r.state.views) r.number (part_of w) r.rule.listed.lists (at_map part_of r.state.views r.number w r.here)
 
 -- the end sees what its last step left
@@ -45,19 +45,19 @@ free_again v w free r f is low = let e = (found_free v w r f).0 in let g = f.gro
 -- it was exchanged
 pub free_moved : (v w : View) (free to : ℕ) → Freed v free to w → free ≤ v.seen.object.freed → (v.seen.object.freed ≡ free) × (to ≡ w.seen.object.freed) × (to < POSITIONS)
 free_moved v w free to (at, step) low = let e : Step BatchState = change free_word free at (with_freed at.object to) in let real = step_real v w e v.own step in let is = real.is ∙ real.shows.free in let g = step.grows.freed in
-    let now : to ≡ w.seen.object.freed = ap (λ (z : Moment BatchState). z.object.freed) (step_next v w e v.own step) in let b = freed_bounded w step.ruled in (omega arith, now, omega arith)
+    let now : to ≡ w.seen.object.freed = ap (λ (z : AbsState BatchState). z.object.freed) (step_next v w e v.own step) in let b = freed_bounded w step.ruled in (omega arith, now, omega arith)
 
 -- the queue as it was then grew to what the end sees
 pub freed_grows : (v w : View) (free to : ℕ) → Freed v free to w → Grows v.seen.object w.seen.object
 freed_grows v w free to (at, step) = let e : Step BatchState = change free_word free at (with_freed at.object to) in let real = step_real v w e v.own step in
-    grows_trans v.seen.object at.object w.seen.object step.grows (subst (λ (z : Moment BatchState). Grows at.object z.object) (step_next v w e v.own step) (real_grows e real))
+    grows_trans v.seen.object at.object w.seen.object step.grows (subst (λ (z : AbsState BatchState). Grows at.object z.object) (step_next v w e v.own step) (real_grows e real))
 
 -- another was found
 pub free_passed : (v w : View) (free r : ℕ) → Found v free_word r w → r ≢ free → free ≤ v.seen.object.freed → (free < r) × (r ≡ w.seen.object.freed) × (r < POSITIONS)
 free_passed v w free r f ne low = let e = found_free v w r f in let is = e.0 in let g = f.grows.freed in (omega arith, e.0, e.1)
 
 -- at the moment of that step it was further on
-pub free_past : (v w : View) (free r : ℕ) → Found v free_word r w → r ≢ free → free ≤ v.seen.object.freed → WasSo v w (λ o. free < o.freed)
+pub free_past : (v w : View) (free r : ℕ) → Found v free_word r w → r ≢ free → free ≤ v.seen.object.freed → AtSomeMoment v w (λ o. free < o.freed)
 free_past v w free r f ne low = was_so_now v w (load free_word r w.seen) v.own _ f.made (let p = free_passed v w free r f ne low in let is = p.1 in let less = p.0 in omega arith)
 
 pub helped_none : (v w : View) (free to r : ℕ) → to ≡ free → free ≤ v.seen.object.freed → Found v free_word r w → Helped free to r v w
@@ -100,11 +100,11 @@ looked_help room new first free moved v u w f less h = record {
 }
 
 -- nothing further on was given back at one moment of the help
-pub exact_help : (room free to : ℕ) (v u w : View) (loads ys : List (Step BatchState)) → Made v loads v.own u → Made u ys v.own w → u.seen.object.freed ≡ free → StoppedAt free to v u → WasSo v w (λ o. Grows v.seen.object o × IsGivenBackTo o to)
+pub exact_help : (room free to : ℕ) (v u w : View) (loads ys : List (Step BatchState)) → Performed v loads v.own u → Performed u ys v.own w → u.seen.object.freed ≡ free → StoppedAt free to v u → AtSomeMoment v w (λ o. Grows v.seen.object o × IsGivenBackTo o to)
 exact_help room free to v u w loads ys m n is s = was_so_then v u w ys _ (ap (λ (z : Part). z.share) m.member) (was_so_map v u _ _ (λ o h. let g = h.1.freed in (h.0, h.2 (omega arith))) s) n.adds
 
 -- the same, of the whole look
-pub exact_look : (room new first free : ℕ) (moved : Bool) (v u w : View) → Found v free_word first u → WasSo u w (λ o. Grows u.seen.object o × IsGivenBackTo o free) → WasSo v w (λ o. Grows v.seen.object o × IsGivenBackTo o free)
+pub exact_look : (room new first free : ℕ) (moved : Bool) (v u w : View) → Found v free_word first u → AtSomeMoment u w (λ o. Grows u.seen.object o × IsGivenBackTo o free) → AtSomeMoment v w (λ o. Grows v.seen.object o × IsGivenBackTo o free)
 exact_look room new first free moved v u w f s = was_so_map v w _ _ (λ o h. (grows_trans v.seen.object u.seen.object o f.grows h.0, h.1))
     (was_so_after v u w _ _ (ap (λ (z : Part). z.share) f.made.member) f.made.adds s)
 
@@ -113,5 +113,5 @@ pub none_given : (v w : View) (free : ℕ) → Found v free_word free w → HasB
 none_given v w free f = inr ((λ i a b. absurd (omega arith)), subst (IsEdge w.seen.object.takings) (sym (found_free v w free f).0) (seen_lawful w f.ruled).freed_edge)
 
 -- another end moved the free position on
-pub passed_look : (v u w : View) (first : ℕ) → Found v free_word first u → WasSo u w (λ o. first < o.freed) → Changed v w (λ o later. o.freed < later.freed)
+pub passed_look : (v u w : View) (first : ℕ) → Found v free_word first u → AtSomeMoment u w (λ o. first < o.freed) → AtTwoMoments v w (λ o later. o.freed < later.freed)
 passed_look v u w first f s = changed_by v u w (load free_word first u.seen) v.own _ f.made (was_so_map u w _ _ (λ o less. (let is = (found_free v u first f).0 in omega arith)) s)

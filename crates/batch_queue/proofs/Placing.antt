@@ -18,7 +18,7 @@ claimed o claim l = ap (λ (z : List Cell). let q : Positions = record { first =
     (ap (λ (z : List ℕ). cells z (o.phases ++ replicate (length claim) 0)) (batch_items o claim) ∙ cells_more (items_of o) claim o.phases l.long)
 
 -- one place more is raised
-cells_set : (xs ps : List ℕ) (i : ℕ) → i < length xs → length ps ≡ length xs → set (cells xs ps) i (record { item = (get_or (cells xs ps) i blank).item; written = 2 }) ≡ cells xs (set ps i 1)
+cells_set : (xs ps : List ℕ) (i : ℕ) → i < length xs → length ps ≡ length xs → set (cells xs ps) i (record { item = (get_or (cells xs ps) i blank).item; stage = 2 }) ≡ cells xs (set ps i 1)
 cells_set [] ps i h e = absurd (omega arith)
 cells_set (x ∷ xs) [] i h e = absurd (omega arith)
 cells_set (x ∷ xs) (zero ∷ ps) zero h e = refl
@@ -72,18 +72,18 @@ cells_length [] ps = refl
 cells_length (x ∷ xs) [] = ap suc (cells_length xs [])
 cells_length (x ∷ xs) (p ∷ ps) = ap suc (cells_length xs ps)
 
-cell_low : (x p : ℕ) → (cell_of x p).written ≤ 2
+cell_low : (x p : ℕ) → (cell_of x p).stage ≤ 2
 cell_low x zero = omega arith
 cell_low x (suc p) = omega arith
 
-pub cells_low : (xs ps : List ℕ) (i : ℕ) → (get_or (cells xs ps) i blank).written ≤ 2
+pub cells_low : (xs ps : List ℕ) (i : ℕ) → (get_or (cells xs ps) i blank).stage ≤ 2
 cells_low [] ps i = omega arith
 cells_low (x ∷ xs) [] zero = omega arith
 cells_low (x ∷ xs) [] (suc i) = cells_low xs [] i
 cells_low (x ∷ xs) (p ∷ ps) zero = cell_low x p
 cells_low (x ∷ xs) (p ∷ ps) (suc i) = cells_low xs ps i
 
-pub cells_up : (xs ps : List ℕ) (i : ℕ) → i < length xs → 1 ≤ get_or ps i 0 → 2 ≤ (get_or (cells xs ps) i blank).written
+pub cells_up : (xs ps : List ℕ) (i : ℕ) → i < length xs → 1 ≤ get_or ps i 0 → 2 ≤ (get_or (cells xs ps) i blank).stage
 cells_up [] ps i h e = absurd (omega arith)
 cells_up (x ∷ xs) [] i h e = absurd (omega arith)
 cells_up (x ∷ xs) (zero ∷ ps) zero h e = absurd (omega arith)
@@ -107,11 +107,11 @@ cell_at (x ∷ xs) (p ∷ ps) (suc i) h e = cell_at xs ps i (omega arith) (omega
 
 pub lawful_positions : (o : BatchState) → Lawful o → pos.Lawful (positions_of o)
 lawful_positions o l = let n = cells_length (items_of o) o.phases in let t = taken_claimed o l in let f = freed_taken o l in let w = l.within in record {
-  behind = omega arith;
+  taken_within = omega arith;
   within = omega arith;
   ready = λ i h. let b = l.before i h in cells_up (items_of o) o.phases i (omega arith) (omega arith);
 }
 
-pub cell_none : (x p : ℕ) → p ≡ 0 → (cell_of x p).written < 2
+pub cell_none : (x p : ℕ) → p ≡ 0 → (cell_of x p).stage < 2
 cell_none x zero e = omega arith
 cell_none x (suc p) e = absurd (omega arith)

@@ -1,5 +1,5 @@
 -- The steps of a taking of some items, taken together.
-use Rattle.batch_queue.proofs.Common.{BatchState, EndRecord, Found, Grows, IsStop, List, Made, Me, Released, Step, Took, View, [], ap, arith, cells, change, drop, inl, inr, items_of, length, length-drop, length-take-le, line_of, load, map, map-append, mark_word, no_slots, positions_of, refl, slots_of, subst, sym, tail_word, take, taking, with_no_slots, with_back, with_taken, with_taking, ℕ, ⊎_elim, ◌++◌, ◌+◌, ◌/◌, ◌-◌, ◌<◌, ◌∙◌, ◌∷◌, ◌≡◌, ◌≢◌, ◌≤◌}
+use Rattle.batch_queue.proofs.Common.{BatchState, EndRecord, Found, Grows, IsStop, List, Performed, Me, Released, Step, Took, View, [], ap, arith, cells, change, drop, inl, inr, items_of, length, length-drop, length-take-le, line_of, load, map, map-append, mark_word, no_slots, positions_of, refl, slots_of, subst, sym, tail_word, take, taking, with_no_slots, with_back, with_taken, with_taking, ℕ, ⊎_elim, ◌++◌, ◌+◌, ◌/◌, ◌-◌, ◌<◌, ◌∙◌, ◌∷◌, ◌≡◌, ◌≢◌, ◌≤◌}
 use Rattle.std.specs.Prelude.{min}
 use Rattle.std.proofs.Math.Seq.{take-append_seam}
 use Rattle.table_theory.proofs.Parting.{made_on}
@@ -40,13 +40,13 @@ module _ (room most : ℕ) (v u b c : View) (tail first new : ℕ) (rooms : v.fi
   stops : StopBy room tail (min most room) new s.parts looks
   stops = s.by b.seen
 
-  made : Made v (one ++ looks) (with_parts v.own s.parts) c
+  made : Performed v (one ++ looks) (with_parts v.own s.parts) c
   made = made_on v u c one looks v.own (with_parts v.own s.parts) x.made
-      (made_on u b c (load (mark_word room tail) first b.seen ∷ []) s.loads u.own (with_parts v.own s.parts) y.made (subst (λ (z : EndRecord). Made b s.loads (with_parts z s.parts) c) (y.made.did ∙ x.made.did) s.made))
+      (made_on u b c (load (mark_word room tail) first b.seen ∷ []) s.loads u.own (with_parts v.own s.parts) y.made (subst (λ (z : EndRecord). Performed b s.loads (with_parts z s.parts) c) (y.made.did ∙ x.made.did) s.made))
 
   -- another tail was found
-  lost : (now : ℕ) (w : View) → Found c tail_word now w → Made v (one ++ (looks ++ load tail_word now w.seen ∷ [])) (with_parts v.own s.parts) w
-  lost now w t = made_on v c w (one ++ looks) (load tail_word now w.seen ∷ []) (with_parts v.own s.parts) (with_parts v.own s.parts) made (subst (λ (z : EndRecord). Made c (load tail_word now w.seen ∷ []) z w) made.did t.made)
+  lost : (now : ℕ) (w : View) → Found c tail_word now w → Performed v (one ++ (looks ++ load tail_word now w.seen ∷ [])) (with_parts v.own s.parts) w
+  lost now w t = made_on v c w (one ++ looks) (load tail_word now w.seen ∷ []) (with_parts v.own s.parts) (with_parts v.own s.parts) made (subst (λ (z : EndRecord). Performed c (load tail_word now w.seen ∷ []) z w) made.did t.made)
 
   past : (now : ℕ) (w : View) → now ≢ tail → Found c tail_word now w → tail < now
   past now w ne t = let is = (found_tail v u tail x).0 in let is' = (found_tail c w now t).0 in let g0 = y.grows.taken in let g1 = g.taken in let g2 = t.grows.taken in omega arith
@@ -54,7 +54,7 @@ module _ (room most : ℕ) (v u b c : View) (tail first new : ℕ) (rooms : v.fi
   pub passed_error : (now : ℕ) (w : View) → now ≢ tail → Found c tail_word now w → WhyNotTakenSome v most (Lost now) w
   passed_error now w ne t = let p = past now w ne t in let is = (found_tail v u tail x).0 in let is' = (found_tail c w now t).0 in inl record { before = []; first = load tail_word tail u.seen; between = looks; second = load tail_word now w.seen; after = []; adds = (lost now w t).adds; holds = (omega arith, sym is') }
 
-  pub passed_refused : (now : ℕ) (w : View) → now ≢ tail → Found c tail_word now w → RefusedSomeBy (λ parts entries. Made v entries (with_parts v.own parts) w) room most (Lost now)
+  pub passed_refused : (now : ℕ) (w : View) → now ≢ tail → Found c tail_word now w → RefusedSomeBy (λ parts entries. Performed v entries (with_parts v.own parts) w) room most (Lost now)
   passed_refused now w ne t = inr (inl record { tail = tail; to = new; at_tail = u.seen; parts = s.parts; looks = looks; stops = stops; past = past now w ne t; at_exchange = w.seen; added = lost now w t })
 
   pub has_taken_some : (m : Me ℕ View) → Took c tail new m → (items : List ℕ) × (length items ≡ new - tail) × HasTakenSome room most v tail items m
@@ -62,7 +62,7 @@ module _ (room most : ℕ) (v u b c : View) (tail first new : ℕ) (rooms : v.fi
       let e : Step BatchState = change tail_word tail t.at (with_taken o new) in let real = step_real c m.0 e (with_taking c.own o (new - tail)) t.step in let claimed : new ≤ length (items_of o) = taken_claimed (with_taken o new) (real_lawful e real) in
       let long : length items ≡ new - tail = (let d = length-drop tail (items_of o) in length-take-le (new - tail) (drop tail (items_of o)) (omega arith)) in let end : new ≡ tail + length items = omega arith in let tail_is = t.tail_is in
       let bounded = real.shows.bounded in let own = t.step.made.did in let own' : EndRecord = with_parts v.own s.parts in
-      let all_made : Made v (one ++ (looks ++ e ∷ [])) (with_taking own' o (new - tail)) m.0 = made_on v c m.0 (one ++ looks) (e ∷ []) own' (with_taking own' o (new - tail)) made (subst (λ (z : EndRecord). Made c (e ∷ []) (with_taking z o (new - tail)) m.0) made.did t.step.made) in (
+      let all_made : Performed v (one ++ (looks ++ e ∷ [])) (with_taking own' o (new - tail)) m.0 = made_on v c m.0 (one ++ looks) (e ∷ []) own' (with_taking own' o (new - tail)) made (subst (λ (z : EndRecord). Performed c (e ∷ []) (with_taking z o (new - tail)) m.0) made.did t.step.made) in (
         items,
         long,
         record {
@@ -75,8 +75,8 @@ module _ (room most : ℕ) (v u b c : View) (tail first new : ℕ) (rooms : v.fi
             stops = subst (λ (z : ℕ). StopBy room tail (min most room) z s.parts looks) end stops;
             at_taking = t.at;
             first = record { items_are = (λ i. take (long i) (drop (tail_is i) (items_of o))); stop = subst (IsStop o) (let n : new ≡ o.taken + length items = omega arith in n) t.stop };
-            added = subst (λ (z : ℕ). Made v (one ++ (looks ++ change tail_word tail t.at (with_taken o z) ∷ [])) (with_taking own' o (length items)) m.0) end
-                (subst (λ (z : ℕ). Made v (one ++ (looks ++ e ∷ [])) (with_taking own' o z) m.0) (sym long) all_made);
+            added = subst (λ (z : ℕ). Performed v (one ++ (looks ++ change tail_word tail t.at (with_taken o z) ∷ [])) (with_taking own' o (length items)) m.0) end
+                (subst (λ (z : ℕ). Performed v (one ++ (looks ++ e ∷ [])) (with_taking own' o z) m.0) (sym long) all_made);
           };
           start = tail_is;
           range = record { in_phase = ap (λ (z : EndRecord). z.held.phase) own; start_is = ap (λ (z : EndRecord). z.held.start) own ∙ tail_is; count_is = ap (λ (z : EndRecord). z.held.count) own ∙ sym long; some_slot = omega arith; bounded = omega arith };
@@ -89,8 +89,8 @@ module _ (room most : ℕ) (v u b w : View) (tail first now : ℕ) (x : Found v 
   abbrev before : List (Step BatchState)
   before = load tail_word tail u.seen ∷ load (mark_word room tail) first b.seen ∷ []
 
-  made_before : Made v before v.own b
-  made_before = made_on v u b (load tail_word tail u.seen ∷ []) (load (mark_word room tail) first b.seen ∷ []) v.own v.own x.made (subst (λ (z : EndRecord). Made u (load (mark_word room tail) first b.seen ∷ []) z b) x.made.did y.made)
+  made_before : Performed v before v.own b
+  made_before = made_on v u b (load tail_word tail u.seen ∷ []) (load (mark_word room tail) first b.seen ∷ []) v.own v.own x.made (subst (λ (z : EndRecord). Performed u (load (mark_word room tail) first b.seen ∷ []) z b) x.made.did y.made)
 
   no_stop_lost : WhyNoStop tail now b w → WhyNotTakenSome v most (Lost now) w
   no_stop_lost h = let is = (found_tail v u tail x).0 in ⊎_elim
@@ -101,17 +101,17 @@ module _ (room most : ℕ) (v u b w : View) (tail first now : ℕ) (x : Found v 
   pub no_stop_error : (r : TakeRefusal) → r ≡ Lost now → WhyNoStop tail now b w → WhyNotTakenSome v most r w
   no_stop_error r is h = subst (λ (z : TakeRefusal). WhyNotTakenSome v most z w) (sym is) (no_stop_lost h)
 
-  no_stop_by : LostStop room tail (min most room) first now b w → RefusedSomeBy (λ parts entries. Made v entries (with_parts v.own parts) w) room most (Lost now)
+  no_stop_by : LostStop room tail (min most room) first now b w → RefusedSomeBy (λ parts entries. Performed v entries (with_parts v.own parts) w) room most (Lost now)
   no_stop_by l = inr (inr record {
     tail = tail;
     at_tail = u.seen;
     looks = load (mark_word room tail) first b.seen ∷ l.loads;
     lost = l.by b.seen;
-    added = made_none_parted v w _ (made_on v b w before l.loads v.own v.own made_before (subst (λ (z : EndRecord). Made b l.loads z w) made_before.did l.made));
+    added = made_none_parted v w _ (made_on v b w before l.loads v.own v.own made_before (subst (λ (z : EndRecord). Performed b l.loads z w) made_before.did l.made));
   })
 
-  pub no_stop_refused : (r : TakeRefusal) → r ≡ Lost now → LostStop room tail (min most room) first now b w → RefusedSomeBy (λ parts entries. Made v entries (with_parts v.own parts) w) room most r
-  no_stop_refused r is l = subst (λ (z : TakeRefusal). RefusedSomeBy (λ parts entries. Made v entries (with_parts v.own parts) w) room most z) (sym is) (no_stop_by l)
+  pub no_stop_refused : (r : TakeRefusal) → r ≡ Lost now → LostStop room tail (min most room) first now b w → RefusedSomeBy (λ parts entries. Performed v entries (with_parts v.own parts) w) room most r
+  no_stop_refused r is l = subst (λ (z : TakeRefusal). RefusedSomeBy (λ parts entries. Performed v entries (with_parts v.own parts) w) room most z) (sym is) (no_stop_by l)
 
   -- nothing was published at the tail
   pub none_some_error : (r : TakeRefusal) → IsNone tail b r w → WhyNotTaken v most r w → WhyNotTakenSome v most r w
@@ -120,7 +120,7 @@ module _ (room most : ℕ) (v u b w : View) (tail first now : ℕ) (x : Found v 
   none_some_error (Lost at) n h = inl h
   none_some_error Closed n h = h
 
-  pub none_some_refused : (r : TakeRefusal) → IsNone tail b r w → NoneBy (λ entries. Made v entries (with_parts v.own 0) w) room r → RefusedSomeBy (λ parts entries. Made v entries (with_parts v.own parts) w) room most r
+  pub none_some_refused : (r : TakeRefusal) → IsNone tail b r w → NoneBy (λ entries. Performed v entries (with_parts v.own 0) w) room r → RefusedSomeBy (λ parts entries. Performed v entries (with_parts v.own parts) w) room most r
   none_some_refused (Empty at) n h = h
   none_some_refused (ShortBuffer at count) n h = absurd n
   none_some_refused (Lost at) n h = inl h
@@ -147,7 +147,7 @@ took_some_of room most tail count items v w m m' bare h same many p = let t = h.
     at_taking = t.at_taking;
     first = t.first;
     added = let all = made_on v m.0 m'.0 _ (end (length items) ∷ []) (with_taking d o (length items)) p.own t.added
-        (subst (λ (z : ℕ). Made m.0 (end z ∷ []) p.own m'.0) many (subst (λ (z : View). Made z (end count ∷ []) p.own m'.0) same p.step.made)) in record {
+        (subst (λ (z : ℕ). Performed m.0 (end z ∷ []) p.own m'.0) many (subst (λ (z : View). Performed z (end count ∷ []) p.own m'.0) same p.step.made)) in record {
           adds = all.adds;
           did = all.did ∙ (p.given refl ∙ line_own d w.own v.own o (length items) (ap (λ (z : View). z.own) same ∙ t.added.did) bare refl);
           member = all.member;
@@ -182,10 +182,10 @@ took_some_first room most count items old new v w many is t = subst (λ (z : Lis
 
 -- WHERE NOTHING WAS TAKEN
 
-same_made : (v w : View) (parts : ℕ) (entries : List (Step BatchState)) → parts ≤ 1 → Made v entries (with_parts v.own parts) w → SameSome v w
+same_made : (v w : View) (parts : ℕ) (entries : List (Step BatchState)) → parts ≤ 1 → Performed v entries (with_parts v.own parts) w → SameSome v w
 same_made v w parts entries low m = (record { puts = (λ k. map line_of (m.did k).runs); takes = (λ k. map line_of (m.did k).takes); share = ap (λ (z : Part). z.share) m.member }, may_part v w parts low (ap (λ (z : EndRecord). z.parts) m.did))
 
-pub refused_some : (room most : ℕ) (v w : View) (r : TakeRefusal) → RefusedSomeBy (λ parts entries. Made v entries (with_parts v.own parts) w) room most r → SameSome v w
+pub refused_some : (room most : ℕ) (v w : View) (r : TakeRefusal) → RefusedSomeBy (λ parts entries. Performed v entries (with_parts v.own parts) w) room most r → SameSome v w
 refused_some room most v w (Empty at) h = same_made v w 0 _ (omega arith) h.added
 refused_some room most v w (ShortBuffer at count) h = absurd h
 refused_some room most v w (Lost now) h = ⊎_elim (λ e. same_made v w 0 _ (omega arith) e.added)

@@ -1,7 +1,7 @@
 -- A put: the claim, and the store that publishes it.
 use Rattle.std.specs.Prelude.{min}
 use Rattle.batch_queue.proofs.Turning.{take_whole}
-use Rattle.batch_queue.proofs.Common.{Batch, BatchState, Cell, EndRecord, HasRun, List, Made, Me, Released, Step, View, [], ap, append_assoc, arith, at_last, blank, change, fresh, get_elem?, get_or, length, length-append, length-map, map, map-append, mark_word, no_slots, raised_run, refl, run, set, some, some-injective, subst, suc, sym, take, with_up, with_published, with_run, written_to, zero, ℕ, ◌++◌, ◌+◌, ◌∙◌, ◌∷◌, ◌≡◌, ◌≤◌}
+use Rattle.batch_queue.proofs.Common.{Batch, BatchState, Cell, EndRecord, HasRun, List, Performed, Me, Released, Step, View, [], ap, append_assoc, arith, at_last, blank, change, fresh, get_elem?, get_or, length, length-append, length-map, map, map-append, mark_word, no_slots, raised_run, refl, run, set, some, some-injective, subst, suc, sym, take, with_up, with_published, with_run, with_stage, zero, ℕ, ◌++◌, ◌+◌, ◌∙◌, ◌∷◌, ◌≡◌, ◌≤◌}
 use Rattle.table_theory.proofs.Moving.{last}
 use Rattle.table_theory.proofs.Parting.{made_on}
 use Rattle.table_theory.specs.Listing.{Distinct}
@@ -12,7 +12,7 @@ use Rattle.batch_queue.specs.Lines.{PutLine}
 use Rattle.batch_queue.specs.Puts.{Fits, HasClaimed, IsPut, IsPutSome, PutBy, RefusedClaimBy, RefusedPut, RefusedSome, published, with_put}
 use Rattle.std.proofs.Common.{Result, Err, ◌<◌}
 use Rattle.std.specs.Prelude.{MatchResult}
-use Rattle.batch_queue.specs.Own.{Looks}
+use Rattle.batch_queue.specs.Own.{OnlyLoads}
 use Rattle.batch_queue.specs.declared.refusals.PutRefusal.{PutRefusal}
 use Rattle.batch_queue.specs.declared.refusals.PutRefusal.TheVariants.{NoItems, TooLong, Closed, Spent, Full, Lost}
 
@@ -36,8 +36,8 @@ batch start places = record { start = start; places = places }
 raised_from : (start : ℕ) (xs : List Cell) (ys : List ℕ) (n : ℕ) → length xs ≡ n → raised_run (batch start (xs ++ map fresh ys)) n (length ys) ≡ batch start (xs ++ map published ys)
 raised_from start xs [] n e = refl
 raised_from start xs (y ∷ ys) n e = let l = length-append xs (published y ∷ []) in
-    let one : written_to (batch start (xs ++ fresh y ∷ map fresh ys)) n 2 ≡ batch start ((xs ++ published y ∷ []) ++ map fresh ys) =
-    ap (λ (z : Cell). batch start (set (xs ++ fresh y ∷ map fresh ys) n (record { item = z.item; written = 2 }))) (get_at xs (map fresh ys) (fresh y) n e)
+    let one : with_stage (batch start (xs ++ fresh y ∷ map fresh ys)) n 2 ≡ batch start ((xs ++ published y ∷ []) ++ map fresh ys) =
+    ap (λ (z : Cell). batch start (set (xs ++ fresh y ∷ map fresh ys) n (record { item = z.item; stage = 2 }))) (get_at xs (map fresh ys) (fresh y) n e)
     ∙ ap (batch start) (set_at xs (map fresh ys) (fresh y) (published y) n e ∙ sym (append_assoc xs (published y ∷ []) (map fresh ys))) in
     ap (λ (z : Batch). raised_run z (suc n) (length ys)) one ∙ (raised_from start (xs ++ published y ∷ []) ys (suc n) (omega arith) ∙ ap (batch start) (append_assoc xs (published y ∷ []) (map published ys)))
 
@@ -57,7 +57,7 @@ put_own d c start items is bare apart h =
     (λ i. set (runs i) (number i) (whole i)) ∙ last d.runs (run start items) (batch start (map published items)) in
     λ i. record { runs = changed i; takes = (is i).takes; shuts = (is i).shuts; parts = (is i).parts; held = sym bare i }
 
-pub put_of : (room want start : ℕ) (items : List ℕ) (v w : View) (m m' : Me ℕ View) → v.own.held ≡ no_slots → HasClaimed room want v start items m → w ≡ m.0 → Released w (mark_word room start) start (start + length items) 0 m' → PutBy (λ entries. Made v entries (with_put v.own start items) m'.0) room want start items
+pub put_of : (room want start : ℕ) (items : List ℕ) (v w : View) (m m' : Me ℕ View) → v.own.held ≡ no_slots → HasClaimed room want v start items m → w ≡ m.0 → Released w (mark_word room start) start (start + length items) 0 m' → PutBy (λ entries. Performed v entries (with_put v.own start items) m'.0) room want start items
 put_of room want start items v w m m' bare h same p = let c = h.claim in let e : Step BatchState = change (mark_word room start) p.found p.at (with_up p.at.object start (start + length items)) in let own = p.published refl in (
   p.found,
   p.at,
@@ -71,7 +71,7 @@ put_of room want start items v w m m' bare h same p = let c = h.claim in let e :
     looked = c.looked;
     end = c.end;
     at_claim = c.at_claim;
-    added = let all = made_on v m.0 m'.0 _ (e ∷ []) (with_run v.own start items) p.own c.added (subst (λ (z : View). Made z (e ∷ []) p.own m'.0) same p.step.made) in record {
+    added = let all = made_on v m.0 m'.0 _ (e ∷ []) (with_run v.own start items) p.own c.added (subst (λ (z : View). Performed z (e ∷ []) p.own m'.0) same p.step.made) in record {
       adds = all.adds;
       did = all.did ∙ (own.1 ∙ put_own v.own w.own start items (ap (λ (z : View). z.own) same ∙ c.added.did) bare (subst (λ (z : View). Distinct z.own.runs) (sym same) h.apart) own.0);
       member = all.member;
@@ -85,7 +85,7 @@ published_items : (items : List ℕ) → map item_of (map published items) ≡ i
 published_items [] = refl
 published_items (x ∷ xs) = ap (λ (z : List ℕ). x ∷ z) (published_items xs)
 
-pub put_line : (room want start : ℕ) (items : List ℕ) (v w : View) → PutBy (λ entries. Made v entries (with_put v.own start items) w) room want start items → PutLine items v w
+pub put_line : (room want start : ℕ) (items : List ℕ) (v w : View) → PutBy (λ entries. Performed v entries (with_put v.own start items) w) room want start items → PutLine items v w
 put_line room want start items v w (mark, m, c) = let made = c.added in (
   record {
     puts = (λ k. map line_of (made.did k).runs) ∙ (map-append line_of v.own.runs (batch start (map published items) ∷ []) ∙ (λ k. map line_of v.own.runs ++ published_items items k ∷ []));
@@ -103,7 +103,7 @@ whole_claim room start n items v m all most h = subst (λ (z : List ℕ). HasCla
 
 -- REFUSALS
 
-refused_claim : (room count : ℕ) (v w : View) (r : PutRefusal) → Fits room count → RefusedClaimBy (λ entries. Looks v entries w) room count count r → RefusedPut room v count r w
+refused_claim : (room count : ℕ) (v w : View) (r : PutRefusal) → Fits room count → RefusedClaimBy (λ entries. OnlyLoads v entries w) room count count r → RefusedPut room v count r w
 refused_claim room count v w NoItems fits h = absurd h
 refused_claim room count v w TooLong fits h = absurd h
 refused_claim room count v w Closed fits h = (fits, h)
@@ -111,10 +111,10 @@ refused_claim room count v w Spent fits h = (fits, h)
 refused_claim room count v w (Full head free) fits h = (fits, h)
 refused_claim room count v w (Lost head) fits h = (fits, h)
 
-pub refused_all : (room most count : ℕ) (items : List ℕ) (v w : View) (q : Result ℕ PutRefusal) (r : PutRefusal) → q ≡ Err r → Fits room count → most ≡ count → RefusedClaimBy (λ entries. Looks v entries w) room most count r → MatchResult q (λ start. IsPut room v start items w) (λ e. RefusedPut room v count e w)
-refused_all room most count items v w q r is fits all h = subst (λ (z : Result ℕ PutRefusal). MatchResult z (λ start. IsPut room v start items w) (λ e. RefusedPut room v count e w)) (sym is) (refused_claim room count v w r fits (subst (λ (z : ℕ). RefusedClaimBy (λ entries. Looks v entries w) room z count r) all h))
+pub refused_all : (room most count : ℕ) (items : List ℕ) (v w : View) (q : Result ℕ PutRefusal) (r : PutRefusal) → q ≡ Err r → Fits room count → most ≡ count → RefusedClaimBy (λ entries. OnlyLoads v entries w) room most count r → MatchResult q (λ start. IsPut room v start items w) (λ e. RefusedPut room v count e w)
+refused_all room most count items v w q r is fits all h = subst (λ (z : Result ℕ PutRefusal). MatchResult z (λ start. IsPut room v start items w) (λ e. RefusedPut room v count e w)) (sym is) (refused_claim room count v w r fits (subst (λ (z : ℕ). RefusedClaimBy (λ entries. OnlyLoads v entries w) room z count r) all h))
 
-refused_front : (room count : ℕ) (v w : View) (r : PutRefusal) → 0 < count → RefusedClaimBy (λ entries. Looks v entries w) room (min count room) 1 r → RefusedSome room v count r w
+refused_front : (room count : ℕ) (v w : View) (r : PutRefusal) → 0 < count → RefusedClaimBy (λ entries. OnlyLoads v entries w) room (min count room) 1 r → RefusedSome room v count r w
 refused_front room count v w NoItems more h = absurd h
 refused_front room count v w TooLong more h = absurd h
 refused_front room count v w Closed more h = (more, h)
@@ -122,10 +122,10 @@ refused_front room count v w Spent more h = (more, h)
 refused_front room count v w (Full head free) more h = (more, h)
 refused_front room count v w (Lost head) more h = (more, h)
 
-pub refused_some : (room : ℕ) (items : List ℕ) (v w : View) (q : Result (ℕ × ℕ) PutRefusal) (r : PutRefusal) → q ≡ Err r → 0 < length items → RefusedClaimBy (λ entries. Looks v entries w) room (min (length items) room) 1 r → MatchResult q (λ z. IsPutSome room v z.0 z.1 items w) (λ e. RefusedSome room v (length items) e w)
+pub refused_some : (room : ℕ) (items : List ℕ) (v w : View) (q : Result (ℕ × ℕ) PutRefusal) (r : PutRefusal) → q ≡ Err r → 0 < length items → RefusedClaimBy (λ entries. OnlyLoads v entries w) room (min (length items) room) 1 r → MatchResult q (λ z. IsPutSome room v z.0 z.1 items w) (λ e. RefusedSome room v (length items) e w)
 refused_some room items v w q r is more h = subst (λ (z : Result (ℕ × ℕ) PutRefusal). MatchResult z (λ y. IsPutSome room v y.0 y.1 items w) (λ e. RefusedSome room v (length items) e w)) (sym is) (refused_front room (length items) v w r more h)
 
 -- THE FRONT OF THE ITEMS
 
-pub put_front : (room want start n : ℕ) (items xs : List ℕ) (v w : View) (m m' : Me ℕ View) → xs ≡ take n items → v.own.held ≡ no_slots → HasClaimed room want v start (take n items) m → w ≡ m.0 → Released w (mark_word room start) start (start + length xs) 0 m' → PutBy (λ entries. Made v entries (with_put v.own start (take n items)) m'.0) room want start (take n items)
+pub put_front : (room want start n : ℕ) (items xs : List ℕ) (v w : View) (m m' : Me ℕ View) → xs ≡ take n items → v.own.held ≡ no_slots → HasClaimed room want v start (take n items) m → w ≡ m.0 → Released w (mark_word room start) start (start + length xs) 0 m' → PutBy (λ entries. Performed v entries (with_put v.own start (take n items)) m'.0) room want start (take n items)
 put_front room want start n items xs v w m m' is bare h same p = put_of room want start (take n items) v w m m' bare h same (subst (λ (z : List ℕ). Released w (mark_word room start) start (start + length z) 0 m') is p)

@@ -39,7 +39,7 @@ get_longer (x ∷ xs) n (suc i) = get_longer xs n i
 pub is_in : (a b i : ℕ) → ((a ≤ i) × (i < b)) ⊎ ((a ≤ i) × (i < b) → ⊥)
 is_in a b i = dite (dec_le a i) (λ x. dite (dec_lt i b) (λ y. inl (x, y)) (λ n. inr (λ t. n t.1))) (λ n. inr (λ t. n t.0))
 
-pub get_behind : (xs : List ℕ) (i : ℕ) → length xs ≤ i → get_or xs i 0 ≡ 0
-get_behind [] i h = refl
-get_behind (x ∷ xs) zero h = absurd (omega arith)
-get_behind (x ∷ xs) (suc i) h = get_behind xs i (omega arith)
+pub get_after : (xs : List ℕ) (i : ℕ) → length xs ≤ i → get_or xs i 0 ≡ 0
+get_after [] i h = refl
+get_after (x ∷ xs) zero h = absurd (omega arith)
+get_after (x ∷ xs) (suc i) h = get_after xs i (omega arith)

@@ -1,5 +1,5 @@
 -- A store of a mark gives back to the table all slots that the end holds: it publishes them, or it gives places back.
-use Rattle.batch_queue.proofs.Common.{Allows, Batch, BatchState, Becomes, EndRecord, FIRST_MARK, Grows, HasRun, HeldSlots, Holds, HomeShows, IsBatch, IsEdge, IsParted, IsRest, IsUsed, Lawful, List, MarkSays, Option, OwnShows, Positions, Rule, Shape, Stepped, View, ViewsShow, WordsShow, [], ap, append_assoc, arith, at_map, at_set, blank, by_mark, change, concat, concat-append, dec_lt, dite, free_word, get_elem?, get_or, get_or-set_other, get_or-set_same, give_all, head_word, homes_after, inl, inr, items_of, length, length-set, listed_look, map, mark_word, mod-lt, no_slots, none, part_of, phase_at, positions_of, raised_run, refl, releases, set, slots_of, some, step, subst, suc, sym, tail_word, times_shut, unused_kept, was_given, was_published, with_back, with_mark, with_phase, with_published, with_up, released, mark_of, written_to, zero, ℕ, ℕ_discrete, ⊎_elim, ◌%◌, ◌*◌, ◌++◌, ◌+◌, ◌-◌, ◌/◌, ◌<◌, ◌∙◌, ◌∷◌, ◌≡◌, ◌≤◌, ◌⊎◌}
+use Rattle.batch_queue.proofs.Common.{Allows, Batch, BatchState, Becomes, EndRecord, FIRST_MARK, Grows, HasRun, HeldSlots, Holds, HomeShows, IsBatch, IsEdge, IsParted, IsRest, IsUsed, Lawful, List, MarkSays, Option, OwnShows, Positions, Rule, Shape, Stepped, View, ViewsShow, WordsShow, [], ap, append_assoc, arith, at_map, at_set, blank, by_mark, change, concat, concat-append, dec_lt, dite, free_word, get_elem?, get_or, get_or-set_other, get_or-set_same, give_all, head_word, homes_after, inl, inr, items_of, length, length-set, listed_look, map, mark_word, mod-lt, no_slots, none, part_of, phase_at, positions_of, raised_run, refl, releases, set, slots_of, some, step, subst, suc, sym, tail_word, times_shut, unused_kept, was_given, was_published, with_back, with_mark, with_phase, with_published, with_up, released, mark_of, with_stage, zero, ℕ, ℕ_discrete, ⊎_elim, ◌%◌, ◌*◌, ◌++◌, ◌+◌, ◌-◌, ◌/◌, ◌<◌, ◌∙◌, ◌∷◌, ◌≡◌, ◌≤◌, ◌⊎◌}
 use Rattle.table_theory.proofs.Tables as tables
 use Rattle.table_theory.proofs.Positioned as positioned
 use Rattle.batch_queue.proofs.Placing as placing
@@ -22,19 +22,19 @@ get_before [] ys i h = absurd (omega arith)
 get_before (x ∷ xs) ys zero h = refl
 get_before (x ∷ xs) ys (suc i) h = get_before xs ys i (omega arith)
 
-get_behind : (xs ys : List ℕ) (i : ℕ) → get_or (xs ++ ys) (length xs + i) 0 ≡ get_or ys i 0
-get_behind [] ys i = ap (λ (z : ℕ). get_or ys z 0) (let n : 0 + i ≡ i = omega arith in n)
-get_behind (x ∷ xs) ys i = ap (λ (z : ℕ). get_or (x ∷ (xs ++ ys)) z 0) (let n : suc (length xs) + i ≡ suc (length xs + i) = omega arith in n) ∙ get_behind xs ys i
+get_after : (xs ys : List ℕ) (i : ℕ) → get_or (xs ++ ys) (length xs + i) 0 ≡ get_or ys i 0
+get_after [] ys i = ap (λ (z : ℕ). get_or ys z 0) (let n : 0 + i ≡ i = omega arith in n)
+get_after (x ∷ xs) ys i = ap (λ (z : ℕ). get_or (x ∷ (xs ++ ys)) z 0) (let n : suc (length xs) + i ≡ suc (length xs + i) = omega arith in n) ∙ get_after xs ys i
 
 -- the items of a claim that the end has seen are in the queue as it is
 pub claim_stands : (o now : BatchState) (start : ℕ) (claim before rest : List ℕ) → Grows o now → length before ≡ start → items_of o ≡ before ++ (claim ++ rest) → (i : ℕ) → i < length claim → get_or claim i 0 ≡ get_or (items_of now) (start + i) 0
 claim_stands o now start claim before rest g at is i h =
     let all : items_of now ≡ before ++ (claim ++ (rest ++ concat g.more.0)) = ap concat (sym g.more.1) ∙ (concat-append o.batches g.more.0 ∙ (ap (λ (z : List ℕ). z ++ concat g.more.0) is ∙ (append_assoc before (claim ++ rest) (concat g.more.0) ∙ ap (λ (z : List ℕ). before ++ z) (append_assoc claim rest (concat g.more.0))))) in
-    sym (ap (λ (z : List ℕ). get_or z (start + i) 0) all ∙ (ap (λ (z : ℕ). get_or (before ++ (claim ++ (rest ++ concat g.more.0))) (z + i) 0) (sym at) ∙ (get_behind before (claim ++ (rest ++ concat g.more.0)) i ∙ get_before claim (rest ++ concat g.more.0) i h)))
+    sym (ap (λ (z : List ℕ). get_or z (start + i) 0) all ∙ (ap (λ (z : ℕ). get_or (before ++ (claim ++ (rest ++ concat g.more.0))) (z + i) 0) (sym at) ∙ (get_after before (claim ++ (rest ++ concat g.more.0)) i ∙ get_before claim (rest ++ concat g.more.0) i h)))
 
 raised_batch : {bs : List (List ℕ)} (n : ℕ) (e : Batch) (i : ℕ) → IsBatch bs e.start (e.start + length e.places) → IsBatch bs (raised_run e i n).start ((raised_run e i n).start + length (raised_run e i n).places)
 raised_batch zero e i h = h
-raised_batch {bs} (suc n) e i h = raised_batch n (written_to e i 2) (suc i) (subst (λ (y : ℕ). IsBatch bs e.start (e.start + y)) (sym (length-set e.places i (record { item = (get_or e.places i blank).item; written = 2 }))) h)
+raised_batch {bs} (suc n) e i h = raised_batch n (with_stage e i 2) (suc i) (subst (λ (y : ℕ). IsBatch bs e.start (e.start + y)) (sym (length-set e.places i (record { item = (get_or e.places i blank).item; stage = 2 }))) h)
 
 module _ (key : Shape) (n id : ℕ) (v : View) (x b : ℕ) (ys : List ℕ) (m : ℕ) (kind : v.own.held.phase ≡ x) (x_is : (x ≡ 0) ⊎ (x ≡ 2)) (end : b ≡ v.own.held.start + v.own.held.count) (some_item : 0 < v.own.held.count) (many : length ys ≡ v.own.held.count) (half : m / 2 ≡ b) (odd : (x ≡ 0 → m % 2 ≡ 0) × (x ≡ 2 → m % 2 ≡ 1)) (slots : n ≡ v.first.room) (word : ℕ) (word_is : word ≡ mark_word v.first.room v.own.held.start) (live : 1 ≤ v.member.ends) where
   abbrev a : ℕ
@@ -66,7 +66,7 @@ module _ (key : Shape) (n id : ℕ) (v : View) (x b : ℕ) (ys : List ℕ) (m : 
     to_head = let l = (mine.holds (b - 1) (in_held (b - 1) (omega arith) (omega arith))).1 in omega arith
 
     from_freed : o.freed ≤ a
-    from_freed = dite (dec_lt a o.freed) (λ h. let y = lawful.behind a h in let f = was a (omega arith) (omega arith) in absurd (⊎_elim (λ e. let e' : x ≡ 0 = e in omega arith) (λ e. let e' : x ≡ 2 = e in omega arith) x_is)) (λ h. omega arith)
+    from_freed = dite (dec_lt a o.freed) (λ h. let y = lawful.taken_within a h in let f = was a (omega arith) (omega arith) in absurd (⊎_elim (λ e. let e' : x ≡ 0 = e in omega arith) (λ e. let e' : x ≡ 2 = e in omega arith) x_is)) (λ h. omega arith)
 
     in_range : (i : ℕ) → a ≤ i → i < b → phase_at r i ≡ suc x
     in_range i from to = let l = lawful.long in let h = to_head in range_in o.phases a b (suc x) i (omega arith) from to

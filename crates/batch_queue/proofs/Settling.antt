@@ -1,5 +1,5 @@
 -- The items and numbers that are read from a closed table.
-use Rattle.batch_queue.proofs.Common.{parts_of, AreInOrder, AreSolid, Batch, BatchState, Bool, Cell, ClosedNow, EndRecord, HeldSlots, Holds, IsBatch, IsRuled, IsSettled, IsWhole, List, Moment, OwnShows, Owned, POSITIONS, PartsShow, QueueView, Rule, SHUT, Shape, View, ViewsShow, WordsShow, [], ap, arith, at_map, concat, dec_lt, dite, drop, ends_word, entry_of, false, get_elem?, get_or, head_word, inl, item_of, items_of, left_from, left_is, length, line_of, map, mark, no_slots, nothing_did, part_of, phase_at, positions_of, refl, shuts_of, some, some-injective, some-ne-none, subst, suc, sym, tail_word, take, true, zero, ℕ, ℕ_discrete, ◌%◌, ◌+◌, ◌-◌, ◌<◌, ◌∙◌, ◌∷◌, ◌≡◌, ◌≢◌, ◌≤◌}
+use Rattle.batch_queue.proofs.Common.{parts_of, AreInOrder, AreSolid, Batch, BatchState, Bool, Cell, ClosedNow, EndRecord, HeldSlots, Holds, IsBatch, InvHeldOf, IsSettled, IsWhole, List, AbsState, OwnShows, Owned, POSITIONS, PartsShow, QueueView, Rule, SHUT, Shape, View, ViewsShow, WordsShow, [], ap, arith, at_map, concat, dec_lt, dite, drop, ends_word, entry_of, false, get_elem?, get_or, head_word, inl, item_of, items_of, left_from, left_is, length, line_of, map, mark, no_slots, nothing_did, part_of, phase_at, positions_of, refl, shuts_of, some, some-injective, some-ne-none, subst, suc, sym, tail_word, take, true, zero, ℕ, ℕ_discrete, ◌%◌, ◌+◌, ◌-◌, ◌<◌, ◌∙◌, ◌∷◌, ◌≡◌, ◌≢◌, ◌≤◌}
 use Rattle.std.specs.Prelude.{Some, None}
 use Rattle.std.specs.List.{slice_get}
 use Rattle.std.proofs.lemmas.List.{drop_more, drop_all, take-map}
@@ -11,7 +11,7 @@ use Rattle.table_theory.specs.declared.views.Part.{Part}
 use Rattle.table_theory.proofs.Cutting.{settled}
 use Rattle.table_theory.proofs.Listing.{first_seen, listed_sole}
 use Rattle.table_theory.proofs.Positioned as positioned
-use Rattle.table_theory.proofs.Owned.{at_map_back, file_map, one_at, told}
+use Rattle.table_theory.proofs.Owned.{at_map_back, file_map, one_at, reported}
 use Rattle.table_theory.proofs.Reading.{read_word}
 use Rattle.table_theory.proofs.Stepping.{closes as closed, rest_idle}
 use Rattle.table_theory.proofs.Totals.{sole_total}
@@ -25,9 +25,9 @@ pub low_of : (n h : ℕ) (b : Bool) → n < SHUT → h ≡ n + mark b → h % SH
 low_of n h true bounded is = omega arith
 low_of n h false bounded is = omega arith
 
-told_entries : (log : List (Owned Batch)) → map entry_of (map (told line_of) log) ≡ map line_of (map entry_of log)
-told_entries [] = refl
-told_entries (o ∷ os) = ap (λ (z : Lists). line_of o.2 ∷ z) (told_entries os)
+reported_entries : (log : List (Owned Batch)) → map entry_of (map (reported line_of) log) ≡ map line_of (map entry_of log)
+reported_entries [] = refl
+reported_entries (o ∷ os) = ap (λ (z : Lists). line_of o.2 ∷ z) (reported_entries os)
 
 no_part : (xs : List ℕ) → length xs ≡ 0 → xs ≡ []
 no_part [] e = refl
@@ -40,9 +40,9 @@ one_list l m (suc c) e = absurd (some-ne-none m (sym e))
 -- what one end lists is, in the order of positions, the batches
 in_order : (bs : Lists) (places : List Cell) (log : List (Owned Batch)) (l : List Batch) → IsListed 0 places log (l ∷ []) → AreSolid bs → ((m : ℕ) (e : Batch) → get_elem? l m ≡ some e → IsBatch bs e.start (e.start + length e.places)) → map item_of places ≡ concat bs → AreInOrder bs (map line_of l)
 in_order bs places log l h solid each items = record {
-  log = map (told line_of) log;
+  log = map (reported line_of) log;
   once = file_map line_of log (l ∷ []) h.filed;
-  is = told_entries log ∙ lines_are bs log [] bs refl h.adjacent solid (λ k o at. let s = h.filed.stands k o at in (h.solid k o at, each o.1 o.2 (subst (λ (z : List Batch). get_elem? z o.1 ≡ some o.2) (one_list l s.0 o.0 s.1) s.2))) (ap (map item_of) h.flat ∙ items);
+  is = reported_entries log ∙ lines_are bs log [] bs refl h.adjacent solid (λ k o at. let s = h.filed.stands k o at in (h.solid k o at, each o.1 o.2 (subst (λ (z : List Batch). get_elem? z o.1 ≡ some o.2) (one_list l s.0 o.0 s.1) s.2))) (ap (map item_of) h.flat ∙ items);
 }
 
 left_all : (room : ℕ) (items slots : List ℕ) (n i : ℕ) → i + n ≡ length items → ((p : ℕ) → i ≤ p → p < length items → get_or slots (p % room) 0 ≡ get_or items p 0) → left_from room slots i n ≡ drop i items
@@ -87,14 +87,14 @@ closes key v w id h t put ws slots left one_end bare tallied fin at_h at_t put_i
     let s : St = fin.0 in let k = fin.1.0 in let here = fin.1.1 in let o : BatchState = k.now.object in let sh : WordsShow o ws = subst (WordsShow o) fin.2 k.stands.shows in let lawful = k.stands.lawful in
     let c = closed k.stands id v w here ends_word 1 tallied refl one_end in let bounded = sh.bounded in
     let hd : h % SHUT ≡ length (items_of o) = low_of (length (items_of o)) h o.shut (omega arith) (sym (read_word ws head_word h at_h) ∙ sh.head) in let tl : t ≡ o.taken = sym (read_word ws tail_word t at_t) ∙ sh.tail in
-    let claimed = taken_claimed o lawful in let within = lawful.within in let behind = freed_taken o lawful in let bare_w : w.own.held ≡ no_slots = ap (λ (z : EndRecord). z.held) tallied.made.did ∙ bare in
+    let claimed = taken_claimed o lawful in let within = lawful.within in let following = freed_taken o lawful in let bare_w : w.own.held ≡ no_slots = ap (λ (z : EndRecord). z.held) tallied.made.did ∙ bare in
     let listed = sole key s k id w here (ap (λ (z : Part). z.share) tallied.made.member ∙ c.whole) in let n = cells_length (items_of o) o.phases in let m = cells_items (items_of o) o.phases lawful.long in let own : OwnShows o w.own = k.owns id w here in
     let home : (p : ℕ) → o.taken ≤ p → p < length (items_of o) → get_or slots (p % o.room) 0 ≡ get_or (items_of o) p 0 = (λ p from below. read_word slots (p % o.room) _ (fin.4 (p % o.room) _ (left_home key s k id w here bare_w (λ i u at ne. (c.idle i u at ne).own) p from below))) in
     let parted : w.own.parts ≡ length o.parted = sym (sole_total parts_of s.views id w here (λ i u has ne. (λ j. ((c.idle i u has ne).own j).parts))) ∙ k.parted_once in
     let is : left ≡ drop t (items_of o) = left_is ∙ ((λ i. left_from (sym k.room i) slots t (put - t)) ∙ (let x = put_is in left_all o.room (items_of o) slots (put - t) t (omega arith) (λ p from below. home p (omega arith) below))) in
     transport (λ i. ClosedNow (record v { own = tallied.made.did i; seen = c.now_is i }) put t left) record {
       whole = c.whole;
-      sole = ap (λ (z : Moment BatchState). z.ends) c.now_is ∙ c.sole;
+      sole = ap (λ (z : AbsState BatchState). z.ends) c.now_is ∙ c.sole;
       joined = c.joined;
       puts = put_is ∙ hd;
       taken_is = tl;
@@ -110,12 +110,12 @@ closes key v w id h t put ws slots left one_end bare tallied fin at_h at_t put_i
     }
 
 -- an end with the whole lists what it has seen alone
-pub whole_lists : (v : View) → IsRuled v → IsWhole v.member.share → ViewsShow (positions_of v.seen.object) (part_of v ∷ [])
+pub whole_lists : (v : View) → InvHeldOf v → IsWhole v.member.share → ViewsShow (positions_of v.seen.object) (part_of v ∷ [])
 whole_lists v r whole = record {
-  lists = subst (λ (z : Moment BatchState). PartsShow (positions_of z.object) (part_of v ∷ [])) (sym r.seen) (sole r.key r.state r.rule r.number v r.here whole);
+  lists = subst (λ (z : AbsState BatchState). PartsShow (positions_of z.object) (part_of v ∷ [])) (sym r.seen) (sole r.key r.state r.rule r.number v r.here whole);
   seen = first_seen (positions_of v.seen.object) (part_of v) (positioned.grows_refl (positions_of v.seen.object));
 }
 
 -- the views of all ends list what an end has seen, its own among them
-pub ruled_lists : (v : View) → IsRuled v → (views : List QueueView) × (seat : ℕ) × ViewsShow (positions_of v.seen.object) views × (get_elem? views seat ≡ some (part_of v))
-ruled_lists v r = (map part_of r.state.views, r.number, subst (λ (z : Moment BatchState). ViewsShow (positions_of z.object) (map part_of r.state.views)) (sym r.seen) r.rule.listed, at_map part_of r.state.views r.number v r.here)
+pub ruled_lists : (v : View) → InvHeldOf v → (views : List QueueView) × (seat : ℕ) × ViewsShow (positions_of v.seen.object) views × (get_elem? views seat ≡ some (part_of v))
+ruled_lists v r = (map part_of r.state.views, r.number, subst (λ (z : AbsState BatchState). ViewsShow (positions_of z.object) (map part_of r.state.views)) (sym r.seen) r.rule.listed, at_map part_of r.state.views r.number v r.here)

@@ -1,5 +1,5 @@
 -- Every step keeps the rule and reports to its end, by the theory of tables.
-use Rattle.batch_queue.proofs.Common.{parts_of, Act, Allows, Apart, BatchState, Becomes, EndRecord, Grows, Holds, HomeShows, IsHeld, IsHonest, IsReal, IsRuled, IsTable, IsUsed, List, MarkSays, Me, Moment, Option, OwnShows, Rule, Shape, Stands, State, Stays, Step, Stepped, Valid, View, ViewsShow, WordsShow, ap, arith, at_below, at_set, by_ends, carried_after, change, dec_le, dite, empty, ends_word, finds, free_word, get_elem?, get_or, get_or-set_other, head_word, homes_after, inl, inr, items_of, length, length-set, map, map-set, mark_word, none, nothing_did, of_batches, one_turn, part_of, phase_at, positions_of, refl, set, set_else, set_here, shuts, shuts_of, some, some-injective, step, subst, sym, tail_word, times_shut, total_kept, total_set, unused_kept, ℕ, ℕ_discrete, ⊎_elim, ◌%◌, ◌+◌, ◌<◌, ◌∙◌, ◌≡◌, ◌≢◌, ◌≤◌, ◌⊎◌}
+use Rattle.batch_queue.proofs.Common.{parts_of, Act, Allows, Apart, BatchState, Becomes, EndRecord, Grows, Holds, HomeShows, IsHeld, IsValidView, IsValidStep, InvHeldOf, IsTable, IsUsed, List, MarkSays, Me, AbsState, Option, OwnShows, Rule, Shape, TableInv, State, Stays, Step, Stepped, Valid, View, ViewsShow, WordsShow, ap, arith, at_below, at_set, by_ends, carried_after, change, dec_le, dite, empty, ends_word, finds, free_word, get_elem?, get_or, get_or-set_other, head_word, homes_after, inl, inr, items_of, length, length-set, map, map-set, mark_word, none, nothing_did, of_batches, one_turn, part_of, phase_at, positions_of, refl, set, set_else, set_here, shuts, shuts_of, some, some-injective, step, subst, sym, tail_word, times_shut, total_kept, total_set, unused_kept, ℕ, ℕ_discrete, ⊎_elim, ◌%◌, ◌+◌, ◌<◌, ◌∙◌, ◌≡◌, ◌≢◌, ◌≤◌, ◌⊎◌}
 use Rattle.table_theory.proofs.Listing.{look_in}
 use Rattle.table_theory.proofs.Ruling as ruling
 use Rattle.table_theory.proofs.Stepping as ends
@@ -58,15 +58,15 @@ shows_count o words y h = record {
 }
 
 -- the rule after a step that is no event
-pub kept : (key : Shape) (s : St) (k : Rule key s) (words : List ℕ) (id number : ℕ) (v w : View) → get_elem? s.views id ≡ some v → w.own ≡ v.own → w.seen ≡ record k.now { ends = number } → Stands of_batches nothing_did (empty key) (record k.now { ends = number }) words (set s.views id w)
+pub kept : (key : Shape) (s : St) (k : Rule key s) (words : List ℕ) (id number : ℕ) (v w : View) → get_elem? s.views id ≡ some v → w.own ≡ v.own → w.seen ≡ record k.now { ends = number } → TableInv of_batches nothing_did (empty key) (record k.now { ends = number }) words (set s.views id w)
     → (r : Rule key record { words = words; homes = s.homes; views = set s.views id w }) × (w.seen ≡ r.now)
 kept key s k words id number v w at own seen stands = (
   record {
     now = record k.now { ends = number };
     room = k.room;
     stands = stands;
-    listed = look_in part_of (positions_of k.now.object) s.views id v w k.listed at (λ i. (own i).runs) (λ i. (own i).takes) (subst (λ (z : Moment BatchState). pos.Grows (positions_of z.object) (positions_of k.now.object)) (sym seen) (positioned.grows_refl (positions_of k.now.object)));
-    seen = views_set (λ u. Grows u.seen.object k.now.object) s.views id w (subst (λ (z : Moment BatchState). Grows z.object k.now.object) (sym seen) (grows_refl k.now.object)) (λ j u e ne. k.seen j u e);
+    listed = look_in part_of (positions_of k.now.object) s.views id v w k.listed at (λ i. (own i).runs) (λ i. (own i).takes) (subst (λ (z : AbsState BatchState). pos.Grows (positions_of z.object) (positions_of k.now.object)) (sym seen) (positioned.grows_refl (positions_of k.now.object)));
+    seen = views_set (λ u. Grows u.seen.object k.now.object) s.views id w (subst (λ (z : AbsState BatchState). Grows z.object k.now.object) (sym seen) (grows_refl k.now.object)) (λ j u e ne. k.seen j u e);
     homes = k.homes;
     owns = views_set (λ u. OwnShows k.now.object u.own) s.views id w (subst (λ (z : EndRecord). OwnShows k.now.object z) (sym own) (k.owns id v at)) (λ j u e ne. k.owns j u e);
     shut_once = total_kept shuts_of s.views id v w at (λ i. (own i).shuts) ∙ k.shut_once;
@@ -91,14 +91,14 @@ pub first_room : (key : Shape) (s : St) (k : Rule key s) (id : ℕ) (v : View) �
 first_room key s k id v at = ap (λ (z : BatchState). z.room) (k.stands.true_ends.first_is id v at) ∙ sym k.room
 
 -- the end is under the rule that its step keeps
-pub ruled_now : (key : Shape) (words : List ℕ) (homes : List (Option ℕ)) (s : St) (id : ℕ) (v w : View) → get_elem? s.views id ≡ some v → (r : Rule key record { words = words; homes = homes; views = set s.views id w }) × (w.seen ≡ r.now) → IsRuled w
+pub ruled_now : (key : Shape) (words : List ℕ) (homes : List (Option ℕ)) (s : St) (id : ℕ) (v w : View) → get_elem? s.views id ≡ some v → (r : Rule key record { words = words; homes = homes; views = set s.views id w }) × (w.seen ≡ r.now) → InvHeldOf w
 ruled_now key words homes s id v w at r = ruling.ruled_now Rule now_of key words homes s id v w at r
 
 -- what the end lists under the rule is true, as is the entry of its last step
-pub honest : (v : View) → IsRuled v → IsHonest of_batches v
+pub honest : (v : View) → InvHeldOf v → IsValidView of_batches v
 honest v r = ruling.honest Rule now_of (λ key s k. k.stands) v r
 
-pub step_real : (v w : View) (e : Step BatchState) (own : EndRecord) → Stepped v e own w → IsReal of_batches e
+pub step_real : (v w : View) (e : Step BatchState) (own : EndRecord) → Stepped v e own w → IsValidStep of_batches e
 step_real v w e own s = ruling.step_real Rule now_of (λ key s k. k.stands) v w e own s.ruled s.made
 
 module _ (key : Shape) (n id : ℕ) (me : Me ℕ View) (s : St) (k : Rule key s) (at : get_elem? s.views id ≡ some me.0) where
@@ -116,7 +116,7 @@ module _ (key : Shape) (n id : ℕ) (me : Me ℕ View) (s : St) (k : Rule key s)
       → times_shut k.now.object + own.shuts ≡ times_shut o + me.0.own.shuts
       → length k.now.object.parted + own.parts ≡ length o.parted + me.0.own.parts
       → ((w : View) → Stays me.0 w → Stepped me.0 (change i (get_or s.words i 0) k.now o) own w → P (w, carried_after me.1 a)) → tables.Goes (table key) n id me s i y P
-  acts i y own o a P live beside b shows valid homes mine others owned listed shuts parts tells =
+  acts i y own o a P live beside b shows valid homes mine others owned listed shuts parts reports =
       let w : View = ends.acted k.stands id me.0 at own i (get_or s.words i 0) o in let g = becomes_grows k.now.object o b in let t = total_set shuts_of s.views id me.0 w at in let once = k.shut_once in let u = total_set parts_of s.views id me.0 w at in let parted = k.parted_once in
       let r : Rule key record { words = set s.words i y; homes = homes_after s.homes me.1 a; views = set s.views id w } = record {
         now = record k.now { object = o };
@@ -135,7 +135,7 @@ module _ (key : Shape) (n id : ℕ) (me : Me ℕ View) (s : St) (k : Rule key s)
         a,
         valid,
         r,
-        tells w (refl, refl, ∣ ruled ∣₁) (record { made = ends.made_now k.stands id me.0 at own i (get_or s.words i 0) (record k.now { object = o }); ruled = ruled; grows = k.seen id me.0 at }),
+        reports w (refl, refl, ∣ ruled ∣₁) (record { made = ends.made_now k.stands id me.0 at own i (get_or s.words i 0) (record k.now { object = o }); ruled = ruled; grows = k.seen id me.0 at }),
       )
 
 pub looks : (key : Shape) (n id : ℕ) (me : Me ℕ View) (i : ℕ) → 1 ≤ me.0.member.ends → Allows (Rule key) n id me i (λ x. x) (finds (step n i 0 0 none) me)

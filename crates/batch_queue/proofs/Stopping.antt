@@ -1,10 +1,10 @@
 -- The end of a taking of some items, by all loads and the parting that led there.
-use Rattle.batch_queue.proofs.Common.{BatchState, EndRecord, Found, HasStop, List, Made, Moment, Step, View, [], ap, arith, inl, inr, load, mark_word, append_assoc, refl, subst, sym, tail_word, ℕ, ⊎_elim, ◌++◌, ◌+◌, ◌/◌, ◌<◌, ◌∙◌, ◌∷◌, ◌≡◌, ◌≤◌}
+use Rattle.batch_queue.proofs.Common.{BatchState, EndRecord, Found, HasStop, List, Performed, AbsState, Step, View, [], ap, arith, inl, inr, load, mark_word, append_assoc, refl, subst, sym, tail_word, ℕ, ⊎_elim, ◌++◌, ◌+◌, ◌/◌, ◌<◌, ◌∙◌, ◌∷◌, ◌≡◌, ◌≤◌}
 use Rattle.table_theory.proofs.Parting.{made_on}
 use Rattle.batch_queue.specs.Parts.{FoundRest, FoundStop, LostStop, LostWithin, Reached, StoppedWithin, WhyNoStop, after_walk, all, at_tail, no_more, not_parted, one_more, passed, within, with_parts}
 use Rattle.std.specs.Prelude.{Result, Ok, Err, MatchResult}
-use Rattle.table_theory.proofs.Reaching.{adds_behind}
-use Rattle.table_theory.specs.Ledgers.{Adds}
+use Rattle.table_theory.proofs.Reaching.{adds_after}
+use Rattle.table_theory.specs.Ledgers.{ExtendsTrace}
 use Rattle.table_theory.specs.declared.views.Part.{Part}
 use Rattle.batch_queue.specs.Moments.{MarkChanged}
 use Rattle.batch_queue.specs.declared.refusals.TakeRefusal.{TakeRefusal}
@@ -26,12 +26,12 @@ pub rest_stop : (v : View) (tail p e : ℕ) → FoundRest v tail p e → HasStop
 rest_stop v tail p e h = ⊎_elim (λ past. inl past) (λ all. inr (all.0, inl (batch_end v.seen.object.batches _ _ all.1.batch))) h
 
 -- a walk from the first mark on is one from the tail on
-followed_front : (most room tail first at : ℕ) (loads : List (Step BatchState)) (m : Moment BatchState) → LeadsOn 0 tail first → first / 2 ≤ tail + most → FollowedBy 0 (tail + most) room (first / 2) at loads → FollowedBy 0 (tail + most) room tail at (load (mark_word room tail) first m ∷ loads)
+followed_front : (most room tail first at : ℕ) (loads : List (Step BatchState)) (m : AbsState BatchState) → LeadsOn 0 tail first → first / 2 ≤ tail + most → FollowedBy 0 (tail + most) room (first / 2) at loads → FollowedBy 0 (tail + most) room tail at (load (mark_word room tail) first m ∷ loads)
 followed_front most room tail first at loads m on far w = record { walk = (first, m) ∷ w.walk; leads = (on, far, w.leads); end = w.end; stop = w.stop; stops = w.stops; loads_are = ap (λ (z : List (Step BatchState)). load (mark_word room tail) first m ∷ z) w.loads_are }
 
 module _ (room tail most first : ℕ) (on : LeadsOn 0 tail first) where
   module _ (far : first / 2 ≤ tail + most) (v u : View) (at : ℕ) (f : Followed 0 (tail + most) room (first / 2) at v u) where
-    front : (m : Moment BatchState) → FollowedBy 0 (tail + most) room tail at (load (mark_word room tail) first m ∷ f.loads)
+    front : (m : AbsState BatchState) → FollowedBy 0 (tail + most) room tail at (load (mark_word room tail) first m ∷ f.loads)
     front m = followed_front most room tail first at f.loads m on far f.by
 
     pub stop_all : at ≡ tail + most → FoundStop room tail most first at v u
@@ -41,11 +41,11 @@ module _ (room tail most first : ℕ) (on : LeadsOn 0 tail first) where
       abbrev next : List (Step BatchState)
       next = load (mark_word room at) mark w.seen ∷ []
 
-      pub reached : (m : Moment BatchState) → Reached room tail most at mark (load (mark_word room tail) first m ∷ (f.loads ++ next))
+      pub reached : (m : AbsState BatchState) → Reached room tail most at mark (load (mark_word room tail) first m ∷ (f.loads ++ next))
       reached m = after_walk (load (mark_word room tail) first m ∷ f.loads) (front m) less w.seen refl
 
-      pub both_made : Made v (f.loads ++ next) v.own w
-      both_made = made_on v u w f.loads next v.own v.own f.made (subst (λ (z : EndRecord). Made u next z w) f.made.did t.made)
+      pub both_made : Performed v (f.loads ++ next) v.own w
+      both_made = made_on v u w f.loads next v.own v.own f.made (subst (λ (z : EndRecord). Performed u next z w) f.made.did t.made)
 
       pub stop_none : (LeadsOn 0 at mark → ⊥) → FoundStop room tail most first at v w
       stop_none none = record { loads = f.loads ++ next; parts = 0; by = λ m. no_more mark (reached m) none refl; made = made_none_parted v w (f.loads ++ next) both_made }
@@ -53,33 +53,33 @@ module _ (room tail most first : ℕ) (on : LeadsOn 0 tail first) where
       pub stop_more : tail < at → LeadsOn 0 at mark → mark / 2 ≤ tail + most → FoundStop room tail most first (mark / 2) v w
       stop_more after leads fits = record { loads = f.loads ++ next; parts = 0; by = λ m. one_more at mark after (reached m) leads refl fits refl; made = made_none_parted v w (f.loads ++ next) both_made }
 
-  pub reached_first : (m : Moment BatchState) → Reached room tail most tail first (load (mark_word room tail) first m ∷ [])
+  pub reached_first : (m : AbsState BatchState) → Reached room tail most tail first (load (mark_word room tail) first m ∷ [])
   reached_first m = at_tail refl m refl
 
-  module _ (at mark : ℕ) (v u w : View) (pre : List (Step BatchState)) (reach : (m : Moment BatchState) → Reached room tail most at mark (load (mark_word room tail) first m ∷ pre)) (leads : LeadsOn 0 at mark) (far : tail + most < mark / 2) (made : Made v pre v.own u) where
+  module _ (at mark : ℕ) (v u w : View) (pre : List (Step BatchState)) (reach : (m : AbsState BatchState) → Reached room tail most at mark (load (mark_word room tail) first m ∷ pre)) (leads : LeadsOn 0 at mark) (far : tail + most < mark / 2) (made : Performed v pre v.own u) where
     pub stop_within_batch : StoppedWithin room tail (tail + most) (mark / 2) u w → FoundStop room tail most first (tail + most) v w
     stop_within_batch s = let rest : List (Step BatchState) = load tail_word tail s.again ∷ s.after in record {
       loads = pre ++ rest;
       parts = s.parts;
       by = λ m. within at mark (load (mark_word room tail) first m ∷ pre) s.after s.again (reach m) leads far refl s.by refl;
-      made = made_on v u w pre rest v.own (with_parts v.own s.parts) made (subst (λ (z : EndRecord). Made u rest (with_parts z s.parts) w) made.did s.made);
+      made = made_on v u w pre rest v.own (with_parts v.own s.parts) made (subst (λ (z : EndRecord). Performed u rest (with_parts z s.parts) w) made.did s.made);
     }
 
     pub lost_stop : (now : ℕ) → LostWithin room tail (tail + most) now u w → LostStop room tail most first now v w
     lost_stop now (passed past again m) = let rest : List (Step BatchState) = load tail_word now again ∷ [] in record {
       loads = pre ++ rest;
       by = λ n. passed at mark (load (mark_word room tail) first n ∷ pre) again (reach n) leads far past refl;
-      made = made_on v u w pre rest v.own v.own made (subst (λ (z : EndRecord). Made u rest z w) made.did m);
+      made = made_on v u w pre rest v.own v.own made (subst (λ (z : EndRecord). Performed u rest z w) made.did m);
     }
     lost_stop now (not_parted again end after none m) = let rest : List (Step BatchState) = load tail_word tail again ∷ (after ++ load tail_word now end ∷ []) in record {
       loads = pre ++ rest;
       by = λ n. not_parted at mark (load (mark_word room tail) first n ∷ pre) after again end (reach n) leads far none refl;
-      made = made_on v u w pre rest v.own v.own made (subst (λ (z : EndRecord). Made u rest z w) made.did m);
+      made = made_on v u w pre rest v.own v.own made (subst (λ (z : EndRecord). Performed u rest z w) made.did m);
     }
 
 -- WHAT CAME OF IT, AFTER OTHER STEPS
 
-pub changed_after : (v u w : View) (xs : List (Step BatchState)) {a : EndRecord} → Made v xs a u → MarkChanged u w → MarkChanged v w
+pub changed_after : (v u w : View) (xs : List (Step BatchState)) {a : EndRecord} → Performed v xs a u → MarkChanged u w → MarkChanged v w
 changed_after v u w xs m (p, h) = (
   p,
   record {
@@ -88,12 +88,12 @@ changed_after v u w xs m (p, h) = (
     between = h.between;
     second = h.second;
     after = h.after;
-    adds = subst (λ (z : List (Step BatchState)). Adds v z w) (sym (append_assoc xs h.before (h.first ∷ (h.between ++ h.second ∷ h.after)))) (adds_behind v u w xs (h.before ++ h.first ∷ (h.between ++ h.second ∷ h.after)) (ap (λ (z : Part). z.share) m.member) m.adds h.adds);
+    adds = subst (λ (z : List (Step BatchState)). ExtendsTrace v z w) (sym (append_assoc xs h.before (h.first ∷ (h.between ++ h.second ∷ h.after)))) (adds_after v u w xs (h.before ++ h.first ∷ (h.between ++ h.second ∷ h.after)) (ap (λ (z : Part). z.share) m.member) m.adds h.adds);
     holds = h.holds;
   },
 )
 
-pub why_after : (tail now : ℕ) (v u w : View) (xs : List (Step BatchState)) {a : EndRecord} → Made v xs a u → WhyNoStop tail now u w → WhyNoStop tail now v w
+pub why_after : (tail now : ℕ) (v u w : View) (xs : List (Step BatchState)) {a : EndRecord} → Performed v xs a u → WhyNoStop tail now u w → WhyNoStop tail now v w
 why_after tail now v u w xs m h = let share = ap (λ (z : Part). z.share) m.member in ⊎_elim
     (λ s. inl (was_so_after v u w xs _ share m.adds s))
     (λ t. inr (was_so_after v u w xs _ share m.adds t.0, changed_after v u w xs m t.1))
@@ -105,12 +105,12 @@ Stops tail last r u w = MatchResult r (λ to. (to ≡ last) × HasStop w tail la
 abbrev Traces : ℕ → ℕ → ℕ → ℕ → Result ℕ TakeRefusal → View → View → Type 0
 Traces room tail last end r u w = MatchResult r (λ to. StoppedWithin room tail last end u w) (λ e. (now : ℕ) × (e ≡ Lost now) × LostWithin room tail last now u w)
 
-pub stops_after : (tail most : ℕ) (r : Result ℕ TakeRefusal) (v u w : View) (xs : List (Step BatchState)) {a : EndRecord} → 0 < most → Made v xs a u → Stops tail (tail + most) r u w
+pub stops_after : (tail most : ℕ) (r : Result ℕ TakeRefusal) (v u w : View) (xs : List (Step BatchState)) {a : EndRecord} → 0 < most → Performed v xs a u → Stops tail (tail + most) r u w
     → MatchResult r (λ to. HasStop w tail to × (tail < to) × (to ≤ tail + most)) (λ e. (now : ℕ) × (e ≡ Lost now) × WhyNoStop tail now v w)
 stops_after tail most (Ok to) v u w xs some_item m (is, h) = (subst (HasStop w tail) (sym is) h, omega arith, omega arith)
 stops_after tail most (Err e) v u w xs some_item m (now, is, h) = (now, is, why_after tail now v u w xs m h)
 
-pub traces_after : (room tail most first at mark : ℕ) (r : Result ℕ TakeRefusal) (v u w : View) (pre : List (Step BatchState)) → LeadsOn 0 tail first → ((m : Moment BatchState) → Reached room tail most at mark (load (mark_word room tail) first m ∷ pre)) → LeadsOn 0 at mark → tail + most < mark / 2 → Made v pre v.own u → Stops tail (tail + most) r u w → Traces room tail (tail + most) (mark / 2) r u w
+pub traces_after : (room tail most first at mark : ℕ) (r : Result ℕ TakeRefusal) (v u w : View) (pre : List (Step BatchState)) → LeadsOn 0 tail first → ((m : AbsState BatchState) → Reached room tail most at mark (load (mark_word room tail) first m ∷ pre)) → LeadsOn 0 at mark → tail + most < mark / 2 → Performed v pre v.own u → Stops tail (tail + most) r u w → Traces room tail (tail + most) (mark / 2) r u w
     → MatchResult r (λ to. FoundStop room tail most first to v w) (λ e. (now : ℕ) × (e ≡ Lost now) × LostStop room tail most first now v w)
 traces_after room tail most first at mark (Ok to) v u w pre on reach leads far made (is, h) t = subst (λ (z : ℕ). FoundStop room tail most first z v w) (sym is) (stop_within_batch room tail most first on at mark v u w pre reach leads far made t)
 traces_after room tail most first at mark (Err e) v u w pre on reach leads far made s (now, is, t) = (now, is, lost_stop room tail most first on at mark v u w pre reach leads far made now t)

@@ -1,12 +1,12 @@
 -- Puts and takings that are retried.
-use Rattle.batch_queue.proofs.Common.{BatchState, List, Made, Step, View, [], ap, append-nil, append_assoc, arith, drop, inl, inr, length, map, refl, subst, sym, take, true, false, ℕ, ◌++◌, ◌∙◌, ◌∷◌, ◌≡◌}
+use Rattle.batch_queue.proofs.Common.{BatchState, List, Performed, Step, View, [], ap, append-nil, append_assoc, arith, drop, inl, inr, length, map, refl, subst, sym, take, true, false, ℕ, ◌++◌, ◌∙◌, ◌∷◌, ◌≡◌}
 use Rattle.std.proofs.Common.{true≢false, Result, Ok, Err}
 use Rattle.std.specs.Prelude.{MatchResult, IfErr, IfOk}
 use Rattle.std.specs.List.{AllByRecursion}
 use Rattle.table_theory.proofs.Looking.{looks_on, looks_made}
 use Rattle.table_theory.proofs.Parting.{made_none, made_then}
 use Rattle.table_theory.proofs.Reaching.{adds_none, all_on}
-use Rattle.table_theory.specs.Ledgers.{Adds, Looks}
+use Rattle.table_theory.specs.Ledgers.{ExtendsTrace, OnlyLoads}
 use Rattle.table_theory.specs.declared.views.Part.{Part}
 use Rattle.batch_queue.specs.Answers.{WhyNotPut, WhyNotTaken}
 use Rattle.table_theory.specs.Batches.{line_of}
@@ -24,11 +24,11 @@ tried_on [] ys = refl
 tried_on (x ∷ xs) ys = ap (λ (z : List (Step BatchState)). x ++ z) (tried_on xs ys) ∙ sym (append_assoc x (tried xs) (tried ys))
 
 -- the end made these steps, and is where it was among the ends
-pub looks_adds : (v u : View) (xs : List (Step BatchState)) → Looks v xs u → Adds v xs u × (u.member ≡ v.member)
-looks_adds v u [] h = subst (λ (z : View). Adds v [] z × (z.member ≡ v.member)) (sym h) (adds_none v, refl)
+pub looks_adds : (v u : View) (xs : List (Step BatchState)) → OnlyLoads v xs u → ExtendsTrace v xs u × (u.member ≡ v.member)
+looks_adds v u [] h = subst (λ (z : View). ExtendsTrace v [] z × (z.member ≡ v.member)) (sym h) (adds_none v, refl)
 looks_adds v u (x ∷ xs) h = (h.adds, h.member)
 
-looks_own : (v u : View) (xs : List (Step BatchState)) → Looks v xs u → u.own ≡ v.own
+looks_own : (v u : View) (xs : List (Step BatchState)) → OnlyLoads v xs u → u.own ≡ v.own
 looks_own v u [] h = ap (λ (z : View). z.own) h
 looks_own v u (x ∷ xs) h = h.did
 
@@ -47,7 +47,7 @@ refused_at Added room count (Lost now) (fits, inr (head, past, is_open, h)) = (_
 
 -- the tries of a put so far
 abbrev pub Tried : ℕ → ℕ → View → View → Type 0
-Tried room count v u = (tries : List (List (Step BatchState))) × AllByRecursion (IsLostTry room count) tries × Looks v (tried tries) u
+Tried room count v u = (tries : List (List (Step BatchState))) × AllByRecursion (IsLostTry room count) tries × OnlyLoads v (tried tries) u
 
 -- a lost answer is one try more
 pub tried_more : (room : ℕ) (items : List ℕ) (v u w : View) (r : Result ℕ PutRefusal) → is_lost r ≡ true → Tried room (length items) v u → MatchResult r (λ start. IsPut room u start items w) (λ e. RefusedPut room u (length items) e w) → Tried room (length items) v w
@@ -57,14 +57,14 @@ tried_more room items v u w (Err TooLong) is t h = absurd (true≢false (sym is)
 tried_more room items v u w (Err Closed) is t h = absurd (true≢false (sym is))
 tried_more room items v u w (Err Spent) is t h = absurd (true≢false (sym is))
 tried_more room items v u w (Err (Full head free)) is t h = absurd (true≢false (sym is))
-tried_more room items v u w (Err (Lost head)) is (tries, all, a) h = let at = refused_at (λ e. Looks u e w) room (length items) (Lost head) h in let one : List (List (Step BatchState)) = at.0 ∷ [] in (
+tried_more room items v u w (Err (Lost head)) is (tries, all, a) h = let at = refused_at (λ e. OnlyLoads u e w) room (length items) (Lost head) h in let one : List (List (Step BatchState)) = at.0 ∷ [] in (
   tries ++ one,
   all_on (IsLostTry room (length items)) tries one all ((head, at.2 (λ e. e ≡ at.0) refl), tt),
-  subst (λ (z : List (Step BatchState)). Looks v z w) (sym (tried_on tries one)) (looks_on v u w (tried tries) (tried one) a (subst (λ (z : List (Step BatchState)). Looks u z w) (sym (append-nil at.0)) at.1)),
+  subst (λ (z : List (Step BatchState)). OnlyLoads v z w) (sym (tried_on tries one)) (looks_on v u w (tried tries) (tried one) a (subst (λ (z : List (Step BatchState)). OnlyLoads u z w) (sym (append-nil at.0)) at.1)),
 )
 
-tried_refused : (room : ℕ) (v u w : View) (items : List ℕ) (r : PutRefusal) → (t : Tried room (length items) v u) → RefusedPut room u (length items) r w → RefusedPutBy (λ entries. Looks v (tried t.0 ++ entries) w) room (length items) r
-tried_refused room v u w items r (tries, all, a) h = let at = refused_at (λ e. Looks u e w) room (length items) r h in at.2 (λ e. Looks v (tried tries ++ e) w) (looks_on v u w (tried tries) at.0 a at.1)
+tried_refused : (room : ℕ) (v u w : View) (items : List ℕ) (r : PutRefusal) → (t : Tried room (length items) v u) → RefusedPut room u (length items) r w → RefusedPutBy (λ entries. OnlyLoads v (tried t.0 ++ entries) w) room (length items) r
+tried_refused room v u w items r (tries, all, a) h = let at = refused_at (λ e. OnlyLoads u e w) room (length items) r h in at.2 (λ e. OnlyLoads v (tried tries ++ e) w) (looks_on v u w (tried tries) at.0 a at.1)
 
 -- an answer that is not lost, after lost tries
 pub answered : (room : ℕ) (v u w : View) (items : List ℕ) (r : Result ℕ PutRefusal) → is_lost r ≡ false → Tried room (length items) v u → MatchResult r (λ start. IsPut room u start items w) (λ e. RefusedPut room u (length items) e w) → PutAnswer room v items r w
@@ -110,7 +110,7 @@ put_error room count v u w (Ok start) t h = h
 put_error room count v u w (Err e) t h = why_put room count v u w e t h
 
 -- what was put, and that nothing else was, of the whole call
-looks_lines : (v u : View) (xs : List (Step BatchState)) → Looks v xs u → SameLines v u
+looks_lines : (v u : View) (xs : List (Step BatchState)) → OnlyLoads v xs u → SameLines v u
 looks_lines v u xs h = let own = looks_own v u xs h in (record { puts = (λ k. map line_of (own k).runs); takes = (λ k. map line_of (own k).takes); share = ap (λ (z : Part). z.share) (looks_adds v u xs h).1 }, λ k. (own k).parts)
 
 same_then : (v u w : View) → SameLines v u → SameLines u w → SameLines v w
@@ -143,17 +143,17 @@ refused_take_at Added room most takes.Closed h = (_, h.added, λ Behind b. recor
 
 -- the tries of a taking so far
 abbrev pub Waited : ℕ → ℕ → View → View → Type 0
-Waited room most v u = (tries : List (List (Step BatchState))) × AllByRecursion (IsIdleTry room most) tries × Made v (tried tries) v.own u
+Waited room most v u = (tries : List (List (Step BatchState))) × AllByRecursion (IsIdleTry room most) tries × Performed v (tried tries) v.own u
 
 pub waited_none : (room most : ℕ) (v : View) → Waited room most v v
 waited_none room most v = ([], tt, made_none v)
 
 pub waited_more : (room most : ℕ) (v u w : View) (line : ℕ → List ℕ) (r : Result ℕ TakeRefusal) → must_wait r ≡ true → Waited room most v u → MatchResult r (λ n. TookBatches room u most (line n) w) (λ e. RefusedTake room u most e w) → Waited room most v w
 waited_more room most v u w line (Ok n) is t h = absurd (true≢false (sym is))
-waited_more room most v u w line (Err e) is (tries, all, a) h = let at = refused_take_at (λ z. Made u z u.own w) room most e h in let one : List (List (Step BatchState)) = at.0 ∷ [] in (
+waited_more room most v u w line (Err e) is (tries, all, a) h = let at = refused_take_at (λ z. Performed u z u.own w) room most e h in let one : List (List (Step BatchState)) = at.0 ∷ [] in (
   tries ++ one,
   all_on (IsIdleTry room most) tries one all ((e, is, at.2 (λ z. z ≡ at.0) refl), tt),
-  subst (λ (z : List (Step BatchState)). Made v z v.own w) (ap (λ (z : List (Step BatchState)). tried tries ++ z) (sym (append-nil at.0)) ∙ sym (tried_on tries one)) (made_then v u w (tried tries) at.0 v.own (λ d. d) a at.1),
+  subst (λ (z : List (Step BatchState)). Performed v z v.own w) (ap (λ (z : List (Step BatchState)). tried tries ++ z) (sym (append-nil at.0)) ∙ sym (tried_on tries one)) (made_then v u w (tried tries) at.0 v.own (λ d. d) a at.1),
 )
 
 pub taken_at_last : (room most n : ℕ) (v u w : View) (line : List ℕ) → Waited room most v u → TookBatches room u most line w → TakeAnswer room v most line (Ok n) w
@@ -178,8 +178,8 @@ taken_at_last room most n v u w line (tries, all, a) (tail, mark, m, t) = let o 
 )
 
 pub refused_at_last : (room most : ℕ) (v u w : View) (line : List ℕ) (r : TakeRefusal) → must_wait (Err r) ≡ false → Waited room most v u → RefusedTake room u most r w → TakeAnswer room v most line (Err r) w
-refused_at_last room most v u w line r is (tries, all, a) h = let at = refused_take_at (λ z. Made u z u.own w) room most r h in
-    (is, tries, all, at.2 (λ z. Made v (tried tries ++ z) v.own w) (made_then v u w (tried tries) at.0 v.own (λ d. d) a at.1))
+refused_at_last room most v u w line r is (tries, all, a) h = let at = refused_take_at (λ z. Performed u z u.own w) room most r h in
+    (is, tries, all, at.2 (λ z. Performed v (tried tries ++ z) v.own w) (made_then v u w (tried tries) at.0 v.own (λ d. d) a at.1))
 
 why_taken : (room most : ℕ) (v u w : View) (r : TakeRefusal) → Waited room most v u → WhyNotTaken u most r w → WhyNotTaken v most r w
 why_taken room most v u w (takes.Empty at) (tries, all, a) (h, k) = (was_so_after v u w (tried tries) _ (ap (λ (z : Part). z.share) a.member) a.adds h, was_so_after v u w (tried tries) _ (ap (λ (z : Part). z.share) a.member) a.adds k)

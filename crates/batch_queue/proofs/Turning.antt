@@ -120,8 +120,8 @@ reads_none room start count c values old long is = record {
   items = sym (drop_none old);
 }
 
-set_behind : (got old : List ℕ) (x i : ℕ) → length got ≡ i → i < length old → set (got ++ drop i old) i x ≡ (got ++ x ∷ []) ++ drop (suc i) old
-set_behind got old x i e h = let d = drop_step old i h in ap (λ (z : List ℕ). set (got ++ z) i x) d.1 ∙ ((λ k. set (got ++ d.0 ∷ drop (suc i) old) (sym e k) x) ∙ set_front got (drop (suc i) old) d.0 x)
+set_after : (got old : List ℕ) (x i : ℕ) → length got ≡ i → i < length old → set (got ++ drop i old) i x ≡ (got ++ x ∷ []) ++ drop (suc i) old
+set_after got old x i e h = let d = drop_step old i h in ap (λ (z : List ℕ). set (got ++ z) i x) d.1 ∙ ((λ k. set (got ++ d.0 ∷ drop (suc i) old) (sym e k) x) ∙ set_front got (drop (suc i) old) d.0 x)
 
 pub reads_more : (room start i count slot item : ℕ) (first c c' : List Slot) (old new : List ℕ) → (r : Reads room start i count first c old new) → i < count → count ≤ length old → slot ≡ (start + i) % room → c ≡ (slot, item) ∷ rest c → c' ≡ turned c → Reads room start (i + 1) count first c' old (set new i item)
 reads_more room start i count slot item first c c' old new r below fits e here after = let long = r.long in let more = r.more in let many = r.many in
@@ -134,7 +134,7 @@ reads_more room start i count slot item first c c' old new r below fits e here a
       more = omega arith;
       many = omega arith;
       is = t.is ∙ ap (λ (z : ℕ). slots_of room z t.more ++ slots_of room start (r.kept ++ item ∷ [])) (let n : suc (start + i) ≡ start + (i + 1) = omega arith in n);
-      items = ap (λ (z : List ℕ). set z i item) r.items ∙ (set_behind r.got old item i r.long (omega arith) ∙ ap (λ (z : ℕ). (r.got ++ item ∷ []) ++ drop z old) (let n : suc i ≡ i + 1 = omega arith in n));
+      items = ap (λ (z : List ℕ). set z i item) r.items ∙ (set_after r.got old item i r.long (omega arith) ∙ ap (λ (z : ℕ). (r.got ++ item ∷ []) ++ drop z old) (let n : suc i ≡ i + 1 = omega arith in n));
     }
 
 pub reads_all : (room start i count : ℕ) (first c : List Slot) (old new : List ℕ) → (r : Reads room start i count first c old new) → i ≡ count → (new ≡ map value_of first ++ drop count old) × ((values : List ℕ) × (length values ≡ count) × (c ≡ slots_of room start values))

@@ -1,5 +1,5 @@
 -- The result of a walk along the marks.
-use Rattle.batch_queue.proofs.Common.{IsStop, IsRest, ◌⊎◌, BatchState, Found, Grows, IsEdge, IsReal, IsRuled, IsSame, IsSeated, Lawful, List, Made, MarkSays, Moment, Stays, Step, View, WordsShow, [], add-mod_right, ap, append-nil, arith, concat, dec_le, dec_lt, dite, get_or, inl, inr, items_of, length, load, mark_word, of_batches, phase_at, refl, subst, suc, sym, zero, ℕ, ⊎_elim, ◌%◌, ◌++◌, ◌+◌, ◌/◌, ◌<◌, ◌∙◌, ◌∷◌, ◌≡◌, ◌≤◌}
+use Rattle.batch_queue.proofs.Common.{IsStop, IsRest, ◌⊎◌, BatchState, Found, Grows, IsEdge, IsValidStep, InvHeldOf, IsSame, IsSeated, Lawful, List, Performed, MarkSays, AbsState, Stays, Step, View, WordsShow, [], add-mod_right, ap, append-nil, arith, concat, dec_le, dec_lt, dite, get_or, inl, inr, items_of, length, load, mark_word, of_batches, phase_at, refl, subst, suc, sym, zero, ℕ, ⊎_elim, ◌%◌, ◌++◌, ◌+◌, ◌/◌, ◌<◌, ◌∙◌, ◌∷◌, ◌≡◌, ◌≤◌}
 use Rattle.atomic_table.specs.Seated.{TableId}
 use Rattle.atomic_table.specs.declared.shared.Seat.{Seat}
 use Rattle.table_theory.proofs.Parting.{made_none, made_then}
@@ -26,11 +26,11 @@ still_seated room table old new q same s = record {
 }
 
 -- the queue that the end sees has as many places
-pub seen_room : (w : View) → IsRuled w → w.seen.object.room ≡ w.first.room
-seen_room w r = ap (λ (z : Moment BatchState). z.object.room) r.seen ∙ sym (first_room r.key r.state r.rule r.number w r.here)
+pub seen_room : (w : View) → InvHeldOf w → w.seen.object.room ≡ w.first.room
+seen_room w r = ap (λ (z : AbsState BatchState). z.object.room) r.seen ∙ sym (first_room r.key r.state r.rule r.number w r.here)
 
 -- a number that was found is that of a real step
-pub found_real : (v w : View) (word r : ℕ) → Found v word r w → IsReal of_batches (load word r w.seen)
+pub found_real : (v w : View) (word r : ℕ) → Found v word r w → IsValidStep of_batches (load word r w.seen)
 found_real v w word r f = step_real v w (load word r w.seen) v.own f
 
 -- THE MARKS
@@ -98,7 +98,7 @@ starts_grows (suc parity) v w base g h = let t = g.freed in omega arith
 pub not_given : (o : BatchState) (words : List ℕ) (base p mark : ℕ) → Lawful o → WordsShow o words → o.freed ≡ base → base ≤ p → ((i : ℕ) → base ≤ i → i < p → 3 ≤ phase_at o i) → IsEdge o.takings p → get_or words (mark_word o.room p) 0 ≡ mark
     → (LeadsOn 1 p mark → mark / 2 ≤ base + o.room → ⊥) → IsGivenBackTo o p
 not_given o words base p mark l h free on all edge is short = (
-  (λ i below. dite (dec_lt i base) (λ low. l.behind i (omega arith)) (λ high. all i (omega arith) below)),
+  (λ i below. dite (dec_lt i base) (λ low. l.taken_within i (omega arith)) (λ high. all i (omega arith) below)),
   dite (dec_lt (phase_at o p) 3) (λ low. low) (λ up. (let within = dite (dec_lt p o.taken) (λ y. y) (λ far. (let a = l.after p (omega arith) in absurd (omega arith))) in let total = l.taken_is in
       let t = edge_batch o.takings p edge (omega arith) in let word = h.taking_mark p t.0 t.1 t.2 (omega arith) (omega arith) in let less = t.2 in
       let end : t.0 ≤ o.taken = (let b = edge_within o.takings t.0 (batch_end o.takings p t.0 t.1) in omega arith) in let c = taken_claimed o l in let w = l.within in let e = sym is ∙ word in
@@ -122,7 +122,7 @@ end_on : (p : ℕ) (xs ys : Walk) → end_of p (xs ++ ys) ≡ end_of (end_of p x
 end_on p [] ys = refl
 end_on p (x ∷ xs) ys = end_on (x.0 / 2) xs ys
 
-leads_more : (parity most p mark : ℕ) (m : Moment BatchState) (xs : Walk) → IsWalk parity most p xs → LeadsOn parity (end_of p xs) mark → mark / 2 ≤ most → IsWalk parity most p (xs ++ (mark, m) ∷ [])
+leads_more : (parity most p mark : ℕ) (m : AbsState BatchState) (xs : Walk) → IsWalk parity most p xs → LeadsOn parity (end_of p xs) mark → mark / 2 ≤ most → IsWalk parity most p (xs ++ (mark, m) ∷ [])
 leads_more parity most p mark m [] h on far = (on, far, tt)
 leads_more parity most p mark m (x ∷ xs) h on far = (h.0, h.1, leads_more parity most (x.0 / 2) mark m xs h.2 on far)
 
@@ -131,7 +131,7 @@ pub record Follows (parity most room from to : ℕ) (v w : View) : Type 0 where
   pub walk : Walk
   pub leads : IsWalk parity most from walk
   pub end : to ≡ end_of from walk
-  pub made : Made v (walked room from walk) v.own w
+  pub made : Performed v (walked room from walk) v.own w
 
 pub follows_none : (parity most room from : ℕ) (v : View) → Follows parity most room from from v v
 follows_none parity most room from v = record { walk = []; leads = tt; end = refl; made = made_none v }
@@ -141,7 +141,7 @@ follows_more parity most room from at mark v u w h f on far = let one : Walk = (
   walk = h.walk ++ one;
   leads = leads_more parity most from mark w.seen h.walk h.leads (subst (λ (z : ℕ). LeadsOn parity z mark) h.end on) far;
   end = sym (end_on from h.walk one);
-  made = subst (λ (z : List (Step BatchState)). Made v z v.own w)
+  made = subst (λ (z : List (Step BatchState)). Performed v z v.own w)
       ((λ k. walked room from h.walk ++ load (mark_word room (h.end k)) mark w.seen ∷ []) ∙ sym (walked_on room from h.walk one))
       (made_then v u w (walked room from h.walk) (load (mark_word room at) mark w.seen ∷ []) v.own (λ d. d) h.made f.made);
 }

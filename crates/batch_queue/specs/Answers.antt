@@ -5,18 +5,18 @@ use Rattle.batch_queue.specs.declared.refusals.PutRefusal.{PutRefusal}
 use Rattle.batch_queue.specs.declared.refusals.PutRefusal.TheVariants as not_put
 use Rattle.batch_queue.specs.declared.refusals.TakeRefusal.{TakeRefusal}
 use Rattle.batch_queue.specs.declared.refusals.TakeRefusal.TheVariants as not_taken
-use Rattle.batch_queue.specs.Moments.{WasSo, Changed, claimed, IsGivenBackTo}
+use Rattle.batch_queue.specs.Moments.{AtSomeMoment, AtTwoMoments, claimed, IsGivenBackTo}
 use Rattle.batch_queue.specs.Object.{phase_at, IsRest, IsStop}
 use Rattle.batch_queue.specs.Own.{View}
 
 -- the meaning of a refused claim of at least `least` and at most `want` items
 abbrev pub WhyNotClaimed : View → ℕ → ℕ → ℕ → PutRefusal → View → Type 0
-WhyNotClaimed v room want least not_put.Closed w = WasSo v w (λ o. o.shut ≡ true)
-WhyNotClaimed v room want least not_put.Spent w = WasSo v w (λ o. POSITIONS ≤ claimed o + want)
+WhyNotClaimed v room want least not_put.Closed w = AtSomeMoment v w (λ o. o.shut ≡ true)
+WhyNotClaimed v room want least not_put.Spent w = AtSomeMoment v w (λ o. POSITIONS ≤ claimed o + want)
 WhyNotClaimed v room want least (not_put.Full head free) w = (free + room < head + least)
-    × WasSo v w (λ o. (head ≤ claimed o) × IsGivenBackTo o free)
+    × AtSomeMoment v w (λ o. (head ≤ claimed o) × IsGivenBackTo o free)
 WhyNotClaimed v room want least (not_put.Lost head) w =
-    Changed v w (λ o later. (claimed o < claimed later) ⊎ (o.freed < later.freed))
+    AtTwoMoments v w (λ o later. (claimed o < claimed later) ⊎ (o.freed < later.freed))
 WhyNotClaimed v room want least refusal w = ⊥
 
 -- the meaning of a refused put of `count` items
@@ -32,9 +32,9 @@ WhyNotPutSome v room count refusal w = WhyNotClaimed v room (min count room) 1 r
 
 -- the meaning of a refused taking into a buffer of `most` items
 abbrev pub WhyNotTaken : View → ℕ → TakeRefusal → View → Type 0
-WhyNotTaken v most (not_taken.Empty at) w = WasSo v w (λ o. (o.taken ≡ at) × (phase_at o at ≡ 0))
-    × WasSo v w (λ o. o.shut ≡ true → o.taken < claimed o)
+WhyNotTaken v most (not_taken.Empty at) w = AtSomeMoment v w (λ o. (o.taken ≡ at) × (phase_at o at ≡ 0))
+    × AtSomeMoment v w (λ o. o.shut ≡ true → o.taken < claimed o)
 WhyNotTaken v most (not_taken.ShortBuffer at count) w = (most < count)
-    × WasSo v w (λ o. (o.taken ≡ at) × IsStop o at × IsRest o.batches at (at + count) × (phase_at o at ≡ 1))
-WhyNotTaken v most (not_taken.Lost tail) w = Changed v w (λ o later. (o.taken < later.taken) × (later.taken ≡ tail))
-WhyNotTaken v most not_taken.Closed w = WasSo v w (λ o. (o.shut ≡ true) × (o.taken ≡ claimed o))
+    × AtSomeMoment v w (λ o. (o.taken ≡ at) × IsStop o at × IsRest o.batches at (at + count) × (phase_at o at ≡ 1))
+WhyNotTaken v most (not_taken.Lost tail) w = AtTwoMoments v w (λ o later. (o.taken < later.taken) × (later.taken ≡ tail))
+WhyNotTaken v most not_taken.Closed w = AtSomeMoment v w (λ o. (o.shut ≡ true) × (o.taken ≡ claimed o))

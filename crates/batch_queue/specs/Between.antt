@@ -9,13 +9,13 @@ use Rattle.event_theory.specs.Runs.{flat}
 use Rattle.event_theory.specs.Queues.{Queue}
 use Rattle.event_theory.specs.Lawful.{IsLawfulQueue}
 use Rattle.table_theory.specs.declared.queues.Batch.{Batch}
-use Rattle.table_theory.specs.declared.views.Moment.{Moment}
+use Rattle.table_theory.specs.declared.views.AbsState.{AbsState}
 use Rattle.table_theory.specs.Batches.{line_of}
 use Rattle.table_theory.specs.Filing.{Owned, ListedOnce, entry_of}
-use Rattle.table_theory.specs.Ledgers.{AreTrue}
+use Rattle.table_theory.specs.Ledgers.{AreValidViews}
 use Rattle.table_theory.specs.Listing.{all_places, Adjacent}
 use Rattle.table_theory.specs.Positioned.{blank, item_of}
-use Rattle.table_theory.specs.QueueOf.{run_in, up_in, queue_of, IsHistory}
+use Rattle.table_theory.specs.QueueOf.{run_in, published_in, queue_of, IsHistory}
 use Rattle.table_theory.specs.Sharing.{total}
 use Rattle.table_theory.specs.Unused.{AreZero}
 use Rattle.batch_queue.specs.declared.layout.TheConstants.{POSITIONS}
@@ -46,7 +46,7 @@ pub record IsShown (key : Shape) (s : State ℕ View) (c : Queue) : Type 0 where
   pub once : ListedOnce runs (map (λ view. view.own.runs) s.views)
   -- each run begins where the previous run ends: no two runs overlap, and no run is within another
   pub side_by_side : Adjacent 0 runs
-  pub raised : (run index : ℕ) → c.raised run index ≡ up_in (slice_get runs run) index
+  pub raised : (run index : ℕ) → c.raised run index ≡ published_in (slice_get runs run) index
   pub each : (k : ℕ) (run : Owned Batch) → get_elem? runs k ≡ some run → RunShows key s c k run.2
   pub takings : List (Owned Batch)
   -- each taking is in one view, once; the takings have each position below the tail once, with the item of its run
@@ -67,7 +67,7 @@ pub record IsShown (key : Shape) (s : State ℕ View) (c : Queue) : Type 0 where
 -- A lawful queue is shown. Its runs are the batches, and its takings are the first items, each in the order of claims.
 -- If no end parted a batch, each taking is a group of whole batches
 pub record ShowsQueue (key : Shape) (s : State ℕ View) : Type 0 where
-  pub now : Moment BatchState
+  pub now : AbsState BatchState
   pub state_lawful : Lawful now.object
   pub queue : Queue
   pub lawful : IsLawfulQueue queue
@@ -89,4 +89,4 @@ pub record ShowsQueue (key : Shape) (s : State ℕ View) : Type 0 where
 -- own last step. The number of ends is the number of ends that exist
 pub record ShowsEnds (key : Shape) (s : State ℕ View) : Type 0 where
   pub shows : ShowsQueue key s
-  pub true_ends : AreTrue of_batches nothing_did (empty key) shows.now s.views
+  pub true_ends : AreValidViews of_batches nothing_did (empty key) shows.now s.views

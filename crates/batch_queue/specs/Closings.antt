@@ -1,6 +1,6 @@
 -- Answers of closing and of shutting a queue.
 use Rattle.std.specs.Prelude.{◌≡◌, ◌+◌, ◌≤◌, ℕ, Bool, List, [], ◌∷◌, length, drop, nat_lt}
-use Rattle.table_theory.specs.declared.views.Moment.{Moment}
+use Rattle.table_theory.specs.declared.views.AbsState.{AbsState}
 use Rattle.table_theory.specs.Ledgers as ends
 use Rattle.table_theory.specs.Listing.{PartsShow}
 use Rattle.table_theory.specs.Sharing.{IsWhole}
@@ -15,8 +15,8 @@ use Rattle.batch_queue.specs.Rules.{times_shut}
 
 -- the queue is shut; the queue was open exactly if the head word that was found had no shut mark
 abbrev pub ShutNow : View → Bool → View → Type 0
-ShutNow v was_open w = (head : ℕ) × (m : Moment BatchState) × (was_open ≡ nat_lt head SHUT)
-    × ends.Made v (ends.change head_word head m (with_shut m.object) ∷ []) (with_shutting v.own was_open) w
+ShutNow v was_open w = (head : ℕ) × (m : AbsState BatchState) × (was_open ≡ nat_lt head SHUT)
+    × ends.Performed v (ends.change head_word head m (with_shut m.object) ∷ []) (with_shutting v.own was_open) w
 
 -- The queue is closed by an end with the whole share, which has seen all of the queue, and each split was joined. The
 -- items put are those taken and then those left, at most one left for each place. The batches put are the queue's, each

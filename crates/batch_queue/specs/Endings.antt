@@ -4,13 +4,13 @@ use Rattle.batch_queue.specs.Layout.{ends_word}
 use Rattle.batch_queue.specs.Own.{View, nothing_did, did_both}
 
 -- the number of ends was made one more, and the end gave a part of its share away
-abbrev pub Divided : View → View → Type 0
-Divided v w = ends.Divided ends_word v w
+abbrev pub SplitBy : View → View → Type 0
+SplitBy v w = ends.SplitBy ends_word v w
 
 -- the new end has nothing except the part of the share, and has seen what the other end had seen
-abbrev pub IsNewborn : View → View → View → Type 0
-IsNewborn old new born = ends.IsNewborn nothing_did old new born
+abbrev pub IsNewEnd : View → View → View → Type 0
+IsNewEnd old new born = ends.IsNewEnd nothing_did old new born
 
 -- the end has what both ends had, and the number of ends was made one less
-abbrev pub TookIn : View → View → View → Type 0
-TookIn v u w = ends.TookIn did_both ends_word v u w
+abbrev pub JoinedBy : View → View → View → Type 0
+JoinedBy v u w = ends.JoinedBy did_both ends_word v u w

@@ -84,7 +84,7 @@ pub record Lawful (o : BatchState) : Type 0 where
   pub within : length (items_of o) ≤ o.freed + o.room
   pub before : (i : ℕ) → i < o.taken → 2 ≤ phase_at o i
   pub after : (i : ℕ) → o.taken ≤ i → phase_at o i ≤ 1
-  pub behind : (i : ℕ) → i < o.freed → 3 ≤ phase_at o i
+  pub taken_within : (i : ℕ) → i < o.freed → 3 ≤ phase_at o i
   pub whole : AreWhole o
   pub stop : IsStop o o.taken
   pub solid : AreSolid o.batches

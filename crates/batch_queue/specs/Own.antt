@@ -6,10 +6,10 @@ use mathlib.Core.Option.{some}
 use lib.ListN.{get_elem?}
 use Rattle.table_theory.specs.declared.queues.Batch.{Batch}
 use Rattle.table_theory.specs.declared.queues.QueueView.{QueueView}
-use Rattle.table_theory.specs.declared.views.Ledger.{Ledger}
+use Rattle.table_theory.specs.declared.views.EndState.{EndState}
 pub use Rattle.table_theory.specs.Batches.{run, taking}
-use Rattle.table_theory.specs.Ledgers.{Subject}
-pub use Rattle.table_theory.specs.Ledgers.{Looks}
+use Rattle.table_theory.specs.Ledgers.{ObjectModel}
+pub use Rattle.table_theory.specs.Ledgers.{OnlyLoads}
 use Rattle.table_theory.specs.Positioned.{blank}
 use Rattle.batch_queue.specs.declared.rule.BatchState.{BatchState}
 use Rattle.batch_queue.specs.declared.rule.EndRecord.{EndRecord}
@@ -21,7 +21,7 @@ use Rattle.batch_queue.specs.Shown.{WordsShow}
 
 -- the view of an end of a queue: all that the end knows
 abbrev pub View : Type 0
-View = Ledger EndRecord BatchState
+View = EndState EndRecord BatchState
 
 -- the slots of `count` positions from `start` on, in this phase
 abbrev pub holding : ℕ → ℕ → ℕ → HeldSlots
@@ -49,7 +49,7 @@ did_both d e = record {
 }
 
 -- queues as a subject of the theory of tables: the ends word, and what the words show, what is lawful, what can happen
-abbrev pub of_batches : Subject BatchState
+abbrev pub of_batches : ObjectModel BatchState
 of_batches = record { ends_word = ends_word; Shows = WordsShow; IsLawful = Lawful; Happens = Becomes }
 
 -- the end as the theory of queues has it: its runs and takings, and the queue that it has seen
@@ -77,7 +77,7 @@ pub record HasRun (d : EndRecord) : Type 0 where
   pub here : get_elem? d.runs number ≡ some run
   pub start : run.start ≡ d.held.start
   pub long : length run.places ≡ d.held.count
-  pub low : (i : ℕ) → i < length run.places → (slice_index_or run.places i blank).written < 2
+  pub low : (i : ℕ) → i < length run.places → (slice_index_or run.places i blank).stage < 2
 
 -- the record after that run was published: no slots are held
 abbrev pub with_published : (d : EndRecord) → HasRun d → EndRecord

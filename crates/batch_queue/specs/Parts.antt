@@ -2,8 +2,8 @@
 use Rattle.std.specs.Prelude.{◌≡◌, ◌≢◌, ◌⊎◌, ◌+◌, ◌/◌, ◌<◌, ◌≤◌, ℕ, min, List, [], ◌∷◌, ◌++◌, length, take, drop}
 use Rattle.std.specs.Prelude.{Bool, MatchBool}
 use Rattle.atomic_table.specs.Table.{Me}
-use Rattle.table_theory.specs.declared.views.Moment.{Moment}
-use Rattle.table_theory.specs.Ledgers.{Step, load, change, Made}
+use Rattle.table_theory.specs.declared.views.AbsState.{AbsState}
+use Rattle.table_theory.specs.Ledgers.{Step, load, change, Performed}
 use Rattle.table_theory.specs.Lines as lines
 use Rattle.batch_queue.specs.declared.refusals.TakeRefusal.{TakeRefusal}
 use Rattle.batch_queue.specs.declared.refusals.TakeRefusal.TheVariants.{ShortBuffer, Lost}
@@ -12,7 +12,7 @@ use Rattle.batch_queue.specs.declared.rule.EndRecord.{EndRecord}
 use Rattle.batch_queue.specs.Answers.{WhyNotTaken}
 use Rattle.batch_queue.specs.Layout.{tail_word, mark_word}
 use Rattle.batch_queue.specs.Lines.{lines_put, lines_taken, times_parted}
-use Rattle.batch_queue.specs.Moments.{WasSo, MarkChanged}
+use Rattle.batch_queue.specs.Moments.{AtSomeMoment, MarkChanged}
 use Rattle.batch_queue.specs.Object.{items_of, phase_at, IsRest, IsStop, with_back, with_part, with_taken}
 use Rattle.batch_queue.specs.Own.{View, with_taking}
 use Rattle.batch_queue.specs.Slots.{slots_of}
@@ -27,13 +27,13 @@ with_parts d n = record d { parts = d.parts + n }
 -- By what was found, a taking can end at this position, within the batch that ends at `end`. Its mark led on already,
 -- or a compare-and-swap changed the mark now, or the mark led on when it was found again. `parts` counts the change
 pub data PartedBy (room position end parts : ℕ) (entries : List (Step BatchState)) : Type 0 where
-  already : (mark : ℕ) (m : Moment BatchState) → LeadsOn 0 position mark → parts ≡ 0
+  already : (mark : ℕ) (m : AbsState BatchState) → LeadsOn 0 position mark → parts ≡ 0
       → entries ≡ load (mark_word room position) mark m ∷ [] → PartedBy room position end parts entries
-  parted : (mark : ℕ) (m n : Moment BatchState) → mark / 2 ≤ position → parts ≡ 1
+  parted : (mark : ℕ) (m n : AbsState BatchState) → mark / 2 ≤ position → parts ≡ 1
       → entries ≡ load (mark_word room position) mark m
       ∷ change (mark_word room position) mark n (with_part n.object position end) ∷ []
       → PartedBy room position end parts entries
-  meanwhile : (mark found : ℕ) (m n : Moment BatchState) → mark / 2 ≤ position → found ≢ mark
+  meanwhile : (mark found : ℕ) (m n : AbsState BatchState) → mark / 2 ≤ position → found ≢ mark
       → LeadsOn 0 position found → parts ≡ 0
       → entries ≡ load (mark_word room position) mark m ∷ load (mark_word room position) found n ∷ []
       → PartedBy room position end parts entries
@@ -41,9 +41,9 @@ pub data PartedBy (room position end parts : ℕ) (entries : List (Step BatchSta
 -- it is not known that a taking can end at this position: its place was given back, or its mark was changed to another
 -- number
 pub data NotPartedBy (room position : ℕ) (entries : List (Step BatchState)) : Type 0 where
-  given : (mark : ℕ) (m : Moment BatchState) → LeadsOn 1 position mark
+  given : (mark : ℕ) (m : AbsState BatchState) → LeadsOn 1 position mark
       → entries ≡ load (mark_word room position) mark m ∷ [] → NotPartedBy room position entries
-  changed : (mark found : ℕ) (m n : Moment BatchState) → mark / 2 ≤ position → found ≢ mark
+  changed : (mark found : ℕ) (m n : AbsState BatchState) → mark / 2 ≤ position → found ≢ mark
       → (LeadsOn 0 position found → ⊥)
       → entries ≡ load (mark_word room position) mark m ∷ load (mark_word room position) found n ∷ []
       → NotPartedBy room position entries
@@ -53,14 +53,14 @@ pub record PartedLook (room position end : ℕ) (stop : Bool) (v w : View) : Typ
   pub entries : List (Step BatchState)
   pub parts : ℕ
   pub by : MatchBool stop (PartedBy room position end parts entries) ((parts ≡ 0) × NotPartedBy room position entries)
-  pub made : Made v entries (with_parts v.own parts) w
+  pub made : Performed v entries (with_parts v.own parts) w
 
 -- this mark was found at the position `at`: `at` is the tail, or marks of published batches were followed to it
 pub data Reached (room tail most at mark : ℕ) (loads : List (Step BatchState)) : Type 0 where
-  at_tail : at ≡ tail → (m : Moment BatchState) → loads ≡ load (mark_word room tail) mark m ∷ []
+  at_tail : at ≡ tail → (m : AbsState BatchState) → loads ≡ load (mark_word room tail) mark m ∷ []
       → Reached room tail most at mark loads
   after_walk : (walk : List (Step BatchState)) → FollowedBy 0 (tail + most) room tail at walk → at < tail + most
-      → (m : Moment BatchState) → loads ≡ walk ++ load (mark_word room at) mark m ∷ []
+      → (m : AbsState BatchState) → loads ≡ walk ++ load (mark_word room at) mark m ∷ []
       → Reached room tail most at mark loads
 
 -- The end of a taking of up to `most` items: the limit itself; or where nothing more is published; or the end of a
@@ -72,7 +72,7 @@ pub data StopBy (room tail most to parts : ℕ) (loads : List (Step BatchState))
       → StopBy room tail most to parts loads
   one_more : (at mark : ℕ) → tail < at → Reached room tail most at mark loads → LeadsOn 0 at mark → to ≡ mark / 2
       → to ≤ tail + most → parts ≡ 0 → StopBy room tail most to parts loads
-  within : (at mark : ℕ) (before after : List (Step BatchState)) (again : Moment BatchState)
+  within : (at mark : ℕ) (before after : List (Step BatchState)) (again : AbsState BatchState)
       → Reached room tail most at mark before → LeadsOn 0 at mark → tail + most < mark / 2 → to ≡ tail + most
       → PartedBy room to (mark / 2) parts after → loads ≡ before ++ load tail_word tail again ∷ after
       → StopBy room tail most to parts loads
@@ -80,10 +80,10 @@ pub data StopBy (room tail most to parts : ℕ) (loads : List (Step BatchState))
 -- No taking ends within the batch that is too long: the tail had moved on when it was found again; or it was not known
 -- that a taking can end there (`NotPartedBy`), and the tail was then found once more
 pub data LostBy (room tail most now : ℕ) (loads : List (Step BatchState)) : Type 0 where
-  passed : (at mark : ℕ) (before : List (Step BatchState)) (again : Moment BatchState)
+  passed : (at mark : ℕ) (before : List (Step BatchState)) (again : AbsState BatchState)
       → Reached room tail most at mark before → LeadsOn 0 at mark → tail + most < mark / 2 → tail < now
       → loads ≡ before ++ load tail_word now again ∷ [] → LostBy room tail most now loads
-  not_parted : (at mark : ℕ) (before after : List (Step BatchState)) (again last : Moment BatchState)
+  not_parted : (at mark : ℕ) (before after : List (Step BatchState)) (again last : AbsState BatchState)
       → Reached room tail most at mark before → LeadsOn 0 at mark → tail + most < mark / 2
       → NotPartedBy room (tail + most) after
       → loads ≡ before ++ load tail_word tail again ∷ (after ++ load tail_word now last ∷ [])
@@ -99,35 +99,35 @@ FoundRest v tail p e = (tail < v.seen.object.taken)
 pub record FoundStop (room tail most first to : ℕ) (v w : View) : Type 0 where
   pub loads : List (Step BatchState)
   pub parts : ℕ
-  pub by : (m : Moment BatchState) → StopBy room tail most to parts (load (mark_word room tail) first m ∷ loads)
-  pub made : Made v loads (with_parts v.own parts) w
+  pub by : (m : AbsState BatchState) → StopBy room tail most to parts (load (mark_word room tail) first m ∷ loads)
+  pub made : Performed v loads (with_parts v.own parts) w
 
 pub record LostStop (room tail most first now : ℕ) (v w : View) : Type 0 where
   pub loads : List (Step BatchState)
-  pub by : (m : Moment BatchState) → LostBy room tail most now (load (mark_word room tail) first m ∷ loads)
-  pub made : Made v loads v.own w
+  pub by : (m : AbsState BatchState) → LostBy room tail most now (load (mark_word room tail) first m ∷ loads)
+  pub made : Performed v loads v.own w
 
 -- the tail was found unchanged, and then a taking can end at `last`, within the batch that ends at `end`
 pub record StoppedWithin (room tail last end : ℕ) (v w : View) : Type 0 where
-  pub again : Moment BatchState
+  pub again : AbsState BatchState
   pub after : List (Step BatchState)
   pub parts : ℕ
   pub by : PartedBy room last end parts after
-  pub made : Made v (load tail_word tail again ∷ after) (with_parts v.own parts) w
+  pub made : Performed v (load tail_word tail again ∷ after) (with_parts v.own parts) w
 
 -- the tail had moved on; or it was found unchanged, it was not known that a taking can end there, and the tail was
 -- found once more
 pub data LostWithin (room tail last now : ℕ) (v w : View) : Type 0 where
-  passed : tail < now → (again : Moment BatchState) → Made v (load tail_word now again ∷ []) v.own w
+  passed : tail < now → (again : AbsState BatchState) → Performed v (load tail_word now again ∷ []) v.own w
       → LostWithin room tail last now v w
-  not_parted : (again end : Moment BatchState) (after : List (Step BatchState)) → NotPartedBy room last after
-      → Made v (load tail_word tail again ∷ (after ++ load tail_word now end ∷ [])) v.own w
+  not_parted : (again end : AbsState BatchState) (after : List (Step BatchState)) → NotPartedBy room last after
+      → Performed v (load tail_word tail again ∷ (after ++ load tail_word now end ∷ [])) v.own w
       → LostWithin room tail last now v w
 
 -- the tail was `now` at a moment of the call: past the earlier tail, or a mark was changed during the call
 abbrev pub WhyNoStop : ℕ → ℕ → View → View → Type 0
-WhyNoStop tail now v w = WasSo v w (λ o. (tail < o.taken) × (o.taken ≡ now))
-    ⊎ (WasSo v w (λ o. o.taken ≡ now) × MarkChanged v w)
+WhyNoStop tail now v w = AtSomeMoment v w (λ o. (tail < o.taken) × (o.taken ≡ now))
+    ⊎ (AtSomeMoment v w (λ o. o.taken ≡ now) × MarkChanged v w)
 
 -- The items taken are the first ones left, and after them a batch ends or was parted
 pub record AreSome (o : BatchState) (items : List ℕ) : Type 0 where
@@ -136,22 +136,22 @@ pub record AreSome (o : BatchState) (items : List ℕ) : Type 0 where
 
 -- The tail was loaded, the end of a taking of up to `most` items was found, and then a compare-and-swap moved the tail
 -- there. Added says which list has these entries, given the moment of the compare-and-swap and the number of partings
-pub record SomeBy (Added : Moment BatchState → ℕ → List (Step BatchState) → Type 0) (room most tail : ℕ)
+pub record SomeBy (Added : AbsState BatchState → ℕ → List (Step BatchState) → Type 0) (room most tail : ℕ)
     (items : List ℕ) : Type 0 where
   pub some_item : 0 < length items
   pub within : length items ≤ min most room
-  pub at_tail : Moment BatchState
+  pub at_tail : AbsState BatchState
   pub parts : ℕ
   pub looks : List (Step BatchState)
   pub stops : StopBy room tail (min most room) (tail + length items) parts looks
-  pub at_taking : Moment BatchState
+  pub at_taking : AbsState BatchState
   pub first : AreSome at_taking.object items
   pub added : Added at_taking parts (load tail_word tail at_tail
       ∷ (looks ++ change tail_word tail at_taking (with_taken at_taking.object (tail + length items)) ∷ []))
 
 -- the items were taken, and the end holds their slots
 pub record HasTakenSome (room most : ℕ) (v : View) (tail : ℕ) (items : List ℕ) (m : Me ℕ View) : Type 0 where
-  pub taken : SomeBy (λ at parts entries. Made v entries
+  pub taken : SomeBy (λ at parts entries. Performed v entries
       (with_taking (with_parts v.own parts) at.object (length items)) m.0) room most tail items
   pub start : taken.at_taking.object.taken ≡ tail
   pub range : HoldsRange 2 tail (length items) m.0
@@ -160,7 +160,7 @@ pub record HasTakenSome (room most : ℕ) (v : View) (tail : ℕ) (items : List 
 -- up to `most` items were taken, and after they were read, their places were given back by one store, of the mark of
 -- the first
 abbrev pub TookSome : ℕ → View → ℕ → List ℕ → View → Type 0
-TookSome room v most items w = (tail mark : ℕ) × (m : Moment BatchState) × SomeBy (λ at parts entries. Made v
+TookSome room v most items w = (tail mark : ℕ) × (m : AbsState BatchState) × SomeBy (λ at parts entries. Performed v
     (entries ++ change (mark_word room tail) mark m (with_back m.object tail (tail + length items)) ∷ [])
     (with_line (with_parts v.own parts) at.object (length items)) w) room most tail items
 
@@ -168,18 +168,18 @@ TookSome room v most items w = (tail mark : ℕ) × (m : Moment BatchState) × S
 pub record PassedStop (Added : ℕ → List (Step BatchState) → Type 0) (room most now : ℕ) : Type 0 where
   pub tail : ℕ
   pub to : ℕ
-  pub at_tail : Moment BatchState
+  pub at_tail : AbsState BatchState
   pub parts : ℕ
   pub looks : List (Step BatchState)
   pub stops : StopBy room tail (min most room) to parts looks
   pub past : tail < now
-  pub at_exchange : Moment BatchState
+  pub at_exchange : AbsState BatchState
   pub added : Added parts (load tail_word tail at_tail ∷ (looks ++ load tail_word now at_exchange ∷ []))
 
 -- the end of the taking was not found
 pub record NoStop (Added : ℕ → List (Step BatchState) → Type 0) (room most now : ℕ) : Type 0 where
   pub tail : ℕ
-  pub at_tail : Moment BatchState
+  pub at_tail : AbsState BatchState
   pub looks : List (Step BatchState)
   pub lost : LostBy room tail (min most room) now looks
   pub added : Added 0 (load tail_word tail at_tail ∷ looks)
@@ -193,14 +193,14 @@ RefusedSomeBy Added room most refusal = NoneBy (Added 0) room refusal
 -- the taking of some items was refused; a taking into a buffer without room may be refused as a taking of whole batches
 abbrev pub RefusedTakeSome : ℕ → View → ℕ → TakeRefusal → View → Type 0
 RefusedTakeSome room v most refusal w = ((most ≡ 0) × RefusedTake room v most refusal w)
-    ⊎ RefusedSomeBy (λ parts entries. Made v entries (with_parts v.own parts) w) room most refusal
+    ⊎ RefusedSomeBy (λ parts entries. Performed v entries (with_parts v.own parts) w) room most refusal
 
 -- The meaning of a refused taking of some items. ShortBuffer comes only if the buffer has no room. Lost also comes if a
 -- mark was changed during the call
 abbrev pub WhyNotTakenSome : View → ℕ → TakeRefusal → View → Type 0
 WhyNotTakenSome v most (ShortBuffer at count) w = (most ≡ 0) × WhyNotTaken v most (ShortBuffer at count) w
 WhyNotTakenSome v most (Lost now) w = WhyNotTaken v most (Lost now) w
-    ⊎ (WasSo v w (λ o. o.taken ≡ now) × MarkChanged v w)
+    ⊎ (AtSomeMoment v w (λ o. o.taken ≡ now) × MarkChanged v w)
 WhyNotTakenSome v most refusal w = WhyNotTaken v most refusal w
 
 -- the end parted at most one batch more

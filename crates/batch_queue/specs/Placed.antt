@@ -9,7 +9,7 @@ use Rattle.batch_queue.specs.Object.{items_of}
 
 abbrev pub cell_of : ℕ → ℕ → Cell
 cell_of x zero = fresh x
-cell_of x (suc p) = record { item = x; written = 2 }
+cell_of x (suc p) = record { item = x; stage = 2 }
 
 abbrev pub cells : List ℕ → List ℕ → List Cell
 cells [] ps = []

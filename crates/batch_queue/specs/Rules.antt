@@ -5,9 +5,9 @@ use mathlib.Core.Option.{Option, some}
 use lib.ListN.{get_elem?}
 use Rattle.atomic_table.specs.Table.{State}
 use Rattle.table_theory.specs.declared.queues.Batch.{Batch}
-use Rattle.table_theory.specs.declared.views.Moment.{Moment}
+use Rattle.table_theory.specs.declared.views.AbsState.{AbsState}
 use Rattle.table_theory.specs.Listing.{ViewsShow}
-use Rattle.table_theory.specs.Ledgers.{Stands, first_of}
+use Rattle.table_theory.specs.Ledgers.{TableInv, first_of}
 use Rattle.table_theory.specs.Ruled as ruled
 use Rattle.table_theory.specs.Sharing.{total}
 use Rattle.batch_queue.specs.declared.rule.BatchState.{BatchState}
@@ -59,9 +59,9 @@ abbrev pub parts_of : View → ℕ
 parts_of v = v.own.parts
 
 pub record Rule (key : Shape) (s : State ℕ View) : Type 0 where
-  pub now : Moment BatchState
+  pub now : AbsState BatchState
   pub room : now.object.room ≡ key.room
-  pub stands : Stands of_batches nothing_did (empty key) now s.words s.views
+  pub stands : TableInv of_batches nothing_did (empty key) now s.words s.views
   pub listed : ViewsShow (positions_of now.object) (map part_of s.views)
   pub seen : (j : ℕ) (v : View) → get_elem? s.views j ≡ some v → Grows v.seen.object now.object
   pub homes : (p : ℕ) → now.object.freed ≤ p → p < now.object.freed + now.object.room
@@ -79,9 +79,9 @@ abbrev pub newcomer : Shape → View
 newcomer key = first_of nothing_did (empty key)
 
 -- the queue and the number of ends that the rule names
-abbrev pub now_of : (key : Shape) (s : State ℕ View) → Rule key s → Moment BatchState
+abbrev pub now_of : (key : Shape) (s : State ℕ View) → Rule key s → AbsState BatchState
 now_of key s k = k.now
 
 -- at the end's last step the rule held, and the end saw the queue of that moment
-abbrev pub IsRuled : View → Type 0
-IsRuled v = ruled.IsRuled Rule now_of v
+abbrev pub InvHeldOf : View → Type 0
+InvHeldOf v = ruled.InvHolds Rule now_of v

@@ -5,8 +5,8 @@ use Rattle.std.specs.Prelude.{length, take, drop, nat_lt}
 use Rattle.atomic_table.specs.Seated.{TableId}
 use Rattle.atomic_table.specs.Table.{Me, Step}
 use Rattle.atomic_table.specs.declared.shared.Seat.{Seat}
-use Rattle.table_theory.specs.declared.views.Moment.{Moment}
-use Rattle.table_theory.specs.Ledgers.{load, change, Made}
+use Rattle.table_theory.specs.declared.views.AbsState.{AbsState}
+use Rattle.table_theory.specs.Ledgers.{load, change, Performed}
 use Rattle.table_theory.specs.Ledgers as ends
 use Rattle.batch_queue.specs.declared.layout.TheConstants.{MOST_PLACES, POSITIONS, SHUT}
 use Rattle.batch_queue.specs.declared.rule.BatchState.{BatchState}
@@ -16,7 +16,7 @@ use Rattle.batch_queue.specs.Object.{items_of, phase_at, IsEdge, IsStop, with_ba
 use Rattle.batch_queue.specs.Object.{with_freed, with_shut, with_part, Grows}
 use Rattle.batch_queue.specs.Own.{View, HasRun, with_run, with_taking, with_published, with_no_slots}
 use Rattle.batch_queue.specs.Own.{with_shutting, with_parting}
-use Rattle.batch_queue.specs.Rules.{IsRuled}
+use Rattle.batch_queue.specs.Rules.{InvHeldOf}
 use Rattle.batch_queue.specs.Slots.{slots_of}
 
 -- the seat is a live end of this table, which is the table of a queue of `room` places, a power of two
@@ -33,13 +33,13 @@ pub record IsSeated (room : ℕ) (table : TableId) (seat : Seat ℕ View) : Type
 -- The end made one step with this entry, and its record is then `own`. The rule held at the step, and the queue that
 -- the step found is no earlier than the queue that the end had seen
 pub record Stepped (v : View) (e : ends.Step BatchState) (own : EndRecord) (w : View) : Type 0 where
-  pub made : Made v (e ∷ []) own w
-  pub ruled : IsRuled w
+  pub made : Performed v (e ∷ []) own w
+  pub ruled : InvHeldOf w
   pub grows : Grows v.seen.object e.then.object
 
 -- the first queue of the end's view and its membership are unchanged; at its last step the rule held
 abbrev pub Stays : View → View → Type 0
-Stays v w = (w.first ≡ v.first) × (w.member ≡ v.member) × ∥ IsRuled w ∥₁
+Stays v w = (w.first ≡ v.first) × (w.member ≡ v.member) × ∥ InvHeldOf w ∥₁
 
 -- a number was found in a word, and nothing else changed for the end
 abbrev pub Found : View → ℕ → ℕ → View → Type 0
@@ -54,7 +54,7 @@ Missed st m r m' = r ≢ st.first → (m'.1 ≡ m.1) × Found m.0 st.word r m'.0
 
 -- The items were claimed at the head that the queue had at that step. The end holds their slots, and nothing else
 pub record Claimed (v : View) (head : ℕ) (items : List ℕ) (m : Me ℕ View) : Type 0 where
-  pub at : Moment BatchState
+  pub at : AbsState BatchState
   pub head_is : length (items_of at.object) ≡ head
   pub step : Stepped v (change head_word head at (with_batch at.object items)) (with_run v.own head items) m.0
   pub values : List ℕ
@@ -71,7 +71,7 @@ released o (suc x) a b = with_back o a b
 
 -- the positions whose slots the end held, in the phase x, are one phase on, and the end holds no slots
 pub record Released (v : View) (word start end x : ℕ) (m : Me ℕ View) : Type 0 where
-  pub at : Moment BatchState
+  pub at : AbsState BatchState
   pub found : ℕ
   pub own : EndRecord
   pub published : x ≡ 0 → (h : HasRun v.own) × (own ≡ with_published v.own h)
@@ -111,7 +111,7 @@ HasStop v tail new = (tail < v.seen.object.taken)
 -- The positions from the tail to the new one were taken, up to where a batch ends or was parted. The end holds their
 -- slots, each with the item that was claimed there
 pub record Took (v : View) (tail new : ℕ) (m : Me ℕ View) : Type 0 where
-  pub at : Moment BatchState
+  pub at : AbsState BatchState
   pub tail_is : at.object.taken ≡ tail
   pub stop : IsStop at.object new
   pub step : Stepped v (change tail_word tail at (with_taken at.object new))
@@ -129,14 +129,14 @@ HasBack v free new = (free < v.seen.object.freed)
 
 -- the window moved from the free position to the new one
 abbrev pub Freed : View → ℕ → ℕ → View → Type 0
-Freed v free new w = (at : Moment BatchState) × Stepped v (change free_word free at (with_freed at.object new)) v.own w
+Freed v free new w = (at : AbsState BatchState) × Stepped v (change free_word free at (with_freed at.object new)) v.own w
 
 abbrev pub frees : Step ℕ → Me ℕ View → ℕ → Me ℕ View → Type 0
 frees st m r m' = Stays m.0 m'.0 × (r ≡ st.first → (m'.1 ≡ m.1) × Freed m.0 st.first st.second m'.0) × Missed st m r m'
 
 -- the batch that ends at `end` was parted at this position, by a compare-and-swap of the mark of the position
 abbrev pub Parted : View → ℕ → ℕ → ℕ → ℕ → View → Type 0
-Parted v word found position end w = (at : Moment BatchState)
+Parted v word found position end w = (at : AbsState BatchState)
     × Stepped v (change word found at (with_part at.object position end)) (with_parting v.own) w
 
 abbrev pub parts : ℕ → ℕ → Step ℕ → Me ℕ View → ℕ → Me ℕ View → Type 0
@@ -145,7 +145,7 @@ parts position end st m r m' = Stays m.0 m'.0
 
 -- the queue was shut, and the step found this head word
 abbrev pub Shut : View → ℕ → View → Type 0
-Shut v found w = (at : Moment BatchState)
+Shut v found w = (at : AbsState BatchState)
     × Stepped v (change head_word found at (with_shut at.object)) (with_shutting v.own (nat_lt found SHUT)) w
 
 abbrev pub shuts : Step ℕ → Me ℕ View → ℕ → Me ℕ View → Type 0

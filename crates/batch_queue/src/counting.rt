@@ -6,16 +6,16 @@ use table_theory::last_end::CountRule;
 impl CountRule<u64, View, Shape> for BatchRule {
     ghost use Rattle.table_theory.specs.Plays.{HasTallied};
     ghost use Rattle.batch_queue.specs.Layout.{ends_word};
-    ghost use Rattle.batch_queue.specs.Rules.{IsRuled};
+    ghost use Rattle.batch_queue.specs.Rules.{InvHeldOf};
 
-    ghost tallied = { λ id. HasTallied IsRuled ends_word };
+    ghost tallied = { λ id. HasTallied InvHeldOf ends_word };
 }
 
 impl EndsRule<u64, EndRecord, BatchState, Shape> for BatchRule {
     ghost use Rattle.batch_queue.specs.Own.{nothing_did, did_both};
-    ghost use Rattle.batch_queue.specs.Rules.{newcomer, IsRuled};
+    ghost use Rattle.batch_queue.specs.Rules.{newcomer, InvHeldOf};
 
-    ghost suits = { IsRuled };
+    ghost suits = { InvHeldOf };
 
     ghost nothing = { nothing_did };
 

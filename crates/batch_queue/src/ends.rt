@@ -2,8 +2,8 @@
 ghost use Rattle.std.specs.Prelude.{◌≡◌, ◌+◌, ◌<◌, ◌≤◌, [], ◌++◌, IfOk};
 ghost use Rattle.batch_queue.specs.Layout.{width, IsPowerOfTwo};
 ghost use Rattle.batch_queue.specs.Own.{no_slots};
-ghost use Rattle.batch_queue.specs.Rules.{newcomer, IsRuled};
-ghost use Rattle.batch_queue.specs.Endings.{Divided, IsNewborn, TookIn};
+ghost use Rattle.batch_queue.specs.Rules.{newcomer, InvHeldOf};
+ghost use Rattle.batch_queue.specs.Endings.{SplitBy, IsNewEnd, JoinedBy};
 ghost use Rattle.batch_queue.specs.Lines.{lines_put, lines_taken, times_parted};
 ghost use Rattle.batch_queue.specs.declared.layout.TheConstants.{MOST_PLACES};
 
@@ -36,7 +36,7 @@ pub struct BatchEnd {
     ghost bare: { seat.me.1 ≡ [] },
     ghost idle: { seat.me.0.own.held ≡ no_slots },
     ghost one: { seat.me.0.member.ends ≡ 1 },
-    ghost ruled: { ∥ IsRuled seat.me.0 ∥₁ },
+    ghost ruled: { ∥ InvHeldOf seat.me.0 ∥₁ },
 }
 
 impl BatchQueue {
@@ -73,8 +73,8 @@ impl BatchQueue {
         ensures effect { (lines_put (view_of end.new) ≡ lines_put (view_of end.old))
             × (lines_taken (view_of end.new) ≡ lines_taken (view_of end.old))
             × (times_parted (view_of end.new) ≡ times_parted (view_of end.old)) }
-        ensures result { IsNewborn (view_of end.old) (view_of end.new) (view_of result) }
-        ensures trace { Divided (view_of end.old) (view_of end.new) }
+        ensures result { IsNewEnd (view_of end.old) (view_of end.new) (view_of result) }
+        ensures trace { SplitBy (view_of end.old) (view_of end.new) }
         ensures handle { IsSameEnd end.old end.new × AreOfOneQueue end.old result }
     {
         // linearization point: the new end is counted, before it exists, so a close cannot miss it
@@ -90,7 +90,7 @@ impl BatchQueue {
         ensures effect { (lines_put (view_of end.new) ≡ lines_put (view_of end.old) ++ lines_put (view_of other))
             × (lines_taken (view_of end.new) ≡ lines_taken (view_of end.old) ++ lines_taken (view_of other))
             × (times_parted (view_of end.new) ≡ times_parted (view_of end.old) + times_parted (view_of other)) }
-        ensures trace { TookIn (view_of end.old) (view_of other) (view_of end.new) }
+        ensures trace { JoinedBy (view_of end.old) (view_of other) (view_of end.new) }
         ensures handle { IsSameEnd end.old end.new }
     {
         let BatchEnd { seat } = other;

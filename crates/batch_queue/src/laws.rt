@@ -9,8 +9,8 @@ ghost use Rattle.event_theory.specs.Marks.{shut};
 ghost use Rattle.event_theory.specs.Queues.{claim, take_first};
 ghost use Rattle.table_theory.specs.declared.queues.Batch.{Batch};
 ghost use Rattle.table_theory.specs.declared.queues.QueueView.{QueueView};
-ghost use Rattle.table_theory.specs.declared.views.Moment.{Moment};
-ghost use Rattle.table_theory.specs.Ledgers.{Step, load, change, count_down, Adds, IsReal, IsHonest, Reaches, Passes};
+ghost use Rattle.table_theory.specs.declared.views.AbsState.{AbsState};
+ghost use Rattle.table_theory.specs.Ledgers.{Step, load, change, count_down, ExtendsTrace, IsValidStep, IsValidView, Reaches, Passes};
 ghost use Rattle.table_theory.specs.Apart.{AreApart};
 ghost use Rattle.table_theory.specs.Filing.{Owned};
 ghost use Rattle.table_theory.specs.Listing.{ViewsShow};
@@ -23,7 +23,7 @@ ghost use Rattle.batch_queue.specs.declared.layout.TheConstants.{MOST_PLACES, PO
 ghost use Rattle.batch_queue.specs.declared.refusals.PutRefusal.TheVariants as not_put;
 ghost use Rattle.batch_queue.specs.declared.refusals.TakeRefusal.TheVariants as not_taken;
 ghost use Rattle.batch_queue.specs.declared.rule.BatchState.{BatchState};
-ghost use Rattle.batch_queue.specs.Endings.{TookIn};
+ghost use Rattle.batch_queue.specs.Endings.{JoinedBy};
 ghost use Rattle.batch_queue.specs.Handles.{view_of, room_of, IsEndOf, IsOnlyEnd};
 ghost use Rattle.batch_queue.specs.Layout.{head_word, tail_word, free_word, ends_word, mark_word, width, mark};
 ghost use Rattle.batch_queue.specs.Object.{items_of, mark_of, phase_at, IsEdge, IsBatch, IsParted, IsRest, IsStop, AreIn};
@@ -39,28 +39,28 @@ ghost use Rattle.batch_queue.specs.Takings.{RefusedTake};
 /// showed, and the number in its word, and made one event, or none. Real steps lead from the queue that the end had
 /// seen to each of these entries, in their order. The last of them left the queue that the end sees then.
 pub fn lists_are_true()
-    ensures end { (end : BatchEnd) → ∥ IsHonest of_batches (view_of end) ∥₁ }
+    ensures end { (end : BatchEnd) → ∥ IsValidView of_batches (view_of end) ∥₁ }
     ensures entries { (old : View) (new : BatchEnd) (entries : List (Step BatchState))
-        → Adds old entries (view_of new) → ∥ AllByRecursion (IsReal of_batches) entries ∥₁ }
+        → ExtendsTrace old entries (view_of new) → ∥ AllByRecursion (IsValidStep of_batches) entries ∥₁ }
     ensures order { (old new : BatchEnd) (entries : List (Step BatchState))
-        → Adds (view_of old) entries (view_of new)
+        → ExtendsTrace (view_of old) entries (view_of new)
         → ∥ Passes of_batches (view_of old).seen entries (view_of new).seen ∥₁ }
     ensures since { (old new : BatchEnd) (entries : List (Step BatchState))
-        → Adds (view_of old) entries (view_of new) → ∥ Reaches of_batches (view_of old).seen (view_of new).seen ∥₁ }
-    ensures grows { (m n : Moment BatchState) → Reaches of_batches m n → Grows m.object n.object }
-    ensures change { (e : Step BatchState) → IsReal of_batches e
+        → ExtendsTrace (view_of old) entries (view_of new) → ∥ Reaches of_batches (view_of old).seen (view_of new).seen ∥₁ }
+    ensures grows { (m n : AbsState BatchState) → Reaches of_batches m n → Grows m.object n.object }
+    ensures change { (e : Step BatchState) → IsValidStep of_batches e
         → (e.next.object ≡ e.then.object) ⊎ Becomes e.then.object e.next.object }
-    ensures lawful { (e : Step BatchState) → IsReal of_batches e → Lawful e.next.object }
+    ensures lawful { (e : Step BatchState) → IsValidStep of_batches e → Lawful e.next.object }
 {}
 
 /// The list of an end is true after a join: real steps lead from the queue that either end had seen to the queue that
 /// the joined end sees. The entry of the step that counts one end less is a real step.
 pub fn joins_are_true()
-    ensures since { (old other new : BatchEnd) → TookIn (view_of old) (view_of other) (view_of new)
+    ensures since { (old other new : BatchEnd) → JoinedBy (view_of old) (view_of other) (view_of new)
         → ∥ Reaches of_batches (view_of old).seen (view_of new).seen ∥₁
         × ∥ Reaches of_batches (view_of other).seen (view_of new).seen ∥₁ }
-    ensures entry { (old other new : BatchEnd) (t : TookIn (view_of old) (view_of other) (view_of new))
-        → ∥ IsReal of_batches (count_down ends_word t.found) ∥₁ }
+    ensures entry { (old other new : BatchEnd) (t : JoinedBy (view_of old) (view_of other) (view_of new))
+        → ∥ IsValidStep of_batches (count_down ends_word t.found) ∥₁ }
 {}
 
 /// An end sees a queue with as many places as its own queue has, at least one. If the queue was shut it stays shut, and
@@ -70,10 +70,10 @@ pub fn ends_list_queues()
     ensures room { (queue : BatchQueue) (end : BatchEnd) → IsEndOf queue end
         → ((view_of end).seen.object.room ≡ room_of queue) × (0 < room_of queue) }
     ensures shut { (old new : BatchEnd) (entries : List (Step BatchState))
-        → Adds (view_of old) entries (view_of new)
+        → ExtendsTrace (view_of old) entries (view_of new)
         → (view_of old).seen.object.shut ≡ true → (view_of new).seen.object.shut ≡ true }
     ensures tail { (old new : BatchEnd) (entries : List (Step BatchState))
-        → Adds (view_of old) entries (view_of new)
+        → ExtendsTrace (view_of old) entries (view_of new)
         → (view_of old).seen.object.taken ≤ (view_of new).seen.object.taken }
     ensures listed { (end : BatchEnd)
         → ∥ ((views : List QueueView) × (seat : ℕ) × ViewsShow (positions_of (view_of end).seen.object) views
@@ -86,32 +86,32 @@ pub fn ends_list_queues()
 /// position, or the mark of a place. So the queue determines each of these words. A mark of a position of the window
 /// says, in both directions, what is published and what is given back.
 pub fn numbers_say()
-    ensures ends { (found : ℕ) (m : Moment BatchState) → IsReal of_batches (load ends_word found m) → found ≡ m.ends }
-    ensures head { (e : Step BatchState) → e.word ≡ head_word → IsReal of_batches e
+    ensures ends { (found : ℕ) (m : AbsState BatchState) → IsValidStep of_batches (load ends_word found m) → found ≡ m.ends }
+    ensures head { (e : Step BatchState) → e.word ≡ head_word → IsValidStep of_batches e
         → (e.found ≡ length (items_of e.then.object) + mark e.then.object.shut)
         × (length (items_of e.then.object) < POSITIONS) }
-    ensures tail { (e : Step BatchState) → e.word ≡ tail_word → IsReal of_batches e → e.found ≡ e.then.object.taken }
-    ensures free { (e : Step BatchState) → e.word ≡ free_word → IsReal of_batches e → e.found ≡ e.then.object.freed }
-    ensures mark { (e : Step BatchState) (p : ℕ) → e.word ≡ mark_word e.then.object.room p → IsReal of_batches e
+    ensures tail { (e : Step BatchState) → e.word ≡ tail_word → IsValidStep of_batches e → e.found ≡ e.then.object.taken }
+    ensures free { (e : Step BatchState) → e.word ≡ free_word → IsValidStep of_batches e → e.found ≡ e.then.object.freed }
+    ensures mark { (e : Step BatchState) (p : ℕ) → e.word ≡ mark_word e.then.object.room p → IsValidStep of_batches e
         → e.found ≡ mark_of e.then.object p }
     ensures published { (e : Step BatchState) (p : ℕ) → e.word ≡ mark_word e.then.object.room p
-        → IsReal of_batches e → e.then.object.freed ≤ p → p < e.then.object.freed + e.then.object.room
+        → IsValidStep of_batches e → e.then.object.freed ≤ p → p < e.then.object.freed + e.then.object.room
         → e.found % 2 ≡ 0 → p < e.found / 2
         → ((i : ℕ) → p ≤ i → i < e.found / 2 → 1 ≤ phase_at e.then.object i)
         × IsStop e.then.object p × IsRest e.then.object.batches p (e.found / 2) }
     ensures not_published { (e : Step BatchState) (p end : ℕ) → e.word ≡ mark_word e.then.object.room p
-        → IsReal of_batches e → IsBatch e.then.object.batches p end → e.then.object.taken ≤ p → e.found ≢ 2 * end
+        → IsValidStep of_batches e → IsBatch e.then.object.batches p end → e.then.object.taken ≤ p → e.found ≢ 2 * end
         → AreIn e.then.object 0 p end }
     ensures parted { (e : Step BatchState) (p : ℕ) → e.word ≡ mark_word e.then.object.room p
-        → IsReal of_batches e → IsParted e.then.object p → e.then.object.taken ≤ p
+        → IsValidStep of_batches e → IsParted e.then.object p → e.then.object.taken ≤ p
         → (end : ℕ) × IsRest e.then.object.batches p end × (e.found ≡ 2 * end) }
     ensures given { (e : Step BatchState) (p : ℕ) → e.word ≡ mark_word e.then.object.room p
-        → IsReal of_batches e → e.then.object.freed ≤ p → p < e.then.object.freed + e.then.object.room
+        → IsValidStep of_batches e → e.then.object.freed ≤ p → p < e.then.object.freed + e.then.object.room
         → e.found % 2 ≡ 1 → p < e.found / 2
         → ((i : ℕ) → p ≤ i → i < e.found / 2 → 3 ≤ phase_at e.then.object i)
         × IsEdge e.then.object.takings (e.found / 2) }
     ensures not_given { (e : Step BatchState) (p end : ℕ) → e.word ≡ mark_word e.then.object.room p
-        → IsReal of_batches e → IsBatch e.then.object.takings p end → e.then.object.freed ≤ p → e.found ≢ 2 * end + 1
+        → IsValidStep of_batches e → IsBatch e.then.object.takings p end → e.then.object.freed ≤ p → e.found ≢ 2 * end + 1
         → phase_at e.then.object p < 3 }
 {}
 
@@ -119,16 +119,16 @@ pub fn numbers_say()
 /// queue as the step found it, if one of them is the end's view. A publication is a raise of each item of the batch, in
 /// their order, at one step. Giving places back, moving the window and parting a batch are no event.
 pub fn changes_are_events()
-    ensures claimed { (head : ℕ) (items : List ℕ) (m : Moment BatchState) (views : List QueueView) (seat : ℕ)
-        (v w : QueueView) → IsReal of_batches (change head_word head m (with_batch m.object items)) → 0 < length items
+    ensures claimed { (head : ℕ) (items : List ℕ) (m : AbsState BatchState) (views : List QueueView) (seat : ℕ)
+        (v w : QueueView) → IsValidStep of_batches (change head_word head m (with_batch m.object items)) → 0 < length items
         → ViewsShow (positions_of m.object) views → get_elem? views seat ≡ some v
         → w.runs ≡ v.runs ++ run head items ∷ [] → w.takes ≡ v.takes
         → positions.Grows w.queue (positions_of (with_batch m.object items))
         → (m.object.shut ≡ false) × (head ≡ length (items_of m.object))
         × IsEvent (positions_of m.object) (positions_of (with_batch m.object items)) seat v w
         (claim m.object.room seat items) }
-    ensures published { (word found a b : ℕ) (m : Moment BatchState) (views : List QueueView) (seat number : ℕ)
-        (v w : QueueView) (e : Batch) → IsReal of_batches (change word found m (with_up m.object a b))
+    ensures published { (word found a b : ℕ) (m : AbsState BatchState) (views : List QueueView) (seat number : ℕ)
+        (v w : QueueView) (e : Batch) → IsValidStep of_batches (change word found m (with_up m.object a b))
         → IsBatch m.object.batches a b → AreIn m.object 0 a b → ViewsShow (positions_of m.object) views
         → get_elem? views seat ≡ some v → get_elem? v.runs number ≡ some e → e.start ≡ a → a + length e.places ≡ b
         → w.runs ≡ slice_set v.runs number (raised_run e 0 (length e.places)) → w.takes ≡ v.takes
@@ -136,32 +136,32 @@ pub fn changes_are_events()
         → (k : ℕ) × (event : IsEvent (positions_of m.object) (positions_of (with_up m.object a b)) seat v w
         (raise_all seat k 0 (length e.places)))
         × (get_elem? event.shown.lists.runs k ≡ some (seat, number, e)) }
-    ensures taken { (tail new : ℕ) (m : Moment BatchState) (views : List QueueView) (seat : ℕ) (v w : QueueView)
-        → IsReal of_batches (change tail_word tail m (with_taken m.object new)) → m.object.taken < new
+    ensures taken { (tail new : ℕ) (m : AbsState BatchState) (views : List QueueView) (seat : ℕ) (v w : QueueView)
+        → IsValidStep of_batches (change tail_word tail m (with_taken m.object new)) → m.object.taken < new
         → ViewsShow (positions_of m.object) views → get_elem? views seat ≡ some v
         → w.takes ≡ v.takes ++ taking (positions_of m.object) (new - m.object.taken) ∷ [] → w.runs ≡ v.runs
         → positions.Grows w.queue (positions_of (with_taken m.object new))
         → (tail ≡ m.object.taken) × IsStop m.object new
         × IsEvent (positions_of m.object) (positions_of (with_taken m.object new)) seat v w
         (take_first m.object.room (new - m.object.taken)) }
-    ensures given { (word found a b : ℕ) (m : Moment BatchState) (views : List QueueView) (seat : ℕ) (v w : QueueView)
-        → IsReal of_batches (change word found m (with_back m.object a b)) → AreIn m.object 2 a b → a < b
+    ensures given { (word found a b : ℕ) (m : AbsState BatchState) (views : List QueueView) (seat : ℕ) (v w : QueueView)
+        → IsValidStep of_batches (change word found m (with_back m.object a b)) → AreIn m.object 2 a b → a < b
         → ViewsShow (positions_of m.object) views → get_elem? views seat ≡ some v → w.runs ≡ v.runs
         → w.takes ≡ v.takes → positions.Grows w.queue (positions_of (with_back m.object a b))
         → IsEvent (positions_of m.object) (positions_of (with_back m.object a b)) seat v w no_event }
-    ensures freed { (free new : ℕ) (m : Moment BatchState) (views : List QueueView) (seat : ℕ) (v w : QueueView)
-        → IsReal of_batches (change free_word free m (with_freed m.object new))
+    ensures freed { (free new : ℕ) (m : AbsState BatchState) (views : List QueueView) (seat : ℕ) (v w : QueueView)
+        → IsValidStep of_batches (change free_word free m (with_freed m.object new))
         → ViewsShow (positions_of m.object) views → get_elem? views seat ≡ some v → w.runs ≡ v.runs
         → w.takes ≡ v.takes → positions.Grows w.queue (positions_of (with_freed m.object new))
         → (free ≡ m.object.freed)
         × IsEvent (positions_of m.object) (positions_of (with_freed m.object new)) seat v w no_event }
-    ensures parted { (word found p end : ℕ) (m : Moment BatchState) (views : List QueueView) (seat : ℕ) (v w : QueueView)
-        → IsReal of_batches (change word found m (with_part m.object p end))
+    ensures parted { (word found p end : ℕ) (m : AbsState BatchState) (views : List QueueView) (seat : ℕ) (v w : QueueView)
+        → IsValidStep of_batches (change word found m (with_part m.object p end))
         → ViewsShow (positions_of m.object) views → get_elem? views seat ≡ some v → w.runs ≡ v.runs
         → w.takes ≡ v.takes → positions.Grows w.queue (positions_of (with_part m.object p end))
         → IsEvent (positions_of m.object) (positions_of (with_part m.object p end)) seat v w no_event }
-    ensures shut { (head : ℕ) (m : Moment BatchState) (views : List QueueView) (seat : ℕ) (v w : QueueView)
-        → IsReal of_batches (change head_word head m (with_shut m.object))
+    ensures shut { (head : ℕ) (m : AbsState BatchState) (views : List QueueView) (seat : ℕ) (v w : QueueView)
+        → IsValidStep of_batches (change head_word head m (with_shut m.object))
         → ViewsShow (positions_of m.object) views → get_elem? views seat ≡ some v → w.runs ≡ v.runs
         → w.takes ≡ v.takes → positions.Grows w.queue (positions_of (with_shut m.object))
         → IsEvent (positions_of m.object) (positions_of (with_shut m.object)) seat v w (λ c. Ok (shut c)) }
@@ -172,43 +172,43 @@ pub fn changes_are_events()
 /// left it. A publication raises each item of the batch, in their order, at one step, wherever the history has their
 /// places; if the batch is a run of the history, the publication is a raise of all of that run.
 pub fn changes_are_events_of_histories()
-    ensures history { (e : Step BatchState) → IsReal of_batches e
+    ensures history { (e : Step BatchState) → IsValidStep of_batches e
         → (runs : List (Owned Batch)) × IsHistory (positions_of e.then.object) runs }
-    ensures claimed { (head call number : ℕ) (items : List ℕ) (m : Moment BatchState) (runs : List (Owned Batch))
-        → IsReal of_batches (change head_word head m (with_batch m.object items)) → 0 < length items
+    ensures claimed { (head call number : ℕ) (items : List ℕ) (m : AbsState BatchState) (runs : List (Owned Batch))
+        → IsValidStep of_batches (change head_word head m (with_batch m.object items)) → 0 < length items
         → IsHistory (positions_of m.object) runs → (m.object.shut ≡ false) × (head ≡ length (items_of m.object))
         × IsEventOf (positions_of m.object) runs (claim m.object.room call items)
         (positions_of (with_batch m.object items)) (runs ++ (call, number, run head items) ∷ []) }
-    ensures published { (word found a b : ℕ) (m : Moment BatchState) (runs : List (Owned Batch))
-        → IsReal of_batches (change word found m (with_up m.object a b))
+    ensures published { (word found a b : ℕ) (m : AbsState BatchState) (runs : List (Owned Batch))
+        → IsValidStep of_batches (change word found m (with_up m.object a b))
         → IsBatch m.object.batches a b → AreIn m.object 0 a b → IsHistory (positions_of m.object) runs
         → (spots : List Spot) × AreAt runs a spots b × (left : List (Owned Batch))
         × IsEventOf (positions_of m.object) runs (raise_each spots) (positions_of (with_up m.object a b)) left }
-    ensures published_run { (word found a b k : ℕ) (m : Moment BatchState) (runs : List (Owned Batch))
-        (e : Owned Batch) → IsReal of_batches (change word found m (with_up m.object a b))
+    ensures published_run { (word found a b k : ℕ) (m : AbsState BatchState) (runs : List (Owned Batch))
+        (e : Owned Batch) → IsValidStep of_batches (change word found m (with_up m.object a b))
         → IsBatch m.object.batches a b → AreIn m.object 0 a b → IsHistory (positions_of m.object) runs
         → get_elem? runs k ≡ some e → e.2.start ≡ a → a + length e.2.places ≡ b
         → IsEventOf (positions_of m.object) runs (raise_all e.0 k 0 (length e.2.places))
         (positions_of (with_up m.object a b))
         (slice_set runs k (e.0, e.1, raised_run e.2 0 (length e.2.places))) }
-    ensures taken { (tail new : ℕ) (m : Moment BatchState) (runs : List (Owned Batch))
-        → IsReal of_batches (change tail_word tail m (with_taken m.object new)) → m.object.taken < new
+    ensures taken { (tail new : ℕ) (m : AbsState BatchState) (runs : List (Owned Batch))
+        → IsValidStep of_batches (change tail_word tail m (with_taken m.object new)) → m.object.taken < new
         → IsHistory (positions_of m.object) runs → (tail ≡ m.object.taken) × IsStop m.object new
         × IsEventOf (positions_of m.object) runs (take_first m.object.room (new - m.object.taken))
         (positions_of (with_taken m.object new)) runs }
-    ensures given { (word found a b : ℕ) (m : Moment BatchState) (runs : List (Owned Batch))
-        → IsReal of_batches (change word found m (with_back m.object a b)) → AreIn m.object 2 a b → a < b
+    ensures given { (word found a b : ℕ) (m : AbsState BatchState) (runs : List (Owned Batch))
+        → IsValidStep of_batches (change word found m (with_back m.object a b)) → AreIn m.object 2 a b → a < b
         → IsHistory (positions_of m.object) runs
         → IsEventOf (positions_of m.object) runs no_event (positions_of (with_back m.object a b)) runs }
-    ensures freed { (free new : ℕ) (m : Moment BatchState) (runs : List (Owned Batch))
-        → IsReal of_batches (change free_word free m (with_freed m.object new)) → IsHistory (positions_of m.object) runs
+    ensures freed { (free new : ℕ) (m : AbsState BatchState) (runs : List (Owned Batch))
+        → IsValidStep of_batches (change free_word free m (with_freed m.object new)) → IsHistory (positions_of m.object) runs
         → (free ≡ m.object.freed)
         × IsEventOf (positions_of m.object) runs no_event (positions_of (with_freed m.object new)) runs }
-    ensures parted { (word found p end : ℕ) (m : Moment BatchState) (runs : List (Owned Batch))
-        → IsReal of_batches (change word found m (with_part m.object p end)) → IsHistory (positions_of m.object) runs
+    ensures parted { (word found p end : ℕ) (m : AbsState BatchState) (runs : List (Owned Batch))
+        → IsValidStep of_batches (change word found m (with_part m.object p end)) → IsHistory (positions_of m.object) runs
         → IsEventOf (positions_of m.object) runs no_event (positions_of (with_part m.object p end)) runs }
-    ensures shut { (head : ℕ) (m : Moment BatchState) (runs : List (Owned Batch))
-        → IsReal of_batches (change head_word head m (with_shut m.object)) → IsHistory (positions_of m.object) runs
+    ensures shut { (head : ℕ) (m : AbsState BatchState) (runs : List (Owned Batch))
+        → IsValidStep of_batches (change head_word head m (with_shut m.object)) → IsHistory (positions_of m.object) runs
         → IsEventOf (positions_of m.object) runs (λ c. Ok (shut c)) (positions_of (with_shut m.object)) runs }
 {}
 
@@ -217,31 +217,31 @@ pub fn changes_are_events_of_histories()
 /// call found in the same word.
 pub fn never_below()
     ensures head { (old new : BatchEnd) (before after : List (Step BatchState)) (e : Step BatchState)
-        → Adds (view_of old) (before ++ e ∷ after) (view_of new) → e.word ≡ head_word
+        → ExtendsTrace (view_of old) (before ++ e ∷ after) (view_of new) → e.word ≡ head_word
         → (length (items_of (view_of old).seen.object) ≤ e.found % SHUT)
         × (e.found % SHUT ≤ length (items_of (view_of new).seen.object)) }
     ensures heads { (old new : BatchEnd) (before between after : List (Step BatchState)) (e f : Step BatchState)
-        → Adds (view_of old) (before ++ e ∷ (between ++ f ∷ after)) (view_of new)
+        → ExtendsTrace (view_of old) (before ++ e ∷ (between ++ f ∷ after)) (view_of new)
         → e.word ≡ head_word → f.word ≡ head_word → e.found % SHUT ≤ f.found % SHUT }
     ensures tail { (old new : BatchEnd) (before after : List (Step BatchState)) (e : Step BatchState)
-        → Adds (view_of old) (before ++ e ∷ after) (view_of new) → e.word ≡ tail_word
+        → ExtendsTrace (view_of old) (before ++ e ∷ after) (view_of new) → e.word ≡ tail_word
         → ((view_of old).seen.object.taken ≤ e.found) × (e.found ≤ (view_of new).seen.object.taken) }
     ensures tails { (old new : BatchEnd) (before between after : List (Step BatchState)) (e f : Step BatchState)
-        → Adds (view_of old) (before ++ e ∷ (between ++ f ∷ after)) (view_of new)
+        → ExtendsTrace (view_of old) (before ++ e ∷ (between ++ f ∷ after)) (view_of new)
         → e.word ≡ tail_word → f.word ≡ tail_word → e.found ≤ f.found }
     ensures free { (old new : BatchEnd) (before after : List (Step BatchState)) (e : Step BatchState)
-        → Adds (view_of old) (before ++ e ∷ after) (view_of new) → e.word ≡ free_word
+        → ExtendsTrace (view_of old) (before ++ e ∷ after) (view_of new) → e.word ≡ free_word
         → ((view_of old).seen.object.freed ≤ e.found) × (e.found ≤ (view_of new).seen.object.freed) }
     ensures frees { (old new : BatchEnd) (before between after : List (Step BatchState)) (e f : Step BatchState)
-        → Adds (view_of old) (before ++ e ∷ (between ++ f ∷ after)) (view_of new)
+        → ExtendsTrace (view_of old) (before ++ e ∷ (between ++ f ∷ after)) (view_of new)
         → e.word ≡ free_word → f.word ≡ free_word → e.found ≤ f.found }
 {}
 
 /// If one end takes in another, no position is in a batch of both ends, and no position is in a taking of both.
 pub fn joins_are_apart()
-    ensures runs { (old other new : BatchEnd) → TookIn (view_of old) (view_of other) (view_of new)
+    ensures runs { (old other new : BatchEnd) → JoinedBy (view_of old) (view_of other) (view_of new)
         → AreApart (view_of old).own.runs (view_of other).own.runs }
-    ensures takes { (old other new : BatchEnd) → TookIn (view_of old) (view_of other) (view_of new)
+    ensures takes { (old other new : BatchEnd) → JoinedBy (view_of old) (view_of other) (view_of new)
         → AreApart (view_of old).own.takes (view_of other).own.takes }
 {}
 

@@ -8,10 +8,10 @@ ghost use Rattle.batch_queue.specs.declared.refusals.PutRefusal.TheVariants as r
 ghost use Rattle.batch_queue.specs.Layout.{head_word};
 ghost use Rattle.batch_queue.specs.Lines.{SameLines, PutLine};
 ghost use Rattle.batch_queue.specs.Moments.{claimed};
-ghost use Rattle.batch_queue.specs.Own.{no_slots, Looks};
+ghost use Rattle.batch_queue.specs.Own.{no_slots, OnlyLoads};
 ghost use Rattle.batch_queue.specs.Puts.{HasClaimed, IsPut, IsPutSome, PutAnswer, is_lost};
 ghost use Rattle.batch_queue.specs.Puts.{RefusedClaimBy, RefusedPut, RefusedSome};
-ghost use Rattle.batch_queue.specs.Rules.{IsRuled};
+ghost use Rattle.batch_queue.specs.Rules.{InvHeldOf};
 ghost use Rattle.batch_queue.specs.Steps.{IsSeated, Stays, Found};
 
 use crate::access::write_items;
@@ -59,7 +59,7 @@ fn claim(
         seat.new.me.0) }
     ensures shut { seat.old.me.0.seen.object.shut ≡ true
         → MatchResult result (λ r. ⊥) (λ refusal. refusal ≡ refusals.Closed) }
-    ensures refused { IfErr result (λ r. RefusedClaimBy (λ entries. Looks seat.old.me.0 entries seat.new.me.0) room
+    ensures refused { IfErr result (λ r. RefusedClaimBy (λ entries. OnlyLoads seat.old.me.0 entries seat.new.me.0) room
         (min (length items.now) room) least r) }
 {
     let most = items.len().min(room);

@@ -2,7 +2,7 @@
 use atomic_table::TableRule;
 use std::collections::LinkedList;
 use table_theory::queues::Batch;
-use table_theory::views::Ledger;
+use table_theory::views::EndState;
 
 /// The parameters of the rule, given when the table is made.
 #[derive(Drop)]
@@ -45,7 +45,7 @@ pub struct BatchState {
 }
 
 /// The view of an end: what it did, its steps, and all ends' steps up to its own last step.
-pub type View = Ledger<EndRecord, BatchState>;
+pub type View = EndState<EndRecord, BatchState>;
 
 pub struct BatchRule;
 

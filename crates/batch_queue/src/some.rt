@@ -9,11 +9,11 @@ ghost use Rattle.batch_queue.specs.declared.refusals.TakeRefusal.TheVariants as 
 ghost use Rattle.batch_queue.specs.Moments.{MarkChanged};
 ghost use Rattle.batch_queue.specs.Object.{IsStop, IsRest, IsWithin, Grows};
 ghost use Rattle.batch_queue.specs.Own.{no_slots};
-ghost use Rattle.batch_queue.specs.Rules.{IsRuled};
+ghost use Rattle.batch_queue.specs.Rules.{InvHeldOf};
 ghost use Rattle.batch_queue.specs.Parts.{PartedLook, FoundRest, FoundStop, LostStop};
 ghost use Rattle.batch_queue.specs.Parts.{StoppedWithin, LostWithin, WhyNoStop, HasTakenSome, RefusedSomeBy, TookSome};
 ghost use Rattle.batch_queue.specs.Parts.{FilledSome, RefusedTakeSome, SameSome, WhyNotTakenSome, with_parts};
-ghost use Rattle.table_theory.specs.Ledgers.{Made};
+ghost use Rattle.table_theory.specs.Ledgers.{Performed};
 ghost use Rattle.batch_queue.specs.Steps.{IsSeated, Stays, HasFound, HasStop};
 ghost use Rattle.batch_queue.specs.Walks.{LeadsOn};
 
@@ -31,7 +31,7 @@ use std::marker::Brand;
 // there, by what was found; if not, another end has changed the mark.
 fn part(words: &Words, seat: &mut Seat<u64, View>, room: usize, position: u64, end: u64) -> bool
     requires queue { IsSeated room words.now.table_id seat.old }
-    requires ruled { ∥ IsRuled seat.old.me.0 ∥₁ }
+    requires ruled { ∥ InvHeldOf seat.old.me.0 ∥₁ }
     requires within { IsWithin seat.old.me.0.seen.object position end }
     requires near { (end ≤ position + room) × (end < POSITIONS) }
     ensures queue { IsSame seat.old seat.new × Stays seat.old.me.0 seat.new.me.0 }
@@ -71,7 +71,7 @@ fn stop_within(
     last: u64,
 ) -> Result<u64, TakeRefusal>
     requires queue { IsSeated room words.now.table_id seat.old }
-    requires ruled { ∥ IsRuled seat.old.me.0 ∥₁ }
+    requires ruled { ∥ InvHeldOf seat.old.me.0 ∥₁ }
     requires last { (tail ≤ at) × (at < last) × (last < end) }
     requires started { tail ≤ seat.old.me.0.seen.object.taken }
     requires rest { FoundRest seat.old.me.0 tail at end }
@@ -107,7 +107,7 @@ fn find_stop(
     most: u64,
 ) -> Result<u64, TakeRefusal>
     requires queue { IsSeated room words.now.table_id seat.old }
-    requires ruled { ∥ IsRuled seat.old.me.0 ∥₁ }
+    requires ruled { ∥ InvHeldOf seat.old.me.0 ∥₁ }
     requires most { (0 < most) × (most ≤ room) × (tail < POSITIONS) }
     requires started { tail ≤ seat.old.me.0.seen.object.taken }
     requires first { LeadsOn 0 tail first × FoundRest seat.old.me.0 tail tail (first / 2) }
@@ -155,7 +155,7 @@ fn take_some(
     ensures taken { MatchResult result (λ r. (items : List ℕ) × (length items ≡ r.1)
         × HasTakenSome room most seat.old.me.0 r.0 items seat.new.me) (λ r. seat.new.me.1 ≡ []) }
     ensures error { IfErr result (λ r. WhyNotTakenSome seat.old.me.0 most r seat.new.me.0) }
-    ensures refused { IfErr result (λ r. RefusedSomeBy (λ parts entries. Made seat.old.me.0 entries
+    ensures refused { IfErr result (λ r. RefusedSomeBy (λ parts entries. Performed seat.old.me.0 entries
         (with_parts seat.old.me.0.own parts) seat.new.me.0) room most r) }
 {
     // The tail never falls, and no position is used again: if the compare-and-swap finds this tail, nothing was taken

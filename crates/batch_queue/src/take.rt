@@ -7,7 +7,7 @@ ghost use Rattle.batch_queue.specs.declared.layout.TheConstants.{FIRST_MARK, POS
 ghost use Rattle.batch_queue.specs.Layout.{tail_word};
 ghost use Rattle.batch_queue.specs.Lines.{SameLines};
 ghost use Rattle.batch_queue.specs.Own.{no_slots};
-ghost use Rattle.batch_queue.specs.Rules.{IsRuled};
+ghost use Rattle.batch_queue.specs.Rules.{InvHeldOf};
 ghost use Rattle.batch_queue.specs.Steps.{IsSeated, Stays, Found};
 ghost use Rattle.batch_queue.specs.Takings.{FilledBuffer, HasTaken, IsNone, IsShort, RefusedTake};
 ghost use Rattle.batch_queue.specs.Takings.{TakeAnswer, TookBatches, must_wait};

@@ -3,9 +3,9 @@ ghost use Rattle.std.specs.Prelude.{◌≡◌, ◌≢◌, ◌+◌, ◌<◌, ◌�
 ghost use Rattle.table_theory.specs.Seating.{IsSame};
 ghost use Rattle.batch_queue.specs.declared.layout.TheConstants.{FIRST_MARK, POSITIONS};
 ghost use Rattle.batch_queue.specs.Layout.{free_word, mark_word};
-ghost use Rattle.batch_queue.specs.Moments.{WasSo, Changed, IsGivenBackTo};
+ghost use Rattle.batch_queue.specs.Moments.{AtSomeMoment, AtTwoMoments, IsGivenBackTo};
 ghost use Rattle.batch_queue.specs.Object.{Grows};
-ghost use Rattle.batch_queue.specs.Rules.{IsRuled};
+ghost use Rattle.batch_queue.specs.Rules.{InvHeldOf};
 ghost use Rattle.batch_queue.specs.Steps.{IsSeated, Stays, Found, HasBack};
 ghost use Rattle.batch_queue.specs.Walks.{Followed, Helped, HelpedBy, LeadsOn, LookedFree, Passed, Starts, StoppedAt};
 
@@ -54,7 +54,7 @@ pub(crate) fn walk(
     parity: u64,
 ) -> u64
     requires queue { IsSeated room words.now.table_id seat.old }
-    requires ruled { ∥ IsRuled seat.old.me.0 ∥₁ }
+    requires ruled { ∥ InvHeldOf seat.old.me.0 ∥₁ }
     requires parity { parity ≤ 1 }
     requires from { (base ≤ from) × (from ≤ most) × Starts parity seat.old.me.0 base }
     requires passed { Passed parity seat.old.me.0 base from }
@@ -112,7 +112,7 @@ fn move_free(words: &Words, seat: &mut Seat<u64, View>, free: u64, to: u64) -> u
     ensures hit { result ≡ free → (seat.old.me.0.seen.object.freed ≡ free)
         × (to ≤ seat.new.me.0.seen.object.freed) × (to < POSITIONS) }
     ensures miss { result ≢ free → (free < result) × (result ≡ seat.new.me.0.seen.object.freed) × (result < POSITIONS) }
-    ensures passed { result ≢ free → WasSo seat.old.me.0 seat.new.me.0 (λ o. free < o.freed) }
+    ensures passed { result ≢ free → AtSomeMoment seat.old.me.0 seat.new.me.0 (λ o. free < o.freed) }
     ensures trace { Helped free to result seat.old.me.0 seat.new.me.0 }
 {
     if to == free {
@@ -126,16 +126,16 @@ fn move_free(words: &Words, seat: &mut Seat<u64, View>, free: u64, to: u64) -> u
 /// Moves the free position on over places that are given back.
 fn help(words: &Words, seat: &mut Seat<u64, View>, room: usize, free: u64) -> FreeLook
     requires queue { IsSeated room words.now.table_id seat.old }
-    requires ruled { ∥ IsRuled seat.old.me.0 ∥₁ }
+    requires ruled { ∥ InvHeldOf seat.old.me.0 ∥₁ }
     requires free { (free ≡ seat.old.me.0.seen.object.freed) × (free < POSITIONS) }
     requires started { HasBack seat.old.me.0 free free }
     ensures queue { IsSame seat.old seat.new × Stays seat.old.me.0 seat.new.me.0 }
     ensures slots { seat.new.me.1 ≡ seat.old.me.1 }
     ensures grows { Grows seat.old.me.0.seen.object seat.new.me.0.seen.object }
     ensures free { (result.free ≤ seat.new.me.0.seen.object.freed) × (result.free < POSITIONS) }
-    ensures exact { IsFalse result.moved → result.free < free + room → WasSo seat.old.me.0 seat.new.me.0
+    ensures exact { IsFalse result.moved → result.free < free + room → AtSomeMoment seat.old.me.0 seat.new.me.0
         (λ o. Grows seat.old.me.0.seen.object o × IsGivenBackTo o result.free) }
-    ensures passed { IsTrue result.moved → WasSo seat.old.me.0 seat.new.me.0 (λ o. free < o.freed) }
+    ensures passed { IsTrue result.moved → AtSomeMoment seat.old.me.0 seat.new.me.0 (λ o. free < o.freed) }
     ensures trace { HelpedBy room free result.free result.moved seat.old.me.0 seat.new.me.0 }
 {
     let to = walk(
@@ -174,9 +174,9 @@ pub(crate) fn look_free(
     ensures grows { Grows seat.old.me.0.seen.object seat.new.me.0.seen.object }
     ensures free { (result.free ≤ seat.new.me.0.seen.object.freed) × (result.free < POSITIONS) }
     ensures exact { IsFalse result.moved → result.free + room < new
-        → new ≤ seat.old.me.0.seen.object.freed + room + room → WasSo seat.old.me.0 seat.new.me.0
+        → new ≤ seat.old.me.0.seen.object.freed + room + room → AtSomeMoment seat.old.me.0 seat.new.me.0
         (λ o. Grows seat.old.me.0.seen.object o × IsGivenBackTo o result.free) }
-    ensures passed { IsTrue result.moved → Changed seat.old.me.0 seat.new.me.0 (λ o later. o.freed < later.freed) }
+    ensures passed { IsTrue result.moved → AtTwoMoments seat.old.me.0 seat.new.me.0 (λ o later. o.freed < later.freed) }
     ensures trace { LookedFree room new result.free result.moved seat.old.me.0 seat.new.me.0 }
 {
     // One load suffices: the free position never falls, so the room that it shows is really there.

@@ -188,7 +188,7 @@ fn joined_ends_close(rt: HostRuntime) {
 
 /// If an allocation is refused, there is no queue, and a later try makes one.
 #[test]
-fn memory_may_be_wanting(rt: HostRuntime) {
+fn memory_may_run_out(rt: HostRuntime) {
     let mut made = false;
     for _ in 0..3 {
         match BatchQueue::new(rt.alloc(), Room::Of4.places()) {

@@ -13,7 +13,7 @@ use Rattle.bindings.proofs.Telling.{the}
 use Rattle.std.proofs.lemmas.Bool.{cases_lt}
 use Rattle.std.specs.Prelude.{Result, Ok, Err, MatchResult}
 use Rattle.atomic_table.specs.Seated.{TableId}
-use Rattle.table_theory.specs.declared.views.Moment.{Moment}
+use Rattle.table_theory.specs.declared.views.AbsState.{AbsState}
 use Rattle.batch_queue.specs.declared.ends.BatchEnd.{BatchEnd}
 use Rattle.batch_queue.specs.declared.ends.BatchQueue.{BatchQueue}
 use Rattle.batch_queue.specs.declared.refusals.PutRefusal.{PutRefusal}
@@ -50,7 +50,7 @@ take_some_keeps old new v w (Err r) h = h.0.0.share
 -- the end has seen a queue with the places of its own
 pub seen_room : (queue : BatchQueue) (end : BatchEnd) → IsEndOf queue end → (view_of end).seen.object.room ≡ room_of queue
 seen_room queue end is = ∥∥₁_elim end.ruled (ℕ_set _ _) (λ r.
-    ap (λ (m : Moment BatchState). m.object.room) r.seen ∙ r.rule.room ∙ sym (ap (λ (o : BatchState). o.room) (r.rule.stands.true_ends.first_is r.number (view_of end) r.here))
+    ap (λ (m : AbsState BatchState). m.object.room) r.seen ∙ r.rule.room ∙ sym (ap (λ (o : BatchState). o.room) (r.rule.stands.true_ends.first_is r.number (view_of end) r.here))
     ∙ (end.room ∙ (ap (λ (t : TableId). t.slots) is ∙ queue.sized.1)))
 
 -- what is left fits into as many places as the queue has

@@ -8,7 +8,7 @@ use Rattle.table_theory.specs.Listing.{AllRaised}
 use Rattle.claim_queue.specs.Own.{View}
 use Rattle.claim_queue.specs.declared.take.TakeRefusal.{TakeRefusal}
 use Rattle.claim_queue.specs.Takings.{TookItems, RefusedTake, IsNone, IsOne, IsLine, IsBegun}
-use Rattle.claim_queue.specs.Endings.{TookIn}
+use Rattle.claim_queue.specs.Endings.{JoinedBy}
 use Rattle.claim_queue.proofs.Answered.{refused_take_own, took_own}
 use Rattle.bindings.specs.QueueTaking.{TookEach, TookSome}
 
@@ -58,5 +58,5 @@ raised_both (x ∷ a) b ha hb zero e at i l = ha zero e at i l
 raised_both (x ∷ a) b ha hb (suc m) e at i l = raised_both a b (λ m. ha (suc m)) hb m e at i l
 
 -- an end that took another in has raised what both had
-pub joined_raised : (v u w : View) → TookIn v u w → AllRaised v.own.runs → AllRaised u.own.runs → AllRaised w.own.runs
+pub joined_raised : (v u w : View) → JoinedBy v u w → AllRaised v.own.runs → AllRaised u.own.runs → AllRaised w.own.runs
 joined_raised v u w j a b = subst AllRaised (λ i. (sym j.own i).runs) (raised_both v.own.runs u.own.runs a b)

@@ -34,17 +34,17 @@ pub no_answer : false ≡ true → ⊥
 no_answer e = subst IsTrueSome (sym e) tt
 
 -- a code is reported as it is
-pub as_told : (F : ℤ → Type 0) (z : ℤ) → SFits w32 z → F z → F (to_z w32 (of_z w32 z))
-as_told F z fits h = subst F (sym (to_z-of_z w32 z fits)) h
+pub as_reported : (F : ℤ → Type 0) (z : ℤ) → SFits w32 z → F z → F (to_z w32 (of_z w32 z))
+as_reported F z fits h = subst F (sym (to_z-of_z w32 z fits)) h
 
 -- the end that came out of the box is the one that was held
 pub unboxed : {X : Type 0} (of : Payload → Option X) (h : Payload) {z r : X} {p q : Payload} → of h ≡ Some z → Some h ≡ Some p → q ≡ p → of q ≡ Some r → r ≡ z
 unboxed of h {r = r} is b e d = ap (the r) (sym d ∙ ap of e ∙ ap of (sym (ap (the h) b)) ∙ is)
 
 -- the library's answer, and its report to C
-pub answered : {A X : Type 0} {Did : A → X → X → Type 0} {Tells : A → Type 0} {x : X} (y : X) (answer : A) → Did answer x y → Tells answer
-    → Answered Did Tells x (Some y)
-answered y answer did tells = record { y = y; full = refl; answer = answer; answered = did; tells = tells }
+pub answered : {A X : Type 0} {Did : A → X → X → Type 0} {Reports : A → Type 0} {x : X} (y : X) (answer : A) → Did answer x y → Reports answer
+    → Answered Did Reports x (Some y)
+answered y answer did reports = record { y = y; full = refl; answer = answer; answered = did; reports = reports }
 
 -- a new end in a handle that was empty, or none when memory is out
 pub made_as : {X : Type 0} (wrap : X → Payload) (Valid : Type 0) (IsNew : X → Type 0) (made : Option X) (old new : Handle) (code : ℤ)

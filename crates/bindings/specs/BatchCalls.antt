@@ -32,14 +32,14 @@ positions_of_put (not_put.Lost head) old = record { head = head; tail = 0 }
 positions_of_put _ old = old
 
 -- the report of a put: Done and the position of its first item, or the code and the positions of the refusal
-abbrev pub IsToldPut : Result ℕ PutRefusal → SynthPositions → SynthPositions → ℤ → Type 0
-IsToldPut (Ok start) old new code = (code ≡ Done) × (new ≡ record { head = start; tail = 0 })
-IsToldPut (Err r) old new code = (code ≡ code_of_put r) × (new ≡ positions_of_put r old)
+abbrev pub ReportsPut : Result ℕ PutRefusal → SynthPositions → SynthPositions → ℤ → Type 0
+ReportsPut (Ok start) old new code = (code ≡ Done) × (new ≡ record { head = start; tail = 0 })
+ReportsPut (Err r) old new code = (code ≡ code_of_put r) × (new ≡ positions_of_put r old)
 
 -- the report of `try_put_some`: as for a put, and the number of items put, which a refusal leaves unchanged
-abbrev pub IsToldPutSome : Result (ℕ × ℕ) PutRefusal → ℕ → ℕ → SynthPositions → SynthPositions → ℤ → Type 0
-IsToldPutSome (Ok r) old_count count old new code = IsToldPut (Ok r.0) old new code × (count ≡ r.1)
-IsToldPutSome (Err r) old_count count old new code = IsToldPut (Err r) old new code × (count ≡ old_count)
+abbrev pub ReportsPutSome : Result (ℕ × ℕ) PutRefusal → ℕ → ℕ → SynthPositions → SynthPositions → ℤ → Type 0
+ReportsPutSome (Ok r) old_count count old new code = ReportsPut (Ok r.0) old new code × (count ≡ r.1)
+ReportsPutSome (Err r) old_count count old new code = ReportsPut (Err r) old new code × (count ≡ old_count)
 
 -- the code of a refused taking
 abbrev pub code_of_batch : TakeRefusal → ℤ
@@ -61,15 +61,15 @@ count_of_take (not_taken.ShortBuffer at count) old = count
 count_of_take _ old = old
 
 -- the report of a taking: Done and the number of its items, or the code, the count and the positions of the refusal
-abbrev pub IsToldTake : Result ℕ TakeRefusal → ℕ → ℕ → SynthPositions → SynthPositions → ℤ → Type 0
-IsToldTake (Ok n) old_count count old new code = (code ≡ Done) × (count ≡ n) × (new ≡ old)
-IsToldTake (Err r) old_count count old new code =
+abbrev pub ReportsTake : Result ℕ TakeRefusal → ℕ → ℕ → SynthPositions → SynthPositions → ℤ → Type 0
+ReportsTake (Ok n) old_count count old new code = (code ≡ Done) × (count ≡ n) × (new ≡ old)
+ReportsTake (Err r) old_count count old new code =
     (code ≡ code_of_batch r) × (count ≡ count_of_take r old_count) × (new ≡ positions_of_take r old)
 
 -- the buffer has fewer places than the queue, and nothing happened; or the outcome of the close is reported
 abbrev pub WasClosed : HeldBatch → List ℕ → List ℕ → Option Payload → SynthBatchClosed → SynthBatchClosed → ℤ → Type 0
-WasClosed x old_items items new old told code =
+WasClosed x old_items items new old reported code =
     ((code ≡ ShortBuffer) × (length old_items < places_of x) × (new ≡ Some (Batch x)) × (items ≡ old_items)
-    × (told ≡ old))
+    × (reported ≡ old))
     ⊎ ((places_of x ≤ length old_items) × WasEnded Batch (λ outcome. Ended old_items items outcome x)
-    (λ c t. t ≡ c) new old told code)
+    (λ c t. t ≡ c) new old reported code)

@@ -51,15 +51,15 @@ abbrev pub DidNothing : HeldBatch → HeldBatch → Type 0
 DidNothing x y = SameLines (view_of x.end) (view_of y.end)
 
 -- `split` made `born`, an end of the same queue, with a part of the share of x
-pub record Divided (x y born : HeldBatch) : Type 0 where
+pub record SplitBy (x y born : HeldBatch) : Type 0 where
   pub same : IsSameHeld x y
   pub one : arc_value born.queue ≡ arc_value x.queue
   pub share : WasDivided x.share y.share born.share
   pub effect : (lines_put (view_of y.end) ≡ lines_put (view_of x.end))
       × (lines_taken (view_of y.end) ≡ lines_taken (view_of x.end))
       × (times_parted (view_of y.end) ≡ times_parted (view_of x.end))
-  pub result : endings.IsNewborn (view_of x.end) (view_of y.end) (view_of born.end)
-  pub trace : endings.Divided (view_of x.end) (view_of y.end)
+  pub result : endings.IsNewEnd (view_of x.end) (view_of y.end) (view_of born.end)
+  pub trace : endings.SplitBy (view_of x.end) (view_of y.end)
 
 -- `join` took in the end `other`, with its parts of the share
 pub record Joined (x y other : HeldBatch) : Type 0 where
@@ -68,7 +68,7 @@ pub record Joined (x y other : HeldBatch) : Type 0 where
   pub effect : (lines_put (view_of y.end) ≡ lines_put (view_of x.end) ++ lines_put (view_of other.end))
       × (lines_taken (view_of y.end) ≡ lines_taken (view_of x.end) ++ lines_taken (view_of other.end))
       × (times_parted (view_of y.end) ≡ times_parted (view_of x.end) + times_parted (view_of other.end))
-  pub trace : endings.TookIn (view_of x.end) (view_of other.end) (view_of y.end)
+  pub trace : endings.JoinedBy (view_of x.end) (view_of other.end) (view_of y.end)
 
 -- the end has seen that the queue is shut
 abbrev pub SawShut : HeldBatch → Type 0

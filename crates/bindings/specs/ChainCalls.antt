@@ -21,34 +21,34 @@ use Rattle.bindings.specs.declared.payload.Payload.{Payload}
 use Rattle.bindings.specs.declared.payload.Payload.TheVariants.{Chain}
 
 -- the report of a try to chain a note: Run, Left, or the code and the positions of the refusal
-abbrev pub IsToldNoted : Result Noted ChainRefusal → SynthAnswer → Type 0
-IsToldNoted (Ok noted.Run) told = IsCodeAlone Run told
-IsToldNoted (Ok noted.Left) told = IsCodeAlone Left told
-IsToldNoted (Err r) told = (told.code ≡ code_of_chain r) × (told.head ≡ head_of_chain r) × (told.tail ≡ tail_of_chain r)
+abbrev pub ReportsNoted : Result Noted ChainRefusal → SynthAnswer → Type 0
+ReportsNoted (Ok noted.Run) reported = IsCodeAlone Run reported
+ReportsNoted (Ok noted.Left) reported = IsCodeAlone Left reported
+ReportsNoted (Err r) reported = (reported.code ≡ code_of_chain r) × (reported.head ≡ head_of_chain r) × (reported.tail ≡ tail_of_chain r)
 
 -- the library's `try_chain` was called, and its answer is reported
-abbrev pub ChainTold : HeldChain → ℕ → Option HeldChain → SynthAnswer → Type 0
-ChainTold x note new told = Answered (WasChained note) (λ answer. IsToldNoted answer told) x new
+abbrev pub IsChainCall : HeldChain → ℕ → Option HeldChain → SynthAnswer → Type 0
+IsChainCall x note new reported = Answered (WasChained note) (λ answer. ReportsNoted answer reported) x new
 
 -- the report of a pull: Note and the note, or Again or Done and the old note
-abbrev pub IsToldPulled : Pulled → ℕ → ℕ → ℤ → Type 0
-IsToldPulled (pulled.Note note) old new code = (code ≡ Note) × (new ≡ note)
-IsToldPulled pulled.Again old new code = (code ≡ Again) × (new ≡ old)
-IsToldPulled pulled.Done old new code = (code ≡ Done) × (new ≡ old)
+abbrev pub ReportsPulled : Pulled → ℕ → ℕ → ℤ → Type 0
+ReportsPulled (pulled.Note note) old new code = (code ≡ Note) × (new ≡ note)
+ReportsPulled pulled.Again old new code = (code ≡ Again) × (new ≡ old)
+ReportsPulled pulled.Done old new code = (code ≡ Done) × (new ≡ old)
 
 -- an end that runs notes pulled one, and the answer is reported; an end that runs none is unchanged
-pub data PullTold (x : HeldChain) (old_note note : ℕ) (new : Option HeldChain) (code : ℤ) : Type 0 where
+pub data IsPullCall (x : HeldChain) (old_note note : ℕ) (new : Option HeldChain) (code : ℤ) : Type 0 where
   runs_none : has_turn x ≡ false → code ≡ NotRunning → note ≡ old_note → new ≡ Some x
-      → PullTold x old_note note new code
+      → IsPullCall x old_note note new code
   runs_notes : has_turn x ≡ true → (y : HeldChain) (answer : Pulled) → new ≡ Some y → WasPulled answer x y
-      → IsToldPulled answer old_note note code → PullTold x old_note note new code
+      → ReportsPulled answer old_note note code → IsPullCall x old_note note new code
 
 -- the report of a closed chain: how many notes were put, and how many were run
-abbrev pub IsToldClosed : ChainClosed Inbox → SynthChained → Type 0
-IsToldClosed c told = (told.put ≡ c.put) × (told.run ≡ c.taken)
+abbrev pub ReportsClosed : ChainClosed Inbox → SynthChained → Type 0
+ReportsClosed c reported = (reported.put ≡ c.put) × (reported.run ≡ c.taken)
 
 -- if the end runs notes, the chain stays open and the end is unchanged; else the outcome of the close is reported
-pub data WasClosed (x : HeldChain) (new : Option Payload) (old told : SynthChained) (code : ℤ) : Type 0 where
-  runs_notes : has_turn x ≡ true → code ≡ Running → told ≡ old → new ≡ Some (Chain x) → WasClosed x new old told code
-  runs_none : has_turn x ≡ false → WasEnded Chain (λ outcome. Ended outcome x) IsToldClosed new old told code
-      → WasClosed x new old told code
+pub data WasClosed (x : HeldChain) (new : Option Payload) (old reported : SynthChained) (code : ℤ) : Type 0 where
+  runs_notes : has_turn x ≡ true → code ≡ Running → reported ≡ old → new ≡ Some (Chain x) → WasClosed x new old reported code
+  runs_none : has_turn x ≡ false → WasEnded Chain (λ outcome. Ended outcome x) ReportsClosed new old reported code
+      → WasClosed x new old reported code

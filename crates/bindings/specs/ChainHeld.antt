@@ -47,12 +47,12 @@ IsNewChain first mark x = (chains.first_of (arc_value x.chain) ≡ first) × (vi
     × (has_turn x ≡ false) × AllOf mark x.share
 
 -- `split` made `born`, an end of the same chain, with a part of the share of x; `born` runs no notes
-abbrev pub Divided : HeldChain → HeldChain → HeldChain → Type 0
-Divided x y born = IsSameHeld x y × (has_turn y ≡ has_turn x) × (has_turn born ≡ false)
+abbrev pub SplitBy : HeldChain → HeldChain → HeldChain → Type 0
+SplitBy x y born = IsSameHeld x y × (has_turn y ≡ has_turn x) × (has_turn born ≡ false)
     × (arc_value born.chain ≡ arc_value x.chain)
     × WasDivided x.share y.share born.share
-    × endings.Divided (view_of x.end) (view_of y.end)
-    × endings.IsNewborn (view_of x.end) (view_of y.end) (view_of born.end)
+    × endings.SplitBy (view_of x.end) (view_of y.end)
+    × endings.IsNewEnd (view_of x.end) (view_of y.end) (view_of born.end)
 
 -- `join` joined the two ends: `other` took x in if it ran notes, else x took `other` in; y has the parts of both
 abbrev pub Joined : HeldChain → HeldChain → HeldChain → Type 0

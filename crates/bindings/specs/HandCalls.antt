@@ -14,27 +14,27 @@ use Rattle.bindings.specs.Codes.{Spent, Busy, Vacant, NotHeld, NotServed}
 use Rattle.bindings.specs.HandHeld.{HasNot, WasPutOn, WasTakenOff, WasCounted, WasDone}
 
 -- the report of `holds` on the hand x, by its code
-abbrev pub HoldsTold : ℕ → HeldHand → Bool → Bool → ℤ → Type 0
-HoldsTold element x old held code =
+abbrev pub IsHoldsCall : ℕ → HeldHand → Bool → Bool → ℤ → Type 0
+IsHoldsCall element x old held code =
     ((code ≡ BadNumber) × (64 ≤ element) × (held ≡ old))
     ⊎ ((code ≡ Done) × (element < 64) × (held ≡ has (view_of x.hand) element))
 
 -- the report of `serves` on the hand x, by its code
-abbrev pub ServesTold : ℕ → HeldHand → Bool → Bool → ℤ → Type 0
-ServesTold p x old served code =
+abbrev pub IsServesCall : ℕ → HeldHand → Bool → Bool → ℤ → Type 0
+IsServesCall p x old served code =
     ((code ≡ BadNumber) × (8 ≤ p) × (served ≡ old))
     ⊎ ((code ≡ Done) × (p < 8) × (served ≡ serves (view_of x.hand) p))
 
 -- the report of `on_processor` on the hand x, by its code
-abbrev pub OnProcessorTold : ℕ → HeldHand → ℕ → ℕ → ℤ → Type 0
-OnProcessorTold p x old element code =
+abbrev pub IsOnProcessorCall : ℕ → HeldHand → ℕ → ℕ → ℤ → Type 0
+IsOnProcessorCall p x old element code =
     ((code ≡ BadNumber) × (8 ≤ p) × (element ≡ old))
     ⊎ ((code ≡ Vacant) × (p < 8) × (running (view_of x.hand) p ≡ None) × (element ≡ old))
     ⊎ ((code ≡ Done) × (p < 8) × (running (view_of x.hand) p ≡ Some element))
 
 -- the effect of `on`, by its code
-abbrev pub OnTold : ℕ → ℕ → HeldHand → HeldHand → ℤ → Type 0
-OnTold p element x y code =
+abbrev pub IsOnCall : ℕ → ℕ → HeldHand → HeldHand → ℤ → Type 0
+IsOnCall p element x y code =
     ((code ≡ BadNumber) × ((8 ≤ p) ⊎ (64 ≤ element)) × (y ≡ x))
     ⊎ ((code ≡ NotHeld) × (p < 8) × (element < 64) × (has (view_of x.hand) element ≡ false) × (y ≡ x))
     ⊎ ((code ≡ NotServed) × (p < 8) × (element < 64) × (has (view_of x.hand) element ≡ true)
@@ -45,8 +45,8 @@ OnTold p element x y code =
     × (serves (view_of x.hand) p ≡ true) × (running (view_of x.hand) p ≡ None) × WasPutOn p element x y)
 
 -- the effect of `off`, by its code
-abbrev pub OffTold : ℕ → HeldHand → HeldHand → ℕ → ℕ → ℤ → Type 0
-OffTold p x y old element code =
+abbrev pub IsOffCall : ℕ → HeldHand → HeldHand → ℕ → ℕ → ℤ → Type 0
+IsOffCall p x y old element code =
     ((code ≡ BadNumber) × (8 ≤ p) × (y ≡ x) × (element ≡ old))
     ⊎ ((code ≡ NotServed) × (p < 8) × (serves (view_of x.hand) p ≡ false) × (y ≡ x) × (element ≡ old))
     ⊎ ((code ≡ Vacant) × (p < 8) × (serves (view_of x.hand) p ≡ true) × (running (view_of x.hand) p ≡ None) × (y ≡ x)
@@ -61,14 +61,14 @@ MayNotStep element x code =
     ⊎ ((code ≡ NotHeld) × (element < 64) × HasNot element x)
 
 -- the effect of `pc`, by its code
-abbrev pub PcTold : ℕ → HeldHand → HeldHand → ℕ → ℕ → ℤ → Type 0
-PcTold element x y old steps code =
+abbrev pub IsPcCall : ℕ → HeldHand → HeldHand → ℕ → ℕ → ℤ → Type 0
+IsPcCall element x y old steps code =
     (MayNotStep element x code × (y ≡ x) × (steps ≡ old))
     ⊎ ((code ≡ Done) × (element < 64) × MayStep (view_of x.hand) element × WasCounted element steps x y)
 
 -- the effect of `step_done`, by its code
-abbrev pub StepTold : ℕ → HeldHand → HeldHand → ℕ → ℕ → ℤ → Type 0
-StepTold element x y old steps code =
+abbrev pub IsStepCall : ℕ → HeldHand → HeldHand → ℕ → ℕ → ℤ → Type 0
+IsStepCall element x y old steps code =
     (MayNotStep element x code × (y ≡ x) × (steps ≡ old))
     ⊎ ((code ≡ Spent) × (element < 64) × MayStep (view_of x.hand) element × (steps ≡ old)
     × (r : programs.Spent) × WasDone element (Err r) x y)

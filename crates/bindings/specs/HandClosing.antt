@@ -17,15 +17,15 @@ Ended (Ok c) x = (x.share.parts ≡ the_whole)
 Ended (Err y) x = y ≡ x
 
 -- a place as it is reported to C
-abbrev pub place_told : Place → SynthPlace
-place_told (places.Processor p) = record { kind = 0; number = p }
-place_told places.Ready = record { kind = 1; number = 0 }
-place_told places.Free = record { kind = 2; number = 0 }
-place_told (places.Wait wait) = record { kind = 3; number = wait }
-place_told places.Stopped = record { kind = 4; number = 0 }
-place_told places.Held = record { kind = 5; number = 0 }
+abbrev pub c_place : Place → SynthPlace
+c_place (places.Processor p) = record { kind = 0; number = p }
+c_place places.Ready = record { kind = 1; number = 0 }
+c_place places.Free = record { kind = 2; number = 0 }
+c_place (places.Wait wait) = record { kind = 3; number = wait }
+c_place places.Stopped = record { kind = 4; number = 0 }
+c_place places.Held = record { kind = 5; number = 0 }
 
 -- the report of a closed table: the place, the steps and the pending signals of each element, and the stop bits
-abbrev pub IsToldPlaces : Places → SynthPlaces → Type 0
-IsToldPlaces c told = (told.place ≡ map place_told c.places) × (told.pc ≡ c.pcs) × (told.pending ≡ c.pending)
-    × (told.stops ≡ c.stops)
+abbrev pub ReportsPlaces : Places → SynthPlaces → Type 0
+ReportsPlaces c reported = (reported.place ≡ map c_place c.places) × (reported.pc ≡ c.pcs) × (reported.pending ≡ c.pending)
+    × (reported.stops ≡ c.stops)

@@ -62,16 +62,16 @@ MayNotSplit mask x code =
     ⊎ ((mask < 256) × ServesAll mask x × HasNoneOn mask x × HasNoTwo x.share code)
 
 -- `split` made `born`, a hand of the same table, with the processors of the mask and a part of the share of x
-abbrev pub Divided : ℕ → HeldHand → HeldHand → HeldHand → Type 0
-Divided mask x y born = IsSameHeld x y × (arc_value born.table ≡ arc_value x.table)
+abbrev pub SplitBy : ℕ → HeldHand → HeldHand → HeldHand → Type 0
+SplitBy mask x y born = IsSameHeld x y × (arc_value born.table ≡ arc_value x.table)
     × WasDivided x.share y.share born.share
-    × endings.Divided mask (view_of x.hand) (view_of y.hand)
-    × endings.IsNewborn mask (view_of x.hand) (view_of y.hand) (view_of born.hand)
+    × endings.SplitBy mask (view_of x.hand) (view_of y.hand)
+    × endings.IsNewEnd mask (view_of x.hand) (view_of y.hand) (view_of born.hand)
 
 -- `join` took in the hand `other`, with its parts of the share
 abbrev pub Joined : HeldHand → HeldHand → HeldHand → Type 0
 Joined x y other = IsSameHeld x y × WasJoined x.share y.share other.share
-    × endings.TookIn (view_of x.hand) (view_of other.hand) (view_of y.hand)
+    × endings.JoinedBy (view_of x.hand) (view_of other.hand) (view_of y.hand)
 
 -- `on` put the element on the processor
 abbrev pub WasPutOn : ℕ → ℕ → HeldHand → HeldHand → Type 0

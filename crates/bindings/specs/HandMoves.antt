@@ -48,40 +48,40 @@ notifies_of_move _ = 0
 
 -- this code, with both numbers 0
 abbrev pub IsMoveCode : ℤ → SynthMoved → Type 0
-IsMoveCode code told = (told.code ≡ code) × (told.head ≡ 0) × (told.notifies ≡ 0)
+IsMoveCode code reported = (reported.code ≡ code) × (reported.head ≡ 0) × (reported.notifies ≡ 0)
 
 -- the report of a move's answer
-abbrev pub IsToldMove : Result (Unit {0}) MoveRefusal → SynthMoved → Type 0
-IsToldMove answer told = (told.code ≡ code_of_move answer) × (told.head ≡ head_of_move answer)
-    × (told.notifies ≡ notifies_of_move answer)
+abbrev pub ReportsMove : Result (Unit {0}) MoveRefusal → SynthMoved → Type 0
+ReportsMove answer reported = (reported.code ≡ code_of_move answer) × (reported.head ≡ head_of_move answer)
+    × (reported.notifies ≡ notifies_of_move answer)
 
 -- if the hand doesn't hold the element, NotHeld is reported; if it does, the answer of the move is reported
 abbrev pub HeldOrNot : (Result (Unit {0}) MoveRefusal → HeldHand → HeldHand → Type 0) → ℕ → HeldHand → Option HeldHand
     → SynthMoved → Type 0
-HeldOrNot Answers element x new told =
-    (IsMoveCode NotHeld told × (has (view_of x.hand) element ≡ false) × (new ≡ Some x))
-    ⊎ ((has (view_of x.hand) element ≡ true) × Answered Answers (λ answer. IsToldMove answer told) x new)
+HeldOrNot Answers element x new reported =
+    (IsMoveCode NotHeld reported × (has (view_of x.hand) element ≡ false) × (new ≡ Some x))
+    ⊎ ((has (view_of x.hand) element ≡ true) × Answered Answers (λ answer. ReportsMove answer reported) x new)
 
 -- the effect of `try_ready` and `try_retire`, which move the element into the element queue `line`
-abbrev pub MovingTold : ℕ → ℕ → HeldHand → Option HeldHand → SynthMoved → Type 0
-MovingTold line element x new told =
-    (IsMoveCode BadNumber told × (64 ≤ element) × (new ≡ Some x))
-    ⊎ ((element < 64) × HeldOrNot (WasMoved line element) element x new told)
+abbrev pub IsMovingCall : ℕ → ℕ → HeldHand → Option HeldHand → SynthMoved → Type 0
+IsMovingCall line element x new reported =
+    (IsMoveCode BadNumber reported × (64 ≤ element) × (new ≡ Some x))
+    ⊎ ((element < 64) × HeldOrNot (WasMoved line element) element x new reported)
 
 -- the effect of `try_wait`
-abbrev pub WaitingTold : ℕ → ℕ → HeldHand → Option HeldHand → SynthMoved → Type 0
-WaitingTold element wait x new told =
-    (IsMoveCode BadNumber told × ((64 ≤ element) ⊎ (16 ≤ wait)) × (new ≡ Some x))
-    ⊎ ((element < 64) × (wait < 16) × HeldOrNot (WasMoved (wait_ring wait) element) element x new told)
+abbrev pub IsWaitingCall : ℕ → ℕ → HeldHand → Option HeldHand → SynthMoved → Type 0
+IsWaitingCall element wait x new reported =
+    (IsMoveCode BadNumber reported × ((64 ≤ element) ⊎ (16 ≤ wait)) × (new ≡ Some x))
+    ⊎ ((element < 64) × (wait < 16) × HeldOrNot (WasMoved (wait_ring wait) element) element x new reported)
 
 -- the effect of `ticket`, by its code
-abbrev pub TicketTold : ℕ → HeldHand → ℕ → ℕ → Option HeldHand → ℤ → Type 0
-TicketTold wait x old_ticket ticket new code =
+abbrev pub IsTicketCall : ℕ → HeldHand → ℕ → ℕ → Option HeldHand → ℤ → Type 0
+IsTicketCall wait x old_ticket ticket new code =
     ((code ≡ BadNumber) × (16 ≤ wait) × (new ≡ Some x) × (ticket ≡ old_ticket))
     ⊎ ((code ≡ Done) × (wait < 16) × (y : HeldHand) × (new ≡ Some y) × WasTicket wait ticket x y)
 
 -- the effect of `try_wait_at`
-abbrev pub WaitingAtTold : ℕ → ℕ → ℕ → HeldHand → Option HeldHand → SynthMoved → Type 0
-WaitingAtTold element wait ticket x new told =
-    (IsMoveCode BadNumber told × ((64 ≤ element) ⊎ (16 ≤ wait)) × (new ≡ Some x))
-    ⊎ ((element < 64) × (wait < 16) × HeldOrNot (WasWaited wait element ticket) element x new told)
+abbrev pub IsWaitingAtCall : ℕ → ℕ → ℕ → HeldHand → Option HeldHand → SynthMoved → Type 0
+IsWaitingAtCall element wait ticket x new reported =
+    (IsMoveCode BadNumber reported × ((64 ≤ element) ⊎ (16 ≤ wait)) × (new ≡ Some x))
+    ⊎ ((element < 64) × (wait < 16) × HeldOrNot (WasWaited wait element ticket) element x new reported)

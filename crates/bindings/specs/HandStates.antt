@@ -55,11 +55,11 @@ is_raised signalled.Merged = false
 
 -- this code, with word 0
 abbrev pub IsStateCode : ℤ → SynthState → Type 0
-IsStateCode code told = (told.code ≡ code) × (told.word ≡ 0)
+IsStateCode code reported = (reported.code ≡ code) × (reported.word ≡ 0)
 
 -- the report of `Lost`: the code 6, and the state word that was found
-abbrev pub IsToldLost : Lost → SynthState → Type 0
-IsToldLost lost told = (told.code ≡ pos 6) × (told.word ≡ lost.seen)
+abbrev pub ReportsLost : Lost → SynthState → Type 0
+ReportsLost lost reported = (reported.code ≡ pos 6) × (reported.word ≡ lost.seen)
 
 -- the state word in a refusal has 32 bits
 abbrev pub IsFitState : {X : Type 0} → Result X Lost → Type 0
@@ -67,54 +67,54 @@ IsFitState (Ok x) = Unit {0}
 IsFitState (Err lost) = lost.seen < u32_values
 
 -- the report of a start: its effect, which is written, or the state word that was found
-abbrev pub IsToldStart : Result Started Lost → ℕ → ℕ → SynthState → Type 0
-IsToldStart answer old new told = MatchResult answer (λ s. (new ≡ number_of_start s) × IsStateCode Done told)
-    (λ lost. (new ≡ old) × IsToldLost lost told)
+abbrev pub ReportsStart : Result Started Lost → ℕ → ℕ → SynthState → Type 0
+ReportsStart answer old new reported = MatchResult answer (λ s. (new ≡ number_of_start s) × IsStateCode Done reported)
+    (λ lost. (new ≡ old) × ReportsLost lost reported)
 
 -- the report of a park: whether the element is parked, which is written, or the state word that was found
-abbrev pub IsToldPark : Result Bool Lost → Bool → Bool → SynthState → Type 0
-IsToldPark answer old new told = MatchResult answer (λ b. (new ≡ b) × IsStateCode Done told)
-    (λ lost. (new ≡ old) × IsToldLost lost told)
+abbrev pub ReportsPark : Result Bool Lost → Bool → Bool → SynthState → Type 0
+ReportsPark answer old new reported = MatchResult answer (λ b. (new ≡ b) × IsStateCode Done reported)
+    (λ lost. (new ≡ old) × ReportsLost lost reported)
 
 -- the report of a delivery: the signals as bits 0 to 15, which are written, or the state word that was found
-abbrev pub IsToldDelivery : Result ℕ Lost → ℕ → ℕ → SynthState → Type 0
-IsToldDelivery answer old new told = MatchResult answer (λ mask. (mask < 65536) × (new ≡ mask) × IsStateCode Done told)
-    (λ lost. (new ≡ old) × IsToldLost lost told)
+abbrev pub ReportsDelivery : Result ℕ Lost → ℕ → ℕ → SynthState → Type 0
+ReportsDelivery answer old new reported = MatchResult answer (λ mask. (mask < 65536) × (new ≡ mask) × IsStateCode Done reported)
+    (λ lost. (new ≡ old) × ReportsLost lost reported)
 
 -- the effect of `stop`, by its code
-abbrev pub StopTold : ℕ → HeldHand → Bool → Bool → Option HeldHand → ℤ → Type 0
-StopTold element x old_answer answer new code =
+abbrev pub IsStopCall : ℕ → HeldHand → Bool → Bool → Option HeldHand → ℤ → Type 0
+IsStopCall element x old_answer answer new code =
     ((code ≡ BadNumber) × (64 ≤ element) × (new ≡ Some x) × (answer ≡ old_answer))
     ⊎ ((code ≡ Done) × (element < 64) × (y : HeldHand) × (new ≡ Some y) × WasStopped element answer x y)
 
 -- the effect of `try_start`
-abbrev pub StartTold : ℕ → HeldHand → ℕ → ℕ → Option HeldHand → SynthState → Type 0
-StartTold element x old_number number new told =
-    (IsStateCode BadNumber told × (64 ≤ element) × (new ≡ Some x) × (number ≡ old_number))
+abbrev pub IsStartCall : ℕ → HeldHand → ℕ → ℕ → Option HeldHand → SynthState → Type 0
+IsStartCall element x old_number number new reported =
+    (IsStateCode BadNumber reported × (64 ≤ element) × (new ≡ Some x) × (number ≡ old_number))
     ⊎ ((element < 64)
-    × Answered (WasStarted element) (λ answer. IsToldStart answer old_number number told) x new)
+    × Answered (WasStarted element) (λ answer. ReportsStart answer old_number number reported) x new)
 
 -- the effect of `try_park`
-abbrev pub ParkTold : ℕ → HeldHand → Bool → Bool → Option HeldHand → SynthState → Type 0
-ParkTold element x old_answer is new told =
-    (IsStateCode BadNumber told × (64 ≤ element) × (new ≡ Some x) × (is ≡ old_answer))
-    ⊎ (IsStateCode NotHeld told × (element < 64) × (has (view_of x.hand) element ≡ false) × (new ≡ Some x)
+abbrev pub IsParkCall : ℕ → HeldHand → Bool → Bool → Option HeldHand → SynthState → Type 0
+IsParkCall element x old_answer is new reported =
+    (IsStateCode BadNumber reported × (64 ≤ element) × (new ≡ Some x) × (is ≡ old_answer))
+    ⊎ (IsStateCode NotHeld reported × (element < 64) × (has (view_of x.hand) element ≡ false) × (new ≡ Some x)
     × (is ≡ old_answer))
     ⊎ ((element < 64) × (has (view_of x.hand) element ≡ true)
-    × Answered (WasParked element) (λ answer. IsToldPark answer old_answer is told) x new)
+    × Answered (WasParked element) (λ answer. ReportsPark answer old_answer is reported) x new)
 
 -- the effect of `signal`, by its code
-abbrev pub SignalTold : ℕ → ℕ → HeldHand → Bool → Bool → Option HeldHand → ℤ → Type 0
-SignalTold element signal x old_answer is new code =
+abbrev pub IsSignalCall : ℕ → ℕ → HeldHand → Bool → Bool → Option HeldHand → ℤ → Type 0
+IsSignalCall element signal x old_answer is new code =
     ((code ≡ BadNumber) × ((64 ≤ element) ⊎ (16 ≤ signal)) × (new ≡ Some x) × (is ≡ old_answer))
     ⊎ ((code ≡ Done) × (element < 64) × (signal < 16) × (y : HeldHand) × (new ≡ Some y) × (answer : Signalled)
     × (is ≡ is_raised answer) × WasSignalled element signal answer x y)
 
 -- the effect of `try_deliver`
-abbrev pub DeliverTold : ℕ → HeldHand → ℕ → ℕ → Option HeldHand → SynthState → Type 0
-DeliverTold element x old_signals signals new told =
-    (IsStateCode BadNumber told × (64 ≤ element) × (new ≡ Some x) × (signals ≡ old_signals))
-    ⊎ (IsStateCode NotHeld told × (element < 64) × (has (view_of x.hand) element ≡ false) × (new ≡ Some x)
+abbrev pub IsDeliverCall : ℕ → HeldHand → ℕ → ℕ → Option HeldHand → SynthState → Type 0
+IsDeliverCall element x old_signals signals new reported =
+    (IsStateCode BadNumber reported × (64 ≤ element) × (new ≡ Some x) × (signals ≡ old_signals))
+    ⊎ (IsStateCode NotHeld reported × (element < 64) × (has (view_of x.hand) element ≡ false) × (new ≡ Some x)
     × (signals ≡ old_signals))
     ⊎ ((element < 64) × (has (view_of x.hand) element ≡ true)
-    × Answered (WereDelivered element) (λ answer. IsToldDelivery answer old_signals signals told) x new)
+    × Answered (WereDelivered element) (λ answer. ReportsDelivery answer old_signals signals reported) x new)

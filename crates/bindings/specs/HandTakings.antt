@@ -35,18 +35,18 @@ IsFit (Ok element) = Unit {0}
 IsFit (Err r) = tail_of_next r < u32_values
 
 -- the report of a taking: the element, which is written, or the code and the tail
-abbrev pub IsToldTaking : Result ℕ NextRefusal → ℕ → ℕ → SynthAnswer → Type 0
-IsToldTaking answer old new told = MatchResult answer
-    (λ element. (new ≡ element) × IsCodeAlone Done told)
-    (λ r. (new ≡ old) × (told.code ≡ code_of_next r) × (told.head ≡ 0) × (told.tail ≡ tail_of_next r))
+abbrev pub ReportsTaking : Result ℕ NextRefusal → ℕ → ℕ → SynthAnswer → Type 0
+ReportsTaking answer old new reported = MatchResult answer
+    (λ element. (new ≡ element) × IsCodeAlone Done reported)
+    (λ r. (new ≡ old) × (reported.code ≡ code_of_next r) × (reported.head ≡ 0) × (reported.tail ≡ tail_of_next r))
 
 -- the library's answer to a taking from this element queue is reported
-abbrev pub TakingTold : ℕ → HeldHand → ℕ → ℕ → Option HeldHand → SynthAnswer → Type 0
-TakingTold line x old_element element new told =
-    Answered (WasTaken line) (λ answer. IsToldTaking answer old_element element told) x new
+abbrev pub IsTakingCall : ℕ → HeldHand → ℕ → ℕ → Option HeldHand → SynthAnswer → Type 0
+IsTakingCall line x old_element element new reported =
+    Answered (WasTaken line) (λ answer. ReportsTaking answer old_element element reported) x new
 
 -- the effect of `try_wake`; a wait queue out of range is reported as BadNumber
-abbrev pub WakingTold : ℕ → HeldHand → ℕ → ℕ → Option HeldHand → SynthAnswer → Type 0
-WakingTold wait x old_element element new told =
-    (IsCodeAlone BadNumber told × (16 ≤ wait) × (new ≡ Some x) × (element ≡ old_element))
-    ⊎ ((wait < 16) × TakingTold (wait_ring wait) x old_element element new told)
+abbrev pub IsWakingCall : ℕ → HeldHand → ℕ → ℕ → Option HeldHand → SynthAnswer → Type 0
+IsWakingCall wait x old_element element new reported =
+    (IsCodeAlone BadNumber reported × (16 ≤ wait) × (new ≡ Some x) × (element ≡ old_element))
+    ⊎ ((wait < 16) × IsTakingCall (wait_ring wait) x old_element element new reported)

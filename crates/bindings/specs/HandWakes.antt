@@ -30,21 +30,21 @@ IsFitBefore (Ok taken) = Unit {0}
 IsFitBefore (Err r) = tail_of_next r < u32_values
 
 -- the report of a taking before a position: the element, which is written, or AllWoken, or the code and the tail
-abbrev pub IsToldBefore : Result (Option ℕ) NextRefusal → ℕ → ℕ → SynthAnswer → Type 0
-IsToldBefore (Ok None) old new told = (new ≡ old) × IsCodeAlone AllWoken told
-IsToldBefore (Ok (Some element)) old new told = (new ≡ element) × IsCodeAlone Done told
-IsToldBefore (Err r) old new told =
-    (new ≡ old) × (told.code ≡ code_of_next r) × (told.head ≡ 0) × (told.tail ≡ tail_of_next r)
+abbrev pub ReportsBefore : Result (Option ℕ) NextRefusal → ℕ → ℕ → SynthAnswer → Type 0
+ReportsBefore (Ok None) old new reported = (new ≡ old) × IsCodeAlone AllWoken reported
+ReportsBefore (Ok (Some element)) old new reported = (new ≡ element) × IsCodeAlone Done reported
+ReportsBefore (Err r) old new reported =
+    (new ≡ old) × (reported.code ≡ code_of_next r) × (reported.head ≡ 0) × (reported.tail ≡ tail_of_next r)
 
 -- the effect of `notify`, by its code
-abbrev pub NotifyTold : ℕ → HeldHand → ℕ → ℕ → Option HeldHand → ℤ → Type 0
-NotifyTold wait x old_head head new code =
+abbrev pub IsNotifyCall : ℕ → HeldHand → ℕ → ℕ → Option HeldHand → ℤ → Type 0
+IsNotifyCall wait x old_head head new code =
     ((code ≡ BadNumber) × (16 ≤ wait) × (new ≡ Some x) × (head ≡ old_head))
     ⊎ ((code ≡ Done) × (wait < 16) × (y : HeldHand) × (new ≡ Some y) × WasNotified wait head x y)
 
 -- the effect of `try_wake_before`
-abbrev pub BeforeTold : ℕ → ℕ → HeldHand → ℕ → ℕ → Option HeldHand → SynthAnswer → Type 0
-BeforeTold wait head x old_element element new told =
-    (IsCodeAlone BadNumber told × (16 ≤ wait) × (new ≡ Some x) × (element ≡ old_element))
+abbrev pub IsBeforeCall : ℕ → ℕ → HeldHand → ℕ → ℕ → Option HeldHand → SynthAnswer → Type 0
+IsBeforeCall wait head x old_element element new reported =
+    (IsCodeAlone BadNumber reported × (16 ≤ wait) × (new ≡ Some x) × (element ≡ old_element))
     ⊎ ((wait < 16)
-    × Answered (WasTriedBefore wait head) (λ answer. IsToldBefore answer old_element element told) x new)
+    × Answered (WasTriedBefore wait head) (λ answer. ReportsBefore answer old_element element reported) x new)

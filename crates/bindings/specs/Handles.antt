@@ -99,22 +99,22 @@ MadeHandle {X} wrap Valid IsNew old new code =
     ⊎ ((code ≡ Done) × (held_by old ≡ None) × Valid × (y : X) × (held_by new ≡ Some (wrap y)) × IsNew y)
 
 -- The effect of `split` on the end x, by its code. NoMemory is reported only if the end can be split
-abbrev pub SplitTold : {X : Type 0} → (Handle → Option X) → (X → Type 0) → (X → ℤ → Type 0) → (X → X → X → Type 0)
+abbrev pub IsSplitCall : {X : Type 0} → (Handle → Option X) → (X → Type 0) → (X → ℤ → Type 0) → (X → X → X → Type 0)
     → X → Handle → Handle → Handle → ℤ → Type 0
-SplitTold {X} of MaySplit MayNotSplit Divided x old new made code =
+IsSplitCall {X} of MaySplit MayNotSplit SplitBy x old new made code =
     (MayNotSplit x code × AsItWas old new × (held_by made ≡ None))
     ⊎ ((code ≡ NoMemory) × MaySplit x × AsItWas old new × (held_by made ≡ None))
-    ⊎ ((code ≡ Done) × MaySplit x × (y z : X) × (of new ≡ Some y) × (of made ≡ Some z) × Divided x y z)
+    ⊎ ((code ≡ Done) × MaySplit x × (y z : X) × (of new ≡ Some y) × (of made ≡ Some z) × SplitBy x y z)
 
 -- the effect of `split`, by its code
 abbrev pub SplitHandle : {X : Type 0} → (Handle → Option X) → (X → Type 0) → (X → ℤ → Type 0) → (X → X → X → Type 0)
     → Handle → Handle → Handle → Handle → ℤ → Type 0
-SplitHandle {X} of MaySplit MayNotSplit Divided old new other made code =
+SplitHandle {X} of MaySplit MayNotSplit SplitBy old new other made code =
     ((code ≡ EmptyHandle) × (of old ≡ None) × AsItWas old new × AsItWas other made)
     ⊎ ((code ≡ FullHandle) × (is_some (of old) ≡ true) × AsItWas old new × (is_some (held_by other) ≡ true)
     × AsItWas other made)
     ⊎ ((held_by other ≡ None) × (x : X) × (of old ≡ Some x)
-    × SplitTold of MaySplit MayNotSplit Divided x old new made code)
+    × IsSplitCall of MaySplit MayNotSplit SplitBy x old new made code)
 
 -- by their marks and parts, both can be ends of one object
 abbrev pub MayJoin : {X : Type 0} → (X → Share) → (X → X → Type 0) → X → X → Type 0
@@ -135,23 +135,23 @@ JoinedHandle {X} of share HaveOneMark Joined old new other left code =
     × MayJoin share HaveOneMark x z × Joined x y z)
 
 -- the report of a close: Done, and the handle is empty; or Open, and the handle holds the end that was returned
-abbrev pub IsToldEnding : {C T X : Type 0} → (X → Payload) → (C → T → Type 0) → Result C X → Option Payload → T → T → ℤ
+abbrev pub ReportsEnding : {C T X : Type 0} → (X → Payload) → (C → T → Type 0) → Result C X → Option Payload → T → T → ℤ
     → Type 0
-IsToldEnding wrap Tells (Ok closed) new old told code = (code ≡ Done) × (new ≡ None) × Tells closed told
-IsToldEnding wrap Tells (Err y) new old told code = (code ≡ Open) × (new ≡ Some (wrap y)) × (told ≡ old)
+ReportsEnding wrap Reports (Ok closed) new old reported code = (code ≡ Done) × (new ≡ None) × Reports closed reported
+ReportsEnding wrap Reports (Err y) new old reported code = (code ≡ Open) × (new ≡ Some (wrap y)) × (reported ≡ old)
 
 -- an object was to be closed, and the outcome is reported
-pub record WasEnded {C T X : Type 0} (wrap : X → Payload) (Ended : Result C X → Type 0) (Tells : C → T → Type 0)
-    (new : Option Payload) (old told : T) (code : ℤ) : Type 0 where
+pub record WasEnded {C T X : Type 0} (wrap : X → Payload) (Ended : Result C X → Type 0) (Reports : C → T → Type 0)
+    (new : Option Payload) (old reported : T) (code : ℤ) : Type 0 where
   pub outcome : Result C X
   pub ended : Ended outcome
-  pub tells : IsToldEnding wrap Tells outcome new old told code
+  pub reports : ReportsEnding wrap Reports outcome new old reported code
 
 -- the library's call gave an answer, which is reported, and the handle holds the end y that `Did` relates to x
-pub record Answered {A X : Type 0} (Did : A → X → X → Type 0) (Tells : A → Type 0) (x : X) (new : Option X)
+pub record Answered {A X : Type 0} (Did : A → X → X → Type 0) (Reports : A → Type 0) (x : X) (new : Option X)
     : Type 0 where
   pub y : X
   pub full : new ≡ Some y
   pub answer : A
   pub answered : Did answer x y
-  pub tells : Tells answer
+  pub reports : Reports answer

@@ -47,32 +47,32 @@ abbrev pub SameHeldOut : HeldOut → HeldOut → Type 0
 SameHeldOut x y = SameOut x.line y.line × (y.mark ≡ x.mark)
 
 -- The effect of `push`, by its code. A push is refused only if no room is known and at least the capacity was pushed
-abbrev pub PushTold : HeldIn → ℕ → Option HeldIn → ℤ → Type 0
-PushTold x byte new code = (y : HeldIn) × (new ≡ Some y) × SameHeldIn x y
+abbrev pub IsPushCall : HeldIn → ℕ → Option HeldIn → ℤ → Type 0
+IsPushCall x byte new code = (y : HeldIn) × (new ≡ Some y) × SameHeldIn x y
     × (((code ≡ pos 5) × SendsNothing x.line y.line × (known_room x.line ≡ 0)
     × (length (bytes_sent x.line) < capacity_in x.line → ⊥))
     ⊎ ((code ≡ Done) × Sends byte x.line y.line))
 
 -- the effect of `pop`, by its code
-abbrev pub PopTold : HeldOut → ℕ → ℕ → Option HeldOut → ℤ → Type 0
-PopTold x old_byte byte new code = (y : HeldOut) × (new ≡ Some y) × SameHeldOut x y
+abbrev pub IsPopCall : HeldOut → ℕ → ℕ → Option HeldOut → ℤ → Type 0
+IsPopCall x old_byte byte new code = (y : HeldOut) × (new ≡ Some y) × SameHeldOut x y
     × (((code ≡ pos 7) × ReceivesNothing x.line y.line × (length (known_bytes x.line) ≡ 0) × (byte ≡ old_byte))
     ⊎ ((code ≡ Done) × Receives byte x.line y.line))
 
 -- The bytes received, then those left, are the bytes sent; the totals count them, sent and received modulo 2^64
-pub record IsTold (x : HeldIn) (z : HeldOut) (told : SynthLineTotals) : Type 0 where
+pub record ReportsLine (x : HeldIn) (z : HeldOut) (reported : SynthLineTotals) : Type 0 where
   pub whole : bytes_received z.line ++ bytes_left x.line z.line ≡ bytes_sent x.line
-  pub sent : told.sent ≡ length (bytes_sent x.line) % 2 ^ 64
-  pub received : told.received ≡ length (bytes_received z.line) % 2 ^ 64
-  pub left : told.left ≡ length (bytes_left x.line z.line)
-  pub within : told.left ≤ capacity_in x.line
+  pub sent : reported.sent ≡ length (bytes_sent x.line) % 2 ^ 64
+  pub received : reported.received ≡ length (bytes_received z.line) % 2 ^ 64
+  pub left : reported.left ≡ length (bytes_left x.line z.line)
+  pub within : reported.left ≤ capacity_in x.line
 
 -- the effect of `finish`, by its code
 abbrev pub FinishedLine : Handle → Handle → Handle → Handle → SynthLineTotals → SynthLineTotals → ℤ → Type 0
-FinishedLine old new other made old_told told code =
+FinishedLine old new other made old_reported reported code =
     ((code ≡ EmptyHandle) × ((line_in_of old ≡ None) ⊎ (line_out_of other ≡ None)) × AsItWas old new
-    × AsItWas other made × (told ≡ old_told))
+    × AsItWas other made × (reported ≡ old_reported))
     ⊎ ((code ≡ OtherObject) × (x : HeldIn) × (z : HeldOut) × (line_in_of old ≡ Some x) × (line_out_of other ≡ Some z)
-    × AsItWas old new × AsItWas other made × (told ≡ old_told) × (HaveOneMark x z → ⊥))
+    × AsItWas old new × AsItWas other made × (reported ≡ old_reported) × (HaveOneMark x z → ⊥))
     ⊎ ((code ≡ Done) × (x : HeldIn) × (z : HeldOut) × (line_in_of old ≡ Some x) × (line_out_of other ≡ Some z)
-    × (held_by new ≡ None) × (held_by made ≡ None) × HaveOneMark x z × IsTold x z told)
+    × (held_by new ≡ None) × (held_by made ≡ None) × HaveOneMark x z × ReportsLine x z reported)

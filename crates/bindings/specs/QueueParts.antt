@@ -9,7 +9,7 @@ use Rattle.claim_queue.specs.Rules.{newcomer}
 use Rattle.claim_queue.specs.Puts.{IsPut}
 use Rattle.claim_queue.specs.Answers.{Refused}
 use Rattle.claim_queue.specs.Closings.{ShutNow}
-use Rattle.claim_queue.specs.Endings.{Divided, IsNewborn, TookIn}
+use Rattle.claim_queue.specs.Endings.{SplitBy, IsNewEnd, JoinedBy}
 use Rattle.claim_queue.specs.Takings.{TookItems, RefusedTake, IsNone, IsOne, IsLine, IsBegun}
 use Rattle.bindings.specs.QueueTaking.{TookSome, IsKeptFrom}
 use Rattle.bindings.specs.Shares.{AllOf, WasDivided, WasJoined}
@@ -65,9 +65,9 @@ ShutPart was_open n x y = IsKept n x y × ShutNow (view_of x.end) was_open (view
 abbrev pub DividedPart : (n : ℕ) → Part n → Part n → Part n → Type 0
 DividedPart n x y born = IsSamePart n x y × (arc_value born.queue ≡ arc_value x.queue)
     × WasDivided x.share y.share born.share
-    × Divided (view_of x.end) (view_of y.end) × IsNewborn (view_of x.end) (view_of y.end) (view_of born.end)
+    × SplitBy (view_of x.end) (view_of y.end) × IsNewEnd (view_of x.end) (view_of y.end) (view_of born.end)
 
 -- `join` took in the end `other`, with its parts of the share
 abbrev pub JoinedPart : (n : ℕ) → Part n → Part n → Part n → Type 0
-JoinedPart n x y other = IsSamePart n x y × TookIn (view_of x.end) (view_of other.end) (view_of y.end)
+JoinedPart n x y other = IsSamePart n x y × JoinedBy (view_of x.end) (view_of other.end) (view_of y.end)
     × WasJoined x.share y.share other.share

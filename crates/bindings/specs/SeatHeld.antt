@@ -32,15 +32,15 @@ IsNewSeat clock mark x = (first_of (arc_value x.meters) ≡ clock)
     × AllOf mark x.share
 
 -- `split` made `born`, an end of the same meters, with a part of the share of x
-abbrev pub Divided : HeldSeat → HeldSeat → HeldSeat → Type 0
-Divided x y born = IsSameHeld x y × (arc_value born.meters ≡ arc_value x.meters)
+abbrev pub SplitBy : HeldSeat → HeldSeat → HeldSeat → Type 0
+SplitBy x y born = IsSameHeld x y × (arc_value born.meters ≡ arc_value x.meters)
     × WasDivided x.share y.share born.share
-    × endings.Divided (view_of x.seat) (view_of y.seat)
-    × endings.IsNewborn (view_of x.seat) (view_of y.seat) (view_of born.seat)
+    × endings.SplitBy (view_of x.seat) (view_of y.seat)
+    × endings.IsNewEnd (view_of x.seat) (view_of y.seat) (view_of born.seat)
 
 -- `join` took in the end `other`, with its parts of the share
 abbrev pub Joined : HeldSeat → HeldSeat → HeldSeat → Type 0
-Joined x y other = IsSameHeld x y × endings.TookIn (view_of x.seat) (view_of other.seat) (view_of y.seat)
+Joined x y other = IsSameHeld x y × endings.JoinedBy (view_of x.seat) (view_of other.seat) (view_of y.seat)
     × WasJoined x.share y.share other.share
 
 -- `tick` gave the value that the gauge had before

@@ -4,4 +4,4 @@ use Rattle.bindings.specs.declared.answer.SynthAnswer.{SynthAnswer}
 
 -- the code, with both positions 0
 abbrev pub IsCodeAlone : ℤ → SynthAnswer → Type 0
-IsCodeAlone code told = (told.code ≡ code) × (told.head ≡ 0) × (told.tail ≡ 0)
+IsCodeAlone code reported = (reported.code ≡ code) × (reported.head ≡ 0) × (reported.tail ≡ 0)

@@ -85,7 +85,7 @@ pub struct SynthClosed {
 }
 
 /// This code, with both positions 0.
-pub fn told(code: i32) -> SynthAnswer
+pub fn answer_of(code: i32) -> SynthAnswer
     ensures { IsCodeAlone code result }
 {
     SynthAnswer {
@@ -96,7 +96,7 @@ pub fn told(code: i32) -> SynthAnswer
 }
 
 /// This code, with this head.
-pub fn told_with(code: i32, head: u32) -> SynthAnswer
+pub fn answer_with(code: i32, head: u32) -> SynthAnswer
     ensures { (result.code ≡ code) × (result.head ≡ head) × (result.tail ≡ 0) }
 {
     SynthAnswer {
@@ -107,7 +107,7 @@ pub fn told_with(code: i32, head: u32) -> SynthAnswer
 }
 
 /// The code of the answer, and its positions: the first position of a put, or the positions in the refusal.
-pub fn told_of_claim(answer: Result<u32, ClaimRefusal>) -> SynthAnswer
+pub fn answer_of_claim(answer: Result<u32, ClaimRefusal>) -> SynthAnswer
     ensures { (result.code ≡ code_of_claim answer) × (result.head ≡ head_of_claim answer)
         × (result.tail ≡ tail_of_claim answer) }
 {
@@ -117,10 +117,10 @@ pub fn told_of_claim(answer: Result<u32, ClaimRefusal>) -> SynthAnswer
             head,
             tail: 0,
         },
-        Err(ClaimRefusal::NoItems) => told(NO_ITEMS),
-        Err(ClaimRefusal::TooLong) => told(TOO_LONG),
-        Err(ClaimRefusal::Closed) => told(CLOSED),
-        Err(ClaimRefusal::Spent) => told(SPENT),
+        Err(ClaimRefusal::NoItems) => answer_of(NO_ITEMS),
+        Err(ClaimRefusal::TooLong) => answer_of(TOO_LONG),
+        Err(ClaimRefusal::Closed) => answer_of(CLOSED),
+        Err(ClaimRefusal::Spent) => answer_of(SPENT),
         Err(ClaimRefusal::Full { head, tail }) => SynthAnswer {
             code: FULL,
             head,
@@ -135,7 +135,7 @@ pub fn told_of_claim(answer: Result<u32, ClaimRefusal>) -> SynthAnswer
 }
 
 /// The code of the refusal, and the position in it.
-pub fn told_of_take(refusal: TakeRefusal) -> SynthAnswer
+pub fn answer_of_take(refusal: TakeRefusal) -> SynthAnswer
     ensures { (result.code ≡ code_of_take refusal) × (result.head ≡ 0) × (result.tail ≡ tail_of_take refusal) }
 {
     match refusal {
@@ -149,18 +149,18 @@ pub fn told_of_take(refusal: TakeRefusal) -> SynthAnswer
             head: 0,
             tail,
         },
-        TakeRefusal::Closed => told(CLOSED),
+        TakeRefusal::Closed => answer_of(CLOSED),
     }
 }
 
 /// Done if anything was taken or nothing was refused, else the refusal's code. The position is the refusal's, or 0.
-pub fn told_of_some(count: usize, refusal: Option<TakeRefusal>) -> SynthAnswer
+pub fn answer_of_some(count: usize, refusal: Option<TakeRefusal>) -> SynthAnswer
     ensures { (result.code ≡ code_of_some count refusal) × (result.head ≡ 0) × (result.tail ≡ tail_of_some refusal) }
 {
     let Some(refusal) = refusal else {
-        return told(DONE);
+        return answer_of(DONE);
     };
-    let refused = told_of_take(refusal);
+    let refused = answer_of_take(refusal);
     if count == 0 {
         return refused;
     }

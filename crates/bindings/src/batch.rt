@@ -1,8 +1,8 @@
 //! The batch queue for C: each call is one of the library's, on the end that a handle holds.
 ghost use Rattle.std.specs.Prelude.{◌≡◌, ◌≤◌, ◌<◌, length};
-ghost use Rattle.bindings.specs.BatchCalls.{IsToldPut, IsToldPutSome, IsToldTake, code_of_put, positions_of_put};
+ghost use Rattle.bindings.specs.BatchCalls.{ReportsPut, ReportsPutSome, ReportsTake, code_of_put, positions_of_put};
 ghost use Rattle.bindings.specs.BatchCalls.{WasClosed};
-ghost use Rattle.bindings.specs.BatchHeld.{IsCapacity, IsNewBatch, Divided, Joined, AreOfOneQueue};
+ghost use Rattle.bindings.specs.BatchHeld.{IsCapacity, IsNewBatch, SplitBy, Joined, AreOfOneQueue};
 ghost use Rattle.bindings.specs.BatchHeld.{places_of, Put, PutSome, Took, TookUpTo, Counted, WasShut};
 ghost use Rattle.bindings.specs.Codes.{Done, EmptyHandle};
 ghost use Rattle.bindings.specs.Handles.{held_by, batch_of, AsItWas, NoneIn, HoldsThen, TurnsThen, Answered};
@@ -58,7 +58,7 @@ fn tell_refused_put(refusal: PutRefusal, positions: &mut SynthPositions) -> i32
 
 // The code of the answer. The position of the first item is written, or the positions in the refusal.
 fn tell_put(answer: Result<u64, PutRefusal>, positions: &mut SynthPositions) -> i32
-    ensures { IsToldPut answer positions.old positions.new result }
+    ensures { ReportsPut answer positions.old positions.new result }
 {
     match answer {
         Ok(head) => {
@@ -75,7 +75,7 @@ fn tell_put_some(
     count: &mut usize,
     positions: &mut SynthPositions,
 ) -> i32
-    ensures { IsToldPutSome answer count.old count.new positions.old positions.new result }
+    ensures { ReportsPutSome answer count.old count.new positions.old positions.new result }
 {
     match answer {
         Ok((head, put)) => {
@@ -93,7 +93,7 @@ fn tell_take(
     count: &mut usize,
     positions: &mut SynthPositions,
 ) -> i32
-    ensures { IsToldTake answer count.old count.new positions.old positions.new result }
+    ensures { ReportsTake answer count.old count.new positions.old positions.new result }
 {
     match answer {
         Ok(taken) => {
@@ -152,7 +152,7 @@ pub extern "C" fn synth_raw_batch_split(
     batch: &mut Handle,
     other: &mut Handle,
 ) -> i32
-    ensures { SplitHandle batch_of (λ x. HasTwo x.share) (λ x. HasNoTwo x.share) Divided
+    ensures { SplitHandle batch_of (λ x. HasTwo x.share) (λ x. HasNoTwo x.share) SplitBy
         batch.old batch.new other.old other.new result }
 {
     split::<HeldBatch>(alloc, batch, (), other)
@@ -177,7 +177,7 @@ pub extern "C" fn synth_raw_batch_try_put(
 ) -> i32
     ensures empty { NoneIn batch_of batch.old batch.new ((result ≡ EmptyHandle) × (positions.new ≡ positions.old)) }
     ensures put { HoldsThen (batch_of batch.old) (λ x. Answered (Put items.now)
-        (λ answer. IsToldPut answer positions.old positions.new result) x (batch_of batch.new)) }
+        (λ answer. ReportsPut answer positions.old positions.new result) x (batch_of batch.new)) }
 {
     let Some(held) = batch.find::<HeldBatch>() else {
         return EMPTY_HANDLE;
@@ -197,7 +197,7 @@ pub extern "C" fn synth_raw_batch_try_put_some(
     ensures empty { NoneIn batch_of batch.old batch.new
         ((result ≡ EmptyHandle) × (count.new ≡ count.old) × (positions.new ≡ positions.old)) }
     ensures put { HoldsThen (batch_of batch.old) (λ x. Answered (PutSome items.now)
-        (λ answer. IsToldPutSome answer count.old count.new positions.old positions.new result) x (batch_of batch.new)) }
+        (λ answer. ReportsPutSome answer count.old count.new positions.old positions.new result) x (batch_of batch.new)) }
 {
     let Some(held) = batch.find::<HeldBatch>() else {
         return EMPTY_HANDLE;
@@ -217,7 +217,7 @@ pub extern "C" fn synth_raw_batch_try_take(
     ensures empty { NoneIn batch_of batch.old batch.new ((result ≡ EmptyHandle) × (items.new ≡ items.old)
         × (count.new ≡ count.old) × (positions.new ≡ positions.old)) }
     ensures taken { HoldsThen (batch_of batch.old) (λ x. Answered (Took items.old items.new)
-        (λ answer. IsToldTake answer count.old count.new positions.old positions.new result) x (batch_of batch.new)) }
+        (λ answer. ReportsTake answer count.old count.new positions.old positions.new result) x (batch_of batch.new)) }
 {
     let Some(held) = batch.find::<HeldBatch>() else {
         return EMPTY_HANDLE;
@@ -237,7 +237,7 @@ pub extern "C" fn synth_raw_batch_try_take_some(
     ensures empty { NoneIn batch_of batch.old batch.new ((result ≡ EmptyHandle) × (items.new ≡ items.old)
         × (count.new ≡ count.old) × (positions.new ≡ positions.old)) }
     ensures taken { HoldsThen (batch_of batch.old) (λ x. Answered (TookUpTo items.old items.new)
-        (λ answer. IsToldTake answer count.old count.new positions.old positions.new result) x (batch_of batch.new)) }
+        (λ answer. ReportsTake answer count.old count.new positions.old positions.new result) x (batch_of batch.new)) }
 {
     let Some(held) = batch.find::<HeldBatch>() else {
         return EMPTY_HANDLE;
@@ -264,7 +264,7 @@ pub extern "C" fn synth_raw_batch_len(batch: &mut Handle, count: &mut u64) -> i3
 #[unsafe(no_mangle)]
 pub extern "C" fn synth_raw_batch_capacity(batch: &mut Handle, places: &mut usize) -> i32
     ensures empty { NoneIn batch_of batch.old batch.new ((result ≡ EmptyHandle) × (places.new ≡ places.old)) }
-    ensures told { HoldsThen (batch_of batch.old)
+    ensures effect { HoldsThen (batch_of batch.old)
         (λ x. AsItWas batch.old batch.new × (places.new ≡ places_of x) × (result ≡ Done)) }
 {
     let Some(held) = batch.find::<HeldBatch>() else {
@@ -310,9 +310,9 @@ pub extern "C" fn synth_raw_batch_close(
     }
     let (payload, room) = Loose::of(batch.take(alloc)).take_out();
     match HeldBatch::unwrap(payload).close(left) {
-        Ok(told) => {
+        Ok(reported) => {
             let _alloc = room.free();
-            *closed = told;
+            *closed = reported;
             DONE
         }
         Err(held) => {

@@ -1,8 +1,8 @@
 //! The chain for C: each call is one of the library's, on the end that a handle holds. Notes are pulled: the caller does
 //! what a note is for between one call and the next.
 ghost use Rattle.std.specs.Prelude.{◌≡◌, ◌≤◌};
-ghost use Rattle.bindings.specs.ChainCalls.{ChainTold, IsToldNoted, PullTold, WasClosed};
-ghost use Rattle.bindings.specs.ChainHeld.{IsNewChain, Divided, Joined, AreOfOneChain};
+ghost use Rattle.bindings.specs.ChainCalls.{IsChainCall, ReportsNoted, IsPullCall, WasClosed};
+ghost use Rattle.bindings.specs.ChainHeld.{IsNewChain, SplitBy, Joined, AreOfOneChain};
 ghost use Rattle.bindings.specs.Codes.{EmptyHandle};
 ghost use Rattle.bindings.specs.Handles.{held_by, chain_of, NoneIn, HoldsThen};
 ghost use Rattle.bindings.specs.Handles.{MadeHandle, FreedHandle, SplitHandle, JoinedHandle, MarksTell};
@@ -16,7 +16,7 @@ mod inbox;
 
 use crate::answer::{
     AGAIN, DONE, EMPTY_HANDLE, FULL, FULL_HANDLE, LEFT, LOST, NOT_RUNNING, NOTE, OPEN, RUN,
-    RUNNING, SPENT, SynthAnswer, told, told_with,
+    RUNNING, SPENT, SynthAnswer, answer_of, answer_with,
 };
 use crate::ends::{fill, free, join, split};
 use crate::handle::Handle;
@@ -36,19 +36,19 @@ pub struct SynthChained {
 }
 
 // The code of the answer, and the positions in it.
-fn told_of_noted(answer: Result<Noted, ChainRefusal>) -> SynthAnswer
-    ensures { IsToldNoted answer result }
+fn answer_of_noted(answer: Result<Noted, ChainRefusal>) -> SynthAnswer
+    ensures { ReportsNoted answer result }
 {
     match answer {
-        Ok(Noted::Run) => told(RUN),
-        Ok(Noted::Left) => told(LEFT),
-        Err(ChainRefusal::Spent) => told(SPENT),
+        Ok(Noted::Run) => answer_of(RUN),
+        Ok(Noted::Left) => answer_of(LEFT),
+        Err(ChainRefusal::Spent) => answer_of(SPENT),
         Err(ChainRefusal::Full { head, tail }) => SynthAnswer {
             code: FULL,
             head,
             tail,
         },
-        Err(ChainRefusal::Lost { head }) => told_with(LOST, head),
+        Err(ChainRefusal::Lost { head }) => answer_with(LOST, head),
     }
 }
 
@@ -84,7 +84,7 @@ pub extern "C" fn synth_raw_chain_split(
     chain: &mut Handle,
     other: &mut Handle,
 ) -> i32
-    ensures { SplitHandle chain_of (λ x. HasTwo x.share) (λ x. HasNoTwo x.share) Divided
+    ensures { SplitHandle chain_of (λ x. HasTwo x.share) (λ x. HasNoTwo x.share) SplitBy
         chain.old chain.new other.old other.new result }
 {
     split::<HeldChain>(alloc, chain, (), other)
@@ -104,19 +104,19 @@ pub extern "C" fn synth_raw_chain_join(alloc: Global, chain: &mut Handle, other:
 #[unsafe(no_mangle)]
 pub extern "C" fn synth_raw_chain_try_chain(chain: &mut Handle, note: u16) -> SynthAnswer
     ensures empty { NoneIn chain_of chain.old chain.new (IsCodeAlone EmptyHandle result) }
-    ensures chained { HoldsThen (chain_of chain.old) (λ x. ChainTold x note (chain_of chain.new) result) }
+    ensures chained { HoldsThen (chain_of chain.old) (λ x. IsChainCall x note (chain_of chain.new) result) }
 {
     let Some(held) = chain.find::<HeldChain>() else {
-        return told(EMPTY_HANDLE);
+        return answer_of(EMPTY_HANDLE);
     };
-    told_of_noted(held.try_chain(note))
+    answer_of_noted(held.try_chain(note))
 }
 
 /// The next note, for the end that runs notes.
 #[unsafe(no_mangle)]
 pub extern "C" fn synth_raw_chain_next(chain: &mut Handle, note: &mut u16) -> i32
     ensures empty { NoneIn chain_of chain.old chain.new ((result ≡ EmptyHandle) × (note.new ≡ note.old)) }
-    ensures pulled { HoldsThen (chain_of chain.old) (λ x. PullTold x note.old note.new (chain_of chain.new) result) }
+    ensures pulled { HoldsThen (chain_of chain.old) (λ x. IsPullCall x note.old note.new (chain_of chain.new) result) }
 {
     let Some(held) = chain.find::<HeldChain>() else {
         return EMPTY_HANDLE;

@@ -25,7 +25,7 @@ pub trait End: Kind {
 
     ghost MayNotSplit: { Self.Wish → Self → ℤ → Type 0 };
 
-    ghost Divided: { Self.Wish → Self → Self → Self → Type 0 };
+    ghost SplitBy: { Self.Wish → Self → Self → Self → Type 0 };
 
     ghost HaveOneMark: { Self → Self → Type 0 };
 
@@ -40,7 +40,7 @@ pub trait End: Kind {
     /// A new end of the object. None when no more handles can be counted.
     fn split(&mut self, wish: Self::Wish) -> Option<Self>
         requires { MaySplit wish self.old }
-        ensures { MatchOption result (self.new ≡ self.old) (Divided wish self.old self.new) };
+        ensures { MatchOption result (self.new ≡ self.old) (SplitBy wish self.old self.new) };
 
     /// Whether, by their marks and parts, both can be ends of one object.
     fn may_join(&self, other: &Self) -> bool
@@ -84,7 +84,7 @@ pub fn free<K: Kind>(alloc: Global, handle: &mut Handle) -> i32
 fn split_boxed<E: End>(alloc: Global, held: &mut E, wish: E::Wish) -> Option<Box<Payload, Global>>
     requires { E.MaySplit wish held.old }
     ensures { MatchOption result (held.new ≡ held.old)
-        (λ b. HoldsSome (E.found b.value) (E.Divided wish held.old held.new)) }
+        (λ b. HoldsSome (E.found b.value) (E.SplitBy wish held.old held.new)) }
 {
     let Ok(room) = Vacant::take(alloc) else {
         return None;
@@ -100,7 +100,7 @@ fn split_boxed<E: End>(alloc: Global, held: &mut E, wish: E::Wish) -> Option<Box
 
 /// Puts a new end of the object into the other handle, for another thread.
 pub fn split<E: End>(alloc: Global, handle: &mut Handle, wish: E::Wish, other: &mut Handle) -> i32
-    ensures { SplitHandle (end_in E.found) (E.MaySplit wish) (E.MayNotSplit wish) (E.Divided wish)
+    ensures { SplitHandle (end_in E.found) (E.MaySplit wish) (E.MayNotSplit wish) (E.SplitBy wish)
         handle.old handle.new other.old other.new result }
 {
     let Some(held) = handle.find::<E>() else {

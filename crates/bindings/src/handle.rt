@@ -17,7 +17,7 @@ use std::mem;
 pub struct Handle {
     hidden: Hidden,
     full: bool,
-    ghost told: { full ≡ is_some hidden.value },
+    ghost agrees: { full ≡ is_some hidden.value },
 }
 
 impl Handle {

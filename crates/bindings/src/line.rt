@@ -2,7 +2,7 @@
 ghost use Rattle.std.specs.Prelude.{◌≡◌, ◌≤◌, ◌<◌};
 ghost use Rattle.bindings.specs.Codes.{EmptyHandle};
 ghost use Rattle.bindings.specs.Handles.{line_in_of, line_out_of, NoneIn, HoldsThen, FreedHandle, MarksTell};
-ghost use Rattle.bindings.specs.LineCalls.{MadeLine, PushTold, PopTold, FinishedLine, HaveOneMark, AreOfOneLine};
+ghost use Rattle.bindings.specs.LineCalls.{MadeLine, IsPushCall, IsPopCall, FinishedLine, HaveOneMark, AreOfOneLine};
 
 pub mod held;
 
@@ -64,7 +64,7 @@ pub extern "C" fn synth_raw_line_new_marked(
 #[unsafe(no_mangle)]
 pub extern "C" fn synth_raw_line_push(input: &mut Handle, byte: u8) -> i32
     ensures empty { NoneIn line_in_of input.old input.new (result ≡ EmptyHandle) }
-    ensures pushed { HoldsThen (line_in_of input.old) (λ x. PushTold x byte (line_in_of input.new) result) }
+    ensures pushed { HoldsThen (line_in_of input.old) (λ x. IsPushCall x byte (line_in_of input.new) result) }
 {
     let Some(held) = input.find::<HeldIn>() else {
         return EMPTY_HANDLE;
@@ -81,7 +81,7 @@ pub extern "C" fn synth_raw_line_push(input: &mut Handle, byte: u8) -> i32
 pub extern "C" fn synth_raw_line_pop(output: &mut Handle, byte: &mut u8) -> i32
     ensures empty { NoneIn line_out_of output.old output.new ((result ≡ EmptyHandle) × (byte.new ≡ byte.old)) }
     ensures popped { HoldsThen (line_out_of output.old)
-        (λ x. PopTold x byte.old byte.new (line_out_of output.new) result) }
+        (λ x. IsPopCall x byte.old byte.new (line_out_of output.new) result) }
 {
     let Some(held) = output.find::<HeldOut>() else {
         return EMPTY_HANDLE;
@@ -118,11 +118,11 @@ pub extern "C" fn synth_raw_line_finish(
     }
     let first = HeldIn::unwrap(Box::into_inner(input.take(alloc)));
     let second = HeldOut::unwrap(Box::into_inner(output.take(alloc)));
-    let told = finish(first.line, second.line);
+    let reported = finish(first.line, second.line);
     *totals = SynthLineTotals {
-        sent: told.sent,
-        received: told.received,
-        left: told.left,
+        sent: reported.sent,
+        received: reported.received,
+        left: reported.left,
     };
     DONE
 }

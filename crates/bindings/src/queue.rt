@@ -4,7 +4,7 @@ ghost use Rattle.bindings.specs.Codes.{Done, EmptyHandle};
 ghost use Rattle.bindings.specs.Handles.{held_by, queue_of, NoneIn, HoldsThen, TurnsThen};
 ghost use Rattle.bindings.specs.Handles.{MadeHandle, FreedHandle, SplitHandle, JoinedHandle, MarksTell};
 ghost use Rattle.bindings.specs.declared.payload.Payload.TheVariants.{Queue};
-ghost use Rattle.bindings.specs.QueueCalls.{WasPut, WasTaken, WasSomeTold, WasLineTold, WasClosed};
+ghost use Rattle.bindings.specs.QueueCalls.{WasPut, WasTaken, TakesSome, TakesLine, WasClosed};
 ghost use Rattle.bindings.specs.QueueHeld.{AtSize, AtSizes, IsSize, IsNewHeld, share_of, HaveOneMark, AreOfOneQueue};
 ghost use Rattle.bindings.specs.QueueParts.{ShutPart, DividedPart, JoinedPart};
 ghost use Rattle.bindings.specs.Shares.{HasTwo, HasNoTwo};
@@ -18,7 +18,7 @@ mod taking;
 
 use crate::answer::{
     BAD_NUMBER, DONE, EMPTY_HANDLE, FULL_HANDLE, OPEN, SHORT_BUFFER, SynthAnswer, SynthClosed,
-    told, told_of_claim, told_of_some, told_of_take,
+    answer_of, answer_of_claim, answer_of_some, answer_of_take,
 };
 use crate::ends::{fill, free, join, split};
 use crate::handle::Handle;
@@ -87,10 +87,10 @@ pub extern "C" fn synth_raw_queue_try_put(queue: &mut Handle, items: &[u64]) -> 
     ensures put { HoldsThen (queue_of queue.old) (λ x. WasPut x items.now (queue_of queue.new) result) }
 {
     let Some(held) = queue.find::<HeldQueue>() else {
-        return told(EMPTY_HANDLE);
+        return answer_of(EMPTY_HANDLE);
     };
     let answer = held.try_put(items);
-    told_of_claim(answer)
+    answer_of_claim(answer)
 }
 
 /// `ClaimQueue::try_take`.
@@ -101,15 +101,15 @@ pub extern "C" fn synth_raw_queue_try_take(queue: &mut Handle, item: &mut u64) -
         (λ x. WasTaken x item.old item.new (queue_of queue.new) result) }
 {
     let Some(held) = queue.find::<HeldQueue>() else {
-        return told(EMPTY_HANDLE);
+        return answer_of(EMPTY_HANDLE);
     };
     let answer = held.try_take();
     match answer {
         Ok(taken) => {
             *item = taken;
-            told(DONE)
+            answer_of(DONE)
         }
-        Err(refusal) => told_of_take(refusal),
+        Err(refusal) => answer_of_take(refusal),
     }
 }
 
@@ -123,17 +123,17 @@ pub extern "C" fn synth_raw_queue_take_up_to(
     ensures empty { NoneIn queue_of queue.old queue.new
         (IsCodeAlone EmptyHandle result × (items.new ≡ items.old) × (count.new ≡ count.old)) }
     ensures taken { HoldsThen (queue_of queue.old)
-        (λ x. WasSomeTold x items.old items.new count.old count.new (queue_of queue.new) result) }
+        (λ x. TakesSome x items.old items.new count.old count.new (queue_of queue.new) result) }
 {
     let Some(held) = queue.find::<HeldQueue>() else {
-        return told(EMPTY_HANDLE);
+        return answer_of(EMPTY_HANDLE);
     };
     if items.len() == 0 {
-        return told(SHORT_BUFFER);
+        return answer_of(SHORT_BUFFER);
     }
     let (taken, refusal) = held.take_up_to(items);
     *count = taken;
-    told_of_some(taken, refusal)
+    answer_of_some(taken, refusal)
 }
 
 /// `ClaimQueue::try_take_line`. The buffer has room for as many items as the queue has places, or more.
@@ -146,21 +146,21 @@ pub extern "C" fn synth_raw_queue_try_take_line(
     ensures empty { NoneIn queue_of queue.old queue.new
         (IsCodeAlone EmptyHandle result × (line.new ≡ line.old) × (count.new ≡ count.old)) }
     ensures taken { HoldsThen (queue_of queue.old)
-        (λ x. WasLineTold x line.old line.new count.old count.new (queue_of queue.new) result) }
+        (λ x. TakesLine x line.old line.new count.old count.new (queue_of queue.new) result) }
 {
     let Some(held) = queue.find::<HeldQueue>() else {
-        return told(EMPTY_HANDLE);
+        return answer_of(EMPTY_HANDLE);
     };
     if line.len() < held.places() {
-        return told(SHORT_BUFFER);
+        return answer_of(SHORT_BUFFER);
     }
     let answer = held.try_take_line(line);
     match answer {
         Ok(taken) => {
             *count = taken;
-            told(DONE)
+            answer_of(DONE)
         }
-        Err(refusal) => told_of_take(refusal),
+        Err(refusal) => answer_of_take(refusal),
     }
 }
 
@@ -200,9 +200,9 @@ pub extern "C" fn synth_raw_queue_close(
     }
     let (payload, room) = Loose::of(queue.take(alloc)).take_out();
     match HeldQueue::unwrap(payload).close(left) {
-        Ok(told) => {
+        Ok(reported) => {
             let _alloc = room.free();
-            *closed = told;
+            *closed = reported;
             DONE
         }
         Err(held) => {

@@ -4,11 +4,11 @@ ghost use Rattle.bindings.specs.Codes.{EmptyHandle};
 ghost use Rattle.bindings.specs.Handles.{held_by, seat_of, NoneIn, HoldsThen, WasEnded};
 ghost use Rattle.bindings.specs.Handles.{MadeHandle, FreedHandle, SplitHandle, JoinedHandle, MarksTell};
 ghost use Rattle.bindings.specs.declared.payload.Payload.TheVariants.{Seat};
-ghost use Rattle.bindings.specs.SeatHeld.{IsNewSeat, Divided, Joined, AreOfOneTable};
+ghost use Rattle.bindings.specs.SeatHeld.{IsNewSeat, SplitBy, Joined, AreOfOneTable};
 ghost use Rattle.bindings.specs.Shares.{HasTwo, HasNoTwo, IsOneMark};
 ghost use Rattle.bindings.specs.SeatClosing.{Ended};
-ghost use Rattle.bindings.specs.SeatCalls.{TickTold, AdvanceTold, SetTold, CancelTold, DueTold};
-ghost use Rattle.bindings.specs.SeatCalls.{IsToldMetered, code_of_advance, head_of_advance, code_of_set, head_of_set};
+ghost use Rattle.bindings.specs.SeatCalls.{IsTickCall, IsAdvanceCall, IsSetCall, IsCancelCall, IsDueCall};
+ghost use Rattle.bindings.specs.SeatCalls.{ReportsMetered, code_of_advance, head_of_advance, code_of_set, head_of_set};
 ghost use Rattle.bindings.specs.Told.{IsCodeAlone};
 
 mod alarm;
@@ -18,7 +18,7 @@ mod reading;
 
 use crate::answer::{
     BAD_NUMBER, DONE, EMPTY_HANDLE, FULL_HANDLE, LOST, NO_ROOM, OPEN, SHORT_BUFFER, SPENT,
-    SynthAnswer, told, told_with,
+    SynthAnswer, answer_of, answer_with,
 };
 use crate::ends::{fill, free, join, split};
 use crate::handle::Handle;
@@ -41,29 +41,29 @@ pub struct SynthMetered {
 }
 
 // The code of the refusal, and the clock in it.
-fn told_of_advance(refusal: AdvanceRefusal) -> SynthAnswer
+fn answer_of_advance(refusal: AdvanceRefusal) -> SynthAnswer
     ensures { (result.code ≡ code_of_advance refusal) × (result.head ≡ head_of_advance refusal) × (result.tail ≡ 0) }
 {
     match refusal {
-        AdvanceRefusal::Spent => told(SPENT),
-        AdvanceRefusal::Lost { clock } => told_with(LOST, clock),
+        AdvanceRefusal::Spent => answer_of(SPENT),
+        AdvanceRefusal::Lost { clock } => answer_with(LOST, clock),
     }
 }
 
 // The code of the refusal, and the slot in it.
-fn told_of_set(refusal: SetRefusal) -> SynthAnswer
+fn answer_of_set(refusal: SetRefusal) -> SynthAnswer
     requires { head_of_set refusal < 16 }
     ensures { (result.code ≡ code_of_set refusal) × (result.head ≡ head_of_set refusal) × (result.tail ≡ 0) }
 {
     match refusal {
-        SetRefusal::NoRoom => told(NO_ROOM),
-        SetRefusal::Lost { slot } => told_with(LOST, slot as u32),
+        SetRefusal::NoRoom => answer_of(NO_ROOM),
+        SetRefusal::Lost { slot } => answer_with(LOST, slot as u32),
     }
 }
 
 // The report of the library's `close`.
-fn told_of_metered(metered: &Metered) -> SynthMetered
-    ensures { IsToldMetered metered.now result }
+fn answer_of_metered(metered: &Metered) -> SynthMetered
+    ensures { ReportsMetered metered.now result }
 {
     let zero = SynthAlarm {
         due: 0,
@@ -108,7 +108,7 @@ pub extern "C" fn synth_raw_seat_free(alloc: Global, seat: &mut Handle) -> i32
 /// A second end of the meters, for another thread.
 #[unsafe(no_mangle)]
 pub extern "C" fn synth_raw_seat_split(alloc: Global, seat: &mut Handle, other: &mut Handle) -> i32
-    ensures { SplitHandle seat_of (λ x. HasTwo x.share) (λ x. HasNoTwo x.share) Divided
+    ensures { SplitHandle seat_of (λ x. HasTwo x.share) (λ x. HasNoTwo x.share) SplitBy
         seat.old seat.new other.old other.new result }
 {
     split::<HeldSeat>(alloc, seat, (), other)
@@ -134,7 +134,7 @@ pub extern "C" fn synth_raw_seat_tick(
 ) -> i32
     ensures empty { NoneIn seat_of seat.old seat.new ((result ≡ EmptyHandle) × (before.new ≡ before.old)) }
     ensures ticked { HoldsThen (seat_of seat.old)
-        (λ x. TickTold x gauge amount before.old before.new (seat_of seat.new) result) }
+        (λ x. IsTickCall x gauge amount before.old before.new (seat_of seat.new) result) }
 {
     let Some(held) = seat.find::<HeldSeat>() else {
         return EMPTY_HANDLE;
@@ -151,18 +151,18 @@ pub extern "C" fn synth_raw_seat_tick(
 pub extern "C" fn synth_raw_seat_advance(seat: &mut Handle, clock: &mut u32) -> SynthAnswer
     ensures empty { NoneIn seat_of seat.old seat.new (IsCodeAlone EmptyHandle result × (clock.new ≡ clock.old)) }
     ensures advanced { HoldsThen (seat_of seat.old)
-        (λ x. AdvanceTold x clock.old clock.new (seat_of seat.new) result) }
+        (λ x. IsAdvanceCall x clock.old clock.new (seat_of seat.new) result) }
 {
     let Some(held) = seat.find::<HeldSeat>() else {
-        return told(EMPTY_HANDLE);
+        return answer_of(EMPTY_HANDLE);
     };
     let answer = held.advance();
     match answer {
         Ok(now) => {
             *clock = now;
-            told(DONE)
+            answer_of(DONE)
         }
-        Err(refusal) => told_of_advance(refusal),
+        Err(refusal) => answer_of_advance(refusal),
     }
 }
 
@@ -175,21 +175,21 @@ pub extern "C" fn synth_raw_seat_try_set(
 ) -> SynthAnswer
     ensures empty { NoneIn seat_of seat.old seat.new (IsCodeAlone EmptyHandle result × (slot.new ≡ slot.old)) }
     ensures set { HoldsThen (seat_of seat.old)
-        (λ x. SetTold x alarm.now slot.old slot.new (seat_of seat.new) result) }
+        (λ x. IsSetCall x alarm.now slot.old slot.new (seat_of seat.new) result) }
 {
     let Some(held) = seat.find::<HeldSeat>() else {
-        return told(EMPTY_HANDLE);
+        return answer_of(EMPTY_HANDLE);
     };
     let Some(alarm) = alarm_of(alarm) else {
-        return told(BAD_NUMBER);
+        return answer_of(BAD_NUMBER);
     };
     let answer = held.try_set(alarm);
     match answer {
         Ok(found) => {
             *slot = found as u32;
-            told(DONE)
+            answer_of(DONE)
         }
-        Err(refusal) => told_of_set(refusal),
+        Err(refusal) => answer_of_set(refusal),
     }
 }
 
@@ -203,7 +203,7 @@ pub extern "C" fn synth_raw_seat_cancel(
 ) -> i32
     ensures empty { NoneIn seat_of seat.old seat.new ((result ≡ EmptyHandle) × (cancelled.new ≡ cancelled.old)) }
     ensures cancelled { HoldsThen (seat_of seat.old)
-        (λ x. CancelTold x slot alarm.now cancelled.old cancelled.new (seat_of seat.new) result) }
+        (λ x. IsCancelCall x slot alarm.now cancelled.old cancelled.new (seat_of seat.new) result) }
 {
     let Some(held) = seat.find::<HeldSeat>() else {
         return EMPTY_HANDLE;
@@ -228,7 +228,7 @@ pub extern "C" fn synth_raw_seat_due(
     ensures empty { NoneIn seat_of seat.old seat.new
         ((result ≡ EmptyHandle) × (alarms.new ≡ alarms.old) × (count.new ≡ count.old)) }
     ensures due { HoldsThen (seat_of seat.old)
-        (λ x. DueTold x alarms.old alarms.new count.old count.new (seat_of seat.new) result) }
+        (λ x. IsDueCall x alarms.old alarms.new count.old count.new (seat_of seat.new) result) }
 {
     let Some(held) = seat.find::<HeldSeat>() else {
         return EMPTY_HANDLE;
@@ -250,7 +250,7 @@ pub extern "C" fn synth_raw_seat_close(
 ) -> i32
     ensures empty { NoneIn seat_of seat.old seat.new ((result ≡ EmptyHandle) × (metered.new ≡ metered.old)) }
     ensures closed { HoldsThen (seat_of seat.old)
-        (λ x. WasEnded Seat (λ outcome. Ended outcome x) IsToldMetered (held_by seat.new) metered.old metered.new result) }
+        (λ x. WasEnded Seat (λ outcome. Ended outcome x) ReportsMetered (held_by seat.new) metered.old metered.new result) }
 {
     let Some(_held) = seat.find::<HeldSeat>() else {
         return EMPTY_HANDLE;
@@ -259,7 +259,7 @@ pub extern "C" fn synth_raw_seat_close(
     match HeldSeat::unwrap(payload).close() {
         Ok(ended) => {
             let _alloc = room.free();
-            *metered = told_of_metered(&ended);
+            *metered = answer_of_metered(&ended);
             DONE
         }
         Err(held) => {

@@ -41,9 +41,9 @@ shown_at names processors places shown number place P is here holds =
 
 -- the bytes at a place are those of its line
 pub bytes_there : (processors : List Heard) (place : HeardPlace) (p : ℕ) (heard : Heard) (bytes : List ℕ) → IsPlace processors place → p ≡ place.processor → heard ≡ get_or processors p heard → IfSome (slice_get heard.lines place.number) (λ line. bytes ≡ line.1) → bytes ≡ bytes_in (line_at processors place)
-bytes_there processors place p heard bytes is same got told =
+bytes_there processors place p heard bytes is same got reported =
     let line : slice_get heard.lines place.number ≡ Some is.line = line_there processors place p heard is same got in
-    let own : bytes ≡ is.line.1 = rw line at told in
+    let own : bytes ≡ is.line.1 = rw line at reported in
     rw is.is own
 
 -- A place with the key of a line is the place of this line, and the lines up to it end with the one at the place

@@ -31,9 +31,9 @@ pub use Rattle.claim_queue.specs.declared.ends.QueueEnd.{QueueEnd}
 pub use Rattle.event_theory.proofs.Lists.Placed.{all_append, all_at, there}
 pub use Rattle.proc_chain.specs.declared.ends.ProcChain.{ProcChain}
 pub use Rattle.processor.specs.Accounts.{Account, account, ◌⊕◌}
-pub use Rattle.processor.specs.Deeds.{IsDeedOf, is_done}
-pub use Rattle.processor.specs.Doings.{heard_by, queues_by, raised_by, told_shut}
-pub use Rattle.processor.specs.Entries.{FollowsPlan, LogEntry, OutcomeFollows, Tended, entry_account, gone, outcome_account, tending, turn_told_shut}
+pub use Rattle.processor.specs.Outcomes.{IsOutcomeOf, is_done}
+pub use Rattle.processor.specs.Doings.{heard_by, queues_by, raised_by, saw_shut}
+pub use Rattle.processor.specs.Entries.{FollowsPlan, LogEntry, OutcomeFollows, Tended, entry_account, gone, outcome_account, tending, turn_saw_shut}
 pub use Rattle.processor.specs.Logs.{Leaves, sum_of, was_shut}
 pub use Rattle.processor.specs.Partings.{AllJoined, AreJoined}
 pub use Rattle.processor.specs.Preparing.{HasDoneAll, preparing}
@@ -42,13 +42,13 @@ pub use Rattle.processor.specs.Programs.{program, same_key, step_of}
 pub use Rattle.processor.specs.Queues.{said_line}
 pub use Rattle.processor.specs.Tries.{heard, said}
 pub use Rattle.processor.specs.Turns.{heard_lines}
-pub use Rattle.processor.specs.declared.deed.Deed.{Deed}
-pub use Rattle.processor.specs.declared.outcome.Had.{Had}
-pub use Rattle.processor.specs.declared.outcome.Outcome.{Outcome}
+pub use Rattle.processor.specs.declared.step_outcome.StepOutcome.{StepOutcome}
+pub use Rattle.processor.specs.declared.outcome.TurnResult.{TurnResult}
+pub use Rattle.processor.specs.declared.outcome.TurnOutcome.{TurnOutcome}
 pub use Rattle.processor.specs.declared.sending.Moved.{Moved}
 pub use Rattle.processor.specs.declared.station.Parts.{Parts}
 pub use Rattle.processor.specs.declared.tries.SayAnswer.{SayAnswer}
-pub use Rattle.processor.specs.declared.waking.Paid.{Paid}
+pub use Rattle.processor.specs.declared.waking.WakeDone.{WakeDone}
 pub use Rattle.quajects.specs.Settled.{runs_of, shuts_of, takings_of}
 pub use Rattle.quajects.specs.declared.any.AnyQuaject.{AnyQuaject}
 pub use Rattle.quajects.specs.declared.home.Home.{Home}

@@ -1,14 +1,14 @@
 -- What a turn did, by its step, if it tried one.
-use Rattle.boot_laws.proofs.Common.{Line, subst, ◌≡◌, inl, inr, ℕ, ◌+◌, Bool, true, false, List, [], ◌∷◌, ◌++◌, refl, sym, ap, ◌∙◌, Option, Some, None, if◌then◌else◌, BootPlan, QueueIndex, Step, AtQueue, idle_queue, queues_add, Tended, Begun, counted_step, retired, Deed, Had, Outcome, Moved, SayAnswer, Paid, Account, ◌⊕◌, is_done, IsDeedOf, queues_by, raised_by, heard_by, told_shut, LogEntry, entry_account, tending, outcome_account, gone, FollowsPlan, OutcomeFollows, turn_told_shut, Key, step_of, said_line}
+use Rattle.boot_laws.proofs.Common.{Line, subst, ◌≡◌, inl, inr, ℕ, ◌+◌, Bool, true, false, List, [], ◌∷◌, ◌++◌, refl, sym, ap, ◌∙◌, Option, Some, None, if◌then◌else◌, BootPlan, QueueIndex, Step, AtQueue, idle_queue, queues_add, Tended, Begun, counted_step, retired, StepOutcome, TurnResult, TurnOutcome, Moved, SayAnswer, WakeDone, Account, ◌⊕◌, is_done, IsOutcomeOf, queues_by, raised_by, heard_by, saw_shut, LogEntry, entry_account, tending, outcome_account, gone, FollowsPlan, OutcomeFollows, turn_saw_shut, Key, step_of, said_line}
 use Rattle.std.proofs.Common.{◌⊎◌}
 use Rattle.boot_data.specs.declared.plan.Step.TheVariants as steps
 use Rattle.turn_io.specs.Accounts.{at_each, both_queue}
 use Rattle.turn_io.proofs.Adding.{each_adds}
-use Rattle.processor.specs.declared.deed.Deed.TheVariants as deeds
-use Rattle.processor.specs.declared.outcome.Had.TheVariants as hads
-use Rattle.processor.specs.declared.outcome.Outcome.TheVariants as outcomes
+use Rattle.processor.specs.declared.step_outcome.StepOutcome.TheVariants as step_outcomes
+use Rattle.processor.specs.declared.outcome.TurnResult.TheVariants as hads
+use Rattle.processor.specs.declared.outcome.TurnOutcome.TheVariants as outcomes
 use Rattle.processor.specs.declared.sending.Moved.TheVariants as moveds
-use Rattle.processor.specs.Entries.{count_of, outcome_told_shut}
+use Rattle.processor.specs.Entries.{count_of, outcome_saw_shut}
 
 -- what a turn did by its step: at the queues, the steps done and what was heard
 abbrev pub Tried : Type 0
@@ -18,25 +18,25 @@ abbrev pub tried_in : Account → Tried
 tried_in a = (a.queues, a.hand.done, a.heard)
 
 -- no step was tried
-pub record Rests (t : Tried) (told : QueueIndex → Bool) : Type 0 where
+pub record Rests (t : Tried) (reported : QueueIndex → Bool) : Type 0 where
   pub queues : t.0 ≡ (λ q. idle_queue)
   pub done : t.1 ≡ []
   pub heard : t.2 ≡ []
-  pub untold : (q : QueueIndex) → told q ≡ false
+  pub untold : (q : QueueIndex) → reported q ≡ false
 
 -- the step of the plan that was tried
-pub record Tries (plan : BootPlan) (t : Tried) (told : QueueIndex → Bool) : Type 0 where
+pub record Tries (plan : BootPlan) (t : Tried) (reported : QueueIndex → Bool) : Type 0 where
   pub element : ℕ
   pub number : ℕ
   pub step : Step
-  pub deed : Deed
+  pub step_outcome : StepOutcome
   pub line : List ℕ
   pub is : step_of plan element number ≡ Some step
-  pub deed_is : IsDeedOf step deed line
-  pub queues : t.0 ≡ queues_by deed line
-  pub done : t.1 ≡ (if is_done deed then (element, number) ∷ [] else [])
-  pub heard : t.2 ≡ heard_by deed element number line
-  pub told_is : told ≡ told_shut deed
+  pub outcome_is : IsOutcomeOf step step_outcome line
+  pub queues : t.0 ≡ queues_by step_outcome line
+  pub done : t.1 ≡ (if is_done step_outcome then (element, number) ∷ [] else [])
+  pub heard : t.2 ≡ heard_by step_outcome element number line
+  pub told_is : reported ≡ saw_shut step_outcome
 
 none_before : (f : QueueIndex → AtQueue) → at_each both_queue (λ q. idle_queue) f ≡ f
 none_before = (each_adds queues_add).none_first
@@ -49,9 +49,9 @@ none_gone : (moved : Moved) (element number : ℕ) → (gone moved element numbe
 none_gone (moveds.Freed moved) element number = none_retired moved element number
 none_gone moved element number = refl
 
-none_raised : (deed : Deed) → (raised_by deed).done ≡ []
-none_raised (deeds.Signal thread signal answer) = refl
-none_raised deed = refl
+none_raised : (step_outcome : StepOutcome) → (raised_by step_outcome).done ≡ []
+none_raised (step_outcomes.Signal thread signal answer) = refl
+none_raised step_outcome = refl
 
 counted_one : (b : Bool) (element number : ℕ) → (counted_step (count_of b number) element number).done ≡ (if b then (element, number) ∷ [] else [])
 counted_one true element number = refl
@@ -62,22 +62,22 @@ append_none true k = refl
 append_none false k = refl
 
 module _ (plan : BootPlan) where
-  by_had : (begun : Begun) (had : Had) (line : List ℕ) → OutcomeFollows plan (outcomes.Had begun had) line
-      → Rests (tried_in (outcome_account (outcomes.Had begun had) line)) (outcome_told_shut (outcomes.Had begun had)) ⊎ Tries plan (tried_in (outcome_account (outcomes.Had begun had) line)) (outcome_told_shut (outcomes.Had begun had))
-  by_had begun (hads.Ended moved) line p = inl (record {
+  by_had : (begun : Begun) (had : TurnResult) (line : List ℕ) → OutcomeFollows plan (outcomes.OfElement begun had) line
+      → Rests (tried_in (outcome_account (outcomes.OfElement begun had) line)) (outcome_saw_shut (outcomes.OfElement begun had)) ⊎ Tries plan (tried_in (outcome_account (outcomes.OfElement begun had) line)) (outcome_saw_shut (outcomes.OfElement begun had))
+  by_had begun (hads.Retired moved) line p = inl (record {
     queues = none_before (λ q. idle_queue);
     done = none_retired moved begun.element begun.number;
     heard = refl;
     untold = λ q. refl;
   })
-  by_had begun (hads.Ran sent) line p = let d : Deed = sent.tried.deed in inr (record {
+  by_had begun (hads.Ran sent) line p = let d : StepOutcome = sent.tried.step_outcome in inr (record {
     element = begun.element;
     number = begun.number;
     step = p.step;
-    deed = d;
+    step_outcome = d;
     line = line;
     is = p.is;
-    deed_is = p.deed;
+    outcome_is = p.step_outcome;
     queues = none_before (queues_by d line);
     done = (λ i. (none_raised d i ++ (counted_step (p.counts i) begun.element begun.number).done) ++ none_gone sent.moved begun.element (begun.number + 1) i)
         ∙ (ap (λ z. z ++ []) (counted_one (is_done d) begun.element begun.number) ∙ append_none (is_done d) (begun.element, begun.number));
@@ -85,10 +85,10 @@ module _ (plan : BootPlan) where
     told_is = refl;
   })
 
-  by_outcome : (outcome : Outcome) (line : List ℕ) → OutcomeFollows plan outcome line
-      → Rests (tried_in (outcome_account outcome line)) (outcome_told_shut outcome) ⊎ Tries plan (tried_in (outcome_account outcome line)) (outcome_told_shut outcome)
+  by_outcome : (outcome : TurnOutcome) (line : List ℕ) → OutcomeFollows plan outcome line
+      → Rests (tried_in (outcome_account outcome line)) (outcome_saw_shut outcome) ⊎ Tries plan (tried_in (outcome_account outcome line)) (outcome_saw_shut outcome)
   by_outcome (outcomes.Idle idle) line p = inl (record { queues = refl; done = refl; heard = refl; untold = λ q. refl })
-  by_outcome (outcomes.Had begun had) line p = by_had begun had line p
+  by_outcome (outcomes.OfElement begun had) line p = by_had begun had line p
 
 -- the tending of the alarms does none of this
 none_tended : (t : Option Tended) (a : Account) → tried_in a ≡ tried_in (tending t ⊕ a)
@@ -97,17 +97,17 @@ none_tended (Some tended) a = λ i. (sym (none_before a.queues) i, a.hand.done, 
 
 -- a turn either tried no step, or one of the plan
 pub turn_is : (plan : BootPlan) (entry : LogEntry) → FollowsPlan plan entry
-    → Rests (tried_in (entry_account entry)) (λ q. turn_told_shut q entry) ⊎ Tries plan (tried_in (entry_account entry)) (λ q. turn_told_shut q entry)
-turn_is plan entry p = subst (λ (t : Tried). Rests t (λ q. turn_told_shut q entry) ⊎ Tries plan t (λ q. turn_told_shut q entry))
+    → Rests (tried_in (entry_account entry)) (λ q. turn_saw_shut q entry) ⊎ Tries plan (tried_in (entry_account entry)) (λ q. turn_saw_shut q entry)
+turn_is plan entry p = subst (λ (t : Tried). Rests t (λ q. turn_saw_shut q entry) ⊎ Tries plan t (λ q. turn_saw_shut q entry))
     (none_tended entry.tended (outcome_account entry.outcome entry.line)) (by_outcome plan entry.outcome entry.line p)
 
 -- THE STEP OF A DEED
 
-pub say_is : (step : Step) (queue : QueueIndex) (answer : SayAnswer Paid) (line : List ℕ) → IsDeedOf step (deeds.Say queue answer) line
+pub say_is : (step : Step) (queue : QueueIndex) (answer : SayAnswer WakeDone) (line : List ℕ) → IsOutcomeOf step (step_outcomes.Say queue answer) line
     → (text : List ℕ) × (step ≡ steps.Say queue text) × (line ≡ said_line text)
 say_is (steps.Say at text) queue answer line d = (text, ap (λ z. steps.Say z text) (sym d.0), d.1)
 say_is step queue answer line d = absurd d
 
-pub close_is : (step : Step) (queue : ℕ) (was_open : Bool) (readers writers : Paid) (line : List ℕ) → IsDeedOf step (deeds.Close queue was_open readers writers) line → step ≡ steps.Close queue
+pub close_is : (step : Step) (queue : ℕ) (was_open : Bool) (readers writers : WakeDone) (line : List ℕ) → IsOutcomeOf step (step_outcomes.Close queue was_open readers writers) line → step ≡ steps.Close queue
 close_is (steps.Close at) queue was_open readers writers line d = ap steps.Close (sym d.0)
 close_is step queue was_open readers writers line d = absurd d

@@ -5,7 +5,7 @@ use Rattle.std.specs.List.{list_any, filter}
 use Rattle.std.proofs.lemmas.Bool.{and_parts as both, eqb-true as eqb_is}
 use Rattle.std.proofs.lemmas.Option.{slice_get_within as within}
 use Rattle.turn_dispatch.specs.Settlings.{Settles, is_free}
-use Rattle.turn_dispatch.specs.Tallies.{behind}
+use Rattle.turn_dispatch.specs.Tallies.{followed_by}
 use Rattle.turn_dispatch.proofs.Settling.Reading.{is_of, steps_of_rest, signals_of_rest, retired_where_free, retired_last}
 use Rattle.thread_table.specs.declared.places.Place.TheVariants as places
 use Rattle.thread_table.specs.Answers.{is_in}
@@ -84,24 +84,24 @@ module _ (plan : BootPlan) (logs : List (List LogEntry)) (done : Done) (w : Work
   abbrev begun : Tally
   begun = (preparing plan done.before).hand
 
-  settled : Settles (behind begun (total_of logs).hand) e.told.places e.told.pcs e.told.pending
-  settled = subst (λ (t : Tally). Settles t e.told.places e.told.pcs e.told.pending) (ap (λ (a : Account). a.hand) (all_did plan logs done w)) e.settles
+  settled : Settles (followed_by begun (total_of logs).hand) e.reported.places e.reported.pcs e.reported.pending
+  settled = subst (λ (t : Tally). Settles t e.reported.places e.reported.pcs e.reported.pending) (ap (λ (a : Account). a.hand) (all_did plan logs done w)) e.settles
 
   -- each step of an element was done once, up to the number of steps in the table
-  pub once : (x n : ℕ) → x < 64 → count_by (same_key (x, n)) (total_of logs).hand.done ≡ (if nat_lt n (slice_index_or e.told.pcs x 0) then 1 else 0)
-  once x n low = steps_of_rest begun (total_of logs).hand e.told.places e.told.pcs e.told.pending settled x low refl n
+  pub once : (x n : ℕ) → x < 64 → count_by (same_key (x, n)) (total_of logs).hand.done ≡ (if nat_lt n (slice_index_or e.reported.pcs x 0) then 1 else 0)
+  once x n low = steps_of_rest begun (total_of logs).hand e.reported.places e.reported.pcs e.reported.pending settled x low refl n
 
   -- no thread has done more steps than its program has
-  pub prefix : (x : ℕ) → x < 64 → slice_index_or e.told.pcs x 0 ≤ length (program plan x)
-  prefix x low = dite (dec_lt (length (program plan x)) (slice_index_or e.told.pcs x 0))
+  pub prefix : (x : ℕ) → x < 64 → slice_index_or e.reported.pcs x 0 ≤ length (program plan x)
+  prefix x low = dite (dec_lt (length (program plan x)) (slice_index_or e.reported.pcs x 0))
       (λ over. let none = none_in plan x (length (program plan x)) (past_end (program plan x)) (all_of logs) (all_planned plan logs w.planned) in
-      let one : ◌≡◌ {A = ℕ} (if nat_lt (length (program plan x)) (slice_index_or e.told.pcs x 0) then 1 else 0) 1 = ap (λ b. if b then 1 else 0) (is_less (length (program plan x)) (slice_index_or e.told.pcs x 0) over) in
+      let one : ◌≡◌ {A = ℕ} (if nat_lt (length (program plan x)) (slice_index_or e.reported.pcs x 0) then 1 else 0) 1 = ap (λ b. if b then 1 else 0) (is_less (length (program plan x)) (slice_index_or e.reported.pcs x 0) over) in
       let h = once x (length (program plan x)) low in absurd (omega arith))
       (λ high. omega (arith, high))
 
   module _ (spare : FreedSpare plan done.before) (x : ℕ) (low : x < 64) (its : x < length plan.threads) where
     abbrev t : closed.Thread
-    t = thread_of e.told e.signals x
+    t = thread_of e.reported e.signals x
 
     steps_agree : StepsAgree plan x t.steps logs
     steps_agree = record {
@@ -119,9 +119,9 @@ module _ (plan : BootPlan) (logs : List (List LogEntry)) (done : Done) (w : Work
 
     place_agrees : PlaceAgrees t.place t.steps (length (program plan x)) (was_retired x logs)
     place_agrees = by_place t.place t.steps (length (program plan x)) (was_retired x logs)
-        (retired_where_free begun (total_of logs).hand e.told.places e.told.pcs e.told.pending settled x low took none)
+        (retired_where_free begun (total_of logs).hand e.reported.places e.reported.pcs e.reported.pending settled x low took none)
         (λ free. let all = has_done_all plan x t.steps (total_of logs).hand.retired (all_over plan (all_of logs) (all_planned plan logs w.planned))
-        (retired_last begun (total_of logs).hand e.told.places e.told.pcs e.told.pending settled x low took none free) in let prefix = steps_agree.prefix in omega arith)
+        (retired_last begun (total_of logs).hand e.reported.places e.reported.pcs e.reported.pending settled x low took none free) in let prefix = steps_agree.prefix in omega arith)
         (λ p. e.none_on x p low)
 
     shown_agrees : (n : ℕ) → n < 16 → is_in t.shown n ≡ (total_of logs).shown x n
@@ -134,7 +134,7 @@ module _ (plan : BootPlan) (logs : List (List LogEntry)) (done : Done) (w : Work
 
     signals_agree : (n : ℕ) → n < 16 → (is_in t.shown n || is_in t.pending n) ≡ list_any (same_key (x, n)) (total_of logs).hand.signalled
     signals_agree n few = ap (λ z. z || is_in t.pending n) (shown_agrees n few ∙ (all_work (all_of logs)).shown x n (is_less x 64 low) (is_less n 16 few))
-        ∙ sym (signals_of_rest begun (total_of logs).hand e.told.places e.told.pcs e.told.pending settled x low refl refl n few)
+        ∙ sym (signals_of_rest begun (total_of logs).hand e.reported.places e.reported.pcs e.reported.pending settled x low refl refl n few)
 
     agrees : ThreadAgrees plan x t logs
     agrees = record { ran = steps_agree; place = place_agrees; shown = shown_agrees; signals = signals_agree }

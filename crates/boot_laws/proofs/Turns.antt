@@ -1,5 +1,5 @@
 -- What is true of all that turns come to.
-use Rattle.boot_laws.proofs.Common.{◌≡◌, ℕ, ◌+◌, ◌≤◌, Bool, true, false, List, [], ◌∷◌, ◌++◌, length, refl, sym, ap, ◌∙◌, subst, length-append, Option, Some, None, if◌then◌else◌, ◌||◌, ◌&&◌, ◌==◌, nat_lt, AllByRecursion, concat, list_any-append, BootPlan, all_append, Tended, Begun, counted_step, retired, Tally, Deed, Had, Outcome, Moved, Account, ◌⊕◌, raised_by, LogEntry, entry_account, tending, outcome_account, gone, FollowsPlan, OutcomeFollows, sum_of, HasDoneAll, program}
+use Rattle.boot_laws.proofs.Common.{◌≡◌, ℕ, ◌+◌, ◌≤◌, Bool, true, false, List, [], ◌∷◌, ◌++◌, length, refl, sym, ap, ◌∙◌, subst, length-append, Option, Some, None, if◌then◌else◌, ◌||◌, ◌&&◌, ◌==◌, nat_lt, AllByRecursion, concat, list_any-append, BootPlan, all_append, Tended, Begun, counted_step, retired, Tally, StepOutcome, TurnResult, TurnOutcome, Moved, Account, ◌⊕◌, raised_by, LogEntry, entry_account, tending, outcome_account, gone, FollowsPlan, OutcomeFollows, sum_of, HasDoneAll, program}
 use Rattle.std.specs.Prelude.{Result, Ok, Err}
 use Rattle.std.proofs.lemmas.List.Folds.{concat-append}
 use Rattle.turn_io.specs.declared.poking.Poked.{Poked}
@@ -9,9 +9,9 @@ use Rattle.turn_dispatch.specs.declared.counting.Counted.TheVariants as counted
 use Rattle.turn_dispatch.specs.Dispatches.{mask_of}
 use Rattle.turn_dispatch.specs.Tallies.{delivery, is_delivered}
 use Rattle.proc_chain.specs.declared.chaining.ChainRefusal.{ChainRefusal}
-use Rattle.processor.specs.declared.deed.Deed.TheVariants as deeds
-use Rattle.processor.specs.declared.outcome.Had.TheVariants as hads
-use Rattle.processor.specs.declared.outcome.Outcome.TheVariants as outcomes
+use Rattle.processor.specs.declared.step_outcome.StepOutcome.TheVariants as step_outcomes
+use Rattle.processor.specs.declared.outcome.TurnResult.TheVariants as hads
+use Rattle.processor.specs.declared.outcome.TurnOutcome.TheVariants as outcomes
 use Rattle.processor.specs.declared.sending.Moved.TheVariants as moveds
 use Rattle.processor.specs.Accounts.{nothing}
 use Rattle.processor.specs.Doings.{chains_by, ticks_by}
@@ -62,9 +62,9 @@ begun b = record {
 abbrev NoneGiven : Tally → Type 0
 NoneGiven t = (t.taken ≡ []) × (t.delivered ≡ [])
 
-raised_rest : (deed : Deed) → NoneGiven (raised_by deed) × ((raised_by deed).retired ≡ [])
-raised_rest (deeds.Signal thread signal answer) = ((refl, refl), refl)
-raised_rest deed = ((refl, refl), refl)
+raised_rest : (step_outcome : StepOutcome) → NoneGiven (raised_by step_outcome) × ((raised_by step_outcome).retired ≡ [])
+raised_rest (step_outcomes.Signal thread signal answer) = ((refl, refl), refl)
+raised_rest step_outcome = ((refl, refl), refl)
 
 counted_rest : (count : Counted) (element number : ℕ) → NoneGiven (counted_step count element number) × ((counted_step count element number).retired ≡ [])
 counted_rest (counted.Done n) element number = ((refl, refl), refl)
@@ -78,9 +78,9 @@ gone_rest : (moved : Moved) (element number : ℕ) → NoneGiven (gone moved ele
 gone_rest (moveds.Freed moved) element number = retired_rest moved element number
 gone_rest moved element number = (refl, refl)
 
-ticked_rest : (deed : Deed) → ((ticks_by deed).set ≡ []) × ((ticks_by deed).cancelled ≡ [])
-ticked_rest (deeds.Tick gauge amount before) = (refl, refl)
-ticked_rest deed = (refl, refl)
+ticked_rest : (step_outcome : StepOutcome) → ((ticks_by step_outcome).set ≡ []) × ((ticks_by step_outcome).cancelled ≡ [])
+ticked_rest (step_outcomes.Tick gauge amount before) = (refl, refl)
+ticked_rest step_outcome = (refl, refl)
 
 alone_if : (answer : Result Poked ChainRefusal) (b : Bool)
     → length (concat (if b then chained_if answer 0 else record { notes = []; ran = 0 }).notes) ≡ length (if b then chained_if answer 0 else record { notes = []; ran = 0 }).notes
@@ -88,27 +88,27 @@ alone_if (Ok done) true = refl
 alone_if (Err refusal) true = refl
 alone_if answer false = refl
 
-chained_rest : (deed : Deed) (q : ℕ) → length (concat (chains_by deed q).notes) ≡ length (chains_by deed q).notes
-chained_rest (deeds.Poke mover answer) q = alone_if answer (q == mover)
-chained_rest deed q = refl
+chained_rest : (step_outcome : StepOutcome) (q : ℕ) → length (concat (chains_by step_outcome q).notes) ≡ length (chains_by step_outcome q).notes
+chained_rest (step_outcomes.Poke mover answer) q = alone_if answer (q == mover)
+chained_rest step_outcome q = refl
 
-had : (element number : ℕ) (h : Had) (line : List ℕ) → Works (having element number h line)
-had element number (hads.Ended moved) line = let r = retired_rest moved element number in
+had : (element number : ℕ) (h : TurnResult) (line : List ℕ) → Works (having element number h line)
+had element number (hads.Retired moved) line = let r = retired_rest moved element number in
     record { taken = r.0; shown = λ e s low few. ap (λ l. is_delivered l e s) (sym r.1); set = refl; cancelled = refl; alone = λ q. refl }
 had element number (hads.Ran sent) line =
-    let r = raised_rest sent.tried.deed in let c = counted_rest sent.tried.counted element number in let g = gone_rest sent.moved element (number + 1) in let t = ticked_rest sent.tried.deed in record {
+    let r = raised_rest sent.tried.step_outcome in let c = counted_rest sent.tried.counted element number in let g = gone_rest sent.moved element (number + 1) in let t = ticked_rest sent.tried.step_outcome in record {
       taken = λ i. (r.0.0 i ++ c.0.0 i) ++ g.0 i;
       shown = λ e s low few. ap (λ l. is_delivered l e s) (sym (λ i. (r.0.1 i ++ c.0.1 i) ++ g.1 i));
       set = t.0;
       cancelled = t.1;
-      alone = chained_rest sent.tried.deed;
+      alone = chained_rest sent.tried.step_outcome;
     }
 
 -- ALL TURNS
 
-came : (outcome : Outcome) (line : List ℕ) → Works (outcome_account outcome line)
+came : (outcome : TurnOutcome) (line : List ℕ) → Works (outcome_account outcome line)
 came (outcomes.Idle idle) line = rests
-came (outcomes.Had b h) line = both (beginning b) (having b.element b.number h line) (begun b) (had b.element b.number h line)
+came (outcomes.OfElement b h) line = both (beginning b) (having b.element b.number h line) (begun b) (had b.element b.number h line)
 
 pub all_work : (log : List LogEntry) → Works (sum_of log)
 all_work [] = rests
@@ -129,11 +129,11 @@ module _ (plan : BootPlan) where
   tended_done None = refl
   tended_done (Some t) = refl
 
-  came_done : (outcome : Outcome) (line : List ℕ) → OutcomeFollows plan outcome line → AllByRecursion (HasDoneAll plan) (outcome_account outcome line).hand.retired
+  came_done : (outcome : TurnOutcome) (line : List ℕ) → OutcomeFollows plan outcome line → AllByRecursion (HasDoneAll plan) (outcome_account outcome line).hand.retired
   came_done (outcomes.Idle idle) line p = tt
-  came_done (outcomes.Had b (hads.Ended moved)) line p = retired_done moved b.element b.number p.0
-  came_done (outcomes.Had b (hads.Ran sent)) line p =
-      subst (λ l. AllByRecursion (HasDoneAll plan) (l ++ (gone sent.moved b.element (b.number + 1)).retired)) (λ i. (sym ((raised_rest sent.tried.deed).1) i) ++ (sym ((counted_rest sent.tried.counted b.element b.number).1) i))
+  came_done (outcomes.OfElement b (hads.Retired moved)) line p = retired_done moved b.element b.number p.0
+  came_done (outcomes.OfElement b (hads.Ran sent)) line p =
+      subst (λ l. AllByRecursion (HasDoneAll plan) (l ++ (gone sent.moved b.element (b.number + 1)).retired)) (λ i. (sym ((raised_rest sent.tried.step_outcome).1) i) ++ (sym ((counted_rest sent.tried.counted b.element b.number).1) i))
       (gone_done sent.moved b.element (b.number + 1) p.over)
 
   pub all_over : (log : List LogEntry) → AllByRecursion (FollowsPlan plan) log → AllByRecursion (HasDoneAll plan) (sum_of log).hand.retired

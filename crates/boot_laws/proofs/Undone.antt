@@ -20,7 +20,7 @@ module _ (plan : BootPlan) (x n : ℕ) (none : slice_get (program plan x) n ≡ 
       (λ isnt. let z : plus (same_key (x, n) (element, number)) ≡ 0 = ap plus isnt in omega arith)
 
   none_by : (entry : LogEntry) → FollowsPlan plan entry → count_by (same_key (x, n)) (entry_account entry).hand.done ≡ 0
-  none_by entry p = ⊎_elim (λ r. ap (count_by (same_key (x, n))) r.done) (λ t. ap (count_by (same_key (x, n))) t.done ∙ not_it t.element t.number t.step (is_done t.deed) t.is) (turn_is plan entry p)
+  none_by entry p = ⊎_elim (λ r. ap (count_by (same_key (x, n))) r.done) (λ t. ap (count_by (same_key (x, n))) t.done ∙ not_it t.element t.number t.step (is_done t.step_outcome) t.is) (turn_is plan entry p)
 
   pub none_in : (log : List LogEntry) → AllByRecursion (FollowsPlan plan) log → count_by (same_key (x, n)) (sum_of log).hand.done ≡ 0
   none_in [] p = refl

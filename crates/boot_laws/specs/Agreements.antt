@@ -79,7 +79,7 @@ pub record IsWoven (items : List ℕ) (lists : List (List (List ℕ))) (others :
 -- taking, the items taken are the lines taken, each once. In both, each processor's lines are in the order of its log.
 -- No more items are left than the queue has places
 pub record QueueAgrees (index : QueueIndex) (q : closed.Queue) (logs : List (List LogEntry)) : Type 0 where
-  pub behind : q.taken ≤ length q.items
+  pub taken_within : q.taken ≤ length q.items
   pub within : length q.items ≤ q.taken + room_of index
   pub said : q.put_by ≡ map (λ log. ((sum_of log).queues index).put) logs
   pub heard : q.taken_by ≡ map (λ log. ((sum_of log).queues index).taken) logs

@@ -10,7 +10,7 @@ use Rattle.claim_queue.specs.declared.close.Closed.{Closed as ShutQueue}
 use Rattle.claim_queue.specs.declared.ends.QueueEnd.{QueueEnd}
 use Rattle.claim_queue.specs.Handles.{view_of}
 use Rattle.claim_queue.specs.Lines.{lines_put, lines_taken}
-use Rattle.boot_objects.specs.declared.closing.all.Unmade.{Unmade}
+use Rattle.boot_objects.specs.declared.closing.all.TornDown.{TornDown}
 use Rattle.turn_io.specs.Accounts.{room_of}
 use Rattle.processor.specs.Accounts.{Account}
 use Rattle.quajects.specs.declared.any.AnyQuaject.{AnyQuaject}
@@ -73,7 +73,7 @@ chains_of (quaject ∷ quajects) (home ∷ homes) =
 -- ALL
 
 -- the closed tables of this boot, by the results of closing, the quajects that came home, and the devices' results
-abbrev pub closed_of : BootPlan → Boot → Unmade → List AnyQuaject → List closed.Device → ClosedTables
+abbrev pub closed_of : BootPlan → Boot → TornDown → List AnyQuaject → List closed.Device → ClosedTables
 closed_of plan boot ended quajects devices = record {
   small = queues_from (λ q. queue_of plan boot (Small q)) 0 ended.small_ends.value.items ended.small.items;
   large = queues_from (λ q. queue_of plan boot (Large q)) 0 ended.large_ends.value.items ended.large.items;

@@ -63,24 +63,24 @@ FreedSpare plan did = AllByRecursion (λ (freed : Key). length plan.threads ≤ 
 
 -- the thread with this number, by the closed table and the signals that were shown
 abbrev pub thread_of : Places → List ℕ → ℕ → closed.Thread
-thread_of told signals thread = record {
-  place = slice_index_or told.places thread places.Held;
-  steps = slice_index_or told.pcs thread 0;
-  pending = slice_index_or told.pending thread 0;
+thread_of reported signals thread = record {
+  place = slice_index_or reported.places thread places.Held;
+  steps = slice_index_or reported.pcs thread 0;
+  pending = slice_index_or reported.pending thread 0;
   shown = slice_index_or signals thread 0;
 }
 
 -- The work done comes to the table's places, steps and pending signals, and to the signals shown. No element is on a
 -- processor. At most 64 threads are closed, each as the table and the signals have it
 pub record ThreadsEnded (did : Account) (c : ClosedTables) : Type 0 where
-  pub told : Places
+  pub reported : Places
   pub signals : List ℕ
-  pub settles : Settles did.hand told.places told.pcs told.pending
-  pub none_on : NoneOn told.places
+  pub settles : Settles did.hand reported.places reported.pcs reported.pending
+  pub none_on : NoneOn reported.places
   pub shown : did.shown ≡ shown_in signals
   pub few : length c.threads ≤ 64
   pub each : (thread : ℕ) (t : closed.Thread) → slice_get c.threads thread ≡ Some t
-      → t ≡ thread_of told signals thread
+      → t ≡ thread_of reported signals thread
 
 -- QUEUES
 
@@ -100,7 +100,7 @@ pub record QueueEnded (index : QueueIndex) (by_each : List Account) (others : Li
   pub first : ℕ
   pub places : List Cell
   pub items : q.items ≡ map item_of places
-  pub behind : q.taken ≤ length q.items
+  pub taken_within : q.taken ≤ length q.items
   pub within : length q.items ≤ q.taken + room_of index
   pub claims : AreCovered first places q.put_by (flat_map runs_of (map queues.view_of others))
   pub takings : AreCovered first (take q.taken places) q.taken_by (flat_map takings_of (map queues.view_of others))

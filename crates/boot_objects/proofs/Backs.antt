@@ -1,5 +1,5 @@
 -- The shares of devices come back with their raw ttys.
-use Rattle.boot_objects.proofs.Common.{◌≡◌, ℕ, suc, ◌+◌, Bool, true, false, List, [], ◌∷◌, length, Some, refl, sym, ap, subst, ◌∙◌, arith, ◌==◌, if◌then◌else◌, slice_get, Small, Large, Did, ChainEnd, Ghosts, Shared, Parts, Shares, no_shares, both_shares, shares_add, RawTty, AtQueue, Stake, no_stake, idle_queue, at_one, stake, stakes, chain_stake, chain_stakes, by_sizes, Device, opening_shares, device_shares, all_shares, AreWhole, port_stakes, note_stake, note_stakes, raw_ports, raw_notes, TookRaws, HasWholes}
+use Rattle.boot_objects.proofs.Common.{◌≡◌, ℕ, suc, ◌+◌, Bool, true, false, List, [], ◌∷◌, length, Some, refl, sym, ap, subst, ◌∙◌, arith, ◌==◌, if◌then◌else◌, slice_get, Small, Large, QueueOps, ChainEnd, Ghosts, Shared, Parts, Shares, no_shares, both_shares, shares_add, RawTty, AtQueue, Stake, no_stake, idle_queue, at_one, stake, stakes, chain_stake, chain_stakes, by_sizes, Device, opening_shares, device_shares, all_shares, AreWhole, port_stakes, note_stake, note_stakes, raw_ports, raw_notes, TookRaws, HasWholes}
 use Rattle.std.proofs.Math.Nat.{add-zero}
 use Rattle.processor.specs.Accounts.{shares}
 use Rattle.processor.proofs.Summing.{shares_swap}
@@ -25,7 +25,7 @@ none_more a b e = e ∙ sym (add-zero b)
 
 took_shares : (raw chain : ℕ) (ttys : List RawTty) (old new : Parts) → TookRaws raw chain ttys old new → shares new ≡ both_shares (shares old) (raw_shares raw chain ttys)
 took_shares raw chain ttys old new t = λ i. record {
-  queues = by_sizes (shares new).queues (both_shares (shares old) (raw_shares raw chain ttys)).queues (λ q. ap (λ (f : ℕ → Stake Did). (f q).share) t.small.stakes_are)
+  queues = by_sizes (shares new).queues (both_shares (shares old) (raw_shares raw chain ttys)).queues (λ q. ap (λ (f : ℕ → Stake QueueOps). (f q).share) t.small.stakes_are)
       (λ q. none_more _ _ (ap (λ (p : Parts). (stakes p.large.items q).share) t.rest)) i;
   chains = λ k. (note_share new.chains.items k ∙ (ap (λ (f : ℕ → Stake AtQueue). (f k).share) t.chains ∙ ap (λ (s : ℕ). s + (raw_notes chain ttys k).share) (sym (note_share old.chains.items k)))) i;
   hand = none_more _ _ (ap (λ (p : Parts). (shares p).hand) t.rest) i;

@@ -22,7 +22,7 @@ pub use Rattle.claim_queue.specs.Lines.{line_of, lines_put}
 pub use Rattle.claim_queue.specs.Own.{did_both, nothing_did}
 pub use Rattle.claim_queue.specs.declared.ends.ClaimQueue.{ClaimQueue}
 pub use Rattle.claim_queue.specs.declared.ends.QueueEnd.{QueueEnd}
-pub use Rattle.claim_queue.specs.declared.rule.Did.{Did}
+pub use Rattle.claim_queue.specs.declared.rule.QueueOps.{QueueOps}
 pub use Rattle.meters.specs.Handles.{IsOnlySeat}
 pub use Rattle.meters.specs.declared.ends.MeterSeat.{MeterSeat}
 pub use Rattle.meters.specs.declared.ends.Meters.{Meters}

@@ -55,19 +55,19 @@ module _ {A B C : Type 0} (R : A → B → C → Type 0) where
   -- the next two elements fit, if both lists have the same image
   pub next_fit : {D : Type 0} (f : B → D) (g : A → D) (all : List A) (others : List B) (drawn left : List A) (rest : List B) (made : List C) (a : A) (left' : List A) (b : B) (rest' : List B)
       → map f others ≡ map g all → Drawn R all others drawn left rest made → left ≡ a ∷ left' → rest ≡ b ∷ rest' → f b ≡ g a
-  next_fit f g all others drawn left rest made a left' b rest' e d is is' = behind drawn d.used (sym (three_long drawn d.used made d.each).0)
+  next_fit f g all others drawn left rest made a left' b rest' e d is is' = following drawn d.used (sym (three_long drawn d.used made d.each).0)
       (ap (map f) (ap (λ z. d.used ++ z) (sym is') ∙ d.second) ∙ (e ∙ ap (map g) (sym (ap (λ z. drawn ++ z) (sym is) ∙ d.first))))
     where
-      behind : (xs : List A) (ys : List B) → length xs ≡ length ys → map f (ys ++ b ∷ rest') ≡ map g (xs ++ a ∷ left') → f b ≡ g a
-      behind [] [] l h = cc
-      behind [] (y ∷ ys) l h = absurd (omega arith)
-      behind (x ∷ xs) [] l h = absurd (omega arith)
-      behind (x ∷ xs) (y ∷ ys) l h = let h' : map f (ys ++ b ∷ rest') ≡ map g (xs ++ a ∷ left') = cc in behind xs ys (omega arith) h'
+      following : (xs : List A) (ys : List B) → length xs ≡ length ys → map f (ys ++ b ∷ rest') ≡ map g (xs ++ a ∷ left') → f b ≡ g a
+      following [] [] l h = cc
+      following [] (y ∷ ys) l h = absurd (omega arith)
+      following (x ∷ xs) [] l h = absurd (omega arith)
+      following (x ∷ xs) (y ∷ ys) l h = let h' : map f (ys ++ b ∷ rest') ≡ map g (xs ++ a ∷ left') = cc in following xs ys (omega arith) h'
 
   pub next_holds : (P : B → Type 0) (all : List A) (others : List B) (drawn left : List A) (rest : List B) (made : List C) (b : B) (rest' : List B)
       → All P others → Drawn R all others drawn left rest made → rest ≡ b ∷ rest' → P b
-  next_holds P all others drawn left rest made b rest' h d is = behind d.used (subst (All P) (sym (ap (λ z. d.used ++ z) (sym is) ∙ d.second)) h)
+  next_holds P all others drawn left rest made b rest' h d is = following d.used (subst (All P) (sym (ap (λ z. d.used ++ z) (sym is) ∙ d.second)) h)
     where
-      behind : (ys : List B) → All P (ys ++ b ∷ rest') → P b
-      behind [] h = h 0 b (omega arith)
-      behind (y ∷ ys) h = behind ys (λ k d l. h (suc k) d (omega arith))
+      following : (ys : List B) → All P (ys ++ b ∷ rest') → P b
+      following [] h = h 0 b (omega arith)
+      following (y ∷ ys) h = following ys (λ k d l. h (suc k) d (omega arith))

@@ -1,8 +1,8 @@
 -- One end of a list took in another.
-use Rattle.boot_objects.proofs.Common.{◌≡◌, ℕ, zero, suc, ◌<◌, true, false, List, [], ◌∷◌, ◌++◌, map, length, get_or, set, sym, ap, ◌∙◌, arith, Some, slice_get, map-append, slice_get-get_or, ∥∥₁_elim, fun_ext, QueueEnd, Did, view_of, nothing_did, did_both, ChainEnd, Ghosts, idle_queue, both_queue, Stake, no_stake, both_stakes, stake, stakes, at_one, AddsUp, IsJoined, IsChainJoined, queues_add, dids_add, stakes_add, port, Gained, ChainsGained, note_stake}
+use Rattle.boot_objects.proofs.Common.{◌≡◌, ℕ, zero, suc, ◌<◌, true, false, List, [], ◌∷◌, ◌++◌, map, length, get_or, set, sym, ap, ◌∙◌, arith, Some, slice_get, map-append, slice_get-get_or, ∥∥₁_elim, fun_ext, QueueEnd, QueueOps, view_of, nothing_did, did_both, ChainEnd, Ghosts, idle_queue, both_queue, Stake, no_stake, both_stakes, stake, stakes, at_one, AddsUp, IsJoined, IsChainJoined, queues_add, dids_add, stakes_add, port, Gained, ChainsGained, note_stake}
 use Rattle.std.proofs.Math.Bool.{Bool-set}
 use Rattle.table_theory.specs.Positioned.{Grows}
-use Rattle.claim_queue.proofs.Certain.{honest_end}
+use Rattle.claim_queue.proofs.Certain.{valid_end}
 use Rattle.claim_queue.proofs.Ordered.{join_grows, join_grows_other}
 use Rattle.proc_chain.specs.Handles as chains
 use Rattle.proc_chain.specs.Notes as notes
@@ -24,18 +24,18 @@ module _ {n : ℕ} (ends : List (QueueEnd n)) (i : ℕ) (end after other : Queue
   gained_at = record {
     stakes_are = fun_ext (λ q. grown_at stake none (λ z. z) (both_stakes did_both) none adds.none_last ends i end after (stake other) inside is (λ k. record { did = j.own k; share = (j.member k).share }) q
         ∙ ap (both_stakes did_both (stakes ends q)) (sym (adds.none_last (at_one none i (stake other) q))));
-    known = known_still end_knows_shut ends i end after inside is (λ h. ∥∥₁_elim (join_grows (view_of end) (view_of other) (view_of after) (honest_end end) (honest_end after) j) (Bool-set _ _)
+    known = known_still end_knows_shut ends i end after inside is (λ h. ∥∥₁_elim (join_grows (view_of end) (view_of other) (view_of after) (valid_end end) (valid_end after) j) (Bool-set _ _)
         (λ (g : Grows (view_of end).seen.object (view_of after).seen.object). g.shut h));
   }
     where
-      none : Stake Did
+      none : Stake QueueOps
       none = no_stake nothing_did
 
       adds : AddsUp (no_stake nothing_did) (both_stakes did_both)
       adds = stakes_add dids_add
 
   pub known_at : end_knows_shut other ≡ true → knows_shut_at (set ends i after) i ≡ true
-  known_at h = set_at end_knows_shut ends i after false inside ∙ ∥∥₁_elim (join_grows_other (view_of end) (view_of other) (view_of after) (honest_end other) (honest_end after) j) (Bool-set _ _)
+  known_at h = set_at end_knows_shut ends i after false inside ∙ ∥∥₁_elim (join_grows_other (view_of end) (view_of other) (view_of after) (valid_end other) (valid_end after) j) (Bool-set _ _)
       (λ (g : Grows (view_of other).seen.object (view_of after).seen.object). g.shut h)
 
 module _ {Q W : Type 0} {g : Ghosts Q W} (ends : List (ChainEnd Q W g)) (i : ℕ) (end after other : ChainEnd Q W g) (inside : i < length ends) (is : end ≡ get_or ends i end) (j : IsChainJoined end after other) where

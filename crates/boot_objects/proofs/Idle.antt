@@ -1,5 +1,5 @@
 -- Ends that have done nothing, beside their objects.
-use Rattle.boot_objects.proofs.Common.{◌≡◌, ℕ, Bool, true, false, List, map, length, refl, ap, ◌∙◌, arith, fun_ext, ClaimQueue, QueueEnd, Did, nothing_did, Ghosts, ProcChain, ChainEnd, AnyQuaject, Queues, AtChain, Stake, no_stake, idle_queue, idle_chain, stake, chain_stake, AreEndsOf, AreChainEndsOf, queue_table, end_table, chain_end_table, chain_table, IsIdle, by_sizes, Meters, ThreadTable, Parts, get_or-copies, IsFirstHand, IsFirstSeat, IsIdleEnd, IsIdleChainEnd, IsStock, IsChainStock}
+use Rattle.boot_objects.proofs.Common.{◌≡◌, ℕ, Bool, true, false, List, map, length, refl, ap, ◌∙◌, arith, fun_ext, ClaimQueue, QueueEnd, QueueOps, nothing_did, Ghosts, ProcChain, ChainEnd, AnyQuaject, Queues, AtChain, Stake, no_stake, idle_queue, idle_chain, stake, chain_stake, AreEndsOf, AreChainEndsOf, queue_table, end_table, chain_end_table, chain_table, IsIdle, by_sizes, Meters, ThreadTable, Parts, get_or-copies, IsFirstHand, IsFirstSeat, IsIdleEnd, IsIdleChainEnd, IsStock, IsChainStock}
 use Rattle.std.proofs.lemmas.Bool.Decides.{nat_tests}
 use Rattle.std.specs.Prelude.{◌&&◌, nat_lt, slice_index_or}
 use Rattle.turn_io.specs.Accounts.{lines_of, queue_account, chain_account}
@@ -14,7 +14,7 @@ pub ends_of : {n : ℕ} (queues : List (ClaimQueue n)) (ends : List (QueueEnd n)
 ends_of queues ends h = zip_same IsIdleEnd queue_table end_table (λ queue end idle. idle.its) queues ends h
 
 idle_at : {n : ℕ} (queues : List (ClaimQueue n)) (ends : List (QueueEnd n)) → IsStock queues ends → (q : ℕ) → queue_account ends q ≡ idle_queue
-idle_at queues ends h q = ap lines_of (at_map stake (λ (s : Stake Did). s.did) (no_stake nothing_did) ends q
+idle_at queues ends h q = ap lines_of (at_map stake (λ (s : Stake QueueOps). s.did) (no_stake nothing_did) ends q
     ∙ zip_each IsIdleEnd (λ end. (stake end).did) nothing_did (λ queue end idle. λ i. record { runs = idle.unused.0 i; takes = idle.unused.1 i; shuts = idle.shuts i }) queues ends h q)
 
 module _ {g : Ghosts AnyQuaject Queues} where

@@ -14,16 +14,16 @@ use Rattle.event_theory.proofs.Lists.Placed.{all_at}
 use Rattle.boot_objects.specs.Makings.{IsThere}
 
 -- a way has none of the keys that are before it
-behind : (keys : List ℕ) (ways : List Way) → AreApart keys ways → (i : ℕ) (a : Way) → slice_get ways i ≡ Some a → AllByRecursion (λ key. a.key ≢ key) keys
-behind keys [] h i a e = cc
-behind keys (w ∷ ways) h zero a e = let same : w ≡ a = cc in subst (λ (z : Way). AllByRecursion (λ key. z.key ≢ key) keys) same h.0
-behind keys (w ∷ ways) h (suc i) a e = (behind (w.key ∷ keys) ways h.1 i a e).1
+following : (keys : List ℕ) (ways : List Way) → AreApart keys ways → (i : ℕ) (a : Way) → slice_get ways i ≡ Some a → AllByRecursion (λ key. a.key ≢ key) keys
+following keys [] h i a e = cc
+following keys (w ∷ ways) h zero a e = let same : w ≡ a = cc in subst (λ (z : Way). AllByRecursion (λ key. z.key ≢ key) keys) same h.0
+following keys (w ∷ ways) h (suc i) a e = (following (w.key ∷ keys) ways h.1 i a e).1
 
 apart_at : (keys : List ℕ) (ways : List Way) → AreApart keys ways → (i j : ℕ) (a b : Way) → slice_get ways i ≡ Some a → slice_get ways j ≡ Some b → a.key ≡ b.key → i ≡ j
 apart_at keys [] h i j a b e f same = cc
 apart_at keys (w ∷ ways) h zero zero a b e f same = refl
-apart_at keys (w ∷ ways) h zero (suc j) a b e f same = let is : w ≡ a = cc in absurd ((behind (w.key ∷ keys) ways h.1 j b f).0 (sym same ∙ ap (λ (z : Way). z.key) (sym is)))
-apart_at keys (w ∷ ways) h (suc i) zero a b e f same = let is : w ≡ b = cc in absurd ((behind (w.key ∷ keys) ways h.1 i a e).0 (same ∙ ap (λ (z : Way). z.key) (sym is)))
+apart_at keys (w ∷ ways) h zero (suc j) a b e f same = let is : w ≡ a = cc in absurd ((following (w.key ∷ keys) ways h.1 j b f).0 (sym same ∙ ap (λ (z : Way). z.key) (sym is)))
+apart_at keys (w ∷ ways) h (suc i) zero a b e f same = let is : w ≡ b = cc in absurd ((following (w.key ∷ keys) ways h.1 i a e).0 (same ∙ ap (λ (z : Way). z.key) (sym is)))
 apart_at keys (w ∷ ways) h (suc i) (suc j) a b e f same = ap suc (apart_at (w.key ∷ keys) ways h.1 i j a b e f same)
 
 there_of : (plan : BootPlan) (count : ℕ) (m : Mover) → length plan.queues ≤ count → ∥ IsMoverOf (many_of (plan_of plan)) m ∥₁ → IsThere count m

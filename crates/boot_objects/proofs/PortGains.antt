@@ -1,5 +1,5 @@
 -- The ends of ports are joined to a list of ends, one after the other.
-use Rattle.boot_objects.proofs.Common.{◌≡◌, ℕ, zero, suc, Bool, true, false, List, [], ◌∷◌, ◌++◌, Some, None, sym, ap, subst, ◌∙◌, arith, ◌==◌, if◌then◌else◌, Option, flat_map, flat_map-cons, ClaimQueue, QueueEnd, Did, nothing_did, did_both, Stake, no_stake, both_stakes, stake, stakes, at_each, AddsUp, dids_add, stakes_add, each_adds, Port, AllUp, Home, Gained, port_stakes}
+use Rattle.boot_objects.proofs.Common.{◌≡◌, ℕ, zero, suc, Bool, true, false, List, [], ◌∷◌, ◌++◌, Some, None, sym, ap, subst, ◌∙◌, arith, ◌==◌, if◌then◌else◌, Option, flat_map, flat_map-cons, ClaimQueue, QueueEnd, QueueOps, nothing_did, did_both, Stake, no_stake, both_stakes, stake, stakes, at_each, AddsUp, dids_add, stakes_add, each_adds, Port, AllUp, Home, Gained, port_stakes}
 use Rattle.std.specs.List.{All}
 use Rattle.std.proofs.lemmas.List.{flat_map_more}
 use Rattle.turn_io.specs.EndLists.{HasRaised}
@@ -51,7 +51,7 @@ home_more ports_of homes home a b c h k = subst (λ z. Gained z a c) (flat_map_m
 none_raised : AllRaised []
 none_raised m e at = absurd (cc)
 
-chosen_raised : (b : Bool) (s : Stake Did) → AllRaised s.did.runs → AllRaised (if b then s else no_stake nothing_did).did.runs
+chosen_raised : (b : Bool) (s : Stake QueueOps) → AllRaised s.did.runs → AllRaised (if b then s else no_stake nothing_did).did.runs
 chosen_raised true s h = h
 chosen_raised false s h = none_raised
 
@@ -73,7 +73,7 @@ module _ {n : ℕ} where
 
   -- ends that gained such as have raised all have raised all
   pub gained_raised : (ports : List (Option (Port n))) (old new : List (QueueEnd n)) → Gained ports old new → All HasRaised old → AllUp ports → All HasRaised new
-  gained_raised ports old new g h up = all_raised new (λ q. subst (λ (f : ℕ → Stake Did). AllRaised (f q).did.runs) (sym g.stakes_are)
+  gained_raised ports old new g h up = all_raised new (λ q. subst (λ (f : ℕ → Stake QueueOps). AllRaised (f q).did.runs) (sym g.stakes_are)
       (raised_both (stakes old q).did.runs (port_stakes ports q).did.runs (raised_at old h q) (ports_raised ports up q)))
 
   up_both : (xs ys : List (Option (Port n))) → AllUp xs → AllUp ys → AllUp (xs ++ ys)

@@ -1,5 +1,5 @@
 -- The shares of many, summed.
-use Rattle.boot_objects.proofs.Common.{◌≡◌, ℕ, zero, suc, ◌+◌, ◌<◌, List, [], ◌∷◌, ◌++◌, map, length, get_or, refl, sym, ap, ◌∙◌, arith, QueueIndex, Small, Large, QueueEnd, Did, nothing_did, Stake, AtChain, no_stake, idle_chain, stake, stakes, chain_stake, chain_stakes, share_at, chain_share_at, ChainEnd, ProcChain, Ghosts, IsOnlySeat, Shared, Parts, Shares, no_shares, both_shares, shares_add, AnyQuaject, Queues, IsWhole, IsOnlyHand, Device, quaject_shares, device_shares, all_shares, quajects_of, opening_shares, end_shares, AreAllEnds, AreWhole}
+use Rattle.boot_objects.proofs.Common.{◌≡◌, ℕ, zero, suc, ◌+◌, ◌<◌, List, [], ◌∷◌, ◌++◌, map, length, get_or, refl, sym, ap, ◌∙◌, arith, QueueIndex, Small, Large, QueueEnd, QueueOps, nothing_did, Stake, AtChain, no_stake, idle_chain, stake, stakes, chain_stake, chain_stakes, share_at, chain_share_at, ChainEnd, ProcChain, Ghosts, IsOnlySeat, Shared, Parts, Shares, no_shares, both_shares, shares_add, AnyQuaject, Queues, IsWhole, IsOnlyHand, Device, quaject_shares, device_shares, all_shares, quajects_of, opening_shares, end_shares, AreAllEnds, AreWhole}
 use Rattle.processor.specs.Accounts.{shares}
 use Rattle.processor.specs.Queues.{IsThere}
 
@@ -22,7 +22,7 @@ at_map f g d (x ∷ xs) zero = refl
 at_map f g d (x ∷ xs) (suc q) = at_map f g d xs q
 
 pub share_is : {n : ℕ} (ends : List (QueueEnd n)) (q : ℕ) → (stakes ends q).share ≡ share_at ends q
-share_is ends q = at_map stake (λ (s : Stake Did). s.share) (no_stake nothing_did) ends q
+share_is ends q = at_map stake (λ (s : Stake QueueOps). s.share) (no_stake nothing_did) ends q
 
 pub chain_share_is : {Q W : Type 0} {g : Ghosts Q W} (ends : List (ChainEnd Q W g)) (k : ℕ) → (chain_stakes ends k).share ≡ chain_share_at ends k
 chain_share_is ends k = at_map chain_stake (λ (s : Stake AtChain). s.share) (no_stake idle_chain) ends k

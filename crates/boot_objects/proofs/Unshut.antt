@@ -1,5 +1,5 @@
 -- What comes home of quajects that had shut nothing.
-use Rattle.boot_objects.proofs.Common.{◌≡◌, ℕ, ◌+◌, Bool, true, false, List, [], ◌∷◌, map, Some, None, refl, sym, subst, ◌==◌, if◌then◌else◌, Option, All-nil, All-cons, All-head, All-tail, ChainEnd, ProcChain, Ghosts, opening_of, AnyQuaject, Home, Port, Queues, PostsOf, Post, NoneShut, post_at, Did, nothing_did, Stake, no_stake, stake, port_stakes, HasRetired, HaveRetired}
+use Rattle.boot_objects.proofs.Common.{◌≡◌, ℕ, ◌+◌, Bool, true, false, List, [], ◌∷◌, map, Some, None, refl, sym, subst, ◌==◌, if◌then◌else◌, Option, All-nil, All-cons, All-head, All-tail, ChainEnd, ProcChain, Ghosts, opening_of, AnyQuaject, Home, Port, Queues, PostsOf, Post, NoneShut, post_at, QueueOps, nothing_did, Stake, no_stake, stake, port_stakes, HasRetired, HaveRetired}
 use Rattle.std.specs.List.{All}
 use Rattle.quajects.specs.declared.any.AnyQuaject.TheVariants as any
 use Rattle.quajects.specs.Anys.{HasShutNothing}
@@ -11,7 +11,7 @@ none_shut (any.Cooked tty) posts p h = (subst NoneShut (sym p.0) (h.0, tt), subs
 none_shut (any.Pump pump) posts p h = (subst NoneShut (sym p.0) h, subst NoneShut (sym p.1) tt)
 none_shut (any.Switch switch) posts p h = (subst NoneShut (sym p.0) h, subst NoneShut (sym p.1) tt)
 
-chosen_unshut : (b : Bool) (s : Stake Did) → s.did.shuts ≡ 0 → (if b then s else no_stake nothing_did).did.shuts ≡ 0
+chosen_unshut : (b : Bool) (s : Stake QueueOps) → s.did.shuts ≡ 0 → (if b then s else no_stake nothing_did).did.shuts ≡ 0
 chosen_unshut true s h = h
 chosen_unshut false s h = refl
 

@@ -1,11 +1,11 @@
 -- Ends that have the whole, and what comes home of chains over one world.
-use Rattle.boot_objects.proofs.Common.{◌≡◌, ℕ, zero, suc, ◌+◌, ◌<◌, Bool, true, false, List, [], ◌∷◌, map, length, get_or, Option, Some, None, refl, sym, ap, subst, ◌∙◌, arith, ◌==◌, if◌then◌else◌, flat_map, flat_map-cons, IsWhole, QueueIndex, Small, Large, QueueEnd, Did, nothing_did, ChainEnd, ProcChain, Ghosts, Shared, Parts, Shares, no_shares, both_shares, IsOnlySeat, IsOnlyHand, AnyQuaject, Home, Port, Queues, AllUp, post_at, Stake, no_stake, stake, stakes, chain_end_share, chain_end_table, chain_table, chain_share_at, share_at, end_table, queue_table, as_long, posts_share, post_shares, quaject_shares, quajects_of, opening_shares, small_ports, large_ports, Gained, port_stakes, HasRetired, HaveRetired, HasWholes}
+use Rattle.boot_objects.proofs.Common.{◌≡◌, ℕ, zero, suc, ◌+◌, ◌<◌, Bool, true, false, List, [], ◌∷◌, map, length, get_or, Option, Some, None, refl, sym, ap, subst, ◌∙◌, arith, ◌==◌, if◌then◌else◌, flat_map, flat_map-cons, IsWhole, QueueIndex, Small, Large, QueueEnd, QueueOps, nothing_did, ChainEnd, ProcChain, Ghosts, Shared, Parts, Shares, no_shares, both_shares, IsOnlySeat, IsOnlyHand, AnyQuaject, Home, Port, Queues, AllUp, post_at, Stake, no_stake, stake, stakes, chain_end_share, chain_end_table, chain_table, chain_share_at, share_at, end_table, queue_table, as_long, posts_share, post_shares, quaject_shares, quajects_of, opening_shares, small_ports, large_ports, Gained, port_stakes, HasRetired, HaveRetired, HasWholes}
 use Rattle.std.specs.List.{All}
 use Rattle.claim_queue.specs.Handles.{IsOnlyEnd}
 use Rattle.proc_chain.specs.Handles as chains
 use Rattle.processor.specs.Accounts.{shares}
 use Rattle.quajects.specs.declared.came.Came.{Came}
-use Rattle.quajects.specs.Homes.{TellsHome}
+use Rattle.quajects.specs.Homes.{HasHome}
 use Rattle.turn_io.specs.EndLists.{AreChainsOver}
 use Rattle.turn_io.proofs.Walking.{all_third}
 use Rattle.boot_objects.proofs.Homes.{posts_are}
@@ -48,7 +48,7 @@ module _ {g : Ghosts AnyQuaject Queues} where
 
 -- THE QUEUES
 
-pub chosen_share : (b : Bool) (s : Stake Did) → (if b then s else no_stake nothing_did).share ≡ (if b then s.share else 0)
+pub chosen_share : (b : Bool) (s : Stake QueueOps) → (if b then s else no_stake nothing_did).share ≡ (if b then s.share else 0)
 chosen_share true s = refl
 chosen_share false s = refl
 
@@ -70,13 +70,13 @@ module _ {g : Ghosts AnyQuaject Queues} {n : ℕ} (ports_of : Home → List (Opt
   came_shares (x ∷ xs) [] (z ∷ zs) h q = absurd h
   came_shares (x ∷ xs) (y ∷ ys) [] h q = absurd h
   came_shares (x ∷ xs) (y ∷ ys) (z ∷ zs) h q = ap (λ (p : List (Option (Port n))). (port_stakes p q).share) (flat_map-cons ports_of z zs)
-      ∙ (ap (λ (f : ℕ → Stake Did). (f q).share) (stakes_append (ports_of z) (flat_map ports_of zs))
+      ∙ (ap (λ (f : ℕ → Stake QueueOps). (f q).share) (stakes_append (ports_of z) (flat_map ports_of zs))
       ∙ (λ i. (share_of_ports (ports_of z) q ∙ (its z q ∙ ap (λ (s : Shares). s.queues (at q)) (posts_are (chains.opening_of x) (map post_at z.small, map post_at z.large) h.0.posts))) i + came_shares xs ys zs h.1 q i))
 
   -- if the quajects that came home had the rest of each queue, the ends have the whole
   pub all_whole : (list : List (ProcChain AnyQuaject Queues)) (ends : List (ChainEnd AnyQuaject Queues g)) (homes : List Home) (old new : List (QueueEnd n)) → HaveRetired list ends homes
       → ((q : ℕ) → q < length new → IsWhole ((stakes old q).share + (opening_shares list).queues (at q))) → Gained (flat_map ports_of homes) old new → All IsOnlyEnd new
-  all_whole list ends homes old new h whole gained = only_by_share new (λ q l. sym (share_is new q) ∙ (ap (λ (f : ℕ → Stake Did). (f q).share) gained.stakes_are
+  all_whole list ends homes old new h whole gained = only_by_share new (λ q l. sym (share_is new q) ∙ (ap (λ (f : ℕ → Stake QueueOps). (f q).share) gained.stakes_are
       ∙ (ap (λ (s : ℕ). (stakes old q).share + s) (came_shares list ends homes h q) ∙ whole q l)))
 
 -- THE OTHERS
@@ -115,6 +115,6 @@ module _ {g : Ghosts AnyQuaject Queues} where
   homes_up list ends homes h = (all_third HasRetired (λ (home : Home). AllUp home.small) (λ x y z r. r.raised.0) list ends homes h, all_third HasRetired (λ (home : Home). AllUp home.large) (λ x y z r. r.raised.1) list ends homes h)
 
 -- numbers are those of what came home
-pub all_tell : (all : List Came) → All TellsHome all
+pub all_tell : (all : List Came) → All HasHome all
 all_tell all k d l = let came = get_or all k d in
     record { chained = came.chained_is; left = came.left_is; notes = came.notes_is; taken = came.taken_is; put = came.put_is; held = came.held_is }

@@ -1,7 +1,7 @@
 -- The results of closing all objects.
 use Rattle.std.specs.Prelude.{◌≡◌, ◌<◌, ℕ, false}
 use Rattle.std.specs.List.{All}
-use Rattle.boot_objects.specs.declared.closing.all.Unmade.{Unmade}
+use Rattle.boot_objects.specs.declared.closing.all.TornDown.{TornDown}
 use Rattle.boot_objects.specs.ClosedQueues.{HaveClosed}
 use Rattle.boot_objects.specs.Comings.{small_ports, large_ports}
 use Rattle.boot_objects.specs.Placings.{NoneHeld}
@@ -11,7 +11,7 @@ use Rattle.meters.specs.Handles as seats
 use Rattle.processor.specs.declared.shared.Shared.{Shared}
 use Rattle.processor.specs.declared.station.Parts.{Parts}
 use Rattle.processor.specs.Stations.{ArePartsOf}
-use Rattle.quajects.specs.Homes.{TellsHome, homes_in}
+use Rattle.quajects.specs.Homes.{HasHome, homes_in}
 use Rattle.thread_table.specs.Closings.{ClosedNow}
 use Rattle.thread_table.specs.Handles.{view_of, call_of}
 use Rattle.thread_table.specs.Rules.{has}
@@ -19,12 +19,12 @@ use Rattle.thread_table.specs.Rules.{has}
 -- The chains were closed, and their quajects came home with their numbers. The queues' ends gained the quajects' ends.
 -- Then the queues, the thread table and the meters were closed, each by its last end, one of these parts. If the hand
 -- holds no element, none is held at the close. All else is as it was
-pub record AllClosed (shared : Shared) (parts : Parts) (ended : Unmade) : Type 0 where
+pub record AllClosed (shared : Shared) (parts : Parts) (ended : TornDown) : Type 0 where
   pub its : ArePartsOf shared parts
   pub last : ended.last.value ≡ parts
   pub homes : HaveRetired shared.chains.items parts.chains.items (homes_in ended.counts.items)
   pub few : All IsFew (homes_in ended.counts.items)
-  pub counts : All TellsHome ended.counts.items
+  pub counts : All HasHome ended.counts.items
   pub small : HaveClosed (small_ports (homes_in ended.counts.items)) shared.queues.small.items parts.small.items
       ended.small_ends.value.items ended.small.items
   pub large : HaveClosed (large_ports (homes_in ended.counts.items)) shared.queues.large.items parts.large.items

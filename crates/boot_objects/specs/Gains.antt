@@ -1,7 +1,7 @@
 -- The ends of a list gain the work and the shares of other ends that are joined to them.
 use Rattle.std.specs.Prelude.{◌≡◌, ℕ, true, List, [], ◌∷◌, map, slice_index_or, Option, Some, None}
 use Rattle.claim_queue.specs.declared.ends.QueueEnd.{QueueEnd}
-use Rattle.claim_queue.specs.declared.rule.Did.{Did}
+use Rattle.claim_queue.specs.declared.rule.QueueOps.{QueueOps}
 use Rattle.claim_queue.specs.Own.{nothing_did, did_both}
 use Rattle.turn_io.specs.Accounts.{AtQueue, idle_queue, both_queue, Stake, no_stake, both_stakes, stake, stakes}
 use Rattle.turn_io.specs.Accounts.{at_each, at_one}
@@ -12,12 +12,12 @@ use Rattle.quajects.specs.declared.ports.Port.{Port}
 
 module _ {n : ℕ} where
   -- the stake of the end at a port in the queue q: its claims and takings there, its shuts and its share
-  abbrev pub port_stake : Option (Port n) → ℕ → Stake Did
+  abbrev pub port_stake : Option (Port n) → ℕ → Stake QueueOps
   port_stake None q = no_stake nothing_did
   port_stake (Some port) q = at_one (no_stake nothing_did) port.index (stake port.end) q
 
   -- the stakes in the queue q of the ends at these ports together
-  abbrev pub port_stakes : List (Option (Port n)) → ℕ → Stake Did
+  abbrev pub port_stakes : List (Option (Port n)) → ℕ → Stake QueueOps
   port_stakes [] q = no_stake nothing_did
   port_stakes (port ∷ ports) q = both_stakes did_both (port_stake port q) (port_stakes ports q)
 

@@ -15,7 +15,7 @@ mod stocked;
 mod ttys;
 
 pub use closing::{
-    Answers, Unmade, bring_all_home, bring_home, close_all, close_chains, close_meters,
+    Answers, TornDown, bring_all_home, bring_home, close_all, close_chains, close_meters,
     close_queues, close_threads, homes_shut_nothing, join_at, join_chain_at, join_port_at,
     join_raws, retire_all, wholes_come_home,
 };

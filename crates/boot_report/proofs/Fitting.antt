@@ -16,8 +16,8 @@ pub steps_fit : (plan : BootPlan) (logs : List (List LogEntry)) (done : Done) (c
 steps_fit plan logs done c thread t worked ended at = subst (λ (z : closed.Thread). z.steps ≤ length (program plan thread)) (sym (ended.each thread t at))
     (prefix plan logs done worked c ended thread (let low = slice_get_within c.threads thread t at in let few = ended.few in omega arith))
 
-tells : (a b : Alarm) → is_alarm a b ≡ true → a ≡ b
-tells a b same =
+reports : (a b : Alarm) → is_alarm a b ≡ true → a ≡ b
+reports a b same =
     let first = and_parts (eqb a.due b.due && eqb a.element b.element) (eqb a.signal b.signal) same in
     let second = and_parts (eqb a.due b.due) (eqb a.element b.element) first.0 in
     let due : a.due ≡ b.due = eqb-true _ _ second.0 in let element : a.element ≡ b.element = eqb-true _ _ second.1 in
@@ -29,5 +29,5 @@ itself a = and_from (eqb a.due a.due && eqb a.element a.element) (eqb a.signal a
 
 pub all_alarms : (plan : BootPlan) (c : ClosedTables) (logs : List (List LogEntry)) → AlarmsAgree plan c logs → length plan.alarms ≡ length c.fired + length c.left
 all_alarms plan c logs agrees =
-    let shuffle = same_counts is_alarm tells itself plan.alarms (c.fired ++ c.left) (λ a. agrees.each a ∙ sym (many_more (is_alarm a) c.fired c.left)) in
+    let shuffle = same_counts is_alarm reports itself plan.alarms (c.fired ++ c.left) (λ a. agrees.each a ∙ sym (many_more (is_alarm a) c.fired c.left)) in
     length_permutation _ _ shuffle ∙ length-append c.fired c.left

@@ -5,19 +5,19 @@ use Rattle.std.specs.List.{AllByRecursion, IsDistinct}
 use Rattle.std.proofs.lemmas.List.{map-append}
 use Rattle.boot_data.specs.declared.plan.Step.{Step}
 use Rattle.boot_data.specs.declared.plan.Step.TheVariants as steps
-use Rattle.processor.specs.declared.deed.Deed.{Deed}
-use Rattle.processor.specs.declared.deed.Deed.TheVariants as deeds
-use Rattle.processor.specs.declared.outcome.Had.{Had}
-use Rattle.processor.specs.declared.outcome.Had.TheVariants as hads
-use Rattle.processor.specs.declared.outcome.Outcome.{Outcome}
-use Rattle.processor.specs.declared.outcome.Outcome.TheVariants as outcomes
+use Rattle.processor.specs.declared.step_outcome.StepOutcome.{StepOutcome}
+use Rattle.processor.specs.declared.step_outcome.StepOutcome.TheVariants as step_outcomes
+use Rattle.processor.specs.declared.outcome.TurnResult.{TurnResult}
+use Rattle.processor.specs.declared.outcome.TurnResult.TheVariants as hads
+use Rattle.processor.specs.declared.outcome.TurnOutcome.{TurnOutcome}
+use Rattle.processor.specs.declared.outcome.TurnOutcome.TheVariants as outcomes
 use Rattle.processor.specs.declared.tries.HearAnswer.{HearAnswer}
 use Rattle.processor.specs.declared.tries.HearAnswer.TheVariants as hears
-use Rattle.processor.specs.declared.waking.Paid.{Paid}
+use Rattle.processor.specs.declared.waking.WakeDone.{WakeDone}
 use Rattle.processor.specs.Accounts.{Account, ◌⊕◌}
-use Rattle.processor.specs.Deeds.{IsDeedOf}
+use Rattle.processor.specs.Outcomes.{IsOutcomeOf}
 use Rattle.processor.specs.Doings.{heard_by}
-use Rattle.processor.specs.Entries.{Tended, tending, having, outcome_account, entry_account, HadFollows, OutcomeFollows, FollowsPlan}
+use Rattle.processor.specs.Entries.{Tended, tending, having, outcome_account, entry_account, TurnResultFollows, OutcomeFollows, FollowsPlan}
 use Rattle.processor.specs.Logs.{sum_of}
 use Rattle.processor.specs.Programs.{IsHear, same_key, is_hear, step_of}
 use Rattle.processor.specs.Rooms.{key_of}
@@ -55,21 +55,21 @@ AllHear plan lines = AllByRecursion (IsHear plan) (map key_of lines)
 both_hear : (plan : BootPlan) (a b : List Line) → AllHear plan a → AllHear plan b → AllHear plan (a ++ b)
 both_hear plan a b h k = subst (AllByRecursion (IsHear plan)) (sym (map-append key_of a b)) (both (IsHear plan) (map key_of a) (map key_of b) h k)
 
-hears_one : (step : Step) (queue : _) (answer : HearAnswer Paid) (line : List ℕ) → IsDeedOf step (deeds.Hear queue answer) line → is_hear step ≡ true
+hears_one : (step : Step) (queue : _) (answer : HearAnswer WakeDone) (line : List ℕ) → IsOutcomeOf step (step_outcomes.Hear queue answer) line → is_hear step ≡ true
 hears_one (steps.Hear at) queue answer line h = refl
 hears_one step queue answer line h = absurd h
 
-by_deed : (plan : BootPlan) (element number : ℕ) (step : Step) (deed : Deed) (line : List ℕ) → step_of plan element number ≡ Some step → IsDeedOf step deed line → AllHear plan (heard_by deed element number line)
-by_deed plan element number step (deeds.Hear queue (hears.Taken paid)) line is its = (record { step = step; is = is; hears = hears_one step queue (hears.Taken paid) line its }, tt)
-by_deed plan element number step deed line is its = tt
+by_step_outcome : (plan : BootPlan) (element number : ℕ) (step : Step) (step_outcome : StepOutcome) (line : List ℕ) → step_of plan element number ≡ Some step → IsOutcomeOf step step_outcome line → AllHear plan (heard_by step_outcome element number line)
+by_step_outcome plan element number step (step_outcomes.Hear queue (hears.Taken paid)) line is its = (record { step = step; is = is; hears = hears_one step queue (hears.Taken paid) line its }, tt)
+by_step_outcome plan element number step step_outcome line is its = tt
 
-by_had : (plan : BootPlan) (element number : ℕ) (had : Had) (line : List ℕ) → HadFollows plan element number had line → AllHear plan (having element number had line).heard
-by_had plan element number (hads.Ended moved) line h = tt
-by_had plan element number (hads.Ran sent) line h = by_deed plan element number h.step sent.tried.deed line h.is h.deed
+by_had : (plan : BootPlan) (element number : ℕ) (had : TurnResult) (line : List ℕ) → TurnResultFollows plan element number had line → AllHear plan (having element number had line).heard
+by_had plan element number (hads.Retired moved) line h = tt
+by_had plan element number (hads.Ran sent) line h = by_step_outcome plan element number h.step sent.tried.step_outcome line h.is h.step_outcome
 
-by_outcome : (plan : BootPlan) (outcome : Outcome) (line : List ℕ) → OutcomeFollows plan outcome line → AllHear plan (outcome_account outcome line).heard
+by_outcome : (plan : BootPlan) (outcome : TurnOutcome) (line : List ℕ) → OutcomeFollows plan outcome line → AllHear plan (outcome_account outcome line).heard
 by_outcome plan (outcomes.Idle idle) line h = tt
-by_outcome plan (outcomes.Had begun had) line h = by_had plan begun.element begun.number had line h
+by_outcome plan (outcomes.OfElement begun had) line h = by_had plan begun.element begun.number had line h
 
 none_heard : (tended : Option Tended) (more : Account) → (tending tended ⊕ more).heard ≡ more.heard
 none_heard None more = refl

@@ -10,7 +10,7 @@ use Rattle.boot_data.specs.declared.report.ThreadLine.{ThreadLine}
 use Rattle.boot_data.specs.declared.report.TtyLines.{TtyLines}
 use Rattle.boot_data.specs.Hearing.{NamedLine}
 use Rattle.boot_data.specs.QueueLists.{raw_queue, line_queue, screen_queue}
-use Rattle.boot_objects.specs.declared.closing.all.Unmade.{Unmade}
+use Rattle.boot_objects.specs.declared.closing.all.TornDown.{TornDown}
 use Rattle.processor.proofs.Fitted.{few_steps}
 use Rattle.boot_laws.specs.ClosedTables as closed
 use Rattle.boot_laws.specs.Lines.{AreWhole, QueueSaid, TtySaid, TtyQueuesSaid, MoverSaid, GaugeSaid, AlarmsSaid, ThreadSaid, HeardSaid, name_in}
@@ -32,7 +32,7 @@ name_got [] thread = refl
 name_got (t ∷ threads) zero = refl
 name_got (t ∷ threads) (suc thread) = name_got threads thread
 
-module _ (c : ClosedTables) (ended : Unmade) (heard : List Line) (typed : List Typed) (r : Report) (s : Shows c ended typed) (m : IsMade ended heard typed r) (eight : length ended.meters.gauges ≡ 8) where
+module _ (c : ClosedTables) (ended : TornDown) (heard : List Line) (typed : List Typed) (r : Report) (s : Shows c ended typed) (m : IsMade ended heard typed r) (eight : length ended.meters.gauges ≡ 8) where
   whole : AreWhole ended.plan c r
   whole = record {
     queues = ap length m.queues ∙ as_many (queue_line ended.small.items) 0 ended.plan.queues;

@@ -10,7 +10,7 @@ use Rattle.boot_laws.specs.Lines as lines
 use Rattle.boot_laws.specs.Lines.{state_for}
 use Rattle.boot_laws.proofs.Boots.Booting.{left_of}
 use Rattle.boot_report.specs.Amounts.{item_counts, counts_at, numbers_of, numbers_at}
-use Rattle.boot_report.specs.Made.{told, state_at, few, typed_of, typed_at}
+use Rattle.boot_report.specs.Made.{reported, state_at, few, typed_of, typed_at}
 use Rattle.boot_report.specs.Shown.{ShowsNumbers, ShowsDevice}
 
 module _ {A : Type 0} where
@@ -33,7 +33,7 @@ module _ {A : Type 0} where
 -- the numbers of a queue
 counts_said : {n : ℕ} (q : closed.Queue) (its : ClosedQueue n) → ShowsQueue q its → lines.Counts q (item_counts (Some its))
 counts_said q its s = let t = length-take q.taken q.items in let d = length-drop q.taken q.items in
-    let put = s.put in let taken = s.taken in let behind = s.behind in let left = s.left in
+    let put = s.put in let taken = s.taken in let following = s.following in let left = s.left in
     record { put = put; taken = omega arith; left = omega arith }
 
 pub counts_are : {n : ℕ} (queues : List closed.Queue) (numbers : List (ClosedQueue n)) → ShowsQueues queues numbers
@@ -79,7 +79,7 @@ all_left movers ttys numbers s low =
     let both = sum_by-append left_of movers ttys in let many = length-append movers ttys in omega arith
 
 -- the word for a place
-told_is : (place : Place) → IsNamed place → told place ≡ state_for place
+told_is : (place : Place) → IsNamed place → reported place ≡ state_for place
 told_is places.Free named = refl
 told_is places.Ready named = refl
 told_is (places.Wait wait) named = let low : wait < 16 = named in grind arith
@@ -87,14 +87,14 @@ told_is places.Stopped named = refl
 told_is places.Held named = refl
 told_is (places.Processor p) named = refl
 
-state_is : (stands : List Place) (thread : ℕ) → state_at stands thread ≡ told (get_or stands thread places.Held)
+state_is : (stands : List Place) (thread : ℕ) → state_at stands thread ≡ reported (get_or stands thread places.Held)
 state_is [] thread = refl
 state_is (place ∷ stands) zero = refl
 state_is (place ∷ stands) (suc thread) = state_is stands thread
 
 pub said_at : (stands : List Place) (thread : ℕ) (place : Place) → place ≡ get_or stands thread places.Held
     → IsNamed place → state_at stands thread ≡ state_for place
-said_at stands thread place is named = state_is stands thread ∙ (ap told (sym is) ∙ told_is place named)
+said_at stands thread place is named = state_is stands thread ∙ (ap reported (sym is) ∙ told_is place named)
 
 pub few_is : (steps : ℕ) → steps ≤ 64 → few steps ≡ steps
 few_is steps low = grind arith

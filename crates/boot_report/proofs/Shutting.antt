@@ -38,8 +38,8 @@ items_long runs p (suc n) = ap suc (items_long runs (suc p) n)
 -- QUEUES
 
 counted : (plan : BootPlan) (boot : Boot) (index : QueueIndex) (e : QueueEnd (room_of index)) (s : Shut (room_of index)) (queue : ClaimQueue (room_of index)) → IsClosed queue e s → ShowsQueue (queue_of plan boot index e s) s
-counted plan boot index e s queue is = let long = items_long (runs_of (view_of e)) s.first s.put in let put = is.put_is in let behind = is.settled.behind in
-    record { put = sym long; taken = refl; behind = omega arith; left = is.left_number }
+counted plan boot index e s queue is = let long = items_long (runs_of (view_of e)) s.first s.put in let put = is.put_is in let following = is.settled.taken_within in
+    record { put = sym long; taken = refl; taken_within = omega arith; left = is.left_number }
 
 module _ {n : ℕ} (make : ℕ → QueueEnd n → Shut n → closed.Queue) (counts : (number : ℕ) (e : QueueEnd n) (s : Shut n) (queue : ClaimQueue n) → IsClosed queue e s → ShowsQueue (make number e s) s) where
   many_queues : (number : ℕ) (queues : List (ClaimQueue n)) (lasts : List (QueueEnd n)) (shuts : List (Shut n)) → AreClosed queues lasts shuts → length (queues_from make number lasts shuts) ≡ length shuts

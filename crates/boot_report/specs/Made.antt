@@ -20,7 +20,7 @@ use Rattle.boot_data.specs.declared.report.TtyLines.{TtyLines}
 use Rattle.boot_data.specs.Hearing.{Line, NamedLine, named_line}
 use Rattle.boot_data.specs.QueueLists.{raw_queue, line_queue, screen_queue}
 use Rattle.claim_queue.specs.declared.close.Closed.{Closed}
-use Rattle.boot_objects.specs.declared.closing.all.Unmade.{Unmade}
+use Rattle.boot_objects.specs.declared.closing.all.TornDown.{TornDown}
 use Rattle.quajects.specs.declared.came.Came.{Came}
 use Rattle.thread_table.specs.declared.places.Place.{Place}
 use Rattle.thread_table.specs.declared.places.Place.TheVariants as places
@@ -70,7 +70,7 @@ abbrev pub typed_at : List Typed → ℕ → Typed
 typed_at typed tty = typed_of (slice_get typed tty)
 
 -- the lines of the tty with this number; the chains of the ttys are after the chains of the pumps and switches
-abbrev pub tty_lines : Unmade → List Typed → ℕ → PlannedTty → TtyLines
+abbrev pub tty_lines : TornDown → List Typed → ℕ → PlannedTty → TtyLines
 tty_lines ended typed number tty = record {
   name = tty.name;
   typed = (typed_at typed number).popped;
@@ -83,18 +83,18 @@ tty_lines ended typed number tty = record {
 }
 
 -- the report's word for a place; there are 16 wait queues
-abbrev pub told : Place → ThreadState
-told places.Free = states.Ended
-told places.Ready = states.Ready
-told (places.Wait wait) = if nat_lt wait 16 then states.Wait wait else states.Held
-told places.Stopped = states.Stopped
-told places.Held = states.Held
-told (places.Processor p) = states.Held
+abbrev pub reported : Place → ThreadState
+reported places.Free = states.Ended
+reported places.Ready = states.Ready
+reported (places.Wait wait) = if nat_lt wait 16 then states.Wait wait else states.Held
+reported places.Stopped = states.Stopped
+reported places.Held = states.Held
+reported (places.Processor p) = states.Held
 
 -- the report's word for a place, or held if the element has no place
 abbrev pub state_of : Option Place → ThreadState
 state_of None = states.Held
-state_of (Some place) = told place
+state_of (Some place) = reported place
 
 -- the word for the place of the thread with this number
 abbrev pub state_at : List Place → ℕ → ThreadState
@@ -109,7 +109,7 @@ abbrev pub shown_at : List ℕ → ℕ → ℕ
 shown_at signals thread = slice_index_or signals thread 0
 
 -- the line of the thread with this number
-abbrev pub thread_line : Unmade → ℕ → PlannedThread → ThreadLine
+abbrev pub thread_line : TornDown → ℕ → PlannedThread → ThreadLine
 thread_line ended number thread = record {
   name = thread.name;
   state = state_at ended.threads.places number;
@@ -129,7 +129,7 @@ abbrev pub alarm_counts : ℕ → ℕ → AlarmCounts
 alarm_counts set left = record { set = set; fired = set - left; left = left }
 
 -- the report is made, line by line, from the closed objects, the lines heard and the numbers of the devices
-pub record IsMade (ended : Unmade) (heard : List Line) (typed : List Typed) (r : Report) : Type 0 where
+pub record IsMade (ended : TornDown) (heard : List Line) (typed : List Typed) (r : Report) : Type 0 where
   pub queues : r.queues ≡ numbered (queue_line ended.small.items) 0 ended.plan.queues
   pub ttys : r.ttys ≡ numbered (tty_lines ended typed) 0 ended.plan.ttys
   pub movers : r.movers ≡ numbered (mover_line ended.counts.items) 0 ended.plan.movers

@@ -3,7 +3,7 @@ use Rattle.std.specs.Prelude.{ℕ, List, IsPermutation}
 use Rattle.boot_data.specs.declared.heard.HeardPlace.{HeardPlace}
 use Rattle.boot_data.specs.declared.report.Report.{Report}
 use Rattle.boot_data.specs.Hearing.{Heard, Line}
-use Rattle.boot_objects.specs.declared.closing.all.Unmade.{Unmade}
+use Rattle.boot_objects.specs.declared.closing.all.TornDown.{TornDown}
 use Rattle.boot_laws.specs.ClosedTables.{ClosedTables}
 use Rattle.boot_laws.specs.Lines.{Says}
 use Rattle.boot_laws.specs.Reports.{Ascend}
@@ -22,7 +22,7 @@ place_of processor number line =
 
 -- the report is made from the closed objects, and its heard lines are these lines, sorted by thread and step; it says
 -- the numbers of any closed tables that the closed objects show
-pub record IsReported (ended : Unmade) (lines : List Line) (typed : List Typed) (r : Report) : Type 0 where
+pub record IsReported (ended : TornDown) (lines : List Line) (typed : List Typed) (r : Report) : Type 0 where
   pub heard : List Line
   pub all_heard : IsPermutation lines heard
   pub ascend : Ascend heard

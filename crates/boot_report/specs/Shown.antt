@@ -2,7 +2,7 @@
 use Rattle.std.specs.Prelude.{◌≡◌, ◌+◌, ◌-◌, ◌*◌, ◌≤◌, ℕ, List, ◌++◌, length, take, Some, slice_index_or}
 use Rattle.std.specs.List.{slice_get}
 use Rattle.claim_queue.specs.declared.close.Closed.{Closed as ClosedQueue}
-use Rattle.boot_objects.specs.declared.closing.all.Unmade.{Unmade}
+use Rattle.boot_objects.specs.declared.closing.all.TornDown.{TornDown}
 use Rattle.turn_dispatch.specs.Settlings.{IsNamed}
 use Rattle.quajects.specs.declared.came.Came.{Came}
 use Rattle.quajects.specs.Anys.{notes_of, all_taken, all_puts, held_of}
@@ -18,7 +18,7 @@ use Rattle.boot_report.specs.declared.ttys.Typed.{Typed}
 pub record ShowsQueue {n : ℕ} (q : closed.Queue) (numbers : ClosedQueue n) : Type 0 where
   pub put : numbers.put ≡ length q.items
   pub taken : numbers.taken ≡ q.taken
-  pub behind : q.taken ≤ length q.items
+  pub taken_within : q.taken ≤ length q.items
   pub left : length numbers.left.items ≡ numbers.put - numbers.taken
 
 -- these are the numbers of each queue
@@ -50,7 +50,7 @@ pub record ShowsChains (chains : List closed.Chain) (numbers : List Came) : Type
       → slice_get numbers k ≡ Some its → ShowsChain chain its
 
 -- a thread: the place of its element, its steps done, no more than its program has, and its signals
-pub record ShowsThread (ended : Unmade) (thread : ℕ) (t : closed.Thread) : Type 0 where
+pub record ShowsThread (ended : TornDown) (thread : ℕ) (t : closed.Thread) : Type 0 where
   pub place : t.place ≡ slice_index_or ended.threads.places thread places.Held
   pub named : IsNamed t.place
   pub steps : t.steps ≡ slice_index_or ended.threads.pcs thread 0
@@ -69,7 +69,7 @@ pub record ShowsDevices (devices : List closed.Device) (typed : List Typed) : Ty
       → ShowsDevice d its
 
 -- there is a closed table for each thing of the plan
-pub record AreAll (ended : Unmade) (c : ClosedTables) : Type 0 where
+pub record AreAll (ended : TornDown) (c : ClosedTables) : Type 0 where
   pub small : length c.small ≡ length ended.plan.queues + length ended.plan.ttys
   pub large : length c.large ≡ length ended.plan.ttys * 2
   pub movers : length c.movers ≡ length ended.plan.movers
@@ -78,7 +78,7 @@ pub record AreAll (ended : Unmade) (c : ClosedTables) : Type 0 where
   pub threads : length c.threads ≡ length ended.plan.threads
 
 -- the numbers of the closed objects and of the devices are the numbers of the closed tables
-pub record Shows (c : ClosedTables) (ended : Unmade) (typed : List Typed) : Type 0 where
+pub record Shows (c : ClosedTables) (ended : TornDown) (typed : List Typed) : Type 0 where
   pub all : AreAll ended c
   pub small : ShowsQueues c.small ended.small.items
   pub large : ShowsQueues c.large ended.large.items

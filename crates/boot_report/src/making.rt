@@ -18,7 +18,7 @@ use crate::sorting::{gather, sort_heard};
 use crate::threads::thread_lines;
 use crate::ttys::{Typed, lines_of_ttys};
 use boot_data::{AlarmCounts, HeardLines, Report};
-use boot_objects::Unmade;
+use boot_objects::TornDown;
 use event_theory::Items;
 
 // The numbers of alarms that were set, fired and left.
@@ -37,7 +37,12 @@ fn counts_of_alarms(set: usize, left: usize) -> AlarmCounts
 ///
 /// Conditions: the lines have room for those of the plan. There is a line at each place, of the thread and step that
 /// the place names.
-pub fn make_report(ended: &Unmade, heard: Vec<HeardLines>, typed: &[Typed], lines: Lines) -> Report
+pub fn make_report(
+    ended: &TornDown,
+    heard: Vec<HeardLines>,
+    typed: &[Typed],
+    lines: Lines,
+) -> Report
     requires room { HasRoom ended.now.plan lines }
     requires places { AllByRecursion (IsPlace heard.items) lines.places.items }
     ensures made { IsMade ended.now (map (heard_at heard.items) lines.places.items) typed.now result }
@@ -71,7 +76,12 @@ pub fn make_report(ended: &Unmade, heard: Vec<HeardLines>, typed: &[Typed], line
 ///
 /// Conditions: the lines have room for those of the plan, and at most as many lines were heard as the plan has steps
 /// that hear.
-pub fn report_boot(ended: &Unmade, heard: Vec<HeardLines>, typed: &[Typed], lines: Lines) -> Report
+pub fn report_boot(
+    ended: &TornDown,
+    heard: Vec<HeardLines>,
+    typed: &[Typed],
+    lines: Lines,
+) -> Report
     requires room { HasAllRoom ended.now.plan lines }
     requires few { length (flat_map lines_of heard.items) ≤ hear_count ended.now.plan }
     ensures { IsReported ended.now (flat_map lines_of heard.items) typed.now result }

@@ -1,17 +1,17 @@
 //! The lines of threads.
 ghost use Rattle.std.specs.Prelude.{◌≡◌, ◌≤◌, [], length, vec_capacity};
-ghost use Rattle.boot_report.specs.Made.{numbered, thread_line, told, state_at, few, shown_at};
+ghost use Rattle.boot_report.specs.Made.{numbered, thread_line, reported, state_at, few, shown_at};
 
 use crate::amounts::{copy_of, number_in};
 use boot_data::plan::PlannedThread;
 use boot_data::{ThreadLine, ThreadState};
-use boot_objects::Unmade;
+use boot_objects::TornDown;
 use event_theory::WaitNumber;
 use thread_table::Place;
 
 // The report's word for a place.
 fn word_for(place: Place) -> ThreadState
-    ensures { result ≡ told place }
+    ensures { result ≡ reported place }
 {
     match place {
         Place::Free => ThreadState::Ended,
@@ -51,7 +51,7 @@ fn shown_in(signals: &[u16], thread: usize) -> u16
 }
 
 // The line of the thread with this number.
-fn line_of(number: usize, thread: &PlannedThread, ended: &Unmade) -> ThreadLine
+fn line_of(number: usize, thread: &PlannedThread, ended: &TornDown) -> ThreadLine
     ensures { result ≡ thread_line ended.now number thread.now }
 {
     ThreadLine {
@@ -63,7 +63,7 @@ fn line_of(number: usize, thread: &PlannedThread, ended: &Unmade) -> ThreadLine
 }
 
 /// The line of each thread, in the order of the script.
-pub(crate) fn thread_lines(ended: &Unmade, lines: Vec<ThreadLine>) -> Vec<ThreadLine>
+pub(crate) fn thread_lines(ended: &TornDown, lines: Vec<ThreadLine>) -> Vec<ThreadLine>
     requires room { (lines.items ≡ []) × (length ended.now.plan.threads ≤ vec_capacity lines) }
     ensures { result.items ≡ numbered (thread_line ended.now) 0 ended.now.plan.threads }
 {

@@ -5,7 +5,7 @@ ghost use Rattle.boot_report.specs.Made.{numbered, tty_lines, typed_at};
 use crate::amounts::{copy_of, counts_in, numbers_in};
 use boot_data::TtyLines;
 use boot_data::plan::PlannedTty;
-use boot_objects::Unmade;
+use boot_objects::TornDown;
 
 /// The numbers of a tty's device: the number of bytes popped, and how many of them the raw queue refused.
 #[derive(Clone, Copy, Debug, PartialEq, Eq)]
@@ -28,7 +28,7 @@ fn typed_in(typed: &[Typed], tty: usize) -> Typed
 }
 
 // The lines of the tty with this number.
-fn lines_of(number: usize, tty: &PlannedTty, ended: &Unmade, typed: &[Typed]) -> TtyLines
+fn lines_of(number: usize, tty: &PlannedTty, ended: &TornDown, typed: &[Typed]) -> TtyLines
     requires low { number < 2 }
     ensures { result ≡ tty_lines ended.now typed.now number tty.now }
 {
@@ -49,7 +49,11 @@ fn lines_of(number: usize, tty: &PlannedTty, ended: &Unmade, typed: &[Typed]) ->
 }
 
 /// The lines of each tty, in the order of the script. There are two at most.
-pub(crate) fn lines_of_ttys(ended: &Unmade, typed: &[Typed], lines: Vec<TtyLines>) -> Vec<TtyLines>
+pub(crate) fn lines_of_ttys(
+    ended: &TornDown,
+    typed: &[Typed],
+    lines: Vec<TtyLines>,
+) -> Vec<TtyLines>
     requires room { (lines.items ≡ []) × (length ended.now.plan.ttys ≤ vec_capacity lines) }
     ensures { result.items ≡ numbered (tty_lines ended.now typed.now) 0 ended.now.plan.ttys }
 {

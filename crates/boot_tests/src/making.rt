@@ -56,7 +56,7 @@ fn are_made<R: Abort>(rt: &R, alloc: Global) -> bool {
 
 /// If an allocation is refused there are no objects, and the next try has them.
 #[test]
-fn memory_may_be_wanting(rt: HostRuntime) {
+fn memory_may_run_out(rt: HostRuntime) {
     let mut made = false;
     for _ in 0..4u8 {
         made |= are_made(&rt, rt.alloc());

@@ -43,12 +43,12 @@ pub use Rattle.thread_table.specs.Entries.{claim_event}
 pub use Rattle.thread_table.specs.Handles.{IsHandOf, IsSameHand, call_of}
 pub use Rattle.thread_table.specs.Rules.{has}
 pub use Rattle.thread_table.specs.declared.hand.ThreadTable.{ThreadTable}
-pub use Rattle.thread_table.specs.declared.rule.Made.{Made}
+pub use Rattle.thread_table.specs.declared.rule.MadeEvent.{MadeEvent}
 pub use Rattle.turn_dispatch.specs.Holdings.{HoldsSame, IsFree}
 pub use Rattle.turn_io.specs.Accounts.{Stake, chain_stake, idle_chain, no_stake, stake}
 pub use Rattle.turn_io.specs.Splits.{AllThree}
 pub use Rattle.turn_io.specs.declared.gate.Point.{Point}
-pub use Rattle.boot_threads.specs.Crews.{GaveBack, WasJoined, WasRun, WasTold}
+pub use Rattle.boot_threads.specs.Crews.{GaveBack, WasJoined, WasRun, StartReports}
 pub use Rattle.boot_threads.specs.Devices.{PutEach, Served, Try, bytes_of, lines_of, refused}
 pub use Rattle.boot_threads.specs.Elements.{HoldsFrom, Moved, PutInto, TookFree, claims, free_taken, many_held, move_by, moves_in, own_takings, ring_of}
 pub use Rattle.boot_threads.specs.Readiness.{AreServing, HasPrepared, IsServing, input_of}

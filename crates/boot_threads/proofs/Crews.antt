@@ -1,20 +1,20 @@
 -- Threads that are started together, what they gave back, and what is typed while they run.
-use Rattle.boot_threads.proofs.Common.{List, [], ◌∷◌, Result, Ok, Err, subst, ◌≡◌, ℕ, zero, suc, ◌+◌, ◌<◌, ◌++◌, take, drop, length, get_or, sym, ◌∙◌, ap, AllZip, WasTold, WasJoined, GaveBack, PlannedTty, LineIn, IsTyped, AreTyped}
+use Rattle.boot_threads.proofs.Common.{List, [], ◌∷◌, Result, Ok, Err, subst, ◌≡◌, ℕ, zero, suc, ◌+◌, ◌<◌, ◌++◌, take, drop, length, get_or, sym, ◌∙◌, ap, AllZip, StartReports, WasJoined, GaveBack, PlannedTty, LineIn, IsTyped, AreTyped}
 use Rattle.std.specs.declared.thread.PromisedHandle.{PromisedHandle}
-use Rattle.boot_threads.specs.Crews.{Tells, Runs, Refusals}
+use Rattle.boot_threads.specs.Crews.{Carries, Runs, Refusals}
 use Rattle.boot_threads.specs.declared.starting.JobPromise.{JobPromise}
 use Rattle.boot_threads.specs.declared.starting.NotStarted.{NotStarted}
 use Rattle.std.proofs.lemmas.List.{take_more}
 
 module _ {S J B : Type 0} (ran : Runs S J B) (refused : Refusals S J) (gives : S → J → B → Type 0) (shared : S) where
-  gave_one : (job : J) (handle : Result (PromisedHandle B (JobPromise S J)) (NotStarted S J)) (back : Result B (NotStarted S J)) → WasTold refused shared job handle → WasJoined ran gives handle back → GaveBack ran refused gives shared job back
-  gave_one job (Err lost) (Err same) t j = subst (λ (z : NotStarted S J). Tells shared job z.told × refused z.told) (sym j) t
+  gave_one : (job : J) (handle : Result (PromisedHandle B (JobPromise S J)) (NotStarted S J)) (back : Result B (NotStarted S J)) → StartReports refused shared job handle → WasJoined ran gives handle back → GaveBack ran refused gives shared job back
+  gave_one job (Err lost) (Err same) t j = subst (λ (z : NotStarted S J). Carries shared job z.reported × refused z.reported) (sym j) t
   gave_one job (Err lost) (Ok back) t j = absurd j
   gave_one job (Ok handle) (Err lost) t j = absurd j
   gave_one job (Ok handle) (Ok back) t j = ((handle.promise, t, j.0), subst (λ (z : S). gives z job back) t.0 (subst (λ (z : J). gives handle.promise.shared.value z back) t.1 j.1))
 
   -- what was started and then joined gave back what was promised
-  pub gave_all : (jobs : List J) (handles : List (Result (PromisedHandle B (JobPromise S J)) (NotStarted S J))) (backs : List (Result B (NotStarted S J))) → AllZip (WasTold refused shared) jobs handles → AllZip (WasJoined ran gives) handles backs → AllZip (GaveBack ran refused gives shared) jobs backs
+  pub gave_all : (jobs : List J) (handles : List (Result (PromisedHandle B (JobPromise S J)) (NotStarted S J))) (backs : List (Result B (NotStarted S J))) → AllZip (StartReports refused shared) jobs handles → AllZip (WasJoined ran gives) handles backs → AllZip (GaveBack ran refused gives shared) jobs backs
   gave_all [] [] [] t j = tt
   gave_all [] [] (b ∷ backs) t j = absurd j
   gave_all [] (h ∷ handles) backs t j = absurd t

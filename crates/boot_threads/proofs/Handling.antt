@@ -1,6 +1,6 @@
 -- Takings and moves of elements: their events in the hand's own list; the number of takings of free elements that the
 -- hand has seen; and the number of elements that it holds.
-use Rattle.boot_threads.proofs.Common.{◌≡◌, ℕ, zero, suc, ◌+◌, ◌<◌, ◌≤◌, Bool, true, false, List, [], ◌∷◌, ◌++◌, length, get_or, Ok, refl, ap, arith, ◌≢◌, ◌-◌, sym, subst, ◌∙◌, true≢false, eq-eqb, or_left, or_right, le_prop, ∥∥₁_elim, filter, if◌then◌else◌, Result, Err, Event, MoveAnswer, claim_event, free_taken, ring_of, move_by, moves_in, claims, own_takings, many_held, Moved, TookFree, PutInto, HoldsFrom, range_with_len, eqb_tells, append_assoc, append-nil, map-append, flat_map-append, Made, has, HoldsSame}
+use Rattle.boot_threads.proofs.Common.{◌≡◌, ℕ, zero, suc, ◌+◌, ◌<◌, ◌≤◌, Bool, true, false, List, [], ◌∷◌, ◌++◌, length, get_or, Ok, refl, ap, arith, ◌≢◌, ◌-◌, sym, subst, ◌∙◌, true≢false, eq-eqb, or_left, or_right, le_prop, ∥∥₁_elim, filter, if◌then◌else◌, Result, Err, Event, MoveAnswer, claim_event, free_taken, ring_of, move_by, moves_in, claims, own_takings, many_held, Moved, TookFree, PutInto, HoldsFrom, range_with_len, eqb_tells, append_assoc, append-nil, map-append, flat_map-append, MadeEvent, has, HoldsSame}
 use Rattle.std.proofs.Common.{set, ⊎_elim}
 use Rattle.std.specs.Prelude.{◌==◌}
 use Rattle.event_theory.specs.Elements.{Elements}
@@ -9,13 +9,13 @@ use Rattle.event_theory.specs.States.{step}
 use Rattle.table_theory.specs.Ends.{Begins}
 use Rattle.thread_table.specs.Own.{View}
 use Rattle.thread_table.specs.Answers.{TakeAnswer, raise_event, head_in}
-use Rattle.thread_table.specs.Entries.{take_event, Step, Acts, HoldsLess}
+use Rattle.thread_table.specs.Entries.{take_event, Step, PerformsEvents, HoldsLess}
 use Rattle.thread_table.specs.Retiring.{taking_by, free_takings}
 use Rattle.thread_table.specs.Schedules.{Past, state_after, elements_after, ring_at}
-use Rattle.thread_table.specs.Telling.{IsHonest}
+use Rattle.thread_table.specs.Telling.{IsValidHandView}
 use Rattle.thread_table.proofs.Closing.Retiring.{step_takes}
 use Rattle.thread_table.proofs.Events.Saying.{change_says}
-use Rattle.thread_table.proofs.Schedule.Orders.{adds_real, adds_in_order, honest_grows}
+use Rattle.thread_table.proofs.Schedule.Orders.{adds_real, adds_in_order, valid_grows}
 use Rattle.thread_table.proofs.Schedule.Schedules.{elements_of}
 use Rattle.boot_threads.specs.Elements.{Prepared}
 use Rattle.std.proofs.lemmas.List.{length-append, length-set}
@@ -77,10 +77,10 @@ one_after past event ok =
     omega arith
 
 -- what a hand sees of the takings never falls
-pub free_later : (v w : View) → ∥ IsHonest w ∥₁ → Begins v.seen.object w.seen.object → free_taken v ≤ free_taken w
-free_later v w told later = ∥∥₁_elim told le_prop (λ (h : IsHonest w). (honest_grows w h v.seen.object later 1).further)
+pub free_later : (v w : View) → ∥ IsValidHandView w ∥₁ → Begins v.seen.object w.seen.object → free_taken v ≤ free_taken w
+free_later v w reported later = ∥∥₁_elim reported le_prop (λ (h : IsValidHandView w). (valid_grows w h v.seen.object later 1).further)
 
-took_one : (call element : ℕ) (v w : View) → IsHonest v → IsHonest w → TakeAnswer call v 1 (Ok element) w → free_taken v + 1 ≤ free_taken w
+took_one : (call element : ℕ) (v w : View) → IsValidHandView v → IsValidHandView w → TakeAnswer call v 1 (Ok element) w → free_taken v + 1 ≤ free_taken w
 took_one call element v w hv hw t =
     let event : Event = take_event call 1 in
     let past : List Event = t.4.object in
@@ -94,13 +94,13 @@ took_one call element v w hv hw t =
     omega arith
 
 -- a taking of a free element
-pub took_more : (call element : ℕ) (v w : View) → ∥ IsHonest v ∥₁ → ∥ IsHonest w ∥₁ → TakeAnswer call v 1 (Ok element) w → free_taken v + 1 ≤ free_taken w
-took_more call element v w before behind t = ∥∥₁_elim before le_prop (λ (hv : IsHonest v). ∥∥₁_elim behind le_prop (λ (hw : IsHonest w). took_one call element v w hv hw t))
+pub took_more : (call element : ℕ) (v w : View) → ∥ IsValidHandView v ∥₁ → ∥ IsValidHandView w ∥₁ → TakeAnswer call v 1 (Ok element) w → free_taken v + 1 ≤ free_taken w
+took_more call element v w before following t = ∥∥₁_elim before le_prop (λ (hv : IsValidHandView v). ∥∥₁_elim following le_prop (λ (hw : IsValidHandView w). took_one call element v w hv hw t))
 
 -- nothing was moved
 none_moved : (v w : View) → Stays v w → free_taken v ≤ free_taken w → Moved [] v w
 none_moved v w s later =
-    let same : own_takings w ≡ own_takings v = ap (λ (z : List Made). length (free_takings z)) s.made in
+    let same : own_takings w ≡ own_takings v = ap (λ (z : List MadeEvent). length (free_takings z)) s.made in
     let still : many_held w ≡ many_held v = ap marked s.held in record {
       moves_are = ap moves_in s.made ∙ sym (append-nil (moves_in v.own.made));
       keeps = s.keeps;
@@ -127,46 +127,46 @@ moved_on a b u v w m n = record {
 }
 
 -- these events more
-acts_moved : (v w now : View) (entries : List Step) (l : List Made) (more : List Event) (took : ℕ) → Acts v entries now w → now.own.made ≡ v.own.made ++ l → Keeps v w → moves_in l ≡ more → length (free_takings l) ≡ took
+acts_moved : (v w now : View) (entries : List Step) (l : List MadeEvent) (more : List Event) (took : ℕ) → PerformsEvents v entries now w → now.own.made ≡ v.own.made ++ l → Keeps v w → moves_in l ≡ more → length (free_takings l) ≡ took
     → length w.own.held ≡ length v.own.held → free_taken v + took ≤ free_taken w → many_held w + length more ≡ many_held v + took → Moved more v w
 acts_moved v w now entries l more took a made keeps is taken long all held =
     let grew : w.own.made ≡ v.own.made ++ l = ap (λ (z : View). z.own.made) a.has ∙ made in record {
-      moves_are = ap moves_in grew ∙ flat_map-append (λ (m : Made). move_by m.event) v.own.made l ∙ ap (λ (z : List Event). moves_in v.own.made ++ z) is;
+      moves_are = ap moves_in grew ∙ flat_map-append (λ (m : MadeEvent). move_by m.event) v.own.made l ∙ ap (λ (z : List Event). moves_in v.own.made ++ z) is;
       keeps = keeps;
       long = long;
       took = took;
       own =
-          let more : own_takings w ≡ length (free_takings v.own.made ++ free_takings l) = ap (λ (z : List Made). length (free_takings z)) grew ∙ ap length (flat_map-append (λ (m : Made). taking_by m.event) v.own.made l) in
+          let more : own_takings w ≡ length (free_takings v.own.made ++ free_takings l) = ap (λ (z : List MadeEvent). length (free_takings z)) grew ∙ ap length (flat_map-append (λ (m : MadeEvent). taking_by m.event) v.own.made l) in
           let parts = length-append (free_takings v.own.made) (free_takings l) in omega arith;
       all = all;
       held = held;
     }
 
 -- the hand made no event, and holds what it held
-looked : (v w : View) → ∥ IsHonest w ∥₁ → Begins v.seen.object w.seen.object → Stays v w → Moved [] v w × HoldsSame v w
-looked v w told later s = (none_moved v w s (free_later v w told later), λ e. ap (λ (z : List Bool). get_or z e false) s.held)
+looked : (v w : View) → ∥ IsValidHandView w ∥₁ → Begins v.seen.object w.seen.object → Stays v w → Moved [] v w × HoldsSame v w
+looked v w reported later s = (none_moved v w s (free_later v w reported later), λ e. ap (λ (z : List Bool). get_or z e false) s.held)
 
 -- a refused move
-pub move_refused : (call ring element : ℕ) (v w : View) (r : MoveRefusal) → ∥ IsHonest w ∥₁ → MoveAnswer call v ring element (Err r) w → Moved [] v w × HoldsSame v w
-move_refused call ring element v w moves.Spent told a = looked v w told a.3.later (move_stays call ring element v w moves.Spent a)
-move_refused call ring element v w (moves.Lost seen) told a = looked v w told a.1.4.later (move_stays call ring element v w (moves.Lost seen) a)
-move_refused call ring element v w (moves.Moved mark) told a = absurd a
+pub move_refused : (call ring element : ℕ) (v w : View) (r : MoveRefusal) → ∥ IsValidHandView w ∥₁ → MoveAnswer call v ring element (Err r) w → Moved [] v w × HoldsSame v w
+move_refused call ring element v w moves.Spent reported a = looked v w reported a.3.later (move_stays call ring element v w moves.Spent a)
+move_refused call ring element v w (moves.Lost seen) reported a = looked v w reported a.1.4.later (move_stays call ring element v w (moves.Lost seen) a)
+move_refused call ring element v w (moves.Moved mark) reported a = absurd a
 
-take_refused : (call ring : ℕ) (v w : View) (r : NextRefusal) → ∥ IsHonest w ∥₁ → TakeAnswer call v ring (Err r) w → Moved [] v w × HoldsSame v w
-take_refused call ring v w nexts.NoneReady told a = looked v w told a.6.later (take_stays call ring v w nexts.NoneReady a)
-take_refused call ring v w (nexts.Lost seen) told a = looked v w told a.6.later (take_stays call ring v w (nexts.Lost seen) a)
+take_refused : (call ring : ℕ) (v w : View) (r : NextRefusal) → ∥ IsValidHandView w ∥₁ → TakeAnswer call v ring (Err r) w → Moved [] v w × HoldsSame v w
+take_refused call ring v w nexts.NoneReady reported a = looked v w reported a.6.later (take_stays call ring v w nexts.NoneReady a)
+take_refused call ring v w (nexts.Lost seen) reported a = looked v w reported a.6.later (take_stays call ring v w (nexts.Lost seen) a)
 
 -- a taking of a free element, or none
-pub take_took : (call : ℕ) (v w : View) (r : Result ℕ NextRefusal) → ∥ IsHonest v ∥₁ → ∥ IsHonest w ∥₁ → TakeAnswer call v 1 r w → TookFree v w
-take_took call v w (Err r) before behind a = let s = take_refused call 1 v w r behind a in (s.0, λ e h. s.1 e ∙ h)
-take_took call v w (Ok element) before behind t =
+pub take_took : (call : ℕ) (v w : View) (r : Result ℕ NextRefusal) → ∥ IsValidHandView v ∥₁ → ∥ IsValidHandView w ∥₁ → TakeAnswer call v 1 r w → TookFree v w
+take_took call v w (Err r) before following a = let s = take_refused call 1 v w r following a in (s.0, λ e h. s.1 e ∙ h)
+take_took call v w (Ok element) before following t =
     let holds = t.7 in
     let held : w.own.held ≡ set v.own.held element true = ap (λ (z : View). z.own.held) t.8.has in
     let new : has w element ≡ true = holds.1 element ∙ or_right (has v element) (element == element) (eq-eqb element element refl) in
     let added = mark_new v.own.held element holds.0 (sym (ap (λ (z : List Bool). get_or z element false) held) ∙ new) in
     let many : many_held w ≡ marked (set v.own.held element true) = ap marked held in (
       acts_moved v w _ _ (record { event = take_event call 1; number = 0; signals = [] } ∷ []) [] 1 t.8 refl (take_keeps call 1 v w (Ok element) t) refl refl
-          (ap length held ∙ length-set v.own.held element true) (took_more call element v w before behind t) (omega arith),
+          (ap length held ∙ length-set v.own.held element true) (took_more call element v w before following t) (omega arith),
       λ e h. holds.1 e ∙ or_left (has v e) (e == element) h,
     )
 
@@ -181,15 +181,15 @@ raised_quiet call v rings.Ready position = refl
 raised_quiet call v rings.Free position = refl
 
 -- a move into a ring, after others that were lost
-pub put_into : (call : ℕ) (ring : Ring) (element : ℕ) (u v w : View) → ∥ IsHonest w ∥₁ → has v element ≡ true → Moved [] u v → HoldsSame u v
+pub put_into : (call : ℕ) (ring : Ring) (element : ℕ) (u v w : View) → ∥ IsValidHandView w ∥₁ → has v element ≡ true → Moved [] u v → HoldsSame u v
     → MoveAnswer call v (ring_of ring) element (Ok tt) w → PutInto call (ring_of ring) element u w
-put_into call ring element u v w told here lost same m =
+put_into call ring element u v w reported here lost same m =
     let a = m.1.7 in
     let event : Event = claim_event call (ring_of ring) element in
     let held : w.own.held ≡ set v.own.held element false = ap (λ (z : View). z.own.held) a.has in
     let less = mark_less v.own.held element here in
     let many : many_held w ≡ marked (set v.own.held element false) = ap marked held in
-    let later = free_later v w told a.later in (
+    let later = free_later v w reported a.later in (
       moved_on [] (event ∷ []) u v w lost
           (acts_moved v w _ _ (made_in event (state_after m.1.2.object) ∷ record { event = raise_event call v (ring_of ring) (head_in m.0); number = 0; signals = [] } ∷ []) (event ∷ []) 0 a refl (move_keeps call (ring_of ring) element v w (Ok tt) m)
           (ap (λ (z : List Event). event ∷ (z ++ [])) (raised_quiet call v ring (head_in m.0))) refl (ap length held ∙ length-set v.own.held element false) (omega arith) (omega arith)),

@@ -61,7 +61,7 @@ module _ (p : ℕ) (old new born : Parts) (s : AreSplit (2 ^ p) old new born) wh
   -- a station that was prepared still is
   pub still_prepared : account new ≡ account old → (plan : BootPlan) → IsPrepared plan old → IsPrepared plan new
   still_prepared did plan prepared =
-      let later : free_taken (view_of old.hand) ≤ free_taken (view_of new.hand) = free_later (view_of old.hand) (view_of new.hand) new.hand.told s.hand.acts.later in
+      let later : free_taken (view_of old.hand) ≤ free_taken (view_of new.hand) = free_later (view_of old.hand) (view_of new.hand) new.hand.valid s.hand.acts.later in
       let before : 64 ≤ free_taken (view_of old.hand) = prepared.taken in record {
         taken = omega arith;
         did = subst (λ z. z ≡ preparing plan z) (sym did) prepared.did;

@@ -1,5 +1,5 @@
 -- What the first station did, once it is prepared.
-use Rattle.boot_threads.proofs.Common.{◌≡◌, ℕ, zero, suc, ◌+◌, ◌-◌, ◌≤◌, List, [], ◌∷◌, ◌++◌, ◌∙◌, map, length, drop, get_or, refl, sym, ap, subst, arith, AllByRecursion, range_with_len, length-map, map-append, flat_map-append, BootPlan, Event, IsFirstHand, Parts, account, HasDoneAll, IsPrepared, ThreadTable, Made, claim_event, call_of, move_by, moves_in, claims, many_held, own_takings, HasPrepared}
+use Rattle.boot_threads.proofs.Common.{◌≡◌, ℕ, zero, suc, ◌+◌, ◌-◌, ◌≤◌, List, [], ◌∷◌, ◌++◌, ◌∙◌, map, length, drop, get_or, refl, sym, ap, subst, arith, AllByRecursion, range_with_len, length-map, map-append, flat_map-append, BootPlan, Event, IsFirstHand, Parts, account, HasDoneAll, IsPrepared, ThreadTable, MadeEvent, claim_event, call_of, move_by, moves_in, claims, many_held, own_takings, HasPrepared}
 use Rattle.std.proofs.Common.{flat_map}
 use Rattle.std.proofs.lemmas.List.{length-append}
 use Rattle.std.proofs.lemmas.List.FromFn.{length-range_with_len}
@@ -38,7 +38,7 @@ parted : {A : Type 0} (P : A → Type 0) (xs ys : List A) → AllByRecursion P (
 parted P [] ys h = (tt, h)
 parted P (x ∷ xs) ys h = let rest = parted P xs ys h.1 in ((h.0, rest.0), rest.1)
 
-quiet_all : (made : List Made) → AllByRecursion IsPlacing (moves_in made) → tally made ≡ record no_events { taken = (tally made).taken; retired = (tally made).retired }
+quiet_all : (made : List MadeEvent) → AllByRecursion IsPlacing (moves_in made) → tally made ≡ record no_events { taken = (tally made).taken; retired = (tally made).retired }
 quiet_all [] h = refl
 quiet_all (m ∷ made) h =
     let both = parted IsPlacing (move_by m.event) (moves_in made) h in
@@ -58,7 +58,7 @@ freed_one (events.Raise call names.Free run item) number signals = refl
 freed_one (events.Claim call names.Free items) number signals = refl
 freed_one event number signals = refl
 
-freed_all : (made : List Made) → map (λ (key : Key). key.0) (flat_map retired_by made) ≡ flat_map freed_by (moves_in made)
+freed_all : (made : List MadeEvent) → map (λ (key : Key). key.0) (flat_map retired_by made) ≡ flat_map freed_by (moves_in made)
 freed_all [] = refl
 freed_all (m ∷ made) = map-append (λ (key : Key). key.0) (retired_by m) (flat_map retired_by made) ∙ ap (λ z. z ++ map (λ (key : Key). key.0) (flat_map retired_by made)) (freed_one m.event m.number m.signals)
     ∙ ap (λ z. flat_map freed_by (move_by m.event) ++ z) (freed_all made) ∙ sym (flat_map-append freed_by (move_by m.event) (moves_in made))
@@ -112,7 +112,7 @@ all_past P n holds (k ∷ keys) low (suc many) past are =
 -- THE FIRST STATION
 
 module _ (plan : BootPlan) (table : ThreadTable) (old new : Parts) (hand : IsFirstHand table old.hand) (p : HasPrepared plan old new) where
-  abbrev made : List Made
+  abbrev made : List MadeEvent
   made = (view_of new.hand).own.made
 
   moves_are : moves_in made ≡ placing (call_of old.hand) (length plan.threads)

@@ -13,7 +13,7 @@ use Rattle.processor.specs.declared.station.Parts.{Parts}
 use Rattle.processor.specs.declared.station.Station.{Station}
 use Rattle.processor.specs.Accounts.{Account, nothing, ◌⊕◌, account, unheard, shares}
 use Rattle.processor.specs.Logs.{IsFresh}
-use Rattle.processor.specs.Manning.{IsManned}
+use Rattle.processor.specs.Manning.{IsRunnable}
 use Rattle.processor.specs.RawEnds.{IsRawAt}
 use Rattle.quajects.specs.declared.raw.RawTty.{RawTty}
 use Rattle.quajects.specs.Raws.{end_of, overruns_of}
@@ -70,7 +70,7 @@ module _ {G : Type 0} where
       → List (Processed G) → Type 0
   AllTurned ran T shared p turns [] [] = Unit {0}
   AllTurned ran T shared p turns (gate ∷ gates) (one ∷ came) =
-      ((old : Station) × IsManned shared p old.parts × IsFresh old.parts
+      ((old : Station) × IsRunnable shared p old.parts × IsFresh old.parts
       × WasRun ran shared (works.Process old p turns gate) (worked.Processed one)
       × HasRun T shared p turns gate one.gate old.parts one.station.parts)
       × AllTurned ran T shared (p + 1) turns gates came

@@ -6,8 +6,8 @@ use Rattle.boot_threads.specs.declared.starting.NotStarted.{NotStarted}
 
 module _ {S J : Type 0} where
   -- the promise holds this job and the data that all share
-  abbrev pub Tells : S → J → JobPromise S J → Type 0
-  Tells shared job told = (told.shared.value ≡ shared) × (told.job.value ≡ job)
+  abbrev pub Carries : S → J → JobPromise S J → Type 0
+  Carries shared job reported = (reported.shared.value ≡ shared) × (reported.job.value ≡ job)
 
 -- A relation: a thread with this promise was joined and gave this back. The types are fixed: a relation that ranges
 -- over types can't distinguish two values of a type
@@ -21,14 +21,14 @@ Refusals S J = JobPromise S J → Type 0
 module _ {S J B : Type 0} where
   -- a thread with this job and the shared data was joined and gave this back, as `ran` says
   abbrev pub WasRun : Runs S J B → S → J → B → Type 0
-  WasRun ran shared job back = (told : JobPromise S J) × Tells shared job told × ran told back
+  WasRun ran shared job back = (reported : JobPromise S J) × Carries shared job reported × ran reported back
 
   -- The thread was started with this job and the shared data. If it could not be started, the substitute holds both,
   -- and the thread was refused
-  abbrev pub WasTold : Refusals S J → S → J → Result (PromisedHandle B (JobPromise S J)) (NotStarted S J)
+  abbrev pub StartReports : Refusals S J → S → J → Result (PromisedHandle B (JobPromise S J)) (NotStarted S J)
       → Type 0
-  WasTold refused shared job (Ok handle) = Tells shared job handle.promise
-  WasTold refused shared job (Err lost) = Tells shared job lost.told × refused lost.told
+  StartReports refused shared job (Ok handle) = Carries shared job handle.promise
+  StartReports refused shared job (Err lost) = Carries shared job lost.reported × refused lost.reported
 
   -- A started thread gave back a result that `ran` and its job allow. The substitute for a thread that was not started
   -- is unchanged
@@ -44,4 +44,4 @@ module _ {S J B : Type 0} where
   abbrev pub GaveBack : Runs S J B → Refusals S J → (S → J → B → Type 0)
       → S → J → Result B (NotStarted S J) → Type 0
   GaveBack ran refused gives shared job (Ok back) = WasRun ran shared job back × gives shared job back
-  GaveBack ran refused gives shared job (Err lost) = Tells shared job lost.told × refused lost.told
+  GaveBack ran refused gives shared job (Err lost) = Carries shared job lost.reported × refused lost.reported

@@ -5,7 +5,7 @@ use Rattle.std.specs.List.{range_with_len}
 use Rattle.event_theory.specs.declared.event.Event.{Event}
 use Rattle.event_theory.specs.declared.event.Event.TheVariants as events
 use Rattle.event_theory.specs.declared.names.QueueName.TheVariants as names
-use Rattle.thread_table.specs.declared.rule.Made.{Made}
+use Rattle.thread_table.specs.declared.rule.MadeEvent.{MadeEvent}
 use Rattle.thread_table.specs.Own.{View}
 use Rattle.thread_table.specs.Entries.{HoldsLess, claim_event}
 use Rattle.thread_table.specs.Keeping.{Keeps}
@@ -29,8 +29,8 @@ move_by (events.Raise call names.Free run item) = []
 move_by event = event ∷ []
 
 -- the events of a hand that `move_by` keeps, in their order
-abbrev pub moves_in : List Made → List Event
-moves_in made = flat_map (λ (m : Made). move_by m.event) made
+abbrev pub moves_in : List MadeEvent → List Event
+moves_in made = flat_map (λ (m : MadeEvent). move_by m.event) made
 
 -- the claims that put each of these elements into the ring, in the order of the list
 abbrev pub claims : ℕ → ℕ → List ℕ → List Event

@@ -8,7 +8,7 @@ use Rattle.processor.specs.declared.station.Parts.{Parts}
 use Rattle.processor.specs.declared.station.Station.{Station}
 use Rattle.processor.specs.Accounts.{account, shares, each_share}
 use Rattle.processor.specs.Logs.{IsFresh}
-use Rattle.processor.specs.Manning.{IsManned}
+use Rattle.processor.specs.Manning.{IsRunnable}
 use Rattle.processor.specs.Partings.{AreSplit}
 use Rattle.thread_table.specs.Handles.{view_of}
 use Rattle.thread_table.specs.Rules.{nothing_on}
@@ -37,7 +37,7 @@ pub record IsPosted {G : Type 0} (shared : Shared) (p turns : ℕ) (gate : G) (o
     : Type 0 where
   pub station : Station
   pub is : work ≡ works.Process station p turns gate
-  pub manned : IsManned shared p station.parts
+  pub manned : IsRunnable shared p station.parts
   pub fresh : IsFresh station.parts
   pub split : AreSplit (2 ^ p) old new station.parts
   pub did : account new ≡ account old

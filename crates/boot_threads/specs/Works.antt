@@ -6,8 +6,8 @@ use Rattle.proc_chain.specs.declared.ends.ProcChain.{ProcChain}
 use Rattle.proc_chain.specs.Handles.{turn_of, IsEndOf}
 use Rattle.processor.specs.declared.shared.Shared.{Shared}
 use Rattle.processor.specs.declared.station.Parts.{Parts}
-use Rattle.processor.specs.Logs.{HasTurned}
-use Rattle.processor.specs.Manning.{IsManned, StaysManned}
+use Rattle.processor.specs.Logs.{RanTurns}
+use Rattle.processor.specs.Manning.{IsRunnable, KeepsStation}
 use Rattle.quajects.specs.declared.any.AnyQuaject.{AnyQuaject}
 use Rattle.quajects.specs.declared.raw.RawTty.{RawTty}
 use Rattle.quajects.specs.declared.world.Queues.{Queues}
@@ -35,7 +35,7 @@ RefusalsOf G = Refusals Shared (Work G)
 -- their log says. The processor can still use the station
 abbrev pub HasRun : {G : Type 0} → (G → ℕ → Point → G → Type 0) → Shared → ℕ → ℕ → G → G → Parts → Parts → Type 0
 HasRun T shared p turns gate gate' old new =
-    StaysManned shared p old new × HasTurned T shared p turns gate gate' old new
+    KeepsStation shared p old new × RanTurns T shared p turns gate gate' old new
 
 -- the raw tty has an end of a small queue of these objects, and an end of the chain with this index
 pub record IsServable (shared : Shared) (chain : ℕ) (tty : RawTty) : Type 0 where
@@ -57,7 +57,7 @@ pub record HasServed (shared : Shared) (chain count : ℕ) (line : LineOut) (tty
   pub served : Served its count line tty line' tty'
 
 abbrev pub MayWork : {G : Type 0} → Shared → Work G → Type 0
-MayWork shared (works.Process station p turns gate) = IsManned shared p station.parts
+MayWork shared (works.Process station p turns gate) = IsRunnable shared p station.parts
 MayWork shared (works.Serve chain line tty count) = IsServable shared chain tty
 
 abbrev pub HasWorked : {G : Type 0} → (G → ℕ → Point → G → Type 0) → Shared → Work G → Worked G → Type 0

@@ -1,7 +1,7 @@
 //! Threads that are started together, and joined in the order in which they were started.
 ghost use Rattle.std.specs.Prelude.{◌≡◌, ◌≤◌, [], All, vec_len, vec_capacity};
 ghost use Rattle.std.specs.List.{AllZip};
-ghost use Rattle.boot_threads.specs.Crews.{WasTold, WasJoined, GaveBack};
+ghost use Rattle.boot_threads.specs.Crews.{StartReports, WasJoined, GaveBack};
 
 use crate::starting::{Job, NotStarted, Started, Witness, start_one};
 use std::sync::Wait;
@@ -24,7 +24,7 @@ where
     J: Job<S, B> + Send + Drop + 's,
     requires handles { (handles.items ≡ []) × (vec_len jobs ≤ vec_capacity handles) }
     requires may { All (J.may_run shared.now) jobs.items }
-    ensures { AllZip (WasTold R.refused shared.now) jobs.items result.items }
+    ensures { AllZip (StartReports R.refused shared.now) jobs.items result.items }
 {
     let mut handles = handles;
     for job in jobs {
@@ -88,7 +88,7 @@ where
         move |scope| -> Vec<Started<S, B, J>>
             requires { (handles.items ≡ []) × (vec_len jobs ≤ vec_capacity handles)
                 × All (J.may_run shared.now) jobs.items }
-            ensures { AllZip (WasTold R.refused shared.entry.now) jobs.items result.items }
+            ensures { AllZip (StartReports R.refused shared.entry.now) jobs.items result.items }
         { start_all(rt, scope, shared, jobs, handles) },
     );
     join_all(rt, handles, backs)

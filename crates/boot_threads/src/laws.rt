@@ -106,7 +106,7 @@ pub fn devices_come_back<R: Witness<Shared, Worked<G>, Work<G>>, G: Gate + Drop>
         (backs : List (Back G)) (inputs : List LineIn)
         → AreDevicesOf shared.plan shared.queues shared.chains.items devices
         → AreServing shared.plan.ttys devices posts works
-        → AllZip (GaveBack R.ran R.refused (HasWorked G.told) shared) works backs
+        → AllZip (GaveBack R.ran R.refused (HasWorked G.observes) shared) works backs
         → AreTyped shared.plan.ttys (drop (length posts) backs) (map input_of devices) inputs
         → (t : ℕ) (p : PlannedTty) (device : Device) (input : LineIn) (back : Worked G)
         → slice_get shared.plan.ttys t ≡ Some p → slice_get devices t ≡ Some device
@@ -122,9 +122,9 @@ pub fn stations_come_together<R: Witness<Shared, Worked<G>, Work<G>>, G: Gate + 
     ensures { (shared : Shared) (turns : ℕ) (gates : List G) (old new last : Parts) (posts works : List (Work G))
         (devices : List Device) (backs : List (Back G)) (came : List (Processed G))
         → ArePosted shared 0 turns gates old new posts → AreServing shared.plan.ttys devices posts works
-        → AllZip (GaveBack R.ran R.refused (HasWorked G.told) shared) works backs
+        → AllZip (GaveBack R.ran R.refused (HasWorked G.observes) shared) works backs
         → take (length posts) backs ≡ map back_of came
         → AllJoined new (map parts_of came) last → NoneOn new
         → ((k : ℕ) → length gates ≤ k → k < 8 → IsFree k (view_of new.hand))
-        → CameTogether R.ran G.told shared turns gates old last came }
+        → CameTogether R.ran G.observes shared turns gates old last came }
 {}

@@ -1,10 +1,10 @@
 //! A thread for a job, and the substitute for a thread that can't be started.
 ghost use Rattle.std.specs.Prelude.{◌≡◌};
-ghost use Rattle.boot_objects.specs.declared.closing.all.Unmade.{Unmade};
-ghost use Rattle.boot_threads.specs.Crews.{WasTold};
+ghost use Rattle.boot_objects.specs.declared.closing.all.TornDown.{TornDown};
+ghost use Rattle.boot_threads.specs.Crews.{StartReports};
 ghost use Rattle.boot_threads.specs.declared.starting.JobPromise.{JobPromise};
 
-use boot_objects::Unmade;
+use boot_objects::TornDown;
 use std::snapshot::Snapshot;
 use std::sync::Wait;
 use std::thread::{Promise, PromisedHandle, Scope, SpawnError, Threads};
@@ -29,7 +29,7 @@ pub struct JobPromise<S, J> {
 }
 
 impl<S, B, J: Job<S, B>> Promise<B> for JobPromise<S, J> {
-    ghost kept_by = { λ told back. J.gives told.shared.value told.job.value back };
+    ghost kept_by = { λ reported back. J.gives reported.shared.value reported.job.value back };
 }
 
 /// Joins threads of jobs of one kind, and is informed of those that could not be started. Every handle for threads is a
@@ -46,7 +46,7 @@ pub trait Witness<S, B, J>: Threads {
     ghost refused: { JobPromise S J → Type 0 };
 
     // This result of closing a boot was shown to the witness.
-    ghost shown: { Unmade → Type 0 };
+    ghost shown: { TornDown → Type 0 };
 
     /// Joins a thread.
     fn join(&self, handle: PromisedHandle<B, JobPromise<S, J>>) -> B
@@ -64,7 +64,7 @@ pub trait Witness<S, B, J>: Threads {
         ensures { refused promise.now };
 
     /// Shows the closed objects to the witness, and changes nothing.
-    fn show(&self, closed: &Unmade)
+    fn show(&self, closed: &TornDown)
         ensures { shown closed.now };
 }
 
@@ -94,7 +94,7 @@ impl<R: Threads, S, B, J> Witness<S, B, J> for R {
         let _ = (promise, lost);
     }
 
-    fn show(&self, _closed: &Unmade)
+    fn show(&self, _closed: &TornDown)
         ensures { Unit {0} }
     {}
 }
@@ -103,7 +103,7 @@ impl<R: Threads, S, B, J> Witness<S, B, J> for R {
 /// one, and it can't be copied: so a thread's result is never missing.
 #[derive(Drop)]
 pub struct NotStarted<S, J> {
-    told: JobPromise<S, J>,
+    reported: JobPromise<S, J>,
 }
 
 /// The thread of a job, until it is joined, or the substitute for a thread that can't be started.
@@ -132,15 +132,15 @@ where
     B: Send + Drop + 's,
     J: Job<S, B> + Send + Drop + 's,
     requires { J.may_run shared.now job }
-    ensures { WasTold R.refused shared.now job result }
+    ensures { StartReports R.refused shared.now job result }
 {
-    let told = promise_of(shared, &job);
+    let reported = promise_of(shared, &job);
     let promise = promise_of(shared, &job);
     match scope.spawn_with(promise, move || job.run(rt, shared)) {
         Ok(handle) => Ok(handle),
         Err(lost) => {
-            rt.give_up(&told, lost);
-            Err(NotStarted { told })
+            rt.give_up(&reported, lost);
+            Err(NotStarted { reported })
         }
     }
 }

@@ -1,7 +1,7 @@
 //! The threads of a kernel, from their start to their end.
 ghost use Rattle.std.specs.Prelude.{◌≡◌, ◌+◌, ◌≤◌, [], All, drop, length, vec_len, vec_capacity};
 ghost use Rattle.std.specs.List.{AllZip};
-ghost use Rattle.boot_threads.specs.Crews.{WasTold, GaveBack};
+ghost use Rattle.boot_threads.specs.Crews.{StartReports, GaveBack};
 ghost use Rattle.boot_threads.specs.Typings.{AreTyped};
 ghost use Rattle.boot_threads.specs.Works.{MayWork, HasWorked};
 
@@ -37,7 +37,7 @@ where
     requires lines { vec_len lines ≡ length shared.now.plan.ttys }
     requires handles { (handles.items ≡ []) × (vec_len works ≤ vec_capacity handles) }
     requires room { (typed.items ≡ []) × (vec_len lines ≤ vec_capacity typed) }
-    ensures told { AllZip (WasTold R.refused shared.now) works.items result.0.items }
+    ensures reported { AllZip (StartReports R.refused shared.now) works.items result.0.items }
     ensures typed { AreTyped shared.now.plan.ttys (drop processors result.0.items) lines.items result.1.items }
 {
     let handles = start_all(rt, scope, shared, works, handles);
@@ -71,7 +71,7 @@ where
     requires handles { (handles.items ≡ []) × (vec_len works ≤ vec_capacity handles) }
     requires backs { (backs.items ≡ []) × (vec_len works ≤ vec_capacity backs) }
     requires room { (typed.items ≡ []) × (vec_len lines ≤ vec_capacity typed) }
-    ensures worked { AllZip (GaveBack R.ran R.refused (HasWorked G.told) shared.now) works.items
+    ensures worked { AllZip (GaveBack R.ran R.refused (HasWorked G.observes) shared.now) works.items
         result.0.items }
     ensures typed { AreTyped shared.now.plan.ttys (drop processors result.0.items) lines.items result.1.items }
 {
@@ -84,7 +84,7 @@ where
                 × (vec_len works ≡ processors + length shared.now.plan.ttys)
                 × (vec_len lines ≡ length shared.now.plan.ttys)
                 × (typed.items ≡ []) × (vec_len lines ≤ vec_capacity typed) }
-            ensures { AllZip (WasTold R.refused shared.entry.now) works.items result.0.items
+            ensures { AllZip (StartReports R.refused shared.entry.now) works.items result.0.items
                 × AreTyped shared.entry.now.plan.ttys (drop processors result.0.items) lines.items result.1.items }
         { start_and_type(rt, scope, shared, works, processors, handles, lines, typed) },
     );

@@ -50,7 +50,7 @@ pub type Back<G> = Result<Worked<G>, NotStarted<Shared, Work<G>>>;
 impl<G: Gate + Drop> Job<Shared, Worked<G>> for Work<G> {
     ghost may_run = { MayWork };
 
-    ghost gives = { HasWorked G.told };
+    ghost gives = { HasWorked G.observes };
 
     fn run<R: Wait>(self, rt: &R, shared: &Shared) -> Worked<G> {
         match self {

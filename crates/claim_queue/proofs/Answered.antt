@@ -1,5 +1,5 @@
 -- The record of the end, and its place among the ends, after each answer of a queue.
-use Rattle.claim_queue.proofs.Common.{ℕ, List, ◌++◌, inl, inr, ⊎_elim, Result, Ok, Err, Positions, Step, Did, ClaimRefusal, NoItems, TooLong, Closed, Spent, Full, Lost, TakeRefusal, RefusedBy, Refused, ClaimedItems, run_of, View, run, taking, with_run, with_taking, Looks, Try, tried, IsPut, PutAnswer, TookItems, RefusedTake}
+use Rattle.claim_queue.proofs.Common.{ℕ, List, ◌++◌, inl, inr, ⊎_elim, Result, Ok, Err, Positions, Step, QueueOps, ClaimRefusal, NoItems, TooLong, Closed, Spent, Full, Lost, TakeRefusal, RefusedBy, Refused, ClaimedItems, run_of, View, run, taking, with_run, with_taking, OnlyLoads, Try, tried, IsPut, PutAnswer, TookItems, RefusedTake}
 use Rattle.std.specs.Prelude.{length}
 use Rattle.claim_queue.specs.declared.take.TakeRefusal.TheVariants as takes
 pub use Rattle.table_theory.proofs.Looking.{Does, does}
@@ -16,7 +16,7 @@ refused_at Added room count (Full head tail) (fits, m, n, bounded, full, a) = (_
 refused_at Added room count (Lost now) (fits, head, tail, m, n, o, there, is_open, past, a) = (_, a, λ Behind b. (fits, head, tail, m, n, o, there, is_open, past, b))
 
 pub refused_own : (room count : ℕ) (v w : View) (r : ClaimRefusal) → Refused room v count r w → Does v v.own w
-refused_own room count v w r h = let at = refused_at (λ entries. Looks v entries w) room count r h in looks_does v w at.0 at.1
+refused_own room count v w r h = let at = refused_at (λ entries. OnlyLoads v entries w) room count r h in looks_does v w at.0 at.1
 
 pub claimed_own : (room : ℕ) (v w : View) (head : ℕ) (items : List ℕ) → ClaimedItems room v head items w → Does v (with_run v.own (run head items)) w
 claimed_own room v w head items (past, (tail, m, n, o, fits, there, made)) = does v w _ _ made
@@ -25,12 +25,12 @@ pub put_own : (room : ℕ) (v w : View) (start : ℕ) (items : List ℕ) → IsP
 put_own room v w start items (past, (raises, are, (tail, m, n, o, fits, there, made))) = does v w _ _ made
 
 -- the record of the end after a put with this answer
-abbrev pub did_put : View → List ℕ → Result ℕ ClaimRefusal → Did
+abbrev pub did_put : View → List ℕ → Result ℕ ClaimRefusal → QueueOps
 did_put v items (Ok start) = with_run v.own (run_of start items (length items))
 did_put v items (Err refusal) = v.own
 
-tried_own : (room count : ℕ) (v w : View) (tries : List Try) (r : ClaimRefusal) → RefusedBy (λ entries. Looks v (tried tries ++ entries) w) room count r → Does v v.own w
-tried_own room count v w tries r h = let at = refused_at (λ entries. Looks v (tried tries ++ entries) w) room count r h in looks_does v w (tried tries ++ at.0) at.1
+tried_own : (room count : ℕ) (v w : View) (tries : List Try) (r : ClaimRefusal) → RefusedBy (λ entries. OnlyLoads v (tried tries ++ entries) w) room count r → Does v v.own w
+tried_own room count v w tries r h = let at = refused_at (λ entries. OnlyLoads v (tried tries ++ entries) w) room count r h in looks_does v w (tried tries ++ at.0) at.1
 
 pub answer_own : (room : ℕ) (v w : View) (items : List ℕ) (r : Result ℕ ClaimRefusal) → PutAnswer room v items r w → Does v (did_put v items r) w
 answer_own room v w items (Ok start) (past, tries, all, (raises, are, (tail, m, n, o, fits, there, made))) = does v w _ _ made

@@ -22,10 +22,10 @@ pub claims_head : (key : Shape) (n id : ℕ) (me : Me Unit View) (old new : ℕ)
     → Allows (Rule key) n id me head_word (λ x. either (eqb x old) new x) (claims xs (step n head_word old new none) me)
 claims_head key n id me old new xs is fits room live some_items = exchanges (table key) n id me (claims xs (step n head_word old new none) me) head_word old new live
     (λ s k at hit. let q : Positions = k.now.object in let v : View = me.0 in let hd = k.stands.shows.head in let is_open : q.shut ≡ false = open_at (head_of q) q.shut (omega arith) in let m : mark q.shut ≡ 0 = ap mark is_open in let here : head_of q ≡ old = omega arith in
-    let g = seen_grows key s k id v at in let first = g.first in let same_room = first_room key s k id v at in let further = g.further in let behind = k.stands.lawful.behind in
+    let g = seen_grows key s k id v at in let first = g.first in let same_room = first_room key s k id v at in let further = g.further in let following = k.stands.lawful.taken_within in
     acts key n id me s k at head_word old new (with_run v.own (run old xs)) (with_claim q xs) (claims xs (step n head_word old new none) me (get_or s.words head_word 0)) live (λ e. absurd (omega arith)) (sym hit) (was_claimed xs some_items is_open (omega arith) refl)
     (shows_claim q s.words xs new k.stands.shows k.stands.lawful is_open (omega arith) fits)
-    (listed_claim q (map part_of s.views) id (part_of v) (record { queue = with_claim q xs; runs = v.own.runs ++ run old xs ∷ []; takes = v.own.takes }) xs k.listed (at_map part_of s.views id v at) behind is_open some_items (λ z. v.own.runs ++ run (sym here z) xs ∷ []) refl (grows_refl (with_claim q xs)))
+    (listed_claim q (map part_of s.views) id (part_of v) (record { queue = with_claim q xs; runs = v.own.runs ++ run old xs ∷ []; takes = v.own.takes }) xs k.listed (at_map part_of s.views id v at) following is_open some_items (λ z. v.own.runs ++ run (sym here z) xs ∷ []) refl (grows_refl (with_claim q xs)))
     refl (λ w stays step. (
       stays,
       (λ _. (k.now, (λ m e has. (let l = run_stands q (map part_of s.views) id m (part_of v) e k.listed.lists (at_map part_of s.views id v at) has in let st = l.start in let within = l.within in omega arith)), step)),

@@ -1,5 +1,5 @@
 -- The steps of a taking, taken together.
-use Rattle.claim_queue.proofs.Common.{◌≡◌, ◌≢◌, ℕ, ◌+◌, ◌-◌, ◌<◌, ◌≤◌, inl, List, [], ◌∷◌, ◌++◌, length, get_or, map, take, drop, sym, refl, ap, ◌∙◌, subst, arith, length-drop, get_or-map, get_or-drop, length-map, length-take-le, Cell, Positions, Step, load, change, Made, blank, item_of, item_at, with_take, raised_below, Did, TakeRefusal, Empty, tail_word, View, taking, with_taking, Found, HasFound, IsScanned, IsStopped, scanned, stopping, TookItems, RefusedTake, HasRaised, made_then}
+use Rattle.claim_queue.proofs.Common.{◌≡◌, ◌≢◌, ℕ, ◌+◌, ◌-◌, ◌<◌, ◌≤◌, inl, List, [], ◌∷◌, ◌++◌, length, get_or, map, take, drop, sym, refl, ap, ◌∙◌, subst, arith, length-drop, get_or-map, get_or-drop, length-map, length-take-le, Cell, Positions, Step, load, change, Performed, blank, item_of, item_at, with_take, raised_below, QueueOps, TakeRefusal, Empty, tail_word, View, taking, with_taking, Found, HasFound, IsScanned, IsStopped, scanned, stopping, TookItems, RefusedTake, HasRaised, made_then}
 use Rattle.std.proofs.lemmas.List.{ext_get_or, get_or-take}
 use Rattle.claim_queue.specs.declared.take.TakeRefusal.TheVariants.{Lost, Closed}
 use Rattle.claim_queue.specs.Steps.{Took}
@@ -23,7 +23,7 @@ module _ (room : ℕ) (u l v w : View) (tail : ℕ) (xs : List ℕ) (a : Found u
   -- and then taken
   pub took_after : (new : ℕ) → Took v tail (new - tail) w → new - tail ≡ length xs → TookItems room u xs w
   took_after new took n = let k : ℕ = length xs in let (o, step) = subst (λ (z : ℕ). Took v tail z w) n took in let q : Positions = o.object in let e : Step Positions = change tail_word tail o (with_take q k) in
-      let real = step_real v w e (with_taking v.own (taking q k)) step in let at = tail_says e refl real in let within = (real_lawful e real).behind in
+      let real = step_real v w e (with_taking v.own (taking q k)) step in let at = tail_says e refl real in let within = (real_lawful e real).taken_within in
       let f = step.grows.first in let m = step.grows.further in let start = found.started in let i0 : tail - v.seen.object.first ≡ q.taken = omega arith in (
         tail,
         l.seen,
@@ -47,7 +47,7 @@ module _ (Few : List ℕ → Type 0) (room : ℕ) (u v s w : View) (tail : ℕ) 
   is_stop : IsStop Few stop
   is_stop = (subst Few (sym h.1) few, h.4)
 
-  on : (more : List (Step Positions)) → Made s more s.own w → Made u (stopping room stop ++ more) u.own w
+  on : (more : List (Step Positions)) → Performed s more s.own w → Performed u (stopping room stop ++ more) u.own w
   on more last = made_then u s w (stopping room stop) more u.own (λ d. d) (made_then u v s (load tail_word tail v.seen ∷ []) _ u.own (λ d. d) t.made h.6) last
 
   passed_before : (at now : ℕ) → IsRefusedAt s tail at (Lost now) w → PassedBefore Few room u now w
@@ -55,7 +55,7 @@ module _ (Few : List ℕ → Type 0) (room : ℕ) (u v s w : View) (tail : ℕ) 
 
   -- the refusal that the head and the tail then say
   pub refused_few : (Enough : List ℕ → Type 0) (at : ℕ) (r : TakeRefusal) → at ≡ tail + length xs → IsRefusedAt s tail at r w → RefusedTake Few Enough room u r w
-  refused_few Enough at (Empty position) e (same, behind, head, n, o, going, last) = let k = scan_long h.0 xs h.1 in let here : position ≡ tail + length h.0 = omega arith in let own : s.own ≡ u.own = h.6.did ∙ t.made.did in (
+  refused_few Enough at (Empty position) e (same, following, head, n, o, going, last) = let k = scan_long h.0 xs h.1 in let here : position ≡ tail + length h.0 = omega arith in let own : s.own ≡ u.own = h.6.did ∙ t.made.did in (
     stop,
     head,
     n,
@@ -63,7 +63,7 @@ module _ (Few : List ℕ → Type 0) (room : ℕ) (u v s w : View) (tail : ℕ) 
     is_stop,
     here,
     going,
-    (λ mine. h.5 behind (subst (λ (z : Did). HasRaised z.runs (tail + length h.0)) (sym own) (subst (λ (z : ℕ). HasRaised u.own.runs z) here mine))),
+    (λ mine. h.5 following (subst (λ (z : QueueOps). HasRaised z.runs (tail + length h.0)) (sym own) (subst (λ (z : ℕ). HasRaised u.own.runs z) here mine))),
     on _ last,
   )
   refused_few Enough at (Lost now) e last = inl (passed_before at now last)

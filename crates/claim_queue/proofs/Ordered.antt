@@ -1,5 +1,5 @@
 -- An end's runs, and its takings, stay in order through its calls.
-use Rattle.claim_queue.proofs.Common.{◌≡◌, ◌∙◌, ⊎_elim, ℕ, ◌+◌, ◌<◌, ◌≤◌, Bool, List, [], ◌∷◌, ◌++◌, length, refl, sym, ap, subst, arith, Result, Ok, Err, length-map, le_prop, ∥∥₁_elim, ∥∥₁_map, some, get_elem?, Batch, Positions, load, change, IsHonest, Grows, item_of, tail_of, with_take, at_push, passes_since, reaches_since, reaches_one, reaches_other, ClaimRefusal, TakeRefusal, Did, tail_word, ends_word, View, of_queues, did_both, taking, Refused, run_of, TookIn, IsPut, PutAnswer, TookItems, RefusedTake, scanned, passes_split}
+use Rattle.claim_queue.proofs.Common.{◌≡◌, ◌∙◌, ⊎_elim, ℕ, ◌+◌, ◌<◌, ◌≤◌, Bool, List, [], ◌∷◌, ◌++◌, length, refl, sym, ap, subst, arith, Result, Ok, Err, length-map, le_prop, ∥∥₁_elim, ∥∥₁_map, some, get_elem?, Batch, Positions, load, change, IsValidView, Grows, item_of, tail_of, with_take, at_push, passes_since, reaches_since, reaches_one, reaches_other, ClaimRefusal, TakeRefusal, QueueOps, tail_word, ends_word, View, of_queues, did_both, taking, Refused, run_of, JoinedBy, IsPut, PutAnswer, TookItems, RefusedTake, scanned, passes_split}
 use Rattle.table_theory.specs.Interleaving.{InOrder}
 use Rattle.table_theory.proofs.Ordering.{order_push}
 use Rattle.claim_queue.specs.Orders.{TakesInOrder}
@@ -21,9 +21,9 @@ answer_order room v w items (Err r) h up = subst InOrder (λ i. (sym (answer_own
 abbrev Behind : List Batch → ℕ → Type 0
 Behind takes tail = (m : ℕ) (e : Batch) → get_elem? takes m ≡ some e → e.start + length e.places ≤ tail
 
-module _ (v w : View) (x : IsHonest of_queues v) (y : IsHonest of_queues w) where
+module _ (v w : View) (x : IsValidView of_queues v) (y : IsValidView of_queues w) where
   -- nothing was taken, and the queue went on
-  does_order : (own : Did) → own.takes ≡ v.own.takes → Does v own w → TakesInOrder v → TakesInOrder w
+  does_order : (own : QueueOps) → own.takes ≡ v.own.takes → Does v own w → TakesInOrder v → TakesInOrder w
   does_order own same d up =
       let g = reaches_grow v.seen w.seen (reaches_since of_queues v w d.steps x y d.adds) in let f = g.first in let m = g.further in
       let takes : w.own.takes ≡ v.own.takes = (λ i. (d.did i).takes) ∙ same in
@@ -61,21 +61,21 @@ module _ (v w : View) (x : IsHonest of_queues v) (y : IsHonest of_queues w) wher
       )
 
 -- the order is a matter of numbers alone
-order_told : (w : View) → ∥ TakesInOrder w ∥₁ → TakesInOrder w
-order_told w t = (
+order_reported : (w : View) → ∥ TakesInOrder w ∥₁ → TakesInOrder w
+order_reported w t = (
   (λ m n e f at at' low. ∥∥₁_elim t le_prop (λ (h : TakesInOrder w). h.0.0 m n e f at at' low), λ m e at. ∥∥₁_elim t le_prop (λ (h : TakesInOrder w). h.0.1 m e at)),
   (λ m e at. ∥∥₁_elim t le_prop (λ (h : TakesInOrder w). h.1 m e at)),
 )
 
 -- what the lists of two ends make of the order
-pub order_of : (v w : View) → ∥ IsHonest of_queues v ∥₁ → ∥ IsHonest of_queues w ∥₁ → (IsHonest of_queues v → IsHonest of_queues w → TakesInOrder w) → TakesInOrder w
-order_of v w x y f = order_told w (∥∥₁_elim x squash₁ (λ (a : IsHonest of_queues v). ∥∥₁_map y (f a)))
+pub order_of : (v w : View) → ∥ IsValidView of_queues v ∥₁ → ∥ IsValidView of_queues w ∥₁ → (IsValidView of_queues v → IsValidView of_queues w → TakesInOrder w) → TakesInOrder w
+order_of v w x y f = order_reported w (∥∥₁_elim x squash₁ (λ (a : IsValidView of_queues v). ∥∥₁_map y (f a)))
 
 -- JOINS
 
 -- after a join, the queue is no earlier than either end had seen it
-pub join_grows : (v u w : View) → ∥ IsHonest of_queues v ∥₁ → ∥ IsHonest of_queues w ∥₁ → TookIn v u w → ∥ Grows v.seen.object w.seen.object ∥₁
-join_grows v u w x y t = ∥∥₁_elim x squash₁ (λ (a : IsHonest of_queues v). ∥∥₁_map y (λ b. reaches_grow v.seen w.seen (reaches_one of_queues did_both ends_word v u w a b t)))
+pub join_grows : (v u w : View) → ∥ IsValidView of_queues v ∥₁ → ∥ IsValidView of_queues w ∥₁ → JoinedBy v u w → ∥ Grows v.seen.object w.seen.object ∥₁
+join_grows v u w x y t = ∥∥₁_elim x squash₁ (λ (a : IsValidView of_queues v). ∥∥₁_map y (λ b. reaches_grow v.seen w.seen (reaches_one of_queues did_both ends_word v u w a b t)))
 
-pub join_grows_other : (v u w : View) → ∥ IsHonest of_queues u ∥₁ → ∥ IsHonest of_queues w ∥₁ → TookIn v u w → ∥ Grows u.seen.object w.seen.object ∥₁
-join_grows_other v u w x y t = ∥∥₁_elim x squash₁ (λ (a : IsHonest of_queues u). ∥∥₁_map y (λ b. reaches_grow u.seen w.seen (reaches_other of_queues did_both ends_word v u w a b t)))
+pub join_grows_other : (v u w : View) → ∥ IsValidView of_queues u ∥₁ → ∥ IsValidView of_queues w ∥₁ → JoinedBy v u w → ∥ Grows u.seen.object w.seen.object ∥₁
+join_grows_other v u w x y t = ∥∥₁_elim x squash₁ (λ (a : IsValidView of_queues u). ∥∥₁_map y (λ b. reaches_grow u.seen w.seen (reaches_other of_queues did_both ends_word v u w a b t)))

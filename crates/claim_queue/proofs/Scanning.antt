@@ -1,5 +1,5 @@
 -- Items that are found one by one.
-use Rattle.claim_queue.proofs.Common.{◌≡◌, ◌≢◌, ℕ, suc, ◌+◌, ◌-◌, ◌<◌, ◌≤◌, inl, List, [], ◌∷◌, ◌++◌, length, sym, refl, ap, ◌∙◌, subst, arith, length-append, append_assoc, map-append, length-map, dite, dec_lt, Positions, Step, load, Made, written_at, item_at, tail_of, raised_below, made_none, View, HasFound, IsScanned, IsStopped, flag_word, data_word, Scan, scanned, NoEnd, IsLine, HasRaised, Found}
+use Rattle.claim_queue.proofs.Common.{◌≡◌, ◌≢◌, ℕ, suc, ◌+◌, ◌-◌, ◌<◌, ◌≤◌, inl, List, [], ◌∷◌, ◌++◌, length, sym, refl, ap, ◌∙◌, subst, arith, length-append, append_assoc, map-append, length-map, dite, dec_lt, Positions, Step, load, Performed, stage_at, item_at, tail_of, raised_below, made_none, View, HasFound, IsScanned, IsStopped, flag_word, data_word, Scan, scanned, NoEnd, IsLine, HasRaised, Found}
 use Rattle.std.proofs.lemmas.List.{get_or_append_left, get_or_push}
 use Rattle.claim_queue.specs.Takings.{items_of}
 use Rattle.claim_queue.proofs.Following.{then_look}
@@ -24,7 +24,7 @@ scanned_more room t u v w p next x r xs at (scan, is, made) a flag b = let one :
     let entries : (front ++ load (flag_word room next) r v.seen ∷ []) ++ load (data_word room next) x w.seen ∷ [] ≡ scanned room p (scan ++ one) =
     append_assoc front (load (flag_word room next) r v.seen ∷ []) (load (data_word room next) x w.seen ∷ [])
     ∙ ((λ i. front ++ load (flag_word room next) (flag i) v.seen ∷ load (data_word room next) x w.seen ∷ []) ∙ (ap (λ (z : ℕ). front ++ scanned room z one) here ∙ sym (scanned_on room p scan one))) in
-    (scan ++ one, map-append (λ found. found.0) scan one ∙ ap (λ (z : List ℕ). z ++ x ∷ []) is, subst (λ (z : List (Step Positions)). Made t z t.own w) entries both)
+    (scan ++ one, map-append (λ found. found.0) scan one ∙ ap (λ (z : List ℕ). z ++ x ∷ []) is, subst (λ (z : List (Step Positions)). Performed t z t.own w) entries both)
 
 -- the flag of the next position was found not raised
 pub stopped : (room : ℕ) (t u w : View) (p next flag : ℕ) (xs : List ℕ) → next ≡ p + length xs → IsScanned room t p xs u → Found u (flag_word room next) flag w → flag ≢ next + 1 → (tail_of w.seen.object ≤ next → HasRaised w.own.runs next → ⊥) → IsStopped room t p xs w
@@ -34,8 +34,8 @@ stopped room t u w p next flag xs at (scan, is, made) a ne mine = let e : next �
   flag,
   w.seen,
   subst (λ (z : ℕ). flag ≢ z + 1) e ne,
-  (λ behind. subst (λ (z : ℕ). HasRaised w.own.runs z → ⊥) e (mine (omega arith))),
-  subst (λ (z : ℕ). Made t (scanned room p scan ++ load (flag_word room z) flag w.seen ∷ []) t.own w) e (then_look t u w (scanned room p scan) (flag_word room next) flag made a),
+  (λ following. subst (λ (z : ℕ). HasRaised w.own.runs z → ⊥) e (mine (omega arith))),
+  subst (λ (z : ℕ). Performed t (scanned room p scan ++ load (flag_word room z) flag w.seen ∷ []) t.own w) e (then_look t u w (scanned room p scan) (flag_word room next) flag made a),
 )
 
 -- WHAT THEY SAY
@@ -44,15 +44,15 @@ pub found_look : (v w : View) (tail i r : ℕ) (xs : List ℕ) → Found v i r w
 found_look v w tail i r xs a s = let f = a.grows.first in let m = a.grows.further in let from = s.first in let old = s.started in let at : tail - v.seen.object.first ≡ tail - w.seen.object.first = omega arith in record {
   first = omega arith;
   started = omega arith;
-  up = λ i h. let u = s.up i h in let g = a.grows.more (tail - v.seen.object.first + i) in subst (λ (z : ℕ). 2 ≤ written_at w.seen.object (z + i)) at (let y : 2 ≤ written_at w.seen.object (tail - v.seen.object.first + i) = omega arith in y);
+  up = λ i h. let u = s.up i h in let g = a.grows.more (tail - v.seen.object.first + i) in subst (λ (z : ℕ). 2 ≤ stage_at w.seen.object (z + i)) at (let y : 2 ≤ stage_at w.seen.object (tail - v.seen.object.first + i) = omega arith in y);
   items = λ i h late. let u = s.up i h in s.items i h (omega arith) ∙ (sym (a.grows.items (tail - v.seen.object.first + i) (raised_below v.seen.object (tail - v.seen.object.first + i) (omega arith))) ∙ ap (λ (z : ℕ). item_at w.seen.object (z + i)) at);
 }
 
-found_push : (v : View) (tail next x : ℕ) (xs : List ℕ) → next ≡ tail + length xs → HasFound v tail xs → 2 ≤ written_at v.seen.object (next - v.seen.object.first) → (tail_of v.seen.object ≤ next → x ≡ item_at v.seen.object (next - v.seen.object.first)) → HasFound v tail (xs ++ x ∷ [])
+found_push : (v : View) (tail next x : ℕ) (xs : List ℕ) → next ≡ tail + length xs → HasFound v tail xs → 2 ≤ stage_at v.seen.object (next - v.seen.object.first) → (tail_of v.seen.object ≤ next → x ≡ item_at v.seen.object (next - v.seen.object.first)) → HasFound v tail (xs ++ x ∷ [])
 found_push v tail next x xs here s up item = let from = s.first in let n = length-append xs (x ∷ []) in let at : next - v.seen.object.first ≡ tail - v.seen.object.first + length xs = omega arith in record {
   first = s.first;
   started = s.started;
-  up = λ i h. dite (dec_lt i (length xs)) (λ y. s.up i y) (λ no. let e : next - v.seen.object.first ≡ tail - v.seen.object.first + i = omega arith in subst (λ (z : ℕ). 2 ≤ written_at v.seen.object z) e up);
+  up = λ i h. dite (dec_lt i (length xs)) (λ y. s.up i y) (λ no. let e : next - v.seen.object.first ≡ tail - v.seen.object.first + i = omega arith in subst (λ (z : ℕ). 2 ≤ stage_at v.seen.object z) e up);
   items = λ i h late. dite (dec_lt i (length xs)) (λ y. get_or_append_left xs (x ∷ []) 0 i y ∙ s.items i y late)
       (λ no. let e : next - v.seen.object.first ≡ tail - v.seen.object.first + i = omega arith in get_or_push xs x 0 i (omega arith) ∙ (item (omega arith) ∙ ap (item_at v.seen.object) e));
 }
@@ -64,12 +64,12 @@ pub is_line_end : (room : ℕ) (xs : List ℕ) (x : ℕ) → NoEnd xs → x ≡ 
 is_line_end room xs x none is = let n = length-append xs (x ∷ []) in
     ((λ i h e. none i (omega arith) (sym (get_or_append_left xs (x ∷ []) 0 i (omega arith)) ∙ e)), omega arith, inl (let e : length xs ≡ length (xs ++ x ∷ []) - 1 = omega arith in get_or_push xs x 0 (length (xs ++ x ∷ []) - 1) e ∙ is))
 
-pub raised_still : (v w : View) (position i r : ℕ) → Found v i r w → 2 ≤ written_at v.seen.object (position - v.seen.object.first) → 2 ≤ written_at w.seen.object (position - w.seen.object.first)
+pub raised_still : (v w : View) (position i r : ℕ) → Found v i r w → 2 ≤ stage_at v.seen.object (position - v.seen.object.first) → 2 ≤ stage_at w.seen.object (position - w.seen.object.first)
 raised_still v w position i r a up = let f = a.grows.first in let m = a.grows.more (position - v.seen.object.first) in let e : position - v.seen.object.first ≡ position - w.seen.object.first = omega arith in
-    subst (λ (z : ℕ). 2 ≤ written_at w.seen.object z) e (omega arith)
+    subst (λ (z : ℕ). 2 ≤ stage_at w.seen.object z) e (omega arith)
 
 -- the flag and then the item of the next place were found
-pub found_more : (u v w : View) (tail next x i r j : ℕ) (xs : List ℕ) → next ≡ tail + length xs → HasFound u tail xs → Found u i r v → Found v j x w → 2 ≤ written_at v.seen.object (next - v.seen.object.first) → (tail_of w.seen.object ≤ next → x ≡ item_at w.seen.object (next - w.seen.object.first))
+pub found_more : (u v w : View) (tail next x i r j : ℕ) (xs : List ℕ) → next ≡ tail + length xs → HasFound u tail xs → Found u i r v → Found v j x w → 2 ≤ stage_at v.seen.object (next - v.seen.object.first) → (tail_of w.seen.object ≤ next → x ≡ item_at w.seen.object (next - w.seen.object.first))
     → HasFound w tail (xs ++ x ∷ [])
 found_more u v w tail next x i r j xs here s a b up item = found_push w tail next x xs here (found_look v w tail j x xs b (found_look u v tail i r xs a s)) (raised_still v w next j x b up) item
 

@@ -1,5 +1,5 @@
 -- The step that shuts the queue keeps the rule.
-use Rattle.claim_queue.proofs.Common.{◌≡◌, ℕ, ◌+◌, ◌≤◌, map, get_or, refl, ap, ◌∙◌, arith, length-set, get_or-set_same, get_or-set_other, none, Me, step, Allows, Positions, with_shut, head_of, at_map, grows_refl, Did, Shape, was_shut, head_word, tail_word, mark, data_in, flag_in, View, part_of, times_shut, Rule, IsUsed, by_head, unused_kept}
+use Rattle.claim_queue.proofs.Common.{◌≡◌, ℕ, ◌+◌, ◌≤◌, map, get_or, refl, ap, ◌∙◌, arith, length-set, get_or-set_same, get_or-set_other, none, Me, step, Allows, Positions, with_shut, head_of, at_map, grows_refl, QueueOps, Shape, was_shut, head_word, tail_word, mark, data_in, flag_in, View, part_of, times_shut, Rule, IsUsed, by_head, unused_kept}
 use Rattle.std.specs.Prelude.{nat_lt}
 use Rattle.std.specs.Int.Bits.{bit_or}
 use Rattle.table_theory.proofs.Listing.{listed_shut}
@@ -11,7 +11,7 @@ use Rattle.claim_queue.specs.Steps.{shuts}
 use Rattle.claim_queue.proofs.Stepping.{window_kept, rests_kept, acts}
 
 pub shuts_head : (key : Shape) (n id : ℕ) (me : Me Unit View) → 1 ≤ me.0.member.ends → Allows (Rule key) n id me head_word (λ x. bit_or x 4294967296) (shuts (step n head_word 4294967296 0 none) me)
-shuts_head key n id me live s k _ at _ = let v : View = me.0 in let q : Positions = k.now.object in let h = k.stands.shows in let y : ℕ = get_or s.words head_word 0 in let new : ℕ = bit_or y 4294967296 in let own : Did = with_shutting v.own (nat_lt y 4294967296) in
+shuts_head key n id me live s k _ at _ = let v : View = me.0 in let q : Positions = k.now.object in let h = k.stands.shows in let y : ℕ = get_or s.words head_word 0 in let new : ℕ = bit_or y 4294967296 in let own : QueueOps = with_shutting v.own (nat_lt y 4294967296) in
     let is : new ≡ head_of q + 4294967296 = ap (λ (z : ℕ). bit_or z 4294967296) h.head ∙ marking.marked 32 mark refl refl (head_of q) q.shut h.bounded in let wide = h.wide in
     acts key n id me s k at head_word y new own (with_shut q) (shuts (step n head_word 4294967296 0 none) me y) live (λ e. absurd (omega arith)) refl (was_shut refl)
     record {

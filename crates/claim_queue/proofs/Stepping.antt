@@ -1,7 +1,7 @@
 -- Every step keeps the rule and reports to its end: the rule after an event and after a look.
-use Rattle.claim_queue.proofs.Common.{◌≡◌, ◌≢◌, ◌≤◌, ◌<◌, ◌+◌, ◌*◌, ℕ, List, map, get_or, get_or-set_other, set, length-set, sym, refl, ap, ◌∙◌, subst, arith, map-set, some, none, get_elem?, Me, step, Allows, at_map, Positions, Moment, Step, change, IsReal, IsHonest, ViewsShow, Grows, grows_refl, Goes, total_set, total_kept, Did, Shape, Becomes, empty, FIRST_PLACE, head_word, tail_word, ends_word, data_in, flag_in, View, of_queues, nothing_did, part_of, shuts_of, times_shut, Rule, IsRuled, WordsShow, Stepped, IsUsed, by_ends, unused_kept}
+use Rattle.claim_queue.proofs.Common.{◌≡◌, ◌≢◌, ◌≤◌, ◌<◌, ◌+◌, ◌*◌, ℕ, List, map, get_or, get_or-set_other, set, length-set, sym, refl, ap, ◌∙◌, subst, arith, map-set, some, none, get_elem?, Me, step, Allows, at_map, Positions, AbsState, Step, change, IsValidStep, IsValidView, ViewsShow, Grows, grows_refl, Goes, total_set, total_kept, QueueOps, Shape, Becomes, empty, FIRST_PLACE, head_word, tail_word, ends_word, data_in, flag_in, View, of_queues, nothing_did, part_of, shuts_of, times_shut, Rule, InvHeldOf, WordsShow, Stepped, IsUsed, by_ends, unused_kept}
 use Rattle.atomic_table.specs.Table.{State, keeps}
-use Rattle.table_theory.specs.Ledgers.{Stands}
+use Rattle.table_theory.specs.Ledgers.{TableInv}
 use Rattle.table_theory.specs.Windows.{PlacesShow}
 use Rattle.table_theory.proofs.Listing.{look_in}
 use Rattle.table_theory.proofs.Ruling as ruling
@@ -48,7 +48,7 @@ pub first_room : (key : Shape) (s : St) (k : Rule key s) (id : ℕ) (v : View) �
 first_room key s k id v at = ap (λ (z : Positions). z.room) (k.stands.true_ends.first_is id v at) ∙ sym k.room
 
 -- the rule after a step that is no event
-pub kept : (key : Shape) (s : St) (k : Rule key s) (words : List ℕ) (id number : ℕ) (v w : View) → get_elem? s.views id ≡ some v → w.own ≡ v.own → w.seen ≡ record k.now { ends = number } → Stands of_queues nothing_did (empty key) (record k.now { ends = number }) words (set s.views id w)
+pub kept : (key : Shape) (s : St) (k : Rule key s) (words : List ℕ) (id number : ℕ) (v w : View) → get_elem? s.views id ≡ some v → w.own ≡ v.own → w.seen ≡ record k.now { ends = number } → TableInv of_queues nothing_did (empty key) (record k.now { ends = number }) words (set s.views id w)
     → (r : Rule key record { words = words; homes = s.homes; views = set s.views id w }) × (w.seen ≡ r.now)
 kept key s k words id number v w at own seen stands = let q : Positions = k.now.object in (
   record {
@@ -56,7 +56,7 @@ kept key s k words id number v w at own seen stands = let q : Positions = k.now.
     first = k.first;
     room = k.room;
     stands = stands;
-    listed = look_in part_of q s.views id v w k.listed at (λ i. (own i).runs) (λ i. (own i).takes) (subst (λ (z : Moment Positions). Grows z.object q) (sym seen) (grows_refl q));
+    listed = look_in part_of q s.views id v w k.listed at (λ i. (own i).runs) (λ i. (own i).takes) (subst (λ (z : AbsState Positions). Grows z.object q) (sym seen) (grows_refl q));
     shut_once = total_kept shuts_of s.views id v w at (λ i. (own i).shuts) ∙ k.shut_once;
   },
   seen,
@@ -73,22 +73,22 @@ table key = record {
 }
 
 -- the end is under the rule that its step keeps
-pub ruled_now : (key : Shape) (words : List ℕ) (s : St) (id : ℕ) (v w : View) → get_elem? s.views id ≡ some v → (r : Rule key record { words = words; homes = s.homes; views = set s.views id w }) × (w.seen ≡ r.now) → IsRuled w
+pub ruled_now : (key : Shape) (words : List ℕ) (s : St) (id : ℕ) (v w : View) → get_elem? s.views id ≡ some v → (r : Rule key record { words = words; homes = s.homes; views = set s.views id w }) × (w.seen ≡ r.now) → InvHeldOf w
 ruled_now key words s id v w at r = ruling.ruled_now Rule now_of key words s.homes s id v w at r
 
 -- what the end lists under the rule is true, as is the entry of its last step
-pub honest : (v : View) → IsRuled v → IsHonest of_queues v
+pub honest : (v : View) → InvHeldOf v → IsValidView of_queues v
 honest v r = ruling.honest Rule now_of (λ key s k. k.stands) v r
 
-pub step_real : (v w : View) (e : Step Positions) (own : Did) → Stepped v e own w → IsReal of_queues e
+pub step_real : (v w : View) (e : Step Positions) (own : QueueOps) → Stepped v e own w → IsValidStep of_queues e
 step_real v w e own s = ruling.step_real Rule now_of (λ key s k. k.stands) v w e own s.ruled s.made
 
 module _ (key : Shape) (n id : ℕ) (me : Me Unit View) (s : St) (k : Rule key s) (at : get_elem? s.views id ≡ some me.0) where
   -- an event of a live end, which found this number in the word i, keeps the rule
-  pub acts : (i found y : ℕ) (own : Did) (o : Positions) (P : Me Unit View → Type 0) → 1 ≤ me.0.member.ends → i ≢ ends_word → found ≡ get_or s.words i 0 → Becomes k.now.object o → WordsShow o (set s.words i y)
+  pub acts : (i found y : ℕ) (own : QueueOps) (o : Positions) (P : Me Unit View → Type 0) → 1 ≤ me.0.member.ends → i ≢ ends_word → found ≡ get_or s.words i 0 → Becomes k.now.object o → WordsShow o (set s.words i y)
       → ViewsShow o (set (map part_of s.views) id (record { queue = o; runs = own.runs; takes = own.takes })) → times_shut k.now.object + own.shuts ≡ times_shut o + me.0.own.shuts
       → ((w : View) → Stays me (w, me.1) → Stepped me.0 (change i found k.now o) own w → P (w, me.1)) → Goes (table key) n id me s i y P
-  acts i found y own o P live beside is b shows listed shuts tells =
+  acts i found y own o P live beside is b shows listed shuts reports =
       let w : View = ends.acted k.stands id me.0 at own i found o in let g = becomes_grows k.now.object o b in let t = total_set shuts_of s.views id me.0 w at in let once = k.shut_once in
       let r : Rule key record { words = set s.words i y; homes = s.homes; views = set s.views id w } = record {
         now = record k.now { object = o };
@@ -102,7 +102,7 @@ module _ (key : Shape) (n id : ℕ) (me : Me Unit View) (s : St) (k : Rule key s
         keeps,
         tt,
         r,
-        tells w (refl, refl, refl, ∣ ruled ∣₁) (record { made = ends.made_now k.stands id me.0 at own i found (record k.now { object = o }); ruled = ruled; grows = seen_grows key s k id me.0 at }),
+        reports w (refl, refl, refl, ∣ ruled ∣₁) (record { made = ends.made_now k.stands id me.0 at own i found (record k.now { object = o }); ruled = ruled; grows = seen_grows key s k id me.0 at }),
       )
 
   -- the report of a look

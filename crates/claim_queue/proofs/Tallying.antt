@@ -1,5 +1,5 @@
 -- The steps that make, split, join and count ends keep the rule.
-use Rattle.claim_queue.proofs.Common.{◌≡◌, ℕ, ◌+◌, ◌-◌, ◌%◌, ◌<◌, ◌≤◌, List, [], length, get_or, set, sym, refl, ap, ◌∙◌, arith, mod-lt, length-set, get_or-set_same, get_or-set_other, some, none, get_elem?, Me, step, Allows, set_else, set_here, Positions, both, emptied, spot, at_below, grows_refl, head_word, tail_word, ends_word, flag_word, Shape, empty, View, of_queues, nothing_did, did_both, part_of, shuts_of, Rule, newcomer, IsRuled, ◌*◌, data_in, flag_in, IsUsed, by_ends, by_head, by_tail, unused_kept}
+use Rattle.claim_queue.proofs.Common.{◌≡◌, ℕ, ◌+◌, ◌-◌, ◌%◌, ◌<◌, ◌≤◌, List, [], length, get_or, set, sym, refl, ap, ◌∙◌, arith, mod-lt, length-set, get_or-set_same, get_or-set_other, some, none, get_elem?, Me, step, Allows, set_else, set_here, Positions, both, emptied, spot, at_below, grows_refl, head_word, tail_word, ends_word, flag_word, Shape, empty, View, of_queues, nothing_did, did_both, part_of, shuts_of, Rule, newcomer, InvHeldOf, ◌*◌, data_in, flag_in, IsUsed, by_ends, by_head, by_tail, unused_kept}
 use Rattle.table_theory.proofs.Rests.{rests_first}
 use Rattle.table_theory.proofs.Unused.{all_alike}
 use Rattle.std.proofs.Common.{replicate}
@@ -19,15 +19,15 @@ use Rattle.claim_queue.proofs.Stepping.{table, seen_grows, ruled_now}
 
 -- the number of ends is counted up and down, and found
 module _ (key : Shape) (n id : ℕ) (me : Me Unit View) where
-  pub ups : me.0.member.ends + 1 ≤ me.0.member.share → Allows (Rule key) n id me ends_word (λ x. (x + 1) % 18446744073709551616) (counts_up IsRuled (step n ends_word 1 0 none) me)
-  ups parts = tables.ups (table key) n id me (counts_up IsRuled (step n ends_word 1 0 none) me) parts (λ s k at r. ((refl, ruled_now key _ s id me.0 _ at r), ends.counted_up k.stands id me.0 at))
+  pub ups : me.0.member.ends + 1 ≤ me.0.member.share → Allows (Rule key) n id me ends_word (λ x. (x + 1) % 18446744073709551616) (counts_up InvHeldOf (step n ends_word 1 0 none) me)
+  ups parts = tables.ups (table key) n id me (counts_up InvHeldOf (step n ends_word 1 0 none) me) parts (λ s k at r. ((refl, ruled_now key _ s id me.0 _ at r), ends.counted_up k.stands id me.0 at))
 
-  pub downs : 2 ≤ me.0.member.ends → Allows (Rule key) n id me ends_word (λ x. (x + (18446744073709551616 - 1)) % 18446744073709551616) (counts_down IsRuled (step n ends_word 1 0 none) me)
-  downs two = tables.downs (table key) n id me (counts_down IsRuled (step n ends_word 1 0 none) me) two (λ s k at r. ((refl, ruled_now key _ s id me.0 _ at r), ends.counted_down k.stands id me.0 at))
+  pub downs : 2 ≤ me.0.member.ends → Allows (Rule key) n id me ends_word (λ x. (x + (18446744073709551616 - 1)) % 18446744073709551616) (counts_down InvHeldOf (step n ends_word 1 0 none) me)
+  downs two = tables.downs (table key) n id me (counts_down InvHeldOf (step n ends_word 1 0 none) me) two (λ s k at r. ((refl, ruled_now key _ s id me.0 _ at r), ends.counted_down k.stands id me.0 at))
 
   -- the count is found
-  pub tallies : me.0.member.ends ≡ 1 → Allows (Rule key) n id me ends_word (λ x. x) (counts (HasTallied IsRuled ends_word) (step n ends_word 0 0 none) me)
-  tallies one = tables.looks (table key) n id me (counts (HasTallied IsRuled ends_word) (step n ends_word 0 0 none) me) ends_word (omega arith) (λ s k at r. (refl, (ruled_now key _ s id me.0 _ at r, ends.tallied_now k.stands id me.0 at one)))
+  pub tallies : me.0.member.ends ≡ 1 → Allows (Rule key) n id me ends_word (λ x. x) (counts (HasTallied InvHeldOf ends_word) (step n ends_word 0 0 none) me)
+  tallies one = tables.looks (table key) n id me (counts (HasTallied InvHeldOf ends_word) (step n ends_word 0 0 none) me) ends_word (omega arith) (λ s k at r. (refl, (ruled_now key _ s id me.0 _ at r, ends.tallied_now k.stands id me.0 at one)))
 
 pub splits : (key : Shape) (id : ℕ) (v : View) → v.member.ends ≡ 2 → Splits (Rule key) id v (rest_of v) (newborn nothing_did v)
 splits key id v two s k at = let q : Positions = k.now.object in let later = seen_grows key s k id v at in let left : View = rest_of v in let right : View = newborn nothing_did v in record {
@@ -40,12 +40,12 @@ splits key id v two s k at = let q : Positions = k.now.object in let later = see
 }
 
 -- both ends of a split are under the rule
-module _ (v : View) (two : v.member.ends ≡ 2) (r : IsRuled v) where
-  pub rest_ruled : IsRuled (rest_of v)
+module _ (v : View) (two : v.member.ends ≡ 2) (r : InvHeldOf v) where
+  pub rest_ruled : InvHeldOf (rest_of v)
   unfolding splits
   rest_ruled = ruling.rest_ruled Rule now_of nothing_did splits (λ key id u is s k at. refl) v two r
 
-  pub born_ruled : IsRuled (newborn nothing_did v)
+  pub born_ruled : InvHeldOf (newborn nothing_did v)
   unfolding splits
   born_ruled = ruling.born_ruled Rule now_of nothing_did splits (λ key id u is s k at. refl) v two r
 
@@ -68,7 +68,7 @@ opens key zs are room fits = let q : Positions = empty key in let f : ℕ = key.
       now = opened q;
       first = refl;
       room = refl;
-      stands = ends.stands_first of_queues nothing_did q (set b ends_word 1) (record { behind = omega arith; within = omega arith; ready = λ i h. absurd (omega arith) })
+      stands = ends.stands_first of_queues nothing_did q (set b ends_word 1) (record { taken_within = omega arith; within = omega arith; ready = λ i h. absurd (omega arith) })
           record {
             wide = omega arith;
             bounded = omega arith;
@@ -93,7 +93,7 @@ opens key zs are room fits = let q : Positions = empty key in let f : ℕ = key.
     }
 
 -- the first end is under the rule
-pub new_ruled : (key : Shape) → 0 < key.room → key.first < 4294967296 → IsRuled (newcomer key)
+pub new_ruled : (key : Shape) → 0 < key.room → key.first < 4294967296 → InvHeldOf (newcomer key)
 unfolding opens
 new_ruled key room fits = let zs : List ℕ = replicate (width key.room) 0 in record {
   key = key;

@@ -1,5 +1,5 @@
 -- Walks over the flags from the tail on, and the answer of a look at the queue.
-use Rattle.claim_queue.proofs.Common.{◌≡◌, ◌≢◌, ℕ, suc, ◌+◌, ◌-◌, ◌%◌, ◌<◌, ◌≤◌, Bool, true, false, List, [], ◌∷◌, ◌++◌, length, sym, refl, ap, ◌∙◌, subst, arith, length-append, dite, dec_lt, Positions, Moment, Step, load, IsReal, Made, Grows, written_at, head_of, tail_of, made_none, made_then, View, of_queues, head_word, tail_word, flag_word, mark, Found}
+use Rattle.claim_queue.proofs.Common.{◌≡◌, ◌≢◌, ℕ, suc, ◌+◌, ◌-◌, ◌%◌, ◌<◌, ◌≤◌, Bool, true, false, List, [], ◌∷◌, ◌++◌, length, sym, refl, ap, ◌∙◌, subst, arith, length-append, dite, dec_lt, Positions, AbsState, Step, load, IsValidStep, Performed, Grows, stage_at, head_of, tail_of, made_none, made_then, View, of_queues, head_word, tail_word, flag_word, mark, Found}
 use Rattle.std.specs.Prelude.{min}
 use Rattle.std.proofs.Math.Dec.{leb}
 use Rattle.std.proofs.lemmas.Bool.{le-leb, lt-leb}
@@ -13,11 +13,11 @@ use Rattle.claim_queue.proofs.Stepping.{step_real}
 
 -- a walk that goes on: so many flags were found raised
 pub record Walking (room tail n : ℕ) (v w : View) : Type 0 where
-  pub raised : List (Moment Positions)
+  pub raised : List (AbsState Positions)
   pub count_is : length raised ≡ n
-  pub made : Made v (raised_flags room tail raised) v.own w
+  pub made : Performed v (raised_flags room tail raised) v.own w
 
-raised_on : (room p : ℕ) (xs : List (Moment Positions)) (m : Moment Positions) → raised_flags room p (xs ++ m ∷ []) ≡ raised_flags room p xs ++ load (flag_word room (p + length xs)) (p + length xs + 1) m ∷ []
+raised_on : (room p : ℕ) (xs : List (AbsState Positions)) (m : AbsState Positions) → raised_flags room p (xs ++ m ∷ []) ≡ raised_flags room p xs ++ load (flag_word room (p + length xs)) (p + length xs + 1) m ∷ []
 raised_on room p [] m = ap (λ (z : ℕ). load (flag_word room z) (z + 1) m ∷ []) (let e : p ≡ p + 0 = omega arith in e)
 raised_on room p (x ∷ xs) m = ap (λ (z : List (Step Positions)). load (flag_word room p) (p + 1) x ∷ z)
     (raised_on room (p + 1) xs m ∙ ap (λ (z : ℕ). raised_flags room (p + 1) xs ++ load (flag_word room z) (z + 1) m ∷ []) (let e : p + 1 + length xs ≡ p + suc (length xs) = omega arith in e))
@@ -32,7 +32,7 @@ walked_more room tail n flag t u w k f is = let xs = k.raised in let l = k.count
     ∙ (ap (λ (z : ℕ). raised_flags room tail xs ++ load (flag_word room (tail + z)) (tail + z + 1) w.seen ∷ []) (sym l) ∙ sym (raised_on room tail xs w.seen)) in record {
       raised = xs ++ w.seen ∷ [];
       count_is = omega arith;
-      made = subst (λ (z : List (Step Positions)). Made t z t.own w) entries (then_look t u w (raised_flags room tail xs) (flag_word room (tail + n)) flag k.made f);
+      made = subst (λ (z : List (Step Positions)). Performed t z t.own w) entries (then_look t u w (raised_flags room tail xs) (flag_word room (tail + n)) flag k.made f);
     }
 
 -- the next flag was found not raised
@@ -46,12 +46,12 @@ walked_to_gap room tail most n flag t u w k below f ne = let last : List (Step P
 -- what was found raised stays so, through a load
 pub still_raised : (v w : View) (tail n word r : ℕ) → Found v word r w → AreRaised v.seen.object tail n → AreRaised w.seen.object tail n
 still_raised v w tail n word r f up = λ i h. let first = f.grows.first in let u = up i h in let m = f.grows.more (tail - v.seen.object.first + i) in
-    let at : tail - v.seen.object.first ≡ tail - w.seen.object.first = omega arith in subst (λ (z : ℕ). 2 ≤ written_at w.seen.object (z + i)) at (let y : 2 ≤ written_at w.seen.object (tail - v.seen.object.first + i) = omega arith in y)
+    let at : tail - v.seen.object.first ≡ tail - w.seen.object.first = omega arith in subst (λ (z : ℕ). 2 ≤ stage_at w.seen.object (z + i)) at (let y : 2 ≤ stage_at w.seen.object (tail - v.seen.object.first + i) = omega arith in y)
 
 -- and the next place was found raised
-pub raised_more : (v w : View) (tail n word r : ℕ) → Found v word r w → v.seen.object.first ≤ tail → AreRaised v.seen.object tail n → 2 ≤ written_at w.seen.object (tail + n - w.seen.object.first) → AreRaised w.seen.object tail (n + 1)
+pub raised_more : (v w : View) (tail n word r : ℕ) → Found v word r w → v.seen.object.first ≤ tail → AreRaised v.seen.object tail n → 2 ≤ stage_at w.seen.object (tail + n - w.seen.object.first) → AreRaised w.seen.object tail (n + 1)
 raised_more v w tail n word r f from up next = λ i h. let first = f.grows.first in
-    dite (dec_lt i n) (λ y. still_raised v w tail n word r f up i y) (λ no. let e : tail + n - w.seen.object.first ≡ tail - w.seen.object.first + i = omega arith in subst (λ (z : ℕ). 2 ≤ written_at w.seen.object z) e next)
+    dite (dec_lt i n) (λ y. still_raised v w tail n word r f up i y) (λ no. let e : tail + n - w.seen.object.first ≡ tail - w.seen.object.first + i = omega arith in subst (λ (z : ℕ). 2 ≤ stage_at w.seen.object z) e next)
 
 -- the head and the mark in a head word
 pub parts_of : (n word : ℕ) (b : Bool) → n < 4294967296 → word ≡ n + mark b → (word % 4294967296 ≡ n) × (leb 4294967296 word ≡ b)
@@ -60,7 +60,7 @@ parts_of n word false bounded is = (low_of n word false bounded is, lt-leb 42949
 
 -- the tail was loaded, and then the head
 module _ (v u w : View) (tail word : ℕ) (x : Found v tail_word tail u) (y : Found u head_word word w) where
-  real : IsReal of_queues (load head_word word w.seen)
+  real : IsValidStep of_queues (load head_word word w.seen)
   real = step_real u w (load head_word word w.seen) u.own y
 
   says : (word ≡ head_of w.seen.object + mark w.seen.object.shut) × (head_of w.seen.object < 4294967296)
@@ -77,7 +77,7 @@ module _ (v u w : View) (tail word : ℕ) (x : Found v tail_word tail u) (y : Fo
   tail_stands = let t = found_tail v u tail x in let is = t.0 in let first = y.grows.first in let further = y.grows.further in (omega arith, omega arith, t.1)
 
   pub head_past : tail ≤ word % 4294967296
-  head_past = let t = tail_stands in let low = t.1 in let is = parts.0 in let behind = real.lawful.behind in omega arith
+  head_past = let t = tail_stands in let low = t.1 in let is = parts.0 in let following = real.lawful.taken_within in omega arith
 
   module _ (room most raised : ℕ) (z : View) (is : most ≡ min room (word % 4294967296 - tail)) where
     abbrev look : QueueLook
@@ -101,6 +101,6 @@ module _ (v u w : View) (tail word : ℕ) (x : Found v tail_word tail u) (y : Fo
       at_head = w.seen;
       flags = k.loads;
       walked = subst (λ (m : ℕ). FlagWalk room tail m raised k.loads) is k.walked;
-      made = subst (λ (h : ℕ). Made v (load tail_word tail u.seen ∷ load head_word h w.seen ∷ k.loads) v.own z) (sym whole)
+      made = subst (λ (h : ℕ). Performed v (load tail_word tail u.seen ∷ load head_word h w.seen ∷ k.loads) v.own z) (sym whole)
           (made_then v u z (load tail_word tail u.seen ∷ []) (load head_word word w.seen ∷ k.loads) v.own (λ d. d) x.made (made_then u w z (load head_word word w.seen ∷ []) k.loads u.own (λ d. d) y.made k.made));
     }

@@ -14,10 +14,10 @@ use Rattle.event_theory.specs.Lawful.{IsLawfulQueue}
 use Rattle.table_theory.specs.Positioned.{Grows, item_of}
 use Rattle.table_theory.specs.Filing.{Owned, ListedOnce}
 use Rattle.table_theory.specs.Listing.{all_places, Adjacent}
-use Rattle.table_theory.specs.QueueOf.{run_in, up_in, queue_of, IsHistory}
+use Rattle.table_theory.specs.QueueOf.{run_in, published_in, queue_of, IsHistory}
 use Rattle.claim_queue.specs.declared.rule.Shape.{Shape}
-use Rattle.table_theory.specs.declared.views.Moment.{Moment}
-use Rattle.table_theory.specs.Ledgers.{AreTrue}
+use Rattle.table_theory.specs.declared.views.AbsState.{AbsState}
+use Rattle.table_theory.specs.Ledgers.{AreValidViews}
 use Rattle.table_theory.specs.Sharing.{total}
 use Rattle.table_theory.specs.Rests.{PlacesRest}
 use Rattle.table_theory.specs.Unused.{AreZero}
@@ -45,7 +45,7 @@ pub record IsShown (key : Shape) (s : State Unit View) (c : Queue) : Type 0 wher
   pub once : ListedOnce runs (map (λ view. view.own.runs) s.views)
   -- the first run begins at the first position, and each other run begins where the previous run ends
   pub side_by_side : Adjacent key.first runs
-  pub raised : (run index : ℕ) → c.raised run index ≡ up_in (slice_get runs run) index
+  pub raised : (run index : ℕ) → c.raised run index ≡ published_in (slice_get runs run) index
   pub takings : List (Owned Batch)
   -- each taking is in one view, once; the takings have each position below the tail once, with the item of its run
   pub taken_once : ListedOnce takings (map (λ view. view.own.takes) s.views)
@@ -62,7 +62,7 @@ pub record IsShown (key : Shape) (s : State Unit View) (c : Queue) : Type 0 wher
 
 -- there is a lawful queue that is shown
 pub record ShowsQueue (key : Shape) (s : State Unit View) : Type 0 where
-  pub now : Moment Positions
+  pub now : AbsState Positions
   pub queue : Queue
   pub lawful : IsLawfulQueue queue
   pub shown : IsShown key s queue
@@ -82,4 +82,4 @@ pub record ShowsQueue (key : Shape) (s : State Unit View) : Type 0 where
 -- own last step. The number of ends is the number of ends that exist
 pub record ShowsEnds (key : Shape) (s : State Unit View) : Type 0 where
   pub shows : ShowsQueue key s
-  pub true_ends : AreTrue of_queues nothing_did (empty key) shows.now s.views
+  pub true_ends : AreValidViews of_queues nothing_did (empty key) shows.now s.views

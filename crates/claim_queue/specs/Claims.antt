@@ -12,7 +12,7 @@ use Rattle.claim_queue.specs.Own.{View}
 abbrev pub places_of : List ℕ → ℕ → List Cell
 places_of [] r = []
 places_of (x ∷ xs) zero = fresh x ∷ places_of xs zero
-places_of (x ∷ xs) (suc r) = record { item = x; written = 2 } ∷ places_of xs r
+places_of (x ∷ xs) (suc r) = record { item = x; stage = 2 } ∷ places_of xs r
 
 abbrev pub run_of : ℕ → List ℕ → ℕ → Batch
 run_of start xs r = record { start = start; places = places_of xs r }

@@ -2,7 +2,7 @@
 use Rattle.std.specs.Prelude.{◌≡◌, ◌+◌, ◌%◌, ◌==◌, ◌≤◌, ℕ, Bool, List, [], ◌∷◌, Option, Some, None}
 use Rattle.std.specs.Prelude.{if◌then◌else◌, length, map, drop, nat_lt}
 use Rattle.table_theory.specs.declared.queues.Positions.{Positions}
-use Rattle.table_theory.specs.declared.views.Moment.{Moment}
+use Rattle.table_theory.specs.declared.views.AbsState.{AbsState}
 use Rattle.table_theory.specs.Ledgers as ends
 pub use Rattle.table_theory.specs.Positioned.{shown}
 use Rattle.table_theory.specs.Positioned.{item_of, left_of, with_shut}
@@ -17,8 +17,8 @@ use Rattle.claim_queue.specs.Rules.{times_shut}
 
 -- the queue is shut; the queue was open exactly if the head word that was found had no shut mark
 abbrev pub ShutNow : View → Bool → View → Type 0
-ShutNow v was_open w = (head : ℕ) × (m : Moment Positions) × (was_open ≡ nat_lt head SHUT)
-    × ends.Made v (ends.change head_word head m (with_shut m.object) ∷ []) (with_shutting v.own was_open) w
+ShutNow v was_open w = (head : ℕ) × (m : AbsState Positions) × (was_open ≡ nat_lt head SHUT)
+    × ends.Performed v (ends.change head_word head m (with_shut m.object) ∷ []) (with_shutting v.own was_open) w
 
 -- the answer for the position p: the item of its place if the flag is p + 1, else none
 abbrev pub left_at : ℕ → List ℕ → ℕ → Option ℕ

@@ -1,8 +1,8 @@
 -- The rule: there is a lawful queue that the words and the views show.
 use Rattle.std.specs.Prelude.{◌≡◌, ℕ, map, if◌then◌else◌}
 use Rattle.table_theory.specs.declared.queues.Positions.{Positions}
-use Rattle.table_theory.specs.declared.views.Moment.{Moment}
-use Rattle.table_theory.specs.Ledgers.{first_of, Stands}
+use Rattle.table_theory.specs.declared.views.AbsState.{AbsState}
+use Rattle.table_theory.specs.Ledgers.{first_of, TableInv}
 use Rattle.table_theory.specs.Listing.{ViewsShow}
 use Rattle.table_theory.specs.Ruled as ruled
 use Rattle.table_theory.specs.Sharing.{total}
@@ -19,10 +19,10 @@ abbrev pub times_shut : Positions → ℕ
 times_shut q = if q.shut then 1 else 0
 
 pub record Rule (key : Shape) (s : State Unit View) : Type 0 where
-  pub now : Moment Positions
+  pub now : AbsState Positions
   pub first : now.object.first ≡ key.first
   pub room : now.object.room ≡ key.room
-  pub stands : Stands of_queues nothing_did (empty key) now s.words s.views
+  pub stands : TableInv of_queues nothing_did (empty key) now s.words s.views
   pub listed : ViewsShow now.object (map part_of s.views)
   pub shut_once : total shuts_of s.views ≡ times_shut now.object
 
@@ -31,9 +31,9 @@ abbrev pub newcomer : Shape → View
 newcomer key = first_of nothing_did (empty key)
 
 -- the queue and the number of ends that the rule names
-abbrev pub now_of : (key : Shape) (s : State Unit View) → Rule key s → Moment Positions
+abbrev pub now_of : (key : Shape) (s : State Unit View) → Rule key s → AbsState Positions
 now_of key s k = k.now
 
 -- at the end's last step the rule held, and the end saw the queue of that moment
-abbrev pub IsRuled : View → Type 0
-IsRuled v = ruled.IsRuled Rule now_of v
+abbrev pub InvHeldOf : View → Type 0
+InvHeldOf v = ruled.InvHolds Rule now_of v

@@ -10,18 +10,18 @@ use Rattle.table_theory.specs.declared.positions.TheConstants.{POSITIONS}
 use Rattle.table_theory.specs.declared.queues.Cell.{Cell}
 use Rattle.table_theory.specs.declared.queues.Batch.{Batch}
 use Rattle.table_theory.specs.declared.queues.Positions.{Positions}
-use Rattle.table_theory.specs.declared.views.Moment.{Moment}
+use Rattle.table_theory.specs.declared.views.AbsState.{AbsState}
 use Rattle.table_theory.specs.Batches.{IsPast}
-use Rattle.table_theory.specs.Ledgers.{load, change, Made}
+use Rattle.table_theory.specs.Ledgers.{load, change, Performed}
 use Rattle.table_theory.specs.Ledgers as ends
-use Rattle.table_theory.specs.Listing.{number_of, written_to}
+use Rattle.table_theory.specs.Listing.{number_of, with_stage}
 use Rattle.table_theory.specs.Positioned.{Grows, with_claim, with_take, with_shut, tail_of, blank}
-use Rattle.claim_queue.specs.Changes.{IsPlace, written}
+use Rattle.claim_queue.specs.Changes.{IsPlace, with_stage_at}
 use Rattle.claim_queue.specs.declared.layout.TheConstants.{SHUT, MOST_PLACES}
-use Rattle.claim_queue.specs.declared.rule.Did.{Did}
+use Rattle.claim_queue.specs.declared.rule.QueueOps.{QueueOps}
 use Rattle.claim_queue.specs.Layout.{head_word, tail_word, width}
 use Rattle.claim_queue.specs.Own.{View, run, taking, with_run, with_changed, with_taking, with_shutting}
-use Rattle.claim_queue.specs.Rules.{IsRuled}
+use Rattle.claim_queue.specs.Rules.{InvHeldOf}
 
 -- the seat is a live end of this table, which is the table of a queue of `room` places, 1 to MOST_PLACES
 abbrev pub IsSeated : ℕ → TableId → Seat Unit View → Type 0
@@ -41,14 +41,14 @@ HasPlace v start i place = (e : Batch) × (get_elem? v.own.runs (number_of start
 
 -- The end made one step with this entry, and its record is then `own`. The rule held at the step, and the queue that
 -- the step found is no earlier than the queue that the end had seen
-pub record Stepped (v : View) (e : ends.Step Positions) (own : Did) (w : View) : Type 0 where
-  pub made : Made v (e ∷ []) own w
-  pub ruled : IsRuled w
+pub record Stepped (v : View) (e : ends.Step Positions) (own : QueueOps) (w : View) : Type 0 where
+  pub made : Performed v (e ∷ []) own w
+  pub ruled : InvHeldOf w
   pub grows : Grows v.seen.object e.then.object
 
 -- what the end holds, the first queue of its view and its membership are unchanged; at its last step the rule held
 abbrev pub Stays : Me Unit View → Me Unit View → Type 0
-Stays m m' = (m'.1 ≡ m.1) × (m'.0.first ≡ m.0.first) × (m'.0.member ≡ m.0.member) × ∥ IsRuled m'.0 ∥₁
+Stays m m' = (m'.1 ≡ m.1) × (m'.0.first ≡ m.0.first) × (m'.0.member ≡ m.0.member) × ∥ InvHeldOf m'.0 ∥₁
 
 -- a number was found in a word, and nothing else changed for the end
 abbrev pub Found : View → ℕ → ℕ → View → Type 0
@@ -59,7 +59,7 @@ finds st m r m' = Stays m m' × Found m.0 st.word r m'.0
 
 -- the items were claimed at the head that the queue had at that step, at or past the end of each earlier run of the end
 abbrev pub Claimed : View → ℕ → List ℕ → View → Type 0
-Claimed v head items w = (at : Moment Positions) × IsPast v.own.runs head
+Claimed v head items w = (at : AbsState Positions) × IsPast v.own.runs head
     × Stepped v (change head_word head at (with_claim at.object items)) (with_run v.own (run head items)) w
 
 abbrev pub claims : List ℕ → Step Unit → Me Unit View → ℕ → Me Unit View → Type 0
@@ -68,9 +68,9 @@ claims items st m r m' = Stays m m' × (r ≡ st.first → Claimed m.0 st.first 
 
 -- the end stored in the word of the place i of its run e: n steps of writing are then done there
 abbrev pub Wrote : View → Batch → ℕ → ℕ → ℕ → View → Type 0
-Wrote v e i n word w = (found : ℕ) × (at : Moment Positions)
+Wrote v e i n word w = (found : ℕ) × (at : AbsState Positions)
     × IsPlace at.object (e.start + i) (slice_index_or e.places i blank)
-    × Stepped v (change word found at (written at.object (e.start + i) n)) (with_changed v.own (written_to e i n)) w
+    × Stepped v (change word found at (with_stage_at at.object (e.start + i) n)) (with_changed v.own (with_stage e i n)) w
 
 -- the end stored in the word of the place i of its run from `start` on: n steps of writing are then done there
 abbrev pub WroteAt : ℕ → ℕ → ℕ → ℕ → View → View → Type 0
@@ -82,7 +82,7 @@ writes start i n st m r m' = Stays m m' × WroteAt start i n st.word m.0 m'.0
 
 -- n items were taken, from the tail that the queue had at that step
 abbrev pub Took : View → ℕ → ℕ → View → Type 0
-Took v tail n w = (at : Moment Positions)
+Took v tail n w = (at : AbsState Positions)
     × Stepped v (change tail_word tail at (with_take at.object n)) (with_taking v.own (taking at.object n)) w
 
 abbrev pub takes : Step Unit → Me Unit View → ℕ → Me Unit View → Type 0
@@ -91,7 +91,7 @@ takes st m r m' = Stays m m' × (r ≡ st.first → Took m.0 st.first (st.second
 
 -- the queue was shut, and the step found this head word
 abbrev pub Shut : View → ℕ → View → Type 0
-Shut v found w = (at : Moment Positions)
+Shut v found w = (at : AbsState Positions)
     × Stepped v (change head_word found at (with_shut at.object)) (with_shutting v.own (nat_lt found SHUT)) w
 
 abbrev pub shuts : Step Unit → Me Unit View → ℕ → Me Unit View → Type 0

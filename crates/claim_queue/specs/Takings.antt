@@ -4,9 +4,9 @@ use mathlib.Core.Option.{some}
 use lib.ListN.{get_elem?}
 use Rattle.table_theory.specs.declared.queues.Batch.{Batch}
 use Rattle.table_theory.specs.declared.queues.Positions.{Positions}
-use Rattle.table_theory.specs.declared.views.Moment.{Moment}
+use Rattle.table_theory.specs.declared.views.AbsState.{AbsState}
 use Rattle.table_theory.specs.Batches.{line_of}
-use Rattle.table_theory.specs.Ledgers.{Step, load, change, Made}
+use Rattle.table_theory.specs.Ledgers.{Step, load, change, Performed}
 use Rattle.table_theory.specs.Positioned.{blank, with_take}
 use Rattle.claim_queue.specs.declared.layout.TheConstants.{SHUT}
 use Rattle.claim_queue.specs.declared.take.TakeRefusal.{TakeRefusal}
@@ -16,7 +16,7 @@ use Rattle.claim_queue.specs.Own.{View, taking}
 
 -- items that were found raised: each item, with the moments of its flag and of its data word
 abbrev pub Scan : Type 0
-Scan = List (ℕ × Moment Positions × Moment Positions)
+Scan = List (ℕ × AbsState Positions × AbsState Positions)
 
 -- the items that were found
 abbrev pub items_of : Scan → List ℕ
@@ -52,32 +52,32 @@ IsNone xs = xs ≡ []
 -- The tail was loaded, the items were found from it on, and one compare-and-swap of that tail took them. They were the
 -- first items left
 abbrev pub TookItems : ℕ → View → List ℕ → View → Type 0
-TookItems room v items w = (tail : ℕ) × (m o : Moment Positions) × (scan : Scan)
+TookItems room v items w = (tail : ℕ) × (m o : AbsState Positions) × (scan : Scan)
     × (items_of scan ≡ items) × (line_of (taking o.object (length items)) ≡ items)
-    × Made v (load tail_word tail m ∷ scanned room tail scan
+    × Performed v (load tail_word tail m ∷ scanned room tail scan
     ++ change tail_word tail o (with_take o.object (length items)) ∷ [])
     (record v.own { takes = v.own.takes ++ taking o.object (length items) ∷ [] }) w
 
 -- a taking that found a place not raised: the tail, the items from it on, and the flag of the next place
 pub record Stop : Type 0 where
   pub tail : ℕ
-  pub at_tail : Moment Positions
+  pub at_tail : AbsState Positions
   pub scan : Scan
   pub flag : ℕ
-  pub at_flag : Moment Positions
+  pub at_flag : AbsState Positions
 
 -- the position of the place that was not raised, directly after the items
-abbrev pub behind : Stop → ℕ
-behind s = s.tail + length s.scan
+abbrev pub stop_position : Stop → ℕ
+stop_position s = s.tail + length s.scan
 
 -- the entries of the taking, up to the load of the flag that was not raised
 abbrev pub stopping : ℕ → Stop → List (Step Positions)
 stopping room s = load tail_word s.tail s.at_tail ∷ scanned room s.tail s.scan
-    ++ load (flag_word room (behind s)) s.flag s.at_flag ∷ []
+    ++ load (flag_word room (stop_position s)) s.flag s.at_flag ∷ []
 
 -- too few items were found, and the next place was not raised
 abbrev pub IsStop : (List ℕ → Type 0) → Stop → Type 0
-IsStop Few s = Few (items_of s.scan) × (s.flag ≢ behind s + 1)
+IsStop Few s = Few (items_of s.scan) × (s.flag ≢ stop_position s + 1)
 
 -- one of these runs has a raised place at this position
 pub record HasRaised (runs : List Batch) (position : ℕ) : Type 0 where
@@ -86,32 +86,32 @@ pub record HasRaised (runs : List Batch) (position : ℕ) : Type 0 where
   pub has : get_elem? runs number ≡ some run
   pub index : ℕ
   pub below : index < length run.places
-  pub raised : 2 ≤ (slice_index_or run.places index blank).written
+  pub raised : 2 ≤ (slice_index_or run.places index blank).stage
   pub is : run.start + index ≡ position
 
 -- There were too few items. The queue was not shut with that tail as its head, and the tail was found unchanged. The
 -- end itself has not raised the place
 abbrev pub WasEmpty : (List ℕ → Type 0) → ℕ → View → ℕ → View → Type 0
-WasEmpty Few room v at w = (s : Stop) × (head : ℕ) × (m n : Moment Positions) × IsStop Few s
-    × (at ≡ behind s) × (head ≢ SHUT + s.tail) × (HasRaised v.own.runs at → ⊥)
-    × Made v (stopping room s ++ load head_word head m ∷ load tail_word s.tail n ∷ []) v.own w
+WasEmpty Few room v at w = (s : Stop) × (head : ℕ) × (m n : AbsState Positions) × IsStop Few s
+    × (at ≡ stop_position s) × (head ≢ SHUT + s.tail) × (HasRaised v.own.runs at → ⊥)
+    × Performed v (stopping room s ++ load head_word head m ∷ load tail_word s.tail n ∷ []) v.own w
 
 -- there were too few items, the queue was not shut with that tail as its head, and then a later tail was found
 abbrev pub PassedBefore : (List ℕ → Type 0) → ℕ → View → ℕ → View → Type 0
-PassedBefore Few room v now w = (s : Stop) × (head : ℕ) × (m n : Moment Positions) × IsStop Few s
+PassedBefore Few room v now w = (s : Stop) × (head : ℕ) × (m n : AbsState Positions) × IsStop Few s
     × (head ≢ SHUT + s.tail) × (s.tail < now)
-    × Made v (stopping room s ++ load head_word head m ∷ load tail_word now n ∷ []) v.own w
+    × Performed v (stopping room s ++ load head_word head m ∷ load tail_word now n ∷ []) v.own w
 
 -- there were enough items, but the compare-and-swap found another tail, past the one loaded
 abbrev pub PassedMeanwhile : (List ℕ → Type 0) → ℕ → View → ℕ → View → Type 0
-PassedMeanwhile Enough room v now w = (tail : ℕ) × (m o : Moment Positions) × (scan : Scan)
+PassedMeanwhile Enough room v now w = (tail : ℕ) × (m o : AbsState Positions) × (scan : Scan)
     × Enough (items_of scan) × (tail < now)
-    × Made v (load tail_word tail m ∷ scanned room tail scan ++ load tail_word now o ∷ []) v.own w
+    × Performed v (load tail_word tail m ∷ scanned room tail scan ++ load tail_word now o ∷ []) v.own w
 
 -- there were too few items, and the head word was the shut mark and that tail: all that was put was taken
 abbrev pub WasDone : (List ℕ → Type 0) → ℕ → View → View → Type 0
-WasDone Few room v w = (s : Stop) × (m : Moment Positions) × IsStop Few s
-    × Made v (stopping room s ++ load head_word (SHUT + s.tail) m ∷ []) v.own w
+WasDone Few room v w = (s : Stop) × (m : AbsState Positions) × IsStop Few s
+    × Performed v (stopping room s ++ load head_word (SHUT + s.tail) m ∷ []) v.own w
 
 -- the refusal of a taking: items with the property Few are too few for the taking, and items with Enough are enough
 abbrev pub RefusedTake : (List ℕ → Type 0) → (List ℕ → Type 0) → ℕ → View → TakeRefusal → View → Type 0

@@ -1,5 +1,5 @@
 //! The count of the ends of a queue: the parts of its rule that the steps of the theory of tables use.
-use crate::rule::{ClaimRule, Did, Shape, View};
+use crate::rule::{ClaimRule, QueueOps, Shape, View};
 use table_theory::end_steps::EndsRule;
 use table_theory::last_end::CountRule;
 use table_theory::queues::Positions;
@@ -7,16 +7,16 @@ use table_theory::queues::Positions;
 impl CountRule<(), View, Shape> for ClaimRule {
     ghost use Rattle.table_theory.specs.Plays.{HasTallied};
     ghost use Rattle.claim_queue.specs.Layout.{ends_word};
-    ghost use Rattle.claim_queue.specs.Rules.{IsRuled};
+    ghost use Rattle.claim_queue.specs.Rules.{InvHeldOf};
 
-    ghost tallied = { λ id. HasTallied IsRuled ends_word };
+    ghost tallied = { λ id. HasTallied InvHeldOf ends_word };
 }
 
-impl EndsRule<(), Did, Positions, Shape> for ClaimRule {
+impl EndsRule<(), QueueOps, Positions, Shape> for ClaimRule {
     ghost use Rattle.claim_queue.specs.Own.{nothing_did, did_both};
-    ghost use Rattle.claim_queue.specs.Rules.{newcomer, IsRuled};
+    ghost use Rattle.claim_queue.specs.Rules.{newcomer, InvHeldOf};
 
-    ghost suits = { IsRuled };
+    ghost suits = { InvHeldOf };
 
     ghost nothing = { nothing_did };
 

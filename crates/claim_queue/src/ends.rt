@@ -1,8 +1,8 @@
 //! The queue and its ends.
 ghost use Rattle.std.specs.Prelude.{◌≡◌, ◌+◌, ◌≤◌, ◌<◌, [], ◌++◌, IfOk};
-ghost use Rattle.claim_queue.specs.Rules.{newcomer, IsRuled};
+ghost use Rattle.claim_queue.specs.Rules.{newcomer, InvHeldOf};
 ghost use Rattle.claim_queue.specs.Claims.{KeepsClaims};
-ghost use Rattle.claim_queue.specs.Endings.{Divided, IsNewborn, TookIn};
+ghost use Rattle.claim_queue.specs.Endings.{SplitBy, IsNewEnd, JoinedBy};
 ghost use Rattle.claim_queue.specs.declared.layout.TheConstants.{MOST_PLACES};
 ghost use Rattle.claim_queue.specs.Layout.{width};
 ghost use Rattle.claim_queue.specs.Lines.{lines_put, lines_taken};
@@ -34,7 +34,7 @@ pub struct QueueEnd<const N: usize> {
     ghost room: { seat.me.0.first.room ≡ N },
     ghost bare: { seat.me.1 ≡ [] },
     ghost one: { seat.me.0.member.ends ≡ 1 },
-    ghost ruled: { ∥ IsRuled seat.me.0 ∥₁ },
+    ghost ruled: { ∥ InvHeldOf seat.me.0 ∥₁ },
 }
 
 impl<const N: usize> ClaimQueue<N> {
@@ -70,8 +70,8 @@ impl<const N: usize> ClaimQueue<N> {
         requires parts { IsDivisible end.old }
         ensures lines { (lines_put (view_of end.new) ≡ lines_put (view_of end.old))
             × (lines_taken (view_of end.new) ≡ lines_taken (view_of end.old)) }
-        ensures born { IsNewborn (view_of end.old) (view_of end.new) (view_of result) }
-        ensures steps { Divided (view_of end.old) (view_of end.new) }
+        ensures born { IsNewEnd (view_of end.old) (view_of end.new) (view_of result) }
+        ensures steps { SplitBy (view_of end.old) (view_of end.new) }
         ensures claims { KeepsClaims (view_of end.old) (view_of end.new) }
         ensures same { IsSameEnd end.old end.new × AreOfOneQueue end.old result }
     {
@@ -88,7 +88,7 @@ impl<const N: usize> ClaimQueue<N> {
         requires { IsEndOf self.now end.old × IsEndOf self.now other }
         ensures lines { (lines_put (view_of end.new) ≡ lines_put (view_of end.old) ++ lines_put (view_of other.entry))
             × (lines_taken (view_of end.new) ≡ lines_taken (view_of end.old) ++ lines_taken (view_of other.entry)) }
-        ensures steps { TookIn (view_of end.old) (view_of other.entry) (view_of end.new) }
+        ensures steps { JoinedBy (view_of end.old) (view_of other.entry) (view_of end.new) }
         ensures claims { KeepsClaims (view_of end.old) (view_of end.new)
             × KeepsClaims (view_of other.entry) (view_of end.new) }
         ensures same { IsSameEnd end.old end.new }

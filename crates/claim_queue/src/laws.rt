@@ -11,12 +11,12 @@ ghost use Rattle.table_theory.specs.declared.positions.TheConstants.{POSITIONS};
 ghost use Rattle.table_theory.specs.declared.queues.Batch.{Batch};
 ghost use Rattle.table_theory.specs.declared.queues.Positions.{Positions};
 ghost use Rattle.table_theory.specs.declared.queues.QueueView.{QueueView};
-ghost use Rattle.table_theory.specs.declared.views.Moment.{Moment};
-ghost use Rattle.table_theory.specs.Ledgers.{Step, load, change, count_down, Adds, IsReal, IsHonest, Reaches, Passes};
+ghost use Rattle.table_theory.specs.declared.views.AbsState.{AbsState};
+ghost use Rattle.table_theory.specs.Ledgers.{Step, load, change, count_down, ExtendsTrace, IsValidStep, IsValidView, Reaches, Passes};
 ghost use Rattle.table_theory.specs.Apart.{AreApart};
 ghost use Rattle.table_theory.specs.Filing.{Owned};
-ghost use Rattle.table_theory.specs.Listing.{ViewsShow, written_to};
-ghost use Rattle.table_theory.specs.Positioned.{Lawful, Grows, blank, fresh, item_at, written_at, head_of, tail_of};
+ghost use Rattle.table_theory.specs.Listing.{ViewsShow, with_stage};
+ghost use Rattle.table_theory.specs.Positioned.{Lawful, Grows, blank, fresh, item_at, stage_at, head_of, tail_of};
 ghost use Rattle.table_theory.specs.Positioned.{left_of};
 ghost use Rattle.table_theory.specs.Positioned.{with_claim, with_take, with_shut};
 ghost use Rattle.table_theory.specs.QueueOf.{IsEvent, IsEventOf, IsHistory, no_event};
@@ -25,39 +25,39 @@ ghost use Rattle.claim_queue.specs.declared.ends.QueueEnd.{QueueEnd};
 ghost use Rattle.claim_queue.specs.declared.layout.TheConstants.{MOST_PLACES, SHUT};
 ghost use Rattle.claim_queue.specs.declared.take.TakeRefusal.TheVariants as not_taken;
 ghost use Rattle.claim_queue.specs.Answers.{Refused};
-ghost use Rattle.claim_queue.specs.Changes.{Becomes, IsPlace, written};
-ghost use Rattle.claim_queue.specs.Endings.{TookIn};
+ghost use Rattle.claim_queue.specs.Changes.{Becomes, IsPlace, with_stage_at};
+ghost use Rattle.claim_queue.specs.Endings.{JoinedBy};
 ghost use Rattle.claim_queue.specs.Handles.{view_of, IsOnlyEnd};
 ghost use Rattle.claim_queue.specs.Layout.{head_word, tail_word, ends_word, data_word, flag_word, width, mark};
 ghost use Rattle.claim_queue.specs.Own.{View, of_queues, part_of, run, taking};
-ghost use Rattle.claim_queue.specs.Takings.{RefusedTake, OfBoth, behind};
+ghost use Rattle.claim_queue.specs.Takings.{RefusedTake, OfBoth, stop_position};
 
 /// The list of an end is true: each entry that a call adds is a real step. The step found a lawful queue that the words
 /// showed, and the number in its word, and made one event of the core, or none. Real steps lead from the queue that the
 /// end had seen to each of these entries, in their order. The last of them left the queue that the end sees then.
 pub fn lists_are_true()
-    ensures end { (n : ℕ) (end : QueueEnd n) → ∥ IsHonest of_queues (view_of end) ∥₁ }
+    ensures end { (n : ℕ) (end : QueueEnd n) → ∥ IsValidView of_queues (view_of end) ∥₁ }
     ensures entries { (n : ℕ) (old : View) (new : QueueEnd n) (entries : List (Step Positions))
-        → Adds old entries (view_of new) → ∥ AllByRecursion (IsReal of_queues) entries ∥₁ }
+        → ExtendsTrace old entries (view_of new) → ∥ AllByRecursion (IsValidStep of_queues) entries ∥₁ }
     ensures order { (n : ℕ) (old new : QueueEnd n) (entries : List (Step Positions))
-        → Adds (view_of old) entries (view_of new)
+        → ExtendsTrace (view_of old) entries (view_of new)
         → ∥ Passes of_queues (view_of old).seen entries (view_of new).seen ∥₁ }
     ensures since { (n : ℕ) (old new : QueueEnd n) (entries : List (Step Positions))
-        → Adds (view_of old) entries (view_of new) → ∥ Reaches of_queues (view_of old).seen (view_of new).seen ∥₁ }
-    ensures grows { (m n : Moment Positions) → Reaches of_queues m n → Grows m.object n.object }
-    ensures change { (e : Step Positions) → IsReal of_queues e
+        → ExtendsTrace (view_of old) entries (view_of new) → ∥ Reaches of_queues (view_of old).seen (view_of new).seen ∥₁ }
+    ensures grows { (m n : AbsState Positions) → Reaches of_queues m n → Grows m.object n.object }
+    ensures change { (e : Step Positions) → IsValidStep of_queues e
         → (e.next.object ≡ e.then.object) ⊎ Becomes e.then.object e.next.object }
-    ensures lawful { (e : Step Positions) → IsReal of_queues e → Lawful e.next.object }
+    ensures lawful { (e : Step Positions) → IsValidStep of_queues e → Lawful e.next.object }
 {}
 
 /// The list of an end is true after a join: real steps lead from the queue that either end had seen to the queue that
 /// the joined end sees. The entry of the step that counts one end less is a real step.
 pub fn joins_are_true()
-    ensures since { (n : ℕ) (old other new : QueueEnd n) → TookIn (view_of old) (view_of other) (view_of new)
+    ensures since { (n : ℕ) (old other new : QueueEnd n) → JoinedBy (view_of old) (view_of other) (view_of new)
         → ∥ Reaches of_queues (view_of old).seen (view_of new).seen ∥₁
         × ∥ Reaches of_queues (view_of other).seen (view_of new).seen ∥₁ }
-    ensures entry { (n : ℕ) (old other new : QueueEnd n) (t : TookIn (view_of old) (view_of other) (view_of new))
-        → ∥ IsReal of_queues (count_down ends_word t.found) ∥₁ }
+    ensures entry { (n : ℕ) (old other new : QueueEnd n) (t : JoinedBy (view_of old) (view_of other) (view_of new))
+        → ∥ IsValidStep of_queues (count_down ends_word t.found) ∥₁ }
 {}
 
 /// An end sees a queue with as many places as its type says, at least one. If the queue was shut it stays shut, and its
@@ -65,10 +65,10 @@ pub fn joins_are_true()
 pub fn ends_list_queues()
     ensures room { (n : ℕ) (end : QueueEnd n) → ((view_of end).seen.object.room ≡ n) × (0 < n) }
     ensures shut { (n : ℕ) (old new : QueueEnd n) (entries : List (Step Positions))
-        → Adds (view_of old) entries (view_of new)
+        → ExtendsTrace (view_of old) entries (view_of new)
         → (view_of old).seen.object.shut ≡ true → (view_of new).seen.object.shut ≡ true }
     ensures tail { (n : ℕ) (old new : QueueEnd n) (entries : List (Step Positions))
-        → Adds (view_of old) entries (view_of new)
+        → ExtendsTrace (view_of old) entries (view_of new)
         → tail_of (view_of old).seen.object ≤ tail_of (view_of new).seen.object }
     ensures listed { (n : ℕ) (end : QueueEnd n)
         → ∥ ((views : List QueueView) × (seat : ℕ) × ViewsShow (view_of end).seen.object views
@@ -80,60 +80,60 @@ pub fn ends_list_queues()
 /// The meaning of the number that a step found: the number of ends, the head and the shut mark, the tail, whether a
 /// place is raised, or its item. The words show the places from the tail on, as many as the queue has.
 pub fn numbers_say()
-    ensures ends { (found : ℕ) (m : Moment Positions) → IsReal of_queues (load ends_word found m) → found ≡ m.ends }
-    ensures head { (e : Step Positions) → e.word ≡ head_word → IsReal of_queues e
+    ensures ends { (found : ℕ) (m : AbsState Positions) → IsValidStep of_queues (load ends_word found m) → found ≡ m.ends }
+    ensures head { (e : Step Positions) → e.word ≡ head_word → IsValidStep of_queues e
         → (e.found ≡ head_of e.then.object + mark e.then.object.shut) × (head_of e.then.object < POSITIONS) }
-    ensures tail { (e : Step Positions) → e.word ≡ tail_word → IsReal of_queues e → e.found ≡ tail_of e.then.object }
+    ensures tail { (e : Step Positions) → e.word ≡ tail_word → IsValidStep of_queues e → e.found ≡ tail_of e.then.object }
     ensures raised { (e : Step Positions) (position : ℕ) → e.word ≡ flag_word e.then.object.room position
-        → IsReal of_queues e → e.then.object.first ≤ position
+        → IsValidStep of_queues e → e.then.object.first ≤ position
         → position < tail_of e.then.object + e.then.object.room → e.found ≡ position + 1
-        → 2 ≤ written_at e.then.object (position - e.then.object.first) }
+        → 2 ≤ stage_at e.then.object (position - e.then.object.first) }
     ensures low { (e : Step Positions) (position : ℕ) → e.word ≡ flag_word e.then.object.room position
-        → IsReal of_queues e → tail_of e.then.object ≤ position
+        → IsValidStep of_queues e → tail_of e.then.object ≤ position
         → position < tail_of e.then.object + e.then.object.room → e.found ≢ position + 1
-        → written_at e.then.object (position - e.then.object.first) < 2 }
+        → stage_at e.then.object (position - e.then.object.first) < 2 }
     ensures item { (e : Step Positions) (position : ℕ) → e.word ≡ data_word e.then.object.room position
-        → IsReal of_queues e → tail_of e.then.object ≤ position
+        → IsValidStep of_queues e → tail_of e.then.object ≤ position
         → position < tail_of e.then.object + e.then.object.room
-        → 1 ≤ written_at e.then.object (position - e.then.object.first)
+        → 1 ≤ stage_at e.then.object (position - e.then.object.first)
         → e.found ≡ item_at e.then.object (position - e.then.object.first) }
 {}
 
 /// Each change that an answer lists is the event of the core with that name. This holds for all views that list the
 /// queue as the step found it, if one of them is the end's view.
 pub fn changes_are_events()
-    ensures claimed { (head : ℕ) (items : List ℕ) (m : Moment Positions) (views : List QueueView) (seat : ℕ)
-        (v w : QueueView) → IsReal of_queues (change head_word head m (with_claim m.object items)) → 0 < length items
+    ensures claimed { (head : ℕ) (items : List ℕ) (m : AbsState Positions) (views : List QueueView) (seat : ℕ)
+        (v w : QueueView) → IsValidStep of_queues (change head_word head m (with_claim m.object items)) → 0 < length items
         → ViewsShow m.object views → get_elem? views seat ≡ some v → w.runs ≡ v.runs ++ run head items ∷ []
         → w.takes ≡ v.takes → Grows w.queue (with_claim m.object items)
         → (m.object.shut ≡ false) × (head ≡ head_of m.object)
         × IsEvent m.object (with_claim m.object items) seat v w (claim m.object.room seat items) }
-    ensures stored { (word found position item : ℕ) (m : Moment Positions) (views : List QueueView)
+    ensures stored { (word found position item : ℕ) (m : AbsState Positions) (views : List QueueView)
         (seat number index : ℕ) (v w : QueueView) (e : Batch)
-        → IsReal of_queues (change word found m (written m.object position 1)) → IsPlace m.object position (fresh item)
+        → IsValidStep of_queues (change word found m (with_stage_at m.object position 1)) → IsPlace m.object position (fresh item)
         → ViewsShow m.object views → get_elem? views seat ≡ some v → get_elem? v.runs number ≡ some e
         → index < length e.places → e.start + index ≡ position
-        → w.runs ≡ slice_set v.runs number (written_to e index 1) → w.takes ≡ v.takes
-        → Grows w.queue (written m.object position 1)
-        → IsEvent m.object (written m.object position 1) seat v w no_event }
-    ensures raised { (word found position item : ℕ) (m : Moment Positions) (views : List QueueView)
+        → w.runs ≡ slice_set v.runs number (with_stage e index 1) → w.takes ≡ v.takes
+        → Grows w.queue (with_stage_at m.object position 1)
+        → IsEvent m.object (with_stage_at m.object position 1) seat v w no_event }
+    ensures raised { (word found position item : ℕ) (m : AbsState Positions) (views : List QueueView)
         (seat number index : ℕ) (v w : QueueView) (e : Batch)
-        → IsReal of_queues (change word found m (written m.object position 2))
-        → IsPlace m.object position (record { item = item; written = 1 })
+        → IsValidStep of_queues (change word found m (with_stage_at m.object position 2))
+        → IsPlace m.object position (record { item = item; stage = 1 })
         → ViewsShow m.object views → get_elem? views seat ≡ some v → get_elem? v.runs number ≡ some e
         → index < length e.places → e.start + index ≡ position
-        → w.runs ≡ slice_set v.runs number (written_to e index 2) → w.takes ≡ v.takes
-        → Grows w.queue (written m.object position 2)
-        → (k : ℕ) × (event : IsEvent m.object (written m.object position 2) seat v w (raise seat k index))
+        → w.runs ≡ slice_set v.runs number (with_stage e index 2) → w.takes ≡ v.takes
+        → Grows w.queue (with_stage_at m.object position 2)
+        → (k : ℕ) × (event : IsEvent m.object (with_stage_at m.object position 2) seat v w (raise seat k index))
         × (get_elem? event.shown.lists.runs k ≡ some (seat, number, e)) }
-    ensures taken { (tail count : ℕ) (m : Moment Positions) (views : List QueueView) (seat : ℕ) (v w : QueueView)
-        → IsReal of_queues (change tail_word tail m (with_take m.object count)) → 0 < count
+    ensures taken { (tail count : ℕ) (m : AbsState Positions) (views : List QueueView) (seat : ℕ) (v w : QueueView)
+        → IsValidStep of_queues (change tail_word tail m (with_take m.object count)) → 0 < count
         → ViewsShow m.object views → get_elem? views seat ≡ some v
         → w.takes ≡ v.takes ++ taking m.object count ∷ [] → w.runs ≡ v.runs → Grows w.queue (with_take m.object count)
         → (tail ≡ tail_of m.object)
         × IsEvent m.object (with_take m.object count) seat v w (take_first m.object.room count) }
-    ensures shut { (head : ℕ) (m : Moment Positions) (views : List QueueView) (seat : ℕ) (v w : QueueView)
-        → IsReal of_queues (change head_word head m (with_shut m.object))
+    ensures shut { (head : ℕ) (m : AbsState Positions) (views : List QueueView) (seat : ℕ) (v w : QueueView)
+        → IsValidStep of_queues (change head_word head m (with_shut m.object))
         → ViewsShow m.object views → get_elem? views seat ≡ some v → w.runs ≡ v.runs → w.takes ≡ v.takes
         → Grows w.queue (with_shut m.object) → IsEvent m.object (with_shut m.object) seat v w (λ c. Ok (shut c)) }
 {}
@@ -142,31 +142,31 @@ pub fn changes_are_events()
 /// history of the queue as the step found it, and a history exists. The event leaves a history of the queue as the step
 /// left it. A raise is the raise of a place of a run, by the call that has the run.
 pub fn changes_are_events_of_histories()
-    ensures history { (e : Step Positions) → IsReal of_queues e
+    ensures history { (e : Step Positions) → IsValidStep of_queues e
         → (runs : List (Owned Batch)) × IsHistory e.then.object runs }
-    ensures claimed { (head call number : ℕ) (items : List ℕ) (m : Moment Positions) (runs : List (Owned Batch))
-        → IsReal of_queues (change head_word head m (with_claim m.object items)) → 0 < length items
+    ensures claimed { (head call number : ℕ) (items : List ℕ) (m : AbsState Positions) (runs : List (Owned Batch))
+        → IsValidStep of_queues (change head_word head m (with_claim m.object items)) → 0 < length items
         → IsHistory m.object runs → (m.object.shut ≡ false) × (head ≡ head_of m.object)
         × IsEventOf m.object runs (claim m.object.room call items) (with_claim m.object items)
         (runs ++ (call, number, run head items) ∷ []) }
-    ensures stored { (word found position item : ℕ) (m : Moment Positions) (runs : List (Owned Batch))
-        → IsReal of_queues (change word found m (written m.object position 1)) → IsPlace m.object position (fresh item)
+    ensures stored { (word found position item : ℕ) (m : AbsState Positions) (runs : List (Owned Batch))
+        → IsValidStep of_queues (change word found m (with_stage_at m.object position 1)) → IsPlace m.object position (fresh item)
         → IsHistory m.object runs → (k index : ℕ) × (run : Owned Batch) × (get_elem? runs k ≡ some run)
-        × (run.2.start + index ≡ position) × IsEventOf m.object runs no_event (written m.object position 1)
-        (slice_set runs k (run.0, run.1, written_to run.2 index 1)) }
-    ensures raised { (word found position item : ℕ) (m : Moment Positions) (runs : List (Owned Batch))
-        → IsReal of_queues (change word found m (written m.object position 2))
-        → IsPlace m.object position (record { item = item; written = 1 })
+        × (run.2.start + index ≡ position) × IsEventOf m.object runs no_event (with_stage_at m.object position 1)
+        (slice_set runs k (run.0, run.1, with_stage run.2 index 1)) }
+    ensures raised { (word found position item : ℕ) (m : AbsState Positions) (runs : List (Owned Batch))
+        → IsValidStep of_queues (change word found m (with_stage_at m.object position 2))
+        → IsPlace m.object position (record { item = item; stage = 1 })
         → IsHistory m.object runs → (k index : ℕ) × (run : Owned Batch) × (get_elem? runs k ≡ some run)
         × (run.2.start + index ≡ position)
-        × IsEventOf m.object runs (raise run.0 k index) (written m.object position 2)
-        (slice_set runs k (run.0, run.1, written_to run.2 index 2)) }
-    ensures taken { (tail count : ℕ) (m : Moment Positions) (runs : List (Owned Batch))
-        → IsReal of_queues (change tail_word tail m (with_take m.object count)) → 0 < count → IsHistory m.object runs
+        × IsEventOf m.object runs (raise run.0 k index) (with_stage_at m.object position 2)
+        (slice_set runs k (run.0, run.1, with_stage run.2 index 2)) }
+    ensures taken { (tail count : ℕ) (m : AbsState Positions) (runs : List (Owned Batch))
+        → IsValidStep of_queues (change tail_word tail m (with_take m.object count)) → 0 < count → IsHistory m.object runs
         → (tail ≡ tail_of m.object)
         × IsEventOf m.object runs (take_first m.object.room count) (with_take m.object count) runs }
-    ensures shut { (head : ℕ) (m : Moment Positions) (runs : List (Owned Batch))
-        → IsReal of_queues (change head_word head m (with_shut m.object)) → IsHistory m.object runs
+    ensures shut { (head : ℕ) (m : AbsState Positions) (runs : List (Owned Batch))
+        → IsValidStep of_queues (change head_word head m (with_shut m.object)) → IsHistory m.object runs
         → IsEventOf m.object runs (λ c. Ok (shut c)) (with_shut m.object) runs }
 {}
 
@@ -175,25 +175,25 @@ pub fn changes_are_events_of_histories()
 /// in the same word.
 pub fn never_below()
     ensures head { (n : ℕ) (old new : QueueEnd n) (before after : List (Step Positions)) (e : Step Positions)
-        → Adds (view_of old) (before ++ e ∷ after) (view_of new) → e.word ≡ head_word
+        → ExtendsTrace (view_of old) (before ++ e ∷ after) (view_of new) → e.word ≡ head_word
         → (head_of (view_of old).seen.object ≤ e.found % POSITIONS)
         × (e.found % POSITIONS ≤ head_of (view_of new).seen.object) }
     ensures heads { (n : ℕ) (old new : QueueEnd n) (before between after : List (Step Positions))
-        (e f : Step Positions) → Adds (view_of old) (before ++ e ∷ (between ++ f ∷ after)) (view_of new)
+        (e f : Step Positions) → ExtendsTrace (view_of old) (before ++ e ∷ (between ++ f ∷ after)) (view_of new)
         → e.word ≡ head_word → f.word ≡ head_word → e.found % POSITIONS ≤ f.found % POSITIONS }
     ensures tail { (n : ℕ) (old new : QueueEnd n) (before after : List (Step Positions)) (e : Step Positions)
-        → Adds (view_of old) (before ++ e ∷ after) (view_of new) → e.word ≡ tail_word
+        → ExtendsTrace (view_of old) (before ++ e ∷ after) (view_of new) → e.word ≡ tail_word
         → (tail_of (view_of old).seen.object ≤ e.found) × (e.found ≤ tail_of (view_of new).seen.object) }
     ensures tails { (n : ℕ) (old new : QueueEnd n) (before between after : List (Step Positions))
-        (e f : Step Positions) → Adds (view_of old) (before ++ e ∷ (between ++ f ∷ after)) (view_of new)
+        (e f : Step Positions) → ExtendsTrace (view_of old) (before ++ e ∷ (between ++ f ∷ after)) (view_of new)
         → e.word ≡ tail_word → f.word ≡ tail_word → e.found ≤ f.found }
 {}
 
 /// If one end takes in another, no position is in a run of both ends, and no position is in a taking of both.
 pub fn joins_are_apart()
-    ensures runs { (n : ℕ) (old other new : QueueEnd n) → TookIn (view_of old) (view_of other) (view_of new)
+    ensures runs { (n : ℕ) (old other new : QueueEnd n) → JoinedBy (view_of old) (view_of other) (view_of new)
         → AreApart (view_of old).own.runs (view_of other).own.runs }
-    ensures takes { (n : ℕ) (old other new : QueueEnd n) → TookIn (view_of old) (view_of other) (view_of new)
+    ensures takes { (n : ℕ) (old other new : QueueEnd n) → JoinedBy (view_of old) (view_of other) (view_of new)
         → AreApart (view_of old).own.takes (view_of other).own.takes }
 {}
 
@@ -215,7 +215,7 @@ pub fn refusals_say()
         → OfBoth n (λ Few Enough. (r : RefusedTake Few Enough n (view_of old) (not_taken.Empty at) (view_of new))
         → length r.0.scan < n
         → (tail_of r.0.at_flag.object ≡ r.0.tail)
-        × (written_at r.0.at_flag.object (behind r.0 - r.0.at_flag.object.first) < 2)
+        × (stage_at r.0.at_flag.object (stop_position r.0 - r.0.at_flag.object.first) < 2)
         × (r.2.object.shut ≡ true → r.2.object.taken < length r.2.object.places)) }
 {}
 
@@ -226,7 +226,7 @@ pub fn empty_means_none_before()
         → OfBoth n (λ Few Enough. (r : RefusedTake Few Enough n (view_of old) (not_taken.Empty at) (view_of new))
         → (tail_of r.0.at_flag.object ≡ r.0.tail) × (r.0.tail ≤ at)
         × Few (take (at - r.0.tail) (left_of r.0.at_flag.object))
-        × (written_at r.0.at_flag.object (at - r.0.at_flag.object.first) < 2)) }
+        × (stage_at r.0.at_flag.object (at - r.0.at_flag.object.first) < 2)) }
 {}
 
 /// A call of an end with the whole share never returns Lost: no other end steps between its steps.

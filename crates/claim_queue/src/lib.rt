@@ -36,7 +36,7 @@
 //! `look` is for monitoring: it returns how many items are in the queue, and whether a put that has not ended holds up
 //! the takers.
 //!
-//! `ClaimRule`, `Shape`, `Did` and `View` are for the proofs alone: the contracts about the lists of the ends use them.
+//! `ClaimRule`, `Shape`, `QueueOps` and `View` are for the proofs alone: the contracts about the lists of the ends use them.
 #![tactic(auto)]
 
 mod between;
@@ -59,6 +59,6 @@ pub use close::Closed;
 pub use ends::{ClaimQueue, QueueEnd};
 pub use look::QueueLook;
 pub use pause::{NoPause, Pause};
-pub use rule::{ClaimRule, Did, Shape, View};
+pub use rule::{ClaimRule, QueueOps, Shape, View};
 pub use table_theory::OpenEnds;
 pub use take::TakeRefusal;

@@ -2,7 +2,7 @@
 use atomic_table::TableRule;
 use std::collections::LinkedList;
 use table_theory::queues::{Batch, Positions};
-use table_theory::views::Ledger;
+use table_theory::views::EndState;
 
 /// The parameters of the rule, given when the table is made.
 #[derive(Drop)]
@@ -13,14 +13,14 @@ pub struct Shape {
 
 /// The record of what an end did: its runs, each as far as it was raised, its takings, and how often it shut the queue
 /// when the queue was open. Only proofs use it.
-pub struct Did {
+pub struct QueueOps {
     pub runs: LinkedList<Batch>,
     pub takes: LinkedList<Batch>,
     pub shuts: u64,
 }
 
 /// The view of an end: what it did, its steps, and all ends' steps up to its own last step.
-pub type View = Ledger<Did, Positions>;
+pub type View = EndState<QueueOps, Positions>;
 
 pub struct ClaimRule;
 

@@ -2,7 +2,7 @@
 //! members.
 ghost use Rattle.std.specs.Prelude.{◌≡◌, ◌≢◌, ◌+◌, ◌-◌, ◌<◌, ◌≤◌, ℕ, false, length};
 ghost use Rattle.table_theory.specs.declared.positions.TheConstants.{POSITIONS};
-ghost use Rattle.table_theory.specs.Positioned.{fresh, tail_of, item_at, written_at};
+ghost use Rattle.table_theory.specs.Positioned.{fresh, tail_of, item_at, stage_at};
 ghost use Rattle.table_theory.specs.Seating.{IsSame};
 ghost use Rattle.claim_queue.specs.Layout.{head_word, tail_word, data_word, flag_word};
 ghost use Rattle.claim_queue.specs.declared.layout.TheConstants.{FIRST_PLACE, MOST_PLACES, SHUT};
@@ -92,7 +92,7 @@ pub(crate) fn store_flag<J: Spot>(
 )
     requires queue { IsSeated room words.now.table_id seat.old }
     requires spot { (J.start ≡ start) × (J.index ≡ index) × (start < POSITIONS) × (index < MOST_PLACES) }
-    requires mine { (item : ℕ) × HasPlace seat.old.me.0 J.start J.index (record { item = item; written = 1 }) }
+    requires mine { (item : ℕ) × HasPlace seat.old.me.0 J.start J.index (record { item = item; stage = 1 }) }
     ensures queue { IsSame seat.old seat.new × Stays seat.old.me seat.new.me }
     ensures wrote { WroteAt J.start J.index 2 (flag_word room (start + index)) seat.old.me.0 seat.new.me.0 }
 {
@@ -106,9 +106,9 @@ pub(crate) fn load_flag(words: &Words, seat: &mut Seat<(), View>, room: usize, p
     ensures queue { IsSame seat.old seat.new × Stays seat.old.me seat.new.me }
     ensures found { Found seat.old.me.0 (flag_word room position) result seat.new.me.0 }
     ensures raised { result ≡ position + 1
-        → 2 ≤ written_at seat.new.me.0.seen.object (position - seat.new.me.0.seen.object.first) }
+        → 2 ≤ stage_at seat.new.me.0.seen.object (position - seat.new.me.0.seen.object.first) }
     ensures low { result ≢ position + 1 → tail_of seat.new.me.0.seen.object ≤ position
-        → written_at seat.new.me.0.seen.object (position - seat.new.me.0.seen.object.first) < 2 }
+        → stage_at seat.new.me.0.seen.object (position - seat.new.me.0.seen.object.first) < 2 }
     ensures not_mine { result ≢ position + 1 → tail_of seat.new.me.0.seen.object ≤ position
         → HasRaised seat.new.me.0.own.runs position → ⊥ }
 {
@@ -118,7 +118,7 @@ pub(crate) fn load_flag(words: &Words, seat: &mut Seat<(), View>, room: usize, p
 pub(crate) fn load_data(words: &Words, seat: &mut Seat<(), View>, room: usize, position: u64) -> u64
     requires queue { IsSeated room words.now.table_id seat.old }
     requires near { IsNear seat.old.me.0 room position }
-    requires raised { 2 ≤ written_at seat.old.me.0.seen.object (position - seat.old.me.0.seen.object.first) }
+    requires raised { 2 ≤ stage_at seat.old.me.0.seen.object (position - seat.old.me.0.seen.object.first) }
     ensures queue { IsSame seat.old seat.new × Stays seat.old.me seat.new.me }
     ensures found { Found seat.old.me.0 (data_word room position) result seat.new.me.0 }
     ensures item { tail_of seat.new.me.0.seen.object ≤ position
@@ -132,7 +132,7 @@ pub(crate) fn exchange_tail(words: &Words, seat: &mut Seat<(), View>, tail: u64,
     requires live { 1 ≤ seat.old.me.0.member.ends }
     requires new { (tail < new) × (seat.old.me.0.seen.object.first ≤ tail) }
     requires raised { (i : ℕ) → i < new - tail
-        → 2 ≤ written_at seat.old.me.0.seen.object (tail - seat.old.me.0.seen.object.first + i) }
+        → 2 ≤ stage_at seat.old.me.0.seen.object (tail - seat.old.me.0.seen.object.first + i) }
     ensures queue { IsSame seat.old seat.new × Stays seat.old.me seat.new.me }
     ensures hit { result ≡ tail → Took seat.old.me.0 tail (new - tail) seat.new.me.0 }
     ensures miss { result ≢ tail → Found seat.old.me.0 tail_word result seat.new.me.0 × (result < POSITIONS) }

@@ -12,7 +12,7 @@ use Rattle.boot_script.specs.Replays.{alone, Replays}
 use Rattle.boot_script.specs.declared.outcome.Replayed.{Replayed}
 use Rattle.boot_script.specs.declared.outcome.Replayed.TheVariants.{AllAllowed, Refused}
 use Rattle.draw.specs.declared.history.Row.{Row}
-use Rattle.draw.specs.Histories.{Tells, TellsAll, TellsLast, IsRefused, kept}
+use Rattle.draw.specs.Histories.{RowShows, RowsShow, LastRowsShow, IsRefused, kept}
 
 -- the front of a list of events is one event longer
 pub longer : (events : List (ℕ × Event)) (at : ℕ) (numbered : ℕ × Event) → at < length events → numbered ≡ get_or events at numbered → take (at + 1) events ≡ take at events ++ numbered ∷ []
@@ -26,48 +26,48 @@ reaches_numbered : (s : State) (events : List (ℕ × Event)) (t : State) (numbe
 reaches_numbered s events t numbered u there next =
     rw (map_push (λ x. x.1) events numbered) (reaches_more s (alone events) t numbered.1 u there next)
 
-tells_more : (all : List Row) (events : List (ℕ × Event)) (old new : State) (row : Row) (numbered : ℕ × Event) (next : State)
-    → TellsAll all events old new → step numbered.1 new ≡ Ok next → Tells row numbered.0 next → TellsAll (all ++ row ∷ []) (events ++ numbered ∷ []) old next
-tells_more [] [] old new row numbered next told stepped tells = (next, ap (step numbered.1) (sym told) ∙ stepped, tells, refl)
-tells_more [] (e ∷ events) old new row numbered next told stepped tells = absurd told
-tells_more (r ∷ all) [] old new row numbered next told stepped tells = absurd told
-tells_more (r ∷ all) (e ∷ events) old new row numbered next told stepped tells =
-    (told.0, told.1, told.2, tells_more all events told.0 new row numbered next told.3 stepped tells)
+reports_more : (all : List Row) (events : List (ℕ × Event)) (old new : State) (row : Row) (numbered : ℕ × Event) (next : State)
+    → RowsShow all events old new → step numbered.1 new ≡ Ok next → RowShows row numbered.0 next → RowsShow (all ++ row ∷ []) (events ++ numbered ∷ []) old next
+reports_more [] [] old new row numbered next reported stepped reports = (next, ap (step numbered.1) (sym reported) ∙ stepped, reports, refl)
+reports_more [] (e ∷ events) old new row numbered next reported stepped reports = absurd reported
+reports_more (r ∷ all) [] old new row numbered next reported stepped reports = absurd reported
+reports_more (r ∷ all) (e ∷ events) old new row numbered next reported stepped reports =
+    (reported.0, reported.1, reported.2, reports_more all events reported.0 new row numbered next reported.3 stepped reports)
 
 last_more : (all : List Row) (events : List (ℕ × Event)) (old new : State) (row : Row) (numbered : ℕ × Event) (next : State)
-    → TellsLast all events old new → step numbered.1 new ≡ Ok next → Tells row numbered.0 next → TellsLast (all ++ row ∷ []) (events ++ numbered ∷ []) old next
-last_more all events old new row numbered next h stepped tells = record {
+    → LastRowsShow all events old new → step numbered.1 new ≡ Ok next → RowShows row numbered.0 next → LastRowsShow (all ++ row ∷ []) (events ++ numbered ∷ []) old next
+last_more all events old new row numbered next h stepped reports = record {
   earlier = h.earlier;
   later = h.later ++ numbered ∷ [];
   parts = ap (λ w. w ++ numbered ∷ []) h.parts ∙ append_assoc h.earlier h.later (numbered ∷ []);
   middle = h.middle;
   reached = h.reached;
-  told = tells_more all h.later h.middle new row numbered next h.told stepped tells;
+  reported = reports_more all h.later h.middle new row numbered next h.reported stepped reports;
 }
 
 without_first : (row : Row) (all : List Row) (events earlier later : List (ℕ × Event)) (old middle new : State) → events ≡ earlier ++ later → Reaches old (alone earlier) middle
-    → TellsAll (row ∷ all) later middle new → TellsLast all events old new
-without_first row all events earlier [] old middle new parts reached told = absurd told
-without_first row all events earlier (numbered ∷ later) old middle new parts reached told = record {
+    → RowsShow (row ∷ all) later middle new → LastRowsShow all events old new
+without_first row all events earlier [] old middle new parts reached reported = absurd reported
+without_first row all events earlier (numbered ∷ later) old middle new parts reached reported = record {
   earlier = earlier ++ numbered ∷ [];
   later = later;
   parts = parts ∙ sym (append_assoc earlier (numbered ∷ []) later);
-  middle = told.0;
-  reached = reaches_numbered old earlier middle numbered told.0 reached told.1;
-  told = told.3;
+  middle = reported.0;
+  reached = reaches_numbered old earlier middle numbered reported.0 reached reported.1;
+  reported = reported.3;
 }
 
-last_less : (all : List Row) (events : List (ℕ × Event)) (old new : State) → TellsLast all events old new → TellsLast (remove all 0) events old new
+last_less : (all : List Row) (events : List (ℕ × Event)) (old new : State) → LastRowsShow all events old new → LastRowsShow (remove all 0) events old new
 last_less [] events old new h = h
-last_less (row ∷ all) events old new h = without_first row all events h.earlier h.later old h.middle new h.parts h.reached h.told
+last_less (row ∷ all) events old new h = without_first row all events h.earlier h.later old h.middle new h.parts h.reached h.reported
 
-last_where : (first_goes : Bool) (all : List Row) (events : List (ℕ × Event)) (old new : State) → TellsLast all events old new → TellsLast (if first_goes then remove all 0 else all) events old new
+last_where : (first_goes : Bool) (all : List Row) (events : List (ℕ × Event)) (old new : State) → LastRowsShow all events old new → LastRowsShow (if first_goes then remove all 0 else all) events old new
 last_where true all events old new h = last_less all events old new h
 last_where false all events old new h = h
 
 -- the kept rows record one more event
 pub last_kept : (all : List Row) (events : List (ℕ × Event)) (old new : State) (row : Row) (numbered : ℕ × Event) (next : State)
-    → TellsLast all events old new → step numbered.1 new ≡ Ok next → Tells row numbered.0 next → TellsLast (kept all row) (events ++ numbered ∷ []) old next
+    → LastRowsShow all events old new → step numbered.1 new ≡ Ok next → RowShows row numbered.0 next → LastRowsShow (kept all row) (events ++ numbered ∷ []) old next
 last_kept all events old new row numbered next h = last_more (if nat_le 200 (length all) then remove all 0 else all) events old new row numbered next (last_where (nat_le 200 (length all)) all events old new h)
 
 full_of : (k n : ℕ) → nat_le 200 k ≡ true → k ≡ min 200 n → k ≡ min 200 (n + 1)

@@ -33,19 +33,19 @@ pub anchor_escaped : (anchor : Anchor) → escaped (anchor_code anchor) ≡ anch
 anchor_escaped Start = refl
 anchor_escaped Middle = refl
 
-element_before : (name : List ℕ) (attributes : List Attribute) (inside behind : Forest) → forest_text (Element name attributes inside Nothing) ++ forest_text behind ≡ forest_text (Element name attributes inside behind)
-element_before name attributes inside behind =
+element_before : (name : List ℕ) (attributes : List Attribute) (inside following : Forest) → forest_text (Element name attributes inside Nothing) ++ forest_text following ≡ forest_text (Element name attributes inside following)
+element_before name attributes inside following =
     let text : List ℕ = element_text name attributes (forest_text inside) in
     let bare : text ++ [] ≡ text = append-nil text in
-    ap (λ w. w ++ forest_text behind) bare
+    ap (λ w. w ++ forest_text following) bare
 
 -- the text of a part and of the parts after it
-pub shape_before : (shape : Shape) (behind : Forest) → forest_text (shape_tree shape Nothing) ++ forest_text behind ≡ forest_text (shape_tree shape behind)
-shape_before (Cell x y width height fill) behind = element_before (codes "rect") (worded (codes "stroke") (codes "#222222") ∷ box_attributes x y width height fill) Nothing behind
-shape_before (Bar x y width height fill) behind = element_before (codes "rect") (box_attributes x y width height fill) Nothing behind
-shape_before (Down x y) behind = element_before (codes "path") (path_from x y (codes "h8l-4 5z") ∷ []) Nothing behind
-shape_before (Up x y) behind = element_before (codes "path") (path_from x y (codes "h8l-4-5z") ∷ []) Nothing behind
-shape_before (Words x y anchor ink text) behind = element_before (codes "text") (words_attributes x y anchor ink) (Text text Nothing) behind
+pub shape_before : (shape : Shape) (following : Forest) → forest_text (shape_tree shape Nothing) ++ forest_text following ≡ forest_text (shape_tree shape following)
+shape_before (Cell x y width height fill) following = element_before (codes "rect") (worded (codes "stroke") (codes "#222222") ∷ box_attributes x y width height fill) Nothing following
+shape_before (Bar x y width height fill) following = element_before (codes "rect") (box_attributes x y width height fill) Nothing following
+shape_before (Down x y) following = element_before (codes "path") (path_from x y (codes "h8l-4 5z") ∷ []) Nothing following
+shape_before (Up x y) following = element_before (codes "path") (path_from x y (codes "h8l-4-5z") ∷ []) Nothing following
+shape_before (Words x y anchor ink text) following = element_before (codes "text") (words_attributes x y anchor ink) (Text text Nothing) following
 
 -- a part that is printed before those that are left
 pub shapes_more : (old new later : Option (List ℕ)) (i : ℕ) (shapes : List Shape) (shape : Shape) → i < length shapes → shape ≡ get_or shapes i shape

@@ -65,7 +65,7 @@ IsDrawingOf known answer old new =
 
 -- the exit has this status; if the error stream took all words, exactly these words were appended to it
 abbrev pub IsExit : Exit → ℕ → List ℕ → Option (List ℕ) → Option (List ℕ) → Type 0
-IsExit exit status words old new = (exit.status ≡ status) × OnOk exit.told (Appends old new words)
+IsExit exit status words old new = (exit.status ≡ status) × OnOk exit.reported (Appends old new words)
 
 -- the answer is correct for the text, whatever was written
 abbrev pub IsAnswerOf : Result (ℕ × List (ℕ × Event)) ScriptFault → Result Replayed ReplayFault → Type 0

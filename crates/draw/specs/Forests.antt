@@ -45,6 +45,6 @@ element_text name attributes inside =
 -- the text of trees: each tag is closed, and each text is escaped
 abbrev pub forest_text : Forest → List ℕ
 forest_text Nothing = []
-forest_text (Text text behind) = escaped text ++ forest_text behind
-forest_text (Element name attributes inside behind) =
-    element_text name attributes (forest_text inside) ++ forest_text behind
+forest_text (Text text following) = escaped text ++ forest_text following
+forest_text (Element name attributes inside following) =
+    element_text name attributes (forest_text inside) ++ forest_text following

@@ -18,26 +18,26 @@ abbrev pub kept : List Row → Row → List Row
 kept all row = (if nat_le 200 (length all) then remove all 0 else all) ++ row ∷ []
 
 -- the row records the line of an event, and the status of the state that the event led to
-pub record Tells (row : Row) (line : ℕ) (s : State) : Type 0 where
+pub record RowShows (row : Row) (line : ℕ) (s : State) : Type 0 where
   pub line_is : row.line ≡ line
   pub numbers : row.status ≡ status_of s
 
 -- the rows record, in order, the states that these events lead to, from `old` to `new`
-abbrev pub TellsAll : List Row → List (ℕ × Event) → State → State → Type 0
-TellsAll [] [] old new = new ≡ old
-TellsAll [] (numbered ∷ events) old new = ⊥
-TellsAll (row ∷ rows) [] old new = ⊥
-TellsAll (row ∷ rows) (numbered ∷ events) old new =
-    (next : State) × (step numbered.1 old ≡ Ok next) × Tells row numbered.0 next × TellsAll rows events next new
+abbrev pub RowsShow : List Row → List (ℕ × Event) → State → State → Type 0
+RowsShow [] [] old new = new ≡ old
+RowsShow [] (numbered ∷ events) old new = ⊥
+RowsShow (row ∷ rows) [] old new = ⊥
+RowsShow (row ∷ rows) (numbered ∷ events) old new =
+    (next : State) × (step numbered.1 old ≡ Ok next) × RowShows row numbered.0 next × RowsShow rows events next new
 
 -- the rows record the last of these events; the earlier events lead from `old` to `middle`
-pub record TellsLast (rows : List Row) (events : List (ℕ × Event)) (old new : State) : Type 0 where
+pub record LastRowsShow (rows : List Row) (events : List (ℕ × Event)) (old new : State) : Type 0 where
   pub earlier : List (ℕ × Event)
   pub later : List (ℕ × Event)
   pub parts : events ≡ earlier ++ later
   pub middle : State
   pub reached : Reaches old (alone earlier) middle
-  pub told : TellsAll rows later middle new
+  pub reported : RowsShow rows later middle new
 
 -- the list of events ends with this event, on this line, which is refused
 abbrev pub IsRefused : Replayed → ℕ → Result State Refusal → Type 0
@@ -54,5 +54,5 @@ pub record IsHistory (past : History) (events : List (ℕ × Event)) (old : Stat
   pub new : State
   pub replayed : Replays past.replayed events old new
   pub within : past.allowed ≤ length events
-  pub told : TellsLast past.rows.items (take past.allowed events) old new
+  pub reported : LastRowsShow past.rows.items (take past.allowed events) old new
   pub as_many : length past.rows.items ≡ min 200 past.allowed

@@ -34,15 +34,15 @@ path_from x y steps =
 
 -- the tree of a part of a picture, before the trees of other parts
 abbrev pub shape_tree : Shape → Forest → Forest
-shape_tree (Cell x y width height fill) behind =
+shape_tree (Cell x y width height fill) following =
     Element (codes "rect") (worded (codes "stroke") (codes "#222222") ∷ box_attributes x y width height fill)
-    Nothing behind
-shape_tree (Bar x y width height fill) behind =
-    Element (codes "rect") (box_attributes x y width height fill) Nothing behind
-shape_tree (Down x y) behind = Element (codes "path") (path_from x y (codes "h8l-4 5z") ∷ []) Nothing behind
-shape_tree (Up x y) behind = Element (codes "path") (path_from x y (codes "h8l-4-5z") ∷ []) Nothing behind
-shape_tree (Words x y anchor ink text) behind =
-    Element (codes "text") (words_attributes x y anchor ink) (Text text Nothing) behind
+    Nothing following
+shape_tree (Bar x y width height fill) following =
+    Element (codes "rect") (box_attributes x y width height fill) Nothing following
+shape_tree (Down x y) following = Element (codes "path") (path_from x y (codes "h8l-4 5z") ∷ []) Nothing following
+shape_tree (Up x y) following = Element (codes "path") (path_from x y (codes "h8l-4-5z") ∷ []) Nothing following
+shape_tree (Words x y anchor ink text) following =
+    Element (codes "text") (words_attributes x y anchor ink) (Text text Nothing) following
 
 abbrev pub shapes_forest : List Shape → Forest
 shapes_forest [] = Nothing

@@ -116,7 +116,7 @@ fn wide(count: usize, each: u32) -> u32 {
 }
 
 /// The right side of `count` things of this width from here on, and a space.
-fn behind(from: u32, count: usize, each: u32) -> u32 {
+fn following(from: u32, count: usize, each: u32) -> u32 {
     from.saturating_add(wide(count, each)).saturating_add(GAP)
 }
 
@@ -151,7 +151,7 @@ pub(crate) fn columns_of(
     rows: &[Row],
     letters: usize,
 ) -> Result<Columns, OutOfMemory> {
-    let start = behind(EVENT, letters, LETTER);
+    let start = following(EVENT, letters, LETTER);
     let shown = shown_in(rows);
     let (queues, after_queues) = queue_columns(alloc, queues_in(rows), start)?;
     let (chains, elements) = chain_columns(alloc, chains_in(rows), after_queues)?;
@@ -160,6 +160,6 @@ pub(crate) fn columns_of(
         chains,
         elements,
         shown,
-        width: behind(elements, shown, ELEMENT).max(LEGEND),
+        width: following(elements, shown, ELEMENT).max(LEGEND),
     })
 }

@@ -3,7 +3,7 @@
 ghost use Rattle.std.specs.Prelude.{◌≡◌, ◌≤◌, IfOk, OnOk};
 ghost use Rattle.quaject_core.specs.ShownCores.{state};
 ghost use Rattle.event_theory.specs.States.{first_state};
-ghost use Rattle.draw.specs.Histories.{Tells, IsHistory, IsNext, kept};
+ghost use Rattle.draw.specs.Histories.{RowShows, IsHistory, IsNext, kept};
 
 use crate::places::{Seat, Tapes};
 use boot_script::Replayed;
@@ -47,7 +47,7 @@ fn places_of(
 
 /// The row of a state.
 fn row_of(alloc: Global, line: u32, core: &Core, tapes: &Tapes) -> Result<Row, OutOfMemory>
-    ensures { IfOk result (λ row. Tells row line (state core.now)) }
+    ensures { IfOk result (λ row. RowShows row line (state core.now)) }
 {
     let status = core.status()?;
     let places = places_of(alloc, tapes, &status)?;

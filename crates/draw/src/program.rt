@@ -29,7 +29,7 @@ pub struct Exit {
     /// The exit status.
     pub status: u8,
     /// Whether the error stream took all the words for it.
-    pub told: io::Result<()>,
+    pub reported: io::Result<()>,
 }
 
 /// The page with the picture of the list of events that a text says.
@@ -98,13 +98,13 @@ pub fn run_on<R: Read, W: Write, E: Write>(
     if words != 0 {
         return Exit {
             status: USAGE_FAULT,
-            told: tell_usage(errors),
+            reported: tell_usage(errors),
         };
     }
     let answer = draw_on(alloc, reader, writer);
     Exit {
         status: status(answer),
-        told: tell(answer, errors),
+        reported: tell(answer, errors),
     }
 }
 

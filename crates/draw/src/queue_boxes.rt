@@ -41,8 +41,8 @@ fn seat_at<'a>(left: &'a [Seat], queue: &QueueStatus, place: u16) -> Option<&'a 
         return None;
     }
     let tail = queue.taken % places;
-    let behind = (u64::from(place) + places - tail) % places;
-    left.get(usize::try_from(behind).unwrap_or(usize::MAX))
+    let following = (u64::from(place) + places - tail) % places;
+    left.get(usize::try_from(following).unwrap_or(usize::MAX))
 }
 
 /// The state of a place.

@@ -90,6 +90,6 @@ pub(crate) fn steps_of(closed: &Places) -> u64 {
 }
 
 /// Whether these words are the message of a refusal.
-pub(crate) fn is_told<T: Copy + Display>(alloc: Global, refusal: T, words: &str) -> bool {
+pub(crate) fn is_reported<T: Copy + Display>(alloc: Global, refusal: T, words: &str) -> bool {
     format!(in alloc; "{refusal}").is_ok_and(|text| text.as_str() == words)
 }

@@ -19,7 +19,7 @@ use Rattle.event_theory.specs.declared.alarm.Alarm.{Alarm}
 pub record IsLawfulQueue (q : Queue) : Type 0 where
   pub solid : (run : ℕ) → run < length q.history → 0 < run_length q.history run
   pub within : (run index : ℕ) → q.raised run index ≡ true → index < run_length q.history run
-  pub behind : q.taken ≤ length (flat q.history)
+  pub taken_within : q.taken ≤ length (flat q.history)
   pub ready : list_all (is_raised q) (take q.taken (pairs q.history)) ≡ true
   pub fits : length (left q) ≤ q.capacity
 

@@ -15,9 +15,9 @@ pub use Rattle.event_theory.specs.Meters.{advance, cancel, fire, tick}
 pub use Rattle.event_theory.specs.declared.alarm.Alarm.{Alarm}
 pub use Rattle.table_theory.proofs.Reaching.{alone_since, entries_real, reaches_since}
 pub use Rattle.table_theory.proofs.Saying.{reaches_go}
-pub use Rattle.table_theory.specs.Ledgers.{Adds, IsHonest, IsReal, Looked, Made, Reaches, Step, both, change, emptied, load, newborn, rest_of}
+pub use Rattle.table_theory.specs.Ledgers.{ExtendsTrace, IsValidView, IsValidStep, Looked, Performed, Reaches, Step, both, change, emptied, load, newborn, rest_of}
 pub use Rattle.table_theory.specs.Seating.{IsSame}
-pub use Rattle.table_theory.specs.declared.views.Moment.{Moment}
+pub use Rattle.table_theory.specs.declared.views.AbsState.{AbsState}
 pub use Rattle.meters.specs.Answers.{NotAdvanced, NotSet, scan}
 pub use Rattle.meters.specs.Changes.{Becomes, IsLawful, advanced, cancelled, fired, first_reading, in_slot, meters_of, ticked, was_set, with_advance, with_alarm, with_cancelled, with_fired, with_tick}
 pub use Rattle.meters.specs.Events.{Happens, IsSet}
@@ -28,6 +28,6 @@ pub use Rattle.meters.specs.Rules.{Rule, newcomer}
 pub use Rattle.meters.specs.Steps.{FoundIn, Gave, WasFired, WasSet}
 pub use Rattle.meters.specs.Views.{ViewsShow, amount_on, times, times_to}
 pub use Rattle.meters.specs.Words.{Fits, IsInRange, SlotsShow, WordsShow, standing}
-pub use Rattle.meters.specs.declared.rule.Did.{Did}
+pub use Rattle.meters.specs.declared.rule.MeterOps.{MeterOps}
 pub use Rattle.meters.specs.declared.rule.Reading.{Reading}
 pub use Rattle.meters.specs.declared.rule.Shape.{Shape}

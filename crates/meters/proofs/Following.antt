@@ -1,5 +1,5 @@
 -- What several steps tell together.
-use Rattle.meters.proofs.Common.{◌≡◌, ◌≢◌, ◌⊎◌, inl, inr, ne_eqb, ℕ, suc, ◌+◌, ◌<◌, ◌≤◌, true, false, List, [], ◌∷◌, ◌++◌, length, length-append, filter_map, refl, sym, ap, ◌∙◌, subst, arith, Option, Some, None, append-nil, true≢false, filter_map-append, ∥∥₁_elim, Alarm, Moment, Step, load, change, IsHonest, Adds, Made, Looked, clock_word, slot_word, word_of, alarm_in, Did, Reading, with_alarm, SeatView, of_meters, Fits, WasSet, WasFired, FoundIn, Gave, NotAdvanced, scan, NotSet}
+use Rattle.meters.proofs.Common.{◌≡◌, ◌≢◌, ◌⊎◌, inl, inr, ne_eqb, ℕ, suc, ◌+◌, ◌<◌, ◌≤◌, true, false, List, [], ◌∷◌, ◌++◌, length, length-append, filter_map, refl, sym, ap, ◌∙◌, subst, arith, Option, Some, None, append-nil, true≢false, filter_map-append, ∥∥₁_elim, Alarm, AbsState, Step, load, change, IsValidView, ExtendsTrace, Performed, Looked, clock_word, slot_word, word_of, alarm_in, MeterOps, Reading, with_alarm, SeatView, of_meters, Fits, WasSet, WasFired, FoundIn, Gave, NotAdvanced, scan, NotSet}
 use Rattle.std.specs.Prelude.{◌==◌}
 use Rattle.std.proofs.Common.{append_assoc}
 use Rattle.std.proofs.Math.Bridge.{le_prop}
@@ -16,15 +16,15 @@ use Rattle.meters.proofs.Codes.{given_back}
 use Rattle.meters.proofs.Clocks.{clock_seen}
 
 -- what an end is that did this, and is among the ends as it was
-pub made_own : (v w : SeatView) (es : List (Step Reading)) (own : Did) → Made v es own w → own_of w ≡ own_of (record v { own = own })
+pub made_own : (v w : SeatView) (es : List (Step Reading)) (own : MeterOps) → Performed v es own w → own_of w ≡ own_of (record v { own = own })
 made_own v w es own m = (λ i. own_of (record v { own = m.did i; member = m.member i }))
 
 -- two looks, one behind the other
-two_looks : (v u w : SeatView) (es : List (Step Reading)) (word found : ℕ) → Made v es v.own u → (l : Looked u word found w) → Made v (es ++ load word found l.at ∷ []) v.own w
+two_looks : (v u w : SeatView) (es : List (Step Reading)) (word found : ℕ) → Performed v es v.own u → (l : Looked u word found w) → Performed v (es ++ load word found l.at ∷ []) v.own w
 two_looks v u w es word found a l = made_then v u w es (load word found l.at ∷ []) v.own (λ d. d) a l.made
 
 -- the clock
-pub lost_clock : (v u w : SeatView) (was found : ℕ) → Looked v clock_word was u → was ≡ u.seen.object.clock → Looked u clock_word found w → found ≡ w.seen.object.clock → found ≢ was → IsHonest of_meters u → IsHonest of_meters w → NotAdvanced v (not_advanced.Lost found) w × DidNothing v w
+pub lost_clock : (v u w : SeatView) (was found : ℕ) → Looked v clock_word was u → was ≡ u.seen.object.clock → Looked u clock_word found w → found ≡ w.seen.object.clock → found ≢ was → IsValidView of_meters u → IsValidView of_meters w → NotAdvanced v (not_advanced.Lost found) w × DidNothing v w
 lost_clock v u w was found a is b now ne x y = let up = clock_seen u w (load clock_word found b.at ∷ []) x y b.made.adds in let m = two_looks v u w (load clock_word was a.at ∷ []) clock_word found a.made b in ((was, a.at, b.at, omega arith, m.adds), made_own v w _ v.own m)
 
 pub advanced_now : (v u w : SeatView) (was : ℕ) → Looked v clock_word was u → WasAdvanced u was w → AdvancedNow v (was + 1) w × DidAdvance (was + 1) v w
@@ -35,7 +35,7 @@ pub record Searched (v : SeatView) (slot : ℕ) (w : SeatView) : Type 0 where
   pub taken : Scanned
   pub as_many : length taken ≡ slot
   pub full : AreTaken taken
-  pub made : Made v (scan 0 taken) v.own w
+  pub made : Performed v (scan 0 taken) v.own w
 
 pub searched_none : (v : SeatView) → Searched v 0 v
 searched_none v = record { taken = []; as_many = refl; full = tt; made = made_none v }
@@ -46,11 +46,11 @@ scan_on slot (x ∷ xs) ys = let n : ℕ = length xs in let z : slot + suc n ≡
 
 pub searched_more : (v u w : SeatView) (slot : ℕ) (stood : Option Alarm) → Searched v slot u → FoundIn u slot stood w → is_some stood ≡ true → Searched v (slot + 1) w
 searched_more v u w slot None s f e = absurd (true≢false (sym e))
-searched_more v u w slot (Some alarm) s f e = let bits : ℕ = word_of (Some alarm) in let l = f.looked in let x : ℕ × Moment Reading = (bits, l.at) in let long = length-append s.taken (x ∷ []) in let n = s.as_many in let z : slot ≡ 0 + length s.taken = omega arith in let some : 0 < bits = omega arith in record {
+searched_more v u w slot (Some alarm) s f e = let bits : ℕ = word_of (Some alarm) in let l = f.looked in let x : ℕ × AbsState Reading = (bits, l.at) in let long = length-append s.taken (x ∷ []) in let n = s.as_many in let z : slot ≡ 0 + length s.taken = omega arith in let some : 0 < bits = omega arith in record {
   taken = s.taken ++ x ∷ [];
   as_many = omega arith;
-  full = all_on (λ (found : ℕ × Moment Reading). 0 < found.0) s.taken (x ∷ []) s.full (some, tt);
-  made = subst (λ (es : List (Step Reading)). Made v es v.own w) (ap (λ (k : ℕ). scan 0 s.taken ++ scan k (x ∷ [])) z ∙ sym (scan_on 0 s.taken (x ∷ []))) (two_looks v u w (scan 0 s.taken) (slot_word slot) bits s.made l);
+  full = all_on (λ (found : ℕ × AbsState Reading). 0 < found.0) s.taken (x ∷ []) s.full (some, tt);
+  made = subst (λ (es : List (Step Reading)). Performed v es v.own w) (ap (λ (k : ℕ). scan 0 s.taken ++ scan k (x ∷ [])) z ∙ sym (scan_on 0 s.taken (x ∷ []))) (two_looks v u w (scan 0 s.taken) (slot_word slot) bits s.made l);
 }
 
 pub no_room : (v w : SeatView) (slot : ℕ) → slot ≡ 16 → Searched v slot w → NotSet v not_set.NoRoom w × DidNothing v w
@@ -71,7 +71,7 @@ module _ (v u x w : SeatView) (slot : ℕ) (stood : Option Alarm) (below : slot 
       ((s.taken, other, g.at, o.at, s.as_many, below, s.full, some, m.adds), made_own v w _ v.own m)
 
 -- what one slot gave
-nothing_more : (v w : SeatView) (es : List (Step Reading)) → Made v es v.own w → Made v es (record v.own { fired = v.own.fired ++ [] }) w
+nothing_more : (v w : SeatView) (es : List (Step Reading)) → Performed v es v.own w → Performed v es (record v.own { fired = v.own.fired ++ [] }) w
 nothing_more v w es m = record { adds = m.adds; did = m.did ∙ (λ i. record v.own { fired = sym (append-nil v.own.fired) i }); member = m.member }
 
 -- the content of the slot is not due
@@ -103,12 +103,12 @@ gave_fired v u w clock slot alarm f due h = let l = f.looked in record {
 }
 
 -- the clock is no less than before
-pub clock_seat : (v w : SeatView) (clock : ℕ) (es : List (Step Reading)) → ∥ IsHonest of_meters v ∥₁ → IsHonest of_meters w → Adds v es w → clock ≤ v.seen.object.clock → clock ≤ w.seen.object.clock
-clock_seat v w clock es x y adds told = ∥∥₁_elim x le_prop (λ (h : IsHonest of_meters v). let up = clock_seen v w es h y adds in omega arith)
+pub clock_seat : (v w : SeatView) (clock : ℕ) (es : List (Step Reading)) → ∥ IsValidView of_meters v ∥₁ → IsValidView of_meters w → ExtendsTrace v es w → clock ≤ v.seen.object.clock → clock ≤ w.seen.object.clock
+clock_seat v w clock es x y adds valid = ∥∥₁_elim x le_prop (λ (h : IsValidView of_meters v). let up = clock_seen v w es h y adds in omega arith)
 
 -- the clock is no less behind the visit of a slot
-pub clock_on : (v w : SeatView) (clock slot : ℕ) (alarm : Option Alarm) → ∥ IsHonest of_meters v ∥₁ → ∥ IsHonest of_meters w ∥₁ → clock ≤ v.seen.object.clock → Gave v clock slot alarm w → clock ≤ w.seen.object.clock
-clock_on v w clock slot alarm x y told g = ∥∥₁_elim y le_prop (λ (h : IsHonest of_meters w). clock_seat v w clock (entries_of slot g.visit) x h g.made.adds told)
+pub clock_on : (v w : SeatView) (clock slot : ℕ) (alarm : Option Alarm) → ∥ IsValidView of_meters v ∥₁ → ∥ IsValidView of_meters w ∥₁ → clock ≤ v.seen.object.clock → Gave v clock slot alarm w → clock ≤ w.seen.object.clock
+clock_on v w clock slot alarm x y valid g = ∥∥₁_elim y le_prop (λ (h : IsValidView of_meters w). clock_seat v w clock (entries_of slot g.visit) x h g.made.adds valid)
 
 -- nothing but the word of an empty slot is 0
 pub empty_found : (v w : SeatView) (clock slot bits : ℕ) (stood : Option Alarm) → bits ≡ word_of stood → FoundIn v slot stood w → (bits == 0) ≡ true → Gave v clock slot None w
@@ -121,7 +121,7 @@ pub record Swept (v : SeatView) (clock slot : ℕ) (alarms : List Alarm) (w : Se
   pub as_many : length visits ≡ slot
   pub fit : AllByRecursion (IsVisit clock) visits
   pub alarms_are : alarms ≡ filter_map gave visits
-  pub made : Made v (tour 0 visits) (record v.own { fired = v.own.fired ++ filter_map gave visits }) w
+  pub made : Performed v (tour 0 visits) (record v.own { fired = v.own.fired ++ filter_map gave visits }) w
 
 pub swept_none : (v : SeatView) (clock : ℕ) (alarms : List Alarm) → alarms ≡ [] → Swept v clock 0 alarms v
 swept_none v clock alarms none = record { visits = []; as_many = refl; fit = tt; alarms_are = none; made = nothing_more v v [] (made_none v) }
@@ -138,9 +138,9 @@ swept_more v u w clock slot alarms new alarm s g is = let x : Visit = g.visit in
       as_many = omega arith;
       fit = all_on (IsVisit clock) s.visits (x ∷ []) s.fit (g.fits, tt);
       alarms_are = is ∙ ((λ i. s.alarms_are i ++ one g.visit alarm g.alarm_is i) ∙ all);
-      made = subst (λ (es : List (Step Reading)). Made v es (record v.own { fired = v.own.fired ++ filter_map gave (s.visits ++ x ∷ []) }) w)
+      made = subst (λ (es : List (Step Reading)). Performed v es (record v.own { fired = v.own.fired ++ filter_map gave (s.visits ++ x ∷ []) }) w)
           (ap (λ (e : List (Step Reading)). tour 0 s.visits ++ e) (sym (append-nil (entries_of slot x))) ∙ (ap (λ (k : ℕ). tour 0 s.visits ++ tour k (x ∷ [])) z ∙ sym (tour_on 0 s.visits (x ∷ []))))
-          (subst (λ (fired : List Alarm). Made v (tour 0 s.visits ++ entries_of slot x) (record v.own { fired = fired }) w) (append_assoc v.own.fired (filter_map gave s.visits) (filter_map gave (x ∷ [])) ∙ ap (λ (e : List Alarm). v.own.fired ++ e) all)
+          (subst (λ (fired : List Alarm). Performed v (tour 0 s.visits ++ entries_of slot x) (record v.own { fired = fired }) w) (append_assoc v.own.fired (filter_map gave s.visits) (filter_map gave (x ∷ [])) ∙ ap (λ (e : List Alarm). v.own.fired ++ e) all)
           (made_then v u w (tour 0 s.visits) (entries_of slot x) _ (λ d. record d { fired = d.fired ++ filter_map gave (x ∷ []) }) s.made g.made));
     }
   where

@@ -1,5 +1,5 @@
 -- What the ends list after a step.
-use Rattle.meters.proofs.Common.{◌≡◌, ◌≢◌, ℕ, ◌+◌, ◌-◌, ◌%◌, ◌<◌, ◌≤◌, ◌⊎◌, ⊎_elim, inl, inr, cond, List, [], ◌∷◌, ◌++◌, set, get_or, get_or-set_same, get_or-set_other, length, length-append, Bool, refl, sym, ap, ◌∙◌, subst, arith, eqb, ne_eqb, dite, ℕ_discrete, some, get_elem?, set_else, Alarm, is_alarm, newborn, rest_of, both, emptied, Did, Reading, with_tick, SeatView, nothing_did, did_both, amount_on, times, times_to, ViewsShow}
+use Rattle.meters.proofs.Common.{◌≡◌, ◌≢◌, ℕ, ◌+◌, ◌-◌, ◌%◌, ◌<◌, ◌≤◌, ◌⊎◌, ⊎_elim, inl, inr, cond, List, [], ◌∷◌, ◌++◌, set, get_or, get_or-set_same, get_or-set_other, length, length-append, Bool, refl, sym, ap, ◌∙◌, subst, arith, eqb, ne_eqb, dite, ℕ_discrete, some, get_elem?, set_else, Alarm, is_alarm, newborn, rest_of, both, emptied, MeterOps, Reading, with_tick, SeatView, nothing_did, did_both, amount_on, times, times_to, ViewsShow}
 use Rattle.std.proofs.Common.{eq-eqb}
 use Rattle.std.proofs.lemmas.List.Sums.{sum_by_push, sum_by-append}
 use Rattle.table_theory.specs.Sharing.{total}
@@ -10,12 +10,12 @@ abbrev wide : ℕ
 wide = 18446744073709551616
 
 -- what all ends did, by a number that each did so often
-abbrev pub all_did : (Did → ℕ) → List SeatView → ℕ
+abbrev pub all_did : (MeterOps → ℕ) → List SeatView → ℕ
 all_did f views = total (λ v. f v.own) views
 
 -- two ends did together what both did, and an end that did nothing did it never
-abbrev Adds : (Did → ℕ) → Type 0
-Adds f = (f nothing_did ≡ 0) × ((d e : Did) → f (did_both d e) ≡ f d + f e)
+abbrev Adds : (MeterOps → ℕ) → Type 0
+Adds f = (f nothing_did ≡ 0) × ((d e : MeterOps) → f (did_both d e) ≡ f d + f e)
 
 times_add : (a : Alarm) (xs ys : List Alarm) → times a (xs ++ ys) ≡ times a xs + times a ys
 times_add a xs ys = sum_by-append (λ x. cond (is_alarm a x) 1 0) xs ys
@@ -29,7 +29,7 @@ advances_same first clock views new h same = let to : (t : ℕ) → total (λ v.
 }
 
 -- the views show the meters, where the ends did as much together
-pub listed_same : (first : ℕ) (m : Reading) (views new : List SeatView) → ViewsShow first m views → ((f : Did → ℕ) → Adds f → all_did f new ≡ all_did f views) → ViewsShow first m new
+pub listed_same : (first : ℕ) (m : Reading) (views new : List SeatView) → ViewsShow first m views → ((f : MeterOps → ℕ) → Adds f → all_did f new ≡ all_did f views) → ViewsShow first m new
 listed_same first m views new h same = record {
   gauges = λ g b. h.gauges g b ∙ ap (λ (z : ℕ). z % wide) (sym (same (λ d. amount_on g d.ticks) (refl, λ d e. sum_by-append (λ x. cond (eqb x.gauge g) x.amount 0) d.ticks e.ticks)));
   advances = advances_same first m.clock views new h.advances (λ f adds. same (λ d. f d.advances) (adds.0, λ d e. adds.1 d.advances e.advances));
@@ -58,7 +58,7 @@ listed_sole first m views id v w h at idle same = listed_same first m views (v �
     (λ f adds. let s = sole_total (λ (u : SeatView). f u.own) views id w at (λ i u has ne. ap f (idle i u has ne) ∙ adds.0) in let e = ap f same in omega arith)
 
 -- What an event changes in the lists of an end, and in those of the meters, whatever all others did
-pub record Lists (m n : Reading) (d e : Did) : Type 0 where
+pub record Lists (m n : Reading) (d e : MeterOps) : Type 0 where
   pub gauges : (g t : ℕ) → g < 8 → get_or m.gauges g 0 ≡ (t + amount_on g d.ticks) % wide → get_or n.gauges g 0 ≡ (t + amount_on g e.ticks) % wide
   pub set : (a : Alarm) (t : ℕ) → times a m.set ≡ t + times a d.set → times a n.set ≡ t + times a e.set
   pub fired : (a : Alarm) (t : ℕ) → times a m.fired ≡ t + times a d.fired → times a n.fired ≡ t + times a e.fired
@@ -68,7 +68,7 @@ pub record Lists (m n : Reading) (d e : Did) : Type 0 where
 pub one_more : (a alarm : Alarm) (xs ys : List Alarm) (t : ℕ) → times a xs ≡ t + times a ys → times a (xs ++ alarm ∷ []) ≡ t + times a (ys ++ alarm ∷ [])
 one_more a alarm xs ys t h = let p = times_add a xs (alarm ∷ []) in let q = times_add a ys (alarm ∷ []) in omega arith
 
-pub tick_lists : (m : Reading) (g n : ℕ) (d : Did) → g < length m.gauges → Lists m (with_tick m g n) d (record d { ticks = d.ticks ++ record { gauge = g; amount = n } ∷ [] })
+pub tick_lists : (m : Reading) (g n : ℕ) (d : MeterOps) → g < length m.gauges → Lists m (with_tick m g n) d (record d { ticks = d.ticks ++ record { gauge = g; amount = n } ∷ [] })
 tick_lists m g n d within = let z : ℕ = (get_or m.gauges g 0 + n) % wide in record {
   gauges = λ j t b h. let p : amount_on j (d.ticks ++ record { gauge = g; amount = n } ∷ []) ≡ amount_on j d.ticks + cond (eqb g j) n 0 = sum_by_push (λ x. cond (eqb x.gauge j) x.amount 0) d.ticks (record { gauge = g; amount = n }) in dite (ℕ_discrete j g)
       (λ is. let yes : cond (eqb g j) n 0 ≡ n = ap (λ (x : Bool). cond x n 0) (eq-eqb g j (sym is)) in let was : get_or m.gauges g 0 ≡ (t + amount_on j d.ticks) % wide = ap (λ (x : ℕ). get_or m.gauges x 0) (sym is) ∙ h in
@@ -85,7 +85,7 @@ part_is : (f : SeatView → ℕ) (views : List SeatView) (id : ℕ) (v w : SeatV
 part_is f views id v w at = let o = one_of f views id v at in let s = total_set f views id v w at in (total f views - f v, omega arith, omega arith)
 
 listed : (first : ℕ) (m n : Reading) (views : List SeatView) (id : ℕ) (v w : SeatView) → ViewsShow first m views → get_elem? views id ≡ some v → Lists m n v.own w.own → AdvancesShow first n.clock (set views id w) → ViewsShow first n (set views id w)
-listed first m n views id v w h at d advances = let part : (f : Did → ℕ) → (t : ℕ) × (all_did f views ≡ t + f v.own) × (all_did f (set views id w) ≡ t + f w.own) = λ f. part_is (λ u. f u.own) views id v w at in record {
+listed first m n views id v w h at d advances = let part : (f : MeterOps → ℕ) → (t : ℕ) × (all_did f views ≡ t + f v.own) × (all_did f (set views id w) ≡ t + f w.own) = λ f. part_is (λ u. f u.own) views id v w at in record {
   gauges = λ g b. let p = part (λ x. amount_on g x.ticks) in d.gauges g p.0 b (h.gauges g b ∙ ap (λ (z : ℕ). z % wide) p.1) ∙ ap (λ (z : ℕ). z % wide) (sym p.2);
   advances = advances;
   set = λ a. let p = part (λ x. times a x.set) in d.set a p.0 (h.set a ∙ p.1) ∙ sym p.2;
@@ -123,7 +123,7 @@ listed_advance first m n views id v w h at d clock more = listed first m n views
 
 -- what an end has it has no more often than all ends
 pub is_part : (first : ℕ) (m : Reading) (views : List SeatView) (id : ℕ) (v w : SeatView) → ViewsShow first m views → get_elem? views id ≡ some v → w.own ≡ v.own → w.seen.object ≡ m → IsPart w
-is_part first m views id v w h at own seen = let below : (f : Did → ℕ) (n k : ℕ) → k ≡ n → n ≡ all_did f views → f w.own ≤ k = λ f n k is sum. (let o = one_of (λ (u : SeatView). f u.own) views id v at in let e = ap f own in omega arith) in record {
+is_part first m views id v w h at own seen = let below : (f : MeterOps → ℕ) (n k : ℕ) → k ≡ n → n ≡ all_did f views → f w.own ≤ k = λ f n k is sum. (let o = one_of (λ (u : SeatView). f u.own) views id v at in let e = ap f own in omega arith) in record {
   set = λ a. below (λ d. times a d.set) (times a m.set) (times a w.seen.object.set) (λ i. times a (seen i).set) (h.set a);
   fired = λ a. below (λ d. times a d.fired) (times a m.fired) (times a w.seen.object.fired) (λ i. times a (seen i).fired) (h.fired a);
   cancelled = λ a. below (λ d. times a d.cancelled) (times a m.cancelled) (times a w.seen.object.cancelled) (λ i. times a (seen i).cancelled) (h.cancelled a);

@@ -1,5 +1,5 @@
 -- The words that closing reads, and its result.
-use Rattle.meters.proofs.Common.{◌≡◌, ℕ, suc, ◌+◌, ◌%◌, ◌<◌, cond, List, [], ◌∷◌, ◌++◌, take, drop, length, get_or, get_or-set_same, get_or-set_other, set, sym, refl, ap, ◌∙◌, subst, arith, Option, Some, None, count_by, filter_map-append, dite, ℕ_discrete, get_elem?, Alarm, is_alarm, stands, Moment, ends_word, word_of, Reading, Shape, Rule, IsLawful, SeatView, ViewsShow, amount_on, times, times_to, Fits, SlotsShow, WordsShow, standing}
+use Rattle.meters.proofs.Common.{◌≡◌, ℕ, suc, ◌+◌, ◌%◌, ◌<◌, cond, List, [], ◌∷◌, ◌++◌, take, drop, length, get_or, get_or-set_same, get_or-set_other, set, sym, refl, ap, ◌∙◌, subst, arith, Option, Some, None, count_by, filter_map-append, dite, ℕ_discrete, get_elem?, Alarm, is_alarm, stands, AbsState, ends_word, word_of, Reading, Shape, Rule, IsLawful, SeatView, ViewsShow, amount_on, times, times_to, Fits, SlotsShow, WordsShow, standing}
 use Rattle.std.proofs.Common.{add-zero, take-suc}
 use Rattle.std.proofs.Math.Path.{transport}
 use Rattle.std.proofs.lemmas.List.Sums.{sum_by-cons}
@@ -57,10 +57,10 @@ pub closes : (key : Shape) (v w : SeatView) (found id : ℕ) (ws : List ℕ) (xs
     → gauges ≡ take 8 (drop 1 ws) → get_elem? ws 9 ≡ maybe.some clock → ((slots : List (Option Alarm)) → SlotsShow slots ws → alarms ≡ standing slots) → ClosedNow key.clock v gauges clock alarms
 closes key v w found id ws xs gauges clock alarms one_end t is fin read_gauges read_clock read_alarms =
     let s : St = fin.0 in let k = fin.1.0 in let at = fin.1.1 in let m : Reading = v.seen.object in let c = ends.closes k.stands id v w at ends_word found t is one_end in
-    let shows : WordsShow m ws = subst (WordsShow m) fin.2 (subst (λ (z : Moment Reading). WordsShow z.object s.words) c.now_is k.stands.shows) in
+    let shows : WordsShow m ws = subst (WordsShow m) fin.2 (subst (λ (z : AbsState Reading). WordsShow z.object s.words) c.now_is k.stands.shows) in
     let gauges_is : gauges ≡ m.gauges = read_gauges ∙ sym (shown_gauges m ws shows) in let alarms_is : alarms ≡ standing m.slots = read_alarms m.slots shows.slots in let clock_is : clock ≡ m.clock = sym (read_word ws 9 clock read_clock) ∙ shows.clock in
-    let listed : ViewsShow key.clock m (v ∷ []) = listed_sole key.clock m s.views id v w (subst (λ (z : Moment Reading). ViewsShow key.clock z.object s.views) c.now_is k.listed) at (λ i u has ne. (c.idle i u has ne).own) t.made.did in
-    let lawful : IsLawful m = subst (λ (z : Moment Reading). IsLawful z.object) c.now_is k.stands.lawful in record {
+    let listed : ViewsShow key.clock m (v ∷ []) = listed_sole key.clock m s.views id v w (subst (λ (z : AbsState Reading). ViewsShow key.clock z.object s.views) c.now_is k.listed) at (λ i u has ne. (c.idle i u has ne).own) t.made.did in
+    let lawful : IsLawful m = subst (λ (z : AbsState Reading). IsLawful z.object) c.now_is k.stands.lawful in record {
       whole = c.whole;
       lawful = lawful;
       listed = listed;

@@ -3,8 +3,8 @@ use Rattle.std.specs.Prelude.{◌≡◌, ◌≢◌, ◌⊎◌, ◌+◌, ◌<◌,
 use Rattle.std.specs.Prelude.{filter_map, Option, Some, None}
 use Rattle.std.specs.List.{AllByRecursion}
 use Rattle.event_theory.specs.declared.alarm.Alarm.{Alarm}
-use Rattle.table_theory.specs.declared.views.Moment.{Moment}
-use Rattle.table_theory.specs.Ledgers.{Step, load, change, Adds}
+use Rattle.table_theory.specs.declared.views.AbsState.{AbsState}
+use Rattle.table_theory.specs.Ledgers.{Step, load, change, ExtendsTrace}
 use Rattle.meters.specs.Layout.{gauge_word, clock_word, slot_word, word_of, alarm_in}
 use Rattle.meters.specs.declared.layout.TheConstants.{SLOTS, LAST_TICK}
 use Rattle.meters.specs.declared.alarms.SetRefusal.{SetRefusal}
@@ -18,27 +18,27 @@ use Rattle.meters.specs.Own.{SeatView}
 -- one step found this number in the gauge, and added the amount to it
 abbrev pub Ticked : SeatView → ℕ → ℕ → ℕ → SeatView → Type 0
 Ticked v gauge amount found w =
-    (m : Moment Reading) × Adds v (change (gauge_word gauge) found m (with_tick m.object gauge amount) ∷ []) w
+    (m : AbsState Reading) × ExtendsTrace v (change (gauge_word gauge) found m (with_tick m.object gauge amount) ∷ []) w
 
 -- the word was loaded, and this number found
 abbrev pub Loaded : SeatView → ℕ → ℕ → SeatView → Type 0
-Loaded v word found w = (m : Moment Reading) × Adds v (load word found m ∷ []) w
+Loaded v word found w = (m : AbsState Reading) × ExtendsTrace v (load word found m ∷ []) w
 
 -- the clock was loaded, and moved on from the tick that was found to the next one, which is `clock`
 abbrev pub AdvancedNow : SeatView → ℕ → SeatView → Type 0
-AdvancedNow v clock w = (was : ℕ) × (m n : Moment Reading) × (clock ≡ was + 1)
-    × Adds v (load clock_word was m ∷ change clock_word was n (with_advance n.object) ∷ []) w
+AdvancedNow v clock w = (was : ℕ) × (m n : AbsState Reading) × (clock ≡ was + 1)
+    × ExtendsTrace v (load clock_word was m ∷ change clock_word was n (with_advance n.object) ∷ []) w
 
 -- Why the clock was not moved on. Spent: the clock was loaded, and is the last tick. Lost: the clock was loaded, but
 -- the exchange found another clock, past the one that was loaded.
 abbrev pub NotAdvanced : SeatView → AdvanceRefusal → SeatView → Type 0
-NotAdvanced v not_advanced.Spent w = (m : Moment Reading) × Adds v (load clock_word LAST_TICK m ∷ []) w
-NotAdvanced v (not_advanced.Lost clock) w = (was : ℕ) × (m n : Moment Reading) × (was < clock)
-    × Adds v (load clock_word was m ∷ load clock_word clock n ∷ []) w
+NotAdvanced v not_advanced.Spent w = (m : AbsState Reading) × ExtendsTrace v (load clock_word LAST_TICK m ∷ []) w
+NotAdvanced v (not_advanced.Lost clock) w = (was : ℕ) × (m n : AbsState Reading) × (was < clock)
+    × ExtendsTrace v (load clock_word was m ∷ load clock_word clock n ∷ []) w
 
 -- numbers that were found in slots, each at its moment
 abbrev pub Scanned : Type 0
-Scanned = List (ℕ × Moment Reading)
+Scanned = List (ℕ × AbsState Reading)
 
 -- the slots from this one on were loaded, in order
 abbrev pub scan : ℕ → Scanned → List (Step Reading)
@@ -51,33 +51,33 @@ AreTaken scanned = AllByRecursion (λ found. 0 < found.0) scanned
 
 -- the slots before this one were found taken and this one empty, and then the alarm was set in it
 abbrev pub SetNow : SeatView → ℕ → Alarm → SeatView → Type 0
-SetNow v slot alarm w = (taken : Scanned) × (m n : Moment Reading)
+SetNow v slot alarm w = (taken : Scanned) × (m n : AbsState Reading)
     × (length taken ≡ slot) × (slot < SLOTS) × AreTaken taken
-    × Adds v (scan 0 taken
+    × ExtendsTrace v (scan 0 taken
     ++ load (slot_word slot) 0 m ∷ change (slot_word slot) 0 n (with_alarm n.object slot alarm) ∷ []) w
 
 -- Why an alarm was not set. NoRoom: all 16 slots were found taken. Lost: the slots before this one were found taken and
 -- this one empty, but the exchange found an alarm in it.
 abbrev pub NotSet : SeatView → SetRefusal → SeatView → Type 0
 NotSet v not_set.NoRoom w =
-    (taken : Scanned) × (length taken ≡ SLOTS) × AreTaken taken × Adds v (scan 0 taken) w
-NotSet v (not_set.Lost slot) w = (taken : Scanned) × (other : ℕ) × (m n : Moment Reading)
+    (taken : Scanned) × (length taken ≡ SLOTS) × AreTaken taken × ExtendsTrace v (scan 0 taken) w
+NotSet v (not_set.Lost slot) w = (taken : Scanned) × (other : ℕ) × (m n : AbsState Reading)
     × (length taken ≡ slot) × (slot < SLOTS) × AreTaken taken × (0 < other)
-    × Adds v (scan 0 taken ++ load (slot_word slot) 0 m ∷ load (slot_word slot) other n ∷ []) w
+    × ExtendsTrace v (scan 0 taken ++ load (slot_word slot) 0 m ∷ load (slot_word slot) other n ∷ []) w
 
 -- the alarm was found in the slot and cancelled (true), or another number was found there (false)
 abbrev pub CancelledNow : SeatView → ℕ → Alarm → Bool → SeatView → Type 0
-CancelledNow v slot alarm true w = (m : Moment Reading)
-    × Adds v (change (slot_word slot) (word_of (Some alarm)) m (with_cancelled m.object slot alarm) ∷ []) w
-CancelledNow v slot alarm false w = (other : ℕ) × (m : Moment Reading) × (other ≢ word_of (Some alarm))
-    × Adds v (load (slot_word slot) other m ∷ []) w
+CancelledNow v slot alarm true w = (m : AbsState Reading)
+    × ExtendsTrace v (change (slot_word slot) (word_of (Some alarm)) m (with_cancelled m.object slot alarm) ∷ []) w
+CancelledNow v slot alarm false w = (other : ℕ) × (m : AbsState Reading) × (other ≢ word_of (Some alarm))
+    × ExtendsTrace v (load (slot_word slot) other m ∷ []) w
 
 -- A visit of a slot by `due`. It finds no alarm, or one that is not due; or one that is due, and fires it; or one that
 -- is due, but the exchange then finds another number.
 pub data Visit : Type 0 where
-  stays : ℕ → Moment Reading → Visit
-  goes : Alarm → Moment Reading → Moment Reading → Visit
-  went : ℕ → Moment Reading → ℕ → Moment Reading → Visit
+  stays : ℕ → AbsState Reading → Visit
+  goes : Alarm → AbsState Reading → AbsState Reading → Visit
+  went : ℕ → AbsState Reading → ℕ → AbsState Reading → Visit
 
 -- the entries of a visit of this slot
 abbrev pub entries_of : ℕ → Visit → List (Step Reading)
@@ -105,6 +105,6 @@ gave (went found m other n) = None
 
 -- The clock was loaded, and then all 16 slots were visited, in order. The alarms are those that the visits fired.
 abbrev pub FiredNow : SeatView → List Alarm → SeatView → Type 0
-FiredNow v alarms w = (clock : ℕ) × (m : Moment Reading) × (visits : List Visit) × (length visits ≡ SLOTS)
+FiredNow v alarms w = (clock : ℕ) × (m : AbsState Reading) × (visits : List Visit) × (length visits ≡ SLOTS)
     × AllByRecursion (IsVisit clock) visits × (alarms ≡ filter_map gave visits)
-    × Adds v (load clock_word clock m ∷ tour 0 visits) w
+    × ExtendsTrace v (load clock_word clock m ∷ tour 0 visits) w

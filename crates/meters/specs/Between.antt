@@ -4,8 +4,8 @@ use Rattle.atomic_table.specs.Table.{State}
 use Rattle.event_theory.specs.declared.alarm.Alarm.{Alarm}
 use Rattle.event_theory.specs.Lawful.{IsLawfulMeters, stands}
 use Rattle.event_theory.specs.Meters.{Meters}
-use Rattle.table_theory.specs.declared.views.Moment.{Moment}
-use Rattle.table_theory.specs.Ledgers.{AreTrue}
+use Rattle.table_theory.specs.declared.views.AbsState.{AbsState}
+use Rattle.table_theory.specs.Ledgers.{AreValidViews}
 use Rattle.table_theory.specs.Sharing.{total}
 use Rattle.meters.specs.Layout.{ends_word, clock_word, slot_word, word_of, width, gauges_in}
 use Rattle.meters.specs.declared.layout.TheConstants.{GAUGES, SLOTS, TICKS}
@@ -39,7 +39,7 @@ pub record IsShown (key : Shape) (s : State Unit SeatView) (m : Meters) : Type 0
 
 -- there are lawful meters that the words and the views show
 pub record ShowsMeters (key : Shape) (s : State Unit SeatView) : Type 0 where
-  pub now : Moment Reading
+  pub now : AbsState Reading
   pub meters : Meters
   pub lawful : IsLawfulMeters meters
   pub shown : IsShown key s meters
@@ -47,4 +47,4 @@ pub record ShowsMeters (key : Shape) (s : State Unit SeatView) : Type 0 where
   -- the first word has the number of ends
   pub number : slice_index_or s.words ends_word 0 ≡ now.ends
   -- the ends' steps lead from the first meters to these, and each end has seen all steps up to its own last one
-  pub true_ends : AreTrue of_meters nothing_did (first_reading key.clock) now s.views
+  pub true_ends : AreValidViews of_meters nothing_did (first_reading key.clock) now s.views

@@ -5,13 +5,13 @@ use Rattle.meters.specs.Own.{SeatView, nothing_did, did_both}
 use Rattle.meters.specs.Views.{IsPart}
 
 -- the number of ends was made one more, and the end gave away a part of its share
-abbrev pub Divided : SeatView → SeatView → Type 0
-Divided v w = ends.Divided ends_word v w
+abbrev pub SplitBy : SeatView → SeatView → Type 0
+SplitBy v w = ends.SplitBy ends_word v w
 
 -- the new end has only its part of the share, and has seen what the other end had seen
-abbrev pub IsNewborn : SeatView → SeatView → SeatView → Type 0
-IsNewborn old new born = ends.IsNewborn nothing_did old new born
+abbrev pub IsNewEnd : SeatView → SeatView → SeatView → Type 0
+IsNewEnd old new born = ends.IsNewEnd nothing_did old new born
 
 -- the end has what both had, the number of ends was made one less, and the end's lists are part of what happened
-abbrev pub TookIn : SeatView → SeatView → SeatView → Type 0
-TookIn v u w = ends.TookIn did_both ends_word v u w × IsPart w
+abbrev pub JoinedBy : SeatView → SeatView → SeatView → Type 0
+JoinedBy v u w = ends.JoinedBy did_both ends_word v u w × IsPart w

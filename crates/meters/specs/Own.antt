@@ -1,11 +1,11 @@
 -- An end's own: what it did, and its share. The contract of each call says how it changes.
 use Rattle.std.specs.Prelude.{◌≡◌, ℕ, ◌+◌, List, [], ◌∷◌, ◌++◌}
 use Rattle.event_theory.specs.declared.alarm.Alarm.{Alarm}
-use Rattle.table_theory.specs.declared.views.Ledger.{Ledger}
-use Rattle.table_theory.specs.Ledgers.{Subject}
+use Rattle.table_theory.specs.declared.views.EndState.{EndState}
+use Rattle.table_theory.specs.Ledgers.{ObjectModel}
 use Rattle.table_theory.specs.Sharing.{kept}
 use Rattle.meters.specs.Layout.{ends_word}
-use Rattle.meters.specs.declared.rule.Did.{Did}
+use Rattle.meters.specs.declared.rule.MeterOps.{MeterOps}
 use Rattle.meters.specs.declared.rule.Reading.{Reading}
 use Rattle.meters.specs.declared.rule.Tick.{Tick}
 use Rattle.meters.specs.Changes.{IsLawful, Becomes}
@@ -13,14 +13,14 @@ use Rattle.meters.specs.Words.{WordsShow}
 
 -- the view of an end of the meters: what it knows
 abbrev pub SeatView : Type 0
-SeatView = Ledger Did Reading
+SeatView = EndState MeterOps Reading
 
 -- the record of an end that did nothing
-abbrev pub nothing_did : Did
+abbrev pub nothing_did : MeterOps
 nothing_did = record { ticks = []; advances = []; set = []; fired = []; cancelled = [] }
 
 -- the record of what two ends did together
-abbrev pub did_both : Did → Did → Did
+abbrev pub did_both : MeterOps → MeterOps → MeterOps
 did_both d e = record {
   ticks = d.ticks ++ e.ticks;
   advances = d.advances ++ e.advances;
@@ -30,7 +30,7 @@ did_both d e = record {
 }
 
 -- the parameters that the theory of tables takes from the table of the meters
-abbrev pub of_meters : Subject Reading
+abbrev pub of_meters : ObjectModel Reading
 of_meters = record { ends_word = ends_word; Shows = WordsShow; IsLawful = IsLawful; Happens = Becomes }
 
 -- an end's own: its ticks, the ticks that it moved the clock on to, the alarms that it set, fired and cancelled, how

@@ -4,8 +4,8 @@ use Rattle.event_theory.specs.declared.alarm.Alarm.{Alarm}
 use Rattle.atomic_table.specs.Seated.{TableId}
 use Rattle.atomic_table.specs.Table.{Me, Step}
 use Rattle.atomic_table.specs.declared.shared.Seat.{Seat}
-use Rattle.table_theory.specs.declared.views.Moment.{Moment}
-use Rattle.table_theory.specs.Ledgers.{change, IsHonest, Looked, Made}
+use Rattle.table_theory.specs.declared.views.AbsState.{AbsState}
+use Rattle.table_theory.specs.Ledgers.{change, IsValidView, Looked, Performed}
 use Rattle.table_theory.specs.Plays.{Stays}
 use Rattle.table_theory.specs.Seating.{IsSame}
 use Rattle.meters.specs.Layout.{gauge_word, clock_word, slot_word, width, word_of}
@@ -21,28 +21,28 @@ CanStep table seat = (seat.table_id ≡ table) × (width ≤ table.words) × (1 
 
 -- the end made a step: it is the same end, what it holds stays, and its list is true
 abbrev pub HasStepped : Seat Unit SeatView → Seat Unit SeatView → Type 0
-HasStepped old new = IsSame old new × (new.me.1 ≡ old.me.1) × IsHonest of_meters new.me.0
+HasStepped old new = IsSame old new × (new.me.1 ≡ old.me.1) × IsValidView of_meters new.me.0
 
 -- the gauge was found at this number, and ticked by this amount
 abbrev pub WasTicked : SeatView → ℕ → ℕ → ℕ → SeatView → Type 0
-WasTicked v gauge amount found w = (m : Moment Reading)
-    × Made v (change (gauge_word gauge) found m (with_tick m.object gauge amount) ∷ [])
+WasTicked v gauge amount found w = (m : AbsState Reading)
+    × Performed v (change (gauge_word gauge) found m (with_tick m.object gauge amount) ∷ [])
     (record v.own { ticks = v.own.ticks ++ record { gauge = gauge; amount = amount } ∷ [] }) w
 
 -- the result of adding to a gauge
 abbrev pub ticks : Step Unit → Me Unit SeatView → ℕ → Me Unit SeatView → Type 0
-ticks st m r m' = Stays (IsHonest of_meters) m m'
+ticks st m r m' = Stays (IsValidView of_meters) m m'
     × ((gauge : ℕ) → st.word ≡ gauge_word gauge → WasTicked m.0 gauge st.first r m'.0)
 
 -- the clock was found at this tick, and moved on by one
 abbrev pub WasAdvanced : SeatView → ℕ → SeatView → Type 0
-WasAdvanced v clock w = (m : Moment Reading)
-    × Made v (change clock_word clock m (with_advance m.object) ∷ [])
+WasAdvanced v clock w = (m : AbsState Reading)
+    × Performed v (change clock_word clock m (with_advance m.object) ∷ [])
     (record v.own { advances = v.own.advances ++ (clock + 1) ∷ [] }) w
 
 -- the result of an exchange of the clock: it was moved on if the expected tick was found, else only loaded
 abbrev pub advances : Step Unit → Me Unit SeatView → ℕ → Me Unit SeatView → Type 0
-advances st m r m' = Stays (IsHonest of_meters) m m'
+advances st m r m' = Stays (IsValidView of_meters) m m'
     × (r ≡ st.first → WasAdvanced m.0 st.first m'.0)
     × (r ≢ st.first → Looked m.0 st.word r m'.0)
 
@@ -54,15 +54,15 @@ pub record IsWordOf (slot : ℕ) (alarm : Alarm) (word bits : ℕ) : Type 0 wher
 
 -- the slot was found empty, and the alarm was set in it
 abbrev pub WasSet : SeatView → ℕ → Alarm → SeatView → Type 0
-WasSet v slot alarm w = (m : Moment Reading)
-    × Made v (change (slot_word slot) 0 m (with_alarm m.object slot alarm) ∷ [])
+WasSet v slot alarm w = (m : AbsState Reading)
+    × Performed v (change (slot_word slot) 0 m (with_alarm m.object slot alarm) ∷ [])
     (record v.own { set = v.own.set ++ alarm ∷ [] }) w
 
 -- The result of an exchange of a slot's word: if it found the expected number, `Was` holds of the slot and of the alarm
 -- that has the bits; else the slot was only loaded.
 abbrev pub exchanges : (SeatView → ℕ → Alarm → SeatView → Type 0) → ℕ → Step Unit → Me Unit SeatView → ℕ
     → Me Unit SeatView → Type 0
-exchanges Was bits st m r m' = Stays (IsHonest of_meters) m m'
+exchanges Was bits st m r m' = Stays (IsValidView of_meters) m m'
     × (r ≡ st.first → (slot : ℕ) (alarm : Alarm) → IsWordOf slot alarm st.word bits → Was m.0 slot alarm m'.0)
     × (r ≢ st.first → Looked m.0 st.word r m'.0)
 
@@ -72,8 +72,8 @@ sets st m r m' = exchanges WasSet st.second st m r m'
 
 -- the alarm was found in this slot, and taken out as fired
 abbrev pub WasFired : SeatView → ℕ → Alarm → SeatView → Type 0
-WasFired v slot alarm w = (m : Moment Reading)
-    × Made v (change (slot_word slot) (word_of (Some alarm)) m (with_fired m.object slot alarm) ∷ [])
+WasFired v slot alarm w = (m : AbsState Reading)
+    × Performed v (change (slot_word slot) (word_of (Some alarm)) m (with_fired m.object slot alarm) ∷ [])
     (record v.own { fired = v.own.fired ++ alarm ∷ [] }) w
 
 -- the result of the exchange that fires an alarm
@@ -82,8 +82,8 @@ fires st m r m' = exchanges WasFired st.first st m r m'
 
 -- the alarm was found in this slot, and taken out as cancelled
 abbrev pub WasCancelled : SeatView → ℕ → Alarm → SeatView → Type 0
-WasCancelled v slot alarm w = (m : Moment Reading)
-    × Made v (change (slot_word slot) (word_of (Some alarm)) m (with_cancelled m.object slot alarm) ∷ [])
+WasCancelled v slot alarm w = (m : AbsState Reading)
+    × Performed v (change (slot_word slot) (word_of (Some alarm)) m (with_cancelled m.object slot alarm) ∷ [])
     (record v.own { cancelled = v.own.cancelled ++ alarm ∷ [] }) w
 
 -- the result of the exchange that cancels an alarm
@@ -104,4 +104,4 @@ pub record Gave (v : SeatView) (clock slot : ℕ) (alarm : Option Alarm) (w : Se
   pub visit : Visit
   pub alarm_is : alarm ≡ gave visit
   pub fits : IsVisit clock visit
-  pub made : Made v (entries_of slot visit) (record v.own { fired = v.own.fired ++ filter_map gave (visit ∷ []) }) w
+  pub made : Performed v (entries_of slot visit) (record v.own { fired = v.own.fired ++ filter_map gave (visit ∷ []) }) w

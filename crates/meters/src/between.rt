@@ -4,7 +4,7 @@ ghost use Rattle.atomic_table.specs.Table.{State};
 ghost use Rattle.meters.specs.declared.rule.Shape.{Shape};
 ghost use Rattle.meters.specs.declared.rule.Reading.{Reading};
 ghost use Rattle.std.specs.Prelude.{◌≡◌, ◌≤◌};
-ghost use Rattle.table_theory.specs.declared.views.Moment.{Moment};
+ghost use Rattle.table_theory.specs.declared.views.AbsState.{AbsState};
 ghost use Rattle.table_theory.specs.Ledgers.{Reaches};
 ghost use Rattle.meters.specs.Own.{SeatView, of_meters};
 ghost use Rattle.meters.specs.Between.{ShowsMeters};
@@ -20,7 +20,7 @@ use atomic_table::{Shared, TableRule};
 pub fn between_steps()
     ensures shown { (key : Shape) (state : State Unit SeatView)
         → ⟦<MeterRule as TableRule<(), View, Shape>>⟧.holds key state → ShowsMeters key state }
-    ensures clock { (m n : Moment Reading) → Reaches of_meters m n → m.object.clock ≤ n.object.clock }
+    ensures clock { (m n : AbsState Reading) → Reaches of_meters m n → m.object.clock ≤ n.object.clock }
 {}
 
 impl Meters {

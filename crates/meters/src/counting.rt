@@ -1,18 +1,18 @@
 //! The count of the ends of the meters: the parts of their rule that the steps of the theory of tables use.
-use crate::rule::{Did, MeterRule, Reading, Shape, View};
+use crate::rule::{MeterOps, MeterRule, Reading, Shape, View};
 use table_theory::end_steps::EndsRule;
 use table_theory::last_end::CountRule;
 
 impl CountRule<(), View, Shape> for MeterRule {
-    ghost use Rattle.table_theory.specs.Ledgers.{IsHonest};
+    ghost use Rattle.table_theory.specs.Ledgers.{IsValidView};
     ghost use Rattle.table_theory.specs.Plays.{HasTallied};
     ghost use Rattle.meters.specs.Layout.{ends_word};
     ghost use Rattle.meters.specs.Own.{of_meters};
 
-    ghost tallied = { λ id. HasTallied (IsHonest of_meters) ends_word };
+    ghost tallied = { λ id. HasTallied (IsValidView of_meters) ends_word };
 }
 
-impl EndsRule<(), Did, Reading, Shape> for MeterRule {
+impl EndsRule<(), MeterOps, Reading, Shape> for MeterRule {
     ghost use Rattle.meters.specs.Own.{nothing_did, did_both};
     ghost use Rattle.meters.specs.Rules.{newcomer, IsSound};
 

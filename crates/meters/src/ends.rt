@@ -2,9 +2,9 @@
 ghost use Rattle.std.specs.Prelude.{◌≡◌, [], IfOk};
 ghost use Rattle.meters.specs.Layout.{width};
 ghost use Rattle.meters.specs.Rules.{newcomer};
-ghost use Rattle.meters.specs.Endings.{Divided, IsNewborn, TookIn};
+ghost use Rattle.meters.specs.Endings.{SplitBy, IsNewEnd, JoinedBy};
 ghost use Rattle.meters.specs.Own.{DidSplit, DidBoth, of_meters};
-ghost use Rattle.table_theory.specs.Ledgers.{IsHonest};
+ghost use Rattle.table_theory.specs.Ledgers.{IsValidView};
 
 use crate::layout::{CLOCK, ENDS, WORDS};
 use crate::rule::{MeterRule, Shape, View};
@@ -35,7 +35,7 @@ pub struct MeterSeat {
     pub(crate) seat: Seat<(), View>,
     ghost bare: { seat.me.1 ≡ [] },
     ghost one: { seat.me.0.member.ends ≡ 1 },
-    ghost told: { ∥ IsHonest of_meters seat.me.0 ∥₁ },
+    ghost valid: { ∥ IsValidView of_meters seat.me.0 ∥₁ },
 }
 
 impl Meters {
@@ -65,8 +65,8 @@ impl Meters {
         requires seat { IsSeatOf self.now seat.old }
         requires parts { IsDivisible seat.old }
         ensures own { DidSplit (view_of seat.old) (view_of seat.new) }
-        ensures born { IsNewborn (view_of seat.old) (view_of seat.new) (view_of result) }
-        ensures steps { Divided (view_of seat.old) (view_of seat.new) }
+        ensures born { IsNewEnd (view_of seat.old) (view_of seat.new) (view_of result) }
+        ensures steps { SplitBy (view_of seat.old) (view_of seat.new) }
         ensures same { IsSameSeat seat.old seat.new × AreOfOneTable seat.old result }
     {
         // linearization point: the number of ends becomes one more, before the new end is made, so it is never too low
@@ -81,7 +81,7 @@ impl Meters {
     pub fn join(&self, seat: &mut MeterSeat, other: MeterSeat)
         requires { IsSeatOf self.now seat.old × IsSeatOf self.now other }
         ensures own { DidBoth (view_of seat.old) (view_of other) (view_of seat.new) }
-        ensures steps { TookIn (view_of seat.old) (view_of other) (view_of seat.new) }
+        ensures steps { JoinedBy (view_of seat.old) (view_of other) (view_of seat.new) }
         ensures same { IsSameSeat seat.old seat.new }
     {
         let MeterSeat { seat: spent } = other;

@@ -54,6 +54,6 @@ pub use close::Metered;
 pub use ends::{MeterSeat, Meters};
 pub use event_theory::Alarm;
 pub use gauges::AdvanceRefusal;
-pub use rule::{Did, MeterRule, Reading, Shape, Tick, View};
+pub use rule::{MeterOps, MeterRule, Reading, Shape, Tick, View};
 pub use table_theory::OpenEnds;
 pub use word::AlarmWord;

@@ -1,5 +1,5 @@
 //! The result of each step. These types are for the proofs alone.
-ghost use Rattle.table_theory.specs.Ledgers.{IsHonest};
+ghost use Rattle.table_theory.specs.Ledgers.{IsValidView};
 ghost use Rattle.table_theory.specs.Plays.{finds};
 ghost use Rattle.meters.specs.Own.{of_meters};
 ghost use Rattle.meters.specs.Steps.{ticks, advances, sets, fires, cancels};
@@ -10,7 +10,7 @@ use atomic_table::Play;
 pub struct Finds;
 
 impl Play<(), View> for Finds {
-    ghost then = { finds (IsHonest of_meters) };
+    ghost then = { finds (IsValidView of_meters) };
 }
 
 pub struct Ticks;

@@ -2,7 +2,7 @@
 use atomic_table::TableRule;
 use event_theory::Alarm;
 use std::collections::LinkedList;
-use table_theory::views::Ledger;
+use table_theory::views::EndState;
 
 /// The parameter of the rule, set when the table is made: the clock then.
 #[derive(Drop)]
@@ -29,7 +29,7 @@ pub struct Reading {
 
 /// The record of an end: its ticks, the ticks that it moved the clock on to, and the alarms that it set, fired and
 /// cancelled. Only proofs speak of it.
-pub struct Did {
+pub struct MeterOps {
     pub ticks: LinkedList<Tick>,
     pub advances: LinkedList<u64>,
     pub set: LinkedList<Alarm>,
@@ -38,7 +38,7 @@ pub struct Did {
 }
 
 /// The knowledge of an end: what it did, its steps, and all ends' steps up to its own last one.
-pub type View = Ledger<Did, Reading>;
+pub type View = EndState<MeterOps, Reading>;
 
 pub struct MeterRule;
 

@@ -1,6 +1,6 @@
 -- The entries of a log and the entries of its lists have the same total, since each is listed once.
 use Rattle.table_theory.proofs.Common.{◌≡◌, ℕ, zero, suc, ◌+◌, ◌⊎◌, ⊎_elim, inl, inr, List, [], ◌∷◌, map, set, sym, refl, ap, subst, ◌∙◌, arith, dite, ℕ_discrete, some, some-injective, some-ne-none, get_elem?, set_else, set_here, at_set, Owned, ListedOnce, total}
-use Rattle.table_theory.proofs.Owned.{Stands, at_below, file_map, one_at, told}
+use Rattle.table_theory.proofs.Owned.{Stands, at_below, file_map, one_at, reported}
 use Rattle.table_theory.proofs.Totals.{total_set}
 use Rattle.pool.proofs.Counting.{total_map, total_none, total_same}
 
@@ -73,6 +73,6 @@ weights_sum (o ∷ log) ws within apart rest =
 -- the entries of the log come to what those of the lists come to
 pub filed_total : {E : Type 0} (f : E → ℕ) (log : List (Owned E)) (lists : List (List E)) → ListedOnce log lists → total (λ o. f o.2) log ≡ total (λ l. total f l) lists
 filed_total f log lists filed = let h = file_map f log lists filed in
-    let s = weights_sum (map (told f) log) (map (map f) lists) h.stands h.once (λ c l m w at at'. inr (h.listed c l m w at at')) in
-    let a = total_map (λ (o : Owned ℕ). o.2) (told f) log in let b = total_map sum_of (map f) lists in
+    let s = weights_sum (map (reported f) log) (map (map f) lists) h.stands h.once (λ c l m w at at'. inr (h.listed c l m w at at')) in
+    let a = total_map (λ (o : Owned ℕ). o.2) (reported f) log in let b = total_map sum_of (map f) lists in
     let c = total_same (λ (l : List _). sum_of (map f l)) (λ l. total f l) lists (λ l. total_map (λ (w : ℕ). w) f l) in omega arith

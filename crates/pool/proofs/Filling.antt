@@ -12,19 +12,19 @@ use Rattle.std.proofs.Math.Pow.{pow_mono}
 use Rattle.std.proofs.Math.Logic.{∥∥₁_elim}
 use Rattle.std.proofs.Math.Nat.{ℕ_set}
 use Rattle.table_theory.specs.declared.queues.Batch.{Batch}
-use Rattle.table_theory.specs.declared.views.Moment.{Moment}
+use Rattle.table_theory.specs.declared.views.AbsState.{AbsState}
 use Rattle.table_theory.specs.Batches.{line_of}
 use Rattle.table_theory.specs.Courses.{Continues}
-use Rattle.table_theory.specs.Ledgers.{Adds, IsHonest, IsReal, Step, change, load}
+use Rattle.table_theory.specs.Ledgers.{ExtendsTrace, IsValidView, IsValidStep, Step, change, load}
 use Rattle.table_theory.specs.Sharing.{IsWhole}
-use Rattle.table_theory.proofs.Reaching.{all_behind, alone_since}
+use Rattle.table_theory.proofs.Reaching.{all_after, alone_since}
 use Rattle.batch_queue.specs.declared.refusals.PutRefusal.{PutRefusal}
 use Rattle.batch_queue.specs.declared.refusals.PutRefusal.TheVariants as not_put
 use Rattle.batch_queue.specs.declared.rule.BatchState.{BatchState}
 use Rattle.batch_queue.specs.declared.rule.Shape.{Shape}
 use Rattle.batch_queue.specs.Layout.{head_word, mark, mark_word}
 use Rattle.batch_queue.specs.Object.{items_of, with_batch, with_up}
-use Rattle.batch_queue.specs.Own.{Looks, View, of_batches}
+use Rattle.batch_queue.specs.Own.{OnlyLoads, View, of_batches}
 use Rattle.batch_queue.specs.Puts.{FoundOther, FoundShut, IsPut, LackedRoom, RefusedPut, WasSpent, published}
 use Rattle.batch_queue.specs.Rules.{newcomer}
 use Rattle.batch_queue.specs.Walks.{FreeBy, at_once, by_help}
@@ -39,46 +39,46 @@ Steps = List (Step BatchState)
 
 -- what the queue's laws say of the head and of the free position that a step found
 abbrev pub HeadSays : Type 0
-HeadSays = (e : Step BatchState) → e.word ≡ head_word → IsReal of_batches e → e.found ≡ length (items_of e.then.object) + mark e.then.object.shut
+HeadSays = (e : Step BatchState) → e.word ≡ head_word → IsValidStep of_batches e → e.found ≡ length (items_of e.then.object) + mark e.then.object.shut
 
-module _ (shape : Shape) (v w : View) (new : v ≡ newcomer shape) (x : IsHonest of_batches v) (y : IsHonest of_batches w) (head_says : HeadSays) where
+module _ (shape : Shape) (v w : View) (new : v ≡ newcomer shape) (x : IsValidView of_batches v) (y : IsValidView of_batches w) (head_says : HeadSays) where
   whole : IsWhole v.member.share
   whole = ap (λ (z : View). z.member.share) new
 
   -- the only end's entries are all steps since
-  alone : (entries : Steps) → Adds v entries w → Continues v.seen entries w.seen × AllByRecursion (IsReal of_batches) entries
+  alone : (entries : Steps) → ExtendsTrace v entries w → Continues v.seen entries w.seen × AllByRecursion (IsValidStep of_batches) entries
   alone entries a = alone_since of_batches v w entries whole x y a
 
   -- a head that was found in the empty queue is 0
-  no_head : (head : ℕ) (m : Moment BatchState) → v.seen ≡ m → IsReal of_batches (load head_word head m) → head ≡ 0
+  no_head : (head : ℕ) (m : AbsState BatchState) → v.seen ≡ m → IsValidStep of_batches (load head_word head m) → head ≡ 0
   no_head head m is real =
       let a = head_says (load head_word head m) refl real in
-      let b : length (items_of m.object) + mark m.object.shut ≡ 0 = ap (λ (z : Moment BatchState). length (items_of z.object) + mark z.object.shut) (sym is ∙ ap (λ (z : View). z.seen) new) in a ∙ b
+      let b : length (items_of m.object) + mark m.object.shut ≡ 0 = ap (λ (z : AbsState BatchState). length (items_of z.object) + mark z.object.shut) (sym is ∙ ap (λ (z : View). z.seen) new) in a ∙ b
 
   module _ (room count : ℕ) (fits : count ≤ room) (few : count < 4611686018427387904) where
     -- a head, and then the free position, at once
-    looked_once : (head free : ℕ) (moved : _) (looks more : Steps) (m : Moment BatchState) → head ≡ 0 → FreeBy room (head + count) free moved looks → Continues m (looks ++ more) w.seen → Continues m more w.seen
-    looked_once head free moved looks more m none (at_once near same n is) c = let d = subst (λ (z : Steps). Continues m (z ++ more) w.seen) is c in subst (λ (z : Moment BatchState). Continues z more w.seen) (sym d.0) d.1
+    looked_once : (head free : ℕ) (moved : _) (looks more : Steps) (m : AbsState BatchState) → head ≡ 0 → FreeBy room (head + count) free moved looks → Continues m (looks ++ more) w.seen → Continues m more w.seen
+    looked_once head free moved looks more m none (at_once near same n is) c = let d = subst (λ (z : Steps). Continues m (z ++ more) w.seen) is c in subst (λ (z : AbsState BatchState). Continues z more w.seen) (sym d.0) d.1
     looked_once head free moved looks more m none (by_help first n help less h is) c = absurd (omega arith)
 
-    not_lacked : (head free : ℕ) (moved : _) → LackedRoom (λ entries. Looks v entries w) room count count head free moved → ⊥
+    not_lacked : (head free : ℕ) (moved : _) → LackedRoom (λ entries. OnlyLoads v entries w) room count count head free moved → ⊥
     not_lacked head free moved l = let a = alone (load head_word head l.at_head ∷ l.looks) l.added.adds in let n = no_head head l.at_head a.0.0 a.1.0 in let o = l.over in omega arith
 
-    no_other : (head now : ℕ) → FoundOther (λ entries. Looks v entries w) room count count head now → now ≡ 0
+    no_other : (head now : ℕ) → FoundOther (λ entries. OnlyLoads v entries w) room count count head now → now ≡ 0
     no_other head now f =
         let last : Step BatchState = load head_word now f.at_exchange in
         let a = alone (load head_word head f.at_head ∷ (f.looks ++ last ∷ [])) f.added.adds in
         let n = no_head head f.at_head a.0.0 a.1.0 in
         let c = looked_once head f.free f.moved f.looks (last ∷ []) f.at_head n f.looked a.0.1 in
-        no_head now f.at_exchange (a.0.0 ∙ c.0) (all_behind (IsReal of_batches) f.looks (last ∷ []) a.1.1).0
+        no_head now f.at_exchange (a.0.0 ∙ c.0) (all_after (IsValidStep of_batches) f.looks (last ∷ []) a.1.1).0
 
     pub not_refused : (r : PutRefusal) → 0 < count → RefusedPut room v count r w → ⊥
     not_refused not_put.NoItems some_item h = let e = h.0 in omega arith
     not_refused not_put.TooLong some_item h = let e = h.0 in omega arith
     not_refused not_put.Closed some_item h = ⊎_elim
-        (λ (f : FoundShut (λ entries. Looks v entries w)). (let a = alone (load head_word f.head f.at_head ∷ []) f.added.adds in let n = no_head f.head f.at_head a.0.0 a.1.0 in let m = f.marked in omega arith))
+        (λ (f : FoundShut (λ entries. OnlyLoads v entries w)). (let a = alone (load head_word f.head f.at_head ∷ []) f.added.adds in let n = no_head f.head f.at_head a.0.0 a.1.0 in let m = f.marked in omega arith))
         (λ t. (let n = no_other t.0 t.1 t.3 in let m = t.2 in omega arith)) h.1
-    not_refused not_put.Spent some_item h = let f : WasSpent (λ entries. Looks v entries w) count = h.1 in let a = alone (load head_word f.head f.at_head ∷ []) f.added.adds in let n = no_head f.head f.at_head a.0.0 a.1.0 in let m = f.spent in omega arith
+    not_refused not_put.Spent some_item h = let f : WasSpent (λ entries. OnlyLoads v entries w) count = h.1 in let a = alone (load head_word f.head f.at_head ∷ []) f.added.adds in let n = no_head f.head f.at_head a.0.0 a.1.0 in let m = f.spent in omega arith
     not_refused (not_put.Full head free) some_item h = not_lacked head free false h.1
     not_refused (not_put.Lost now) some_item h = ⊎_elim (λ t. not_lacked now t.0 true t.1) (λ t. (let n = no_other t.0 now t.3 in let m = t.1 in omega arith)) h.1
 
@@ -93,8 +93,8 @@ module _ (shape : Shape) (v w : View) (new : v ≡ newcomer shape) (x : IsHonest
         let looked : FreeBy room (start + count) c.free c.moved c.looks = subst (λ (z : ℕ). FreeBy room (start + z) c.free c.moved c.looks) long c.looked in
         let d = looked_once start c.free c.moved c.looks (claim ∷ publish ∷ []) c.at_head n looked on in (
           n,
-          ap (λ (z : Moment BatchState). z.object.batches) (sym d.1.1) ∙ (ap (λ (z : Moment BatchState). z.object.batches) (sym d.1.0)
-              ∙ ap (λ (z : Moment BatchState). z.object.batches ++ items ∷ []) (sym d.0 ∙ (sym a.0.0 ∙ ap (λ (z : View). z.seen) new))),
+          ap (λ (z : AbsState BatchState). z.object.batches) (sym d.1.1) ∙ (ap (λ (z : AbsState BatchState). z.object.batches) (sym d.1.0)
+              ∙ ap (λ (z : AbsState BatchState). z.object.batches ++ items ∷ []) (sym d.0 ∙ (sym a.0.0 ∙ ap (λ (z : View). z.seen) new))),
         )
 
 -- the view of an end that has put all buffers by one batch, and done nothing else
@@ -136,18 +136,18 @@ power_fits count room k few is half = dite (dec_lt 24 k)
 
 -- THE FIRST PUT, by ends that are honest for all that is known
 
-module _ (shape : Shape) (v w : View) (new : v ≡ newcomer shape) (x : ∥ IsHonest of_batches v ∥₁) (y : ∥ IsHonest of_batches w ∥₁) (head_says : HeadSays)
+module _ (shape : Shape) (v w : View) (new : v ≡ newcomer shape) (x : ∥ IsValidView of_batches v ∥₁) (y : ∥ IsValidView of_batches w ∥₁) (head_says : HeadSays)
     (room count : ℕ) (fits : count ≤ room) (few : count ≤ 16777216) where
   pub never_refused : (r : PutRefusal) → 0 < count → RefusedPut room v count r w → ⊥
-  never_refused r some_item h = ∥∥₁_elim x (λ (a b : ⊥). absurd a) (λ (p : IsHonest of_batches v). ∥∥₁_elim y (λ (a b : ⊥). absurd a) (λ (q : IsHonest of_batches w).
+  never_refused r some_item h = ∥∥₁_elim x (λ (a b : ⊥). absurd a) (λ (p : IsValidView of_batches v). ∥∥₁_elim y (λ (a b : ⊥). absurd a) (λ (q : IsValidView of_batches w).
       not_refused shape v w new p q head_says room count fits (omega arith) r some_item h))
 
   pub put_at_first : (start : ℕ) (items : List ℕ) → length items ≡ count → IsPut room v start items w → start ≡ 0
-  put_at_first start items long h = ∥∥₁_elim x (ℕ_set _ _) (λ (p : IsHonest of_batches v). ∥∥₁_elim y (ℕ_set _ _) (λ (q : IsHonest of_batches w).
+  put_at_first start items long h = ∥∥₁_elim x (ℕ_set _ _) (λ (p : IsValidView of_batches v). ∥∥₁_elim y (ℕ_set _ _) (λ (q : IsValidView of_batches w).
       (put_first shape v w new p q head_says room count fits (omega arith) start items long h).0))
 
   pub put_stocked : (start : ℕ) → IsPut room v start (all_buffers count) w → IsStocked count w
-  put_stocked start h = ∥∥₁_elim x squash₁ (λ (p : IsHonest of_batches v). ∥∥₁_elim y squash₁ (λ (q : IsHonest of_batches w).
+  put_stocked start h = ∥∥₁_elim x squash₁ (λ (p : IsValidView of_batches v). ∥∥₁_elim y squash₁ (λ (q : IsValidView of_batches w).
       ∣ ([], (put_first shape v w new p q head_says room count fits (omega arith) start (all_buffers count) (length-range_with_len 0 count) h).1) ∣₁))
 
   -- what an end is that has put all buffers, and done nothing else

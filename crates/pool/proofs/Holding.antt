@@ -18,8 +18,8 @@ use Rattle.batch_queue.specs.Lines.{lines_taken}
 use Rattle.batch_queue.specs.Object.{Grows, items_of}
 use Rattle.batch_queue.specs.declared.rule.BatchState.{BatchState}
 use Rattle.batch_queue.specs.Own.{View, of_batches}
-use Rattle.table_theory.specs.declared.views.Moment.{Moment}
-use Rattle.table_theory.specs.Ledgers.{Adds, Reaches, Step}
+use Rattle.table_theory.specs.declared.views.AbsState.{AbsState}
+use Rattle.table_theory.specs.Ledgers.{ExtendsTrace, Reaches, Step}
 use Rattle.pool.specs.Buffers.{all_buffers, times}
 use Rattle.pool.specs.Holdings.{acquired, released, held, is_later, IsFair, HoldsSame, HoldsMore, HoldsLess, Holds, IsStocked, ListsFirst}
 use Rattle.pool.proofs.Counting.{times_concat}
@@ -34,12 +34,12 @@ stocked_on count v w g s = ∥∥₁_map s (λ (r : (rest : List (List ℕ)) × 
 
 -- what the queue's laws say of the steps between two views of an end
 abbrev pub Since : View → View → Type 0
-Since v w = (entries : List (Step BatchState)) → Adds v entries w → ∥ Reaches of_batches v.seen w.seen ∥₁
+Since v w = (entries : List (Step BatchState)) → ExtendsTrace v entries w → ∥ Reaches of_batches v.seen w.seen ∥₁
 
 abbrev pub Rises : Type 0
-Rises = (m n : Moment BatchState) → Reaches of_batches m n → Grows m.object n.object
+Rises = (m n : AbsState BatchState) → Reaches of_batches m n → Grows m.object n.object
 
-pub stocked_since : (count : ℕ) (v w : View) (entries : List (Step BatchState)) → Adds v entries w → Since v w → Rises → IsStocked count v → IsStocked count w
+pub stocked_since : (count : ℕ) (v w : View) (entries : List (Step BatchState)) → ExtendsTrace v entries w → Since v w → Rises → IsStocked count v → IsStocked count w
 stocked_since count v w entries a since rises s = ∥∥₁_elim (since entries a) squash₁ (λ (r : Reaches of_batches v.seen w.seen). stocked_on count v w (rises v.seen w.seen r) s)
 
 -- an end that has seen it has seen as many items at least

@@ -14,7 +14,7 @@ use Rattle.table_theory.specs.Lines.{IsCut}
 use Rattle.table_theory.specs.Sharing.{given, kept}
 use Rattle.batch_queue.specs.declared.ends.BatchQueue.{BatchQueue}
 use Rattle.batch_queue.specs.Closings.{ClosedNow}
-use Rattle.batch_queue.specs.Endings.{Divided, IsNewborn}
+use Rattle.batch_queue.specs.Endings.{SplitBy, IsNewEnd}
 use Rattle.batch_queue.specs.Layout.{ends_word}
 use Rattle.batch_queue.specs.Lines.{lines_put, lines_taken}
 use Rattle.batch_queue.specs.Object.{items_of}
@@ -32,21 +32,21 @@ use Rattle.pool.proofs.Steps.{DidNothing, looked}
 -- SPLITS
 
 -- the end has the runs and takings that it had
-pub divided : (v w : View) → Divided v w → (w.own.runs ≡ v.own.runs) × (lines_taken w ≡ lines_taken v) × (w.own.shuts ≡ v.own.shuts)
+pub divided : (v w : View) → SplitBy v w → (w.own.runs ≡ v.own.runs) × (lines_taken w ≡ lines_taken v) × (w.own.shuts ≡ v.own.shuts)
 divided v w d = ((λ i. (d.own i).runs), ap (map line_of) (λ i. (d.own i).takes), (λ i. (d.own i).shuts))
 
 -- the new end has none
-pub born_runs : (v w born : View) → IsNewborn v w born → born.own.runs ≡ []
+pub born_runs : (v w born : View) → IsNewEnd v w born → born.own.runs ≡ []
 born_runs v w born is = ap (λ (z : View). z.own.runs) is
 
-pub born_takes : (v w born : View) → IsNewborn v w born → lines_taken born ≡ []
+pub born_takes : (v w born : View) → IsNewEnd v w born → lines_taken born ≡ []
 born_takes v w born is = ap (λ (z : View). lines_taken z) is
 
 -- an end that did nothing is fair
 pub idle_fair : (v : View) → v.own ≡ nothing_did → IsFair v
 idle_fair v is = (λ x. (let a = ap (λ (z : EndRecord). times x (released_of z.runs)) is in omega arith), ap (λ (z : EndRecord). z.shuts) is)
 
-pub born_fair : (v w born : View) → IsNewborn v w born → IsFair born
+pub born_fair : (v w born : View) → IsNewEnd v w born → IsFair born
 born_fair v w born is = idle_fair born (ap (λ (z : View). z.own) is)
 
 pub idle_held : (v : View) → lines_taken v ≡ [] → (x : ℕ) → held v x ≡ 0
@@ -55,11 +55,11 @@ idle_held v takes x = let a = ap (λ (z : List (List ℕ)). times x (concat z)) 
 pub idle_lists : (count : ℕ) (v : View) → v.own.runs ≡ [] → ListsFirst count v
 idle_lists count v runs m e at start = absurd (some-ne-none e (sym (subst (λ (z : List Batch). get_elem? z m ≡ some e) runs at)))
 
-pub born_stocked : (count : ℕ) (v w born : View) → IsNewborn v w born → IsStocked count w → IsStocked count born
+pub born_stocked : (count : ℕ) (v w born : View) → IsNewEnd v w born → IsStocked count w → IsStocked count born
 born_stocked count v w born is s = subst (λ (z : View). IsStocked count z) (sym is) s
 
 -- the shares of both
-pub split_share : (v w born : View) → Divided v w → IsNewborn v w born → (w.member.share ≡ kept v.member.share) × (born.member.share ≡ given v.member.share)
+pub split_share : (v w born : View) → SplitBy v w → IsNewEnd v w born → (w.member.share ≡ kept v.member.share) × (born.member.share ≡ given v.member.share)
 split_share v w born d b = ((λ k. (d.member k).share), ap (λ (z : View). z.member.share) b)
 
 -- CLOSES

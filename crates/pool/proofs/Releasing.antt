@@ -4,7 +4,7 @@ use Rattle.std.specs.Prelude.{MatchResult, Result, Ok, Err}
 use mathlib.Core.Logic.{dite}
 use native.Mathlib.Decide.{ℕ_discrete}
 use Rattle.table_theory.specs.declared.queues.Batch.{Batch}
-use Rattle.table_theory.specs.Ledgers.{Adds, Step}
+use Rattle.table_theory.specs.Ledgers.{ExtendsTrace, Step}
 use Rattle.table_theory.specs.Positioned.{item_of}
 use Rattle.batch_queue.specs.declared.refusals.PutRefusal.{PutRefusal}
 use Rattle.batch_queue.specs.declared.rule.BatchState.{BatchState}
@@ -23,7 +23,7 @@ line_is (x ∷ items) = ap (λ (z : List ℕ). x ∷ z) (line_is items)
 
 -- No head that a call has found is below one that the end had seen
 abbrev pub HeadsRise : View → View → Type 0
-HeadsRise v w = (before after : List (Step BatchState)) (e : Step BatchState) → Adds v (before ++ e ∷ after) w → e.word ≡ head_word
+HeadsRise v w = (before after : List (Step BatchState)) (e : Step BatchState) → ExtendsTrace v (before ++ e ∷ after) w → e.word ≡ head_word
     → length (items_of v.seen.object) ≤ e.found % 9223372036854775808
 
 module _ (room count : ℕ) (v w : View) (items : List ℕ) (some : 0 < count) (stocked : IsStocked count v) (rise : HeadsRise v w) where

@@ -1,11 +1,11 @@
 -- No position is in two runs of one queue, or in two takings.
-use Rattle.proc_chain.proofs.Common.{◌≡◌, ℕ, zero, suc, ◌+◌, List, [], ◌∷◌, ◌++◌, map, length, ap, subst, sym, refl, arith, some, get_elem?, at_map, at_longer, at_below, one_at, Batch, Owned, Adjacent, runs_of, AreShown, part_of, View, Cell, IsTold, GatedQueue}
+use Rattle.proc_chain.proofs.Common.{◌≡◌, ℕ, zero, suc, ◌+◌, List, [], ◌∷◌, ◌++◌, map, length, ap, subst, sym, refl, arith, some, get_elem?, at_map, at_longer, at_below, one_at, Batch, Owned, Adjacent, runs_of, AreShown, part_of, View, Cell, IsValidChainView, GatedQueue}
 use Rattle.std.specs.Prelude.{take}
 use mathlib.Core.Option.{some-ne-none}
 use Rattle.table_theory.specs.Listing.{IsListed, takes_of}
 use Rattle.table_theory.proofs.Logs.{starts_past}
-use Rattle.table_theory.proofs.Owned.{at_behind}
-use Rattle.proc_chain.specs.Endings.{IsAmong, TookIn}
+use Rattle.table_theory.proofs.Owned.{at_after}
+use Rattle.proc_chain.specs.Endings.{IsAmong, JoinedBy}
 
 one_position : (p x : ℕ) (log : List (Owned Batch)) (k j : ℕ) (o r : Owned Batch) → Adjacent p log → get_elem? log k ≡ some o → get_elem? log j ≡ some r → IsAmong x o.2 → IsAmong x r.2 → k ≡ j
 one_position p x [] k j o r c e d h i = absurd (some-ne-none o (sym e))
@@ -30,15 +30,15 @@ module _ (o : GatedQueue) (views : List View) (shown : AreShown o views) (x : �
     one_take has has' in_a in_b = let l = shown.listed.lists in one_entry o.queue.first x (take o.queue.taken o.queue.places) l.takes (map takes_of (map part_of views)) c d m n u.own.takes v.own.takes a b l.takes_are (at_map takes_of (map part_of views) c (part_of u) (at_map part_of views c u at)) (at_map takes_of (map part_of views) d (part_of v) (at_map part_of views d v at')) has has' in_a in_b
 
 -- what two ends had that are one now
-module _ (v u w : View) (t : TookIn v u w) (told : IsTold w) (x i j : ℕ) (a b : Batch) where
+module _ (v u w : View) (t : JoinedBy v u w) (valid : IsValidChainView w) (x i j : ℕ) (a b : Batch) where
   pub joined_runs : get_elem? v.own.runs i ≡ some a → get_elem? u.own.runs j ≡ some b → IsAmong x a → IsAmong x b → ⊥
   joined_runs has has' in_a in_b = let is : w.own.runs ≡ v.own.runs ++ u.own.runs = (λ k. (t.0.own k).runs) in
-      let one = one_run w.seen.object told.views told.shown x told.seat told.seat i (length v.own.runs + j) w w a b told.here told.here
-      (subst (λ (z : List Batch). get_elem? z i ≡ some a) (sym is) (at_longer v.own.runs u.own.runs i a has)) (subst (λ (z : List Batch). get_elem? z (length v.own.runs + j) ≡ some b) (sym is) (at_behind v.own.runs u.own.runs j b has')) in_a in_b in
+      let one = one_run w.seen.object valid.views valid.shown x valid.seat valid.seat i (length v.own.runs + j) w w a b valid.here valid.here
+      (subst (λ (z : List Batch). get_elem? z i ≡ some a) (sym is) (at_longer v.own.runs u.own.runs i a has)) (subst (λ (z : List Batch). get_elem? z (length v.own.runs + j) ≡ some b) (sym is) (at_after v.own.runs u.own.runs j b has')) in_a in_b in
       let below = at_below v.own.runs i a has in let same = one.1 in omega arith
 
   pub joined_takes : get_elem? v.own.takes i ≡ some a → get_elem? u.own.takes j ≡ some b → IsAmong x a → IsAmong x b → ⊥
   joined_takes has has' in_a in_b = let is : w.own.takes ≡ v.own.takes ++ u.own.takes = (λ k. (t.0.own k).takes) in
-      let one = one_take w.seen.object told.views told.shown x told.seat told.seat i (length v.own.takes + j) w w a b told.here told.here
-      (subst (λ (z : List Batch). get_elem? z i ≡ some a) (sym is) (at_longer v.own.takes u.own.takes i a has)) (subst (λ (z : List Batch). get_elem? z (length v.own.takes + j) ≡ some b) (sym is) (at_behind v.own.takes u.own.takes j b has')) in_a in_b in
+      let one = one_take w.seen.object valid.views valid.shown x valid.seat valid.seat i (length v.own.takes + j) w w a b valid.here valid.here
+      (subst (λ (z : List Batch). get_elem? z i ≡ some a) (sym is) (at_longer v.own.takes u.own.takes i a has)) (subst (λ (z : List Batch). get_elem? z (length v.own.takes + j) ≡ some b) (sym is) (at_after v.own.takes u.own.takes j b has')) in_a in_b in
       let below = at_below v.own.takes i a has in let same = one.1 in omega arith

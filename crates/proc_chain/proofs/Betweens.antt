@@ -31,10 +31,10 @@ module _ {Q W : Type 0} (made : W → Q → List ℕ → Type 0) (fits : W → Q
       let at : (q.first + i) % q.room ≡ (key.first + i) % 32 = (λ z. (k.first z + i) % k.stands.shows.0.room z) in
       let mark : mark_in s.words ((q.first + i) % q.room) ≡ mark_in s.words ((key.first + i) % 32) = ap (mark_in s.words) at in
       let note : note_in s.words ((q.first + i) % q.room) ≡ note_in s.words ((key.first + i) % 32) = ap (note_in s.words) at in let first = k.first in
-      let raised : is_raised c.notes (pair_at c i) ≡ true → 2 ≤ (place_at q i).written = (λ h. leb-true 2 (place_at q i).written (sym u ∙ h)) in record {
+      let raised : is_raised c.notes (pair_at c i) ≡ true → 2 ≤ (place_at q i).stage = (λ h. leb-true 2 (place_at q i).stage (sym u ∙ h)) in record {
         raised = λ h. sym mark ∙ (p.up (raised h) ∙ ap (λ (z : ℕ). z + i + 1) first);
         note = λ h. sym note ∙ (p.holds (let w = raised h in omega arith) ∙ sym x);
-        claimed = λ h. let low : (place_at q i).written < 2 = dite (dec_le 2 (place_at q i).written) (λ y. absurd (true≢false (sym (le-leb 2 (place_at q i).written y) ∙ (sym u ∙ h)))) (λ no. omega arith) in let f = p.low low in omega arith;
+        claimed = λ h. let low : (place_at q i).stage < 2 = dite (dec_le 2 (place_at q i).stage) (λ y. absurd (true≢false (sym (le-leb 2 (place_at q i).stage y) ∙ (sym u ∙ h)))) (λ no. omega arith) in let f = p.low low in omega arith;
       }
 
   notes_are : notes_of k.now.object.queue ≡ take c.notes.taken (flat c.notes.history)

@@ -26,16 +26,16 @@ pub use Rattle.table_theory.proofs.Reaching.{alone_since, entries_real, passes_s
 pub use Rattle.table_theory.proofs.Windows.{found_not_raised}
 pub use Rattle.table_theory.specs.Batches.{line_of}
 pub use Rattle.table_theory.specs.Filing.{Owned}
-pub use Rattle.table_theory.specs.Ledgers.{IsReal, Made, Step, both, change, emptied, load, newborn, rest_of}
-pub use Rattle.table_theory.specs.Listing.{Adjacent, AllRaised, ViewsShow, all_places, number_of, runs_of, written_to}
-pub use Rattle.table_theory.specs.Positioned.{Grows, Lawful, blank, fresh, head_of, item_at, item_of, place_at, tail_of, with_take, with_write, written_at}
+pub use Rattle.table_theory.specs.Ledgers.{IsValidStep, Performed, Step, both, change, emptied, load, newborn, rest_of}
+pub use Rattle.table_theory.specs.Listing.{Adjacent, AllRaised, ViewsShow, all_places, number_of, runs_of, with_stage}
+pub use Rattle.table_theory.specs.Positioned.{Grows, Lawful, blank, fresh, head_of, item_at, item_of, place_at, tail_of, with_take, with_write, stage_at}
 pub use Rattle.table_theory.specs.Seating.{IsSame}
 pub use Rattle.table_theory.specs.Windows.{spot}
 pub use Rattle.table_theory.specs.declared.queues.Batch.{Batch}
 pub use Rattle.table_theory.specs.declared.queues.Cell.{Cell}
 pub use Rattle.table_theory.specs.declared.queues.Positions.{Positions}
 pub use Rattle.table_theory.specs.declared.queues.QueueView.{QueueView}
-pub use Rattle.table_theory.specs.declared.views.Moment.{Moment}
+pub use Rattle.table_theory.specs.declared.views.AbsState.{AbsState}
 pub use Rattle.table_theory.specs.declared.views.Part.{Part}
 pub use Rattle.proc_chain.specs.Answers.{with_turn}
 pub use Rattle.proc_chain.specs.Chainings.{AreShown, IsChainEvent, chain_of, gate_of, owes_in, runner_from}
@@ -47,11 +47,11 @@ pub use Rattle.proc_chain.specs.declared.layout.TheConstants.{FIRST_PLACE}
 pub use Rattle.proc_chain.specs.Layout.{head_word, tail_word, ends_word, gate_word, mark_in, note_in, place_word, raised_word}
 pub use Rattle.proc_chain.specs.Own.{View, did_both, nothing_did, part_of, queue_of}
 pub use Rattle.proc_chain.specs.Happenings.{of_chains}
-pub use Rattle.proc_chain.specs.Rules.{IsTold, Rests, Rule, makes, suits, view_from}
+pub use Rattle.proc_chain.specs.Rules.{IsValidChainView, Rests, Rule, makes, suits, view_from}
 pub use Rattle.proc_chain.specs.Servings.{Serving}
 pub use Rattle.proc_chain.specs.Shown.{Shows, WordsShow, notes_of}
 pub use Rattle.proc_chain.specs.Steps.{Found, Meets, Raised, Stepped, run}
 pub use Rattle.proc_chain.specs.Turns.{Carries, HasSlot, IsRunner, KeepsTaken, MadeSince}
-pub use Rattle.proc_chain.specs.declared.rule.Did.{Did}
+pub use Rattle.proc_chain.specs.declared.rule.ChainOps.{ChainOps}
 pub use Rattle.proc_chain.specs.declared.rule.GatedQueue.{GatedQueue}
 pub use Rattle.proc_chain.specs.declared.rule.Shape.{Shape}

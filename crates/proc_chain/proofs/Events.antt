@@ -1,5 +1,5 @@
 -- Each step is one event of the chain that the gate and the views show.
-use Rattle.proc_chain.proofs.Common.{◌≡◌, ◌≢◌, ℕ, zero, suc, ◌+◌, ◌<◌, ◌≤◌, Bool, true, false, ◌&&◌, eq-eqb, ne_eqb, List, [], ◌∷◌, ◌++◌, map, length, get_or, set, sym, refl, ap, ◌∙◌, subst, arith, Option, Some, None, ⊎_elim, if◌then◌else◌, length-map, some, some-ne-none, dite, ℕ_discrete, dec_lt, get_elem?, Idle, Cell, Batch, Positions, is_raised, Chain, is_call, raise_note, is_idle, blank, Grows, item_of, place_at, written_at, head_of, Lawful, fresh, with_write, Owned, all_places, runs_of, Adjacent, ViewsShow, written_to, long_is, history_of, got, at_map, at_set, set_here, set_else, at_below, grows_refl, with_turn, GatedQueue, View, part_of, with_note, with_taken, with_gate, taking, IsSettled, GateShows, gate_of, runner_from, owes_in, chain_of, AreShown, IsChainEvent}
+use Rattle.proc_chain.proofs.Common.{◌≡◌, ◌≢◌, ℕ, zero, suc, ◌+◌, ◌<◌, ◌≤◌, Bool, true, false, ◌&&◌, eq-eqb, ne_eqb, List, [], ◌∷◌, ◌++◌, map, length, get_or, set, sym, refl, ap, ◌∙◌, subst, arith, Option, Some, None, ⊎_elim, if◌then◌else◌, length-map, some, some-ne-none, dite, ℕ_discrete, dec_lt, get_elem?, Idle, Cell, Batch, Positions, is_raised, Chain, is_call, raise_note, is_idle, blank, Grows, item_of, place_at, stage_at, head_of, Lawful, fresh, with_write, Owned, all_places, runs_of, Adjacent, ViewsShow, with_stage, long_is, history_of, got, at_map, at_set, set_here, set_else, at_below, grows_refl, with_turn, GatedQueue, View, part_of, with_note, with_taken, with_gate, taking, IsSettled, GateShows, gate_of, runner_from, owes_in, chain_of, AreShown, IsChainEvent}
 use Rattle.std.proofs.Common.{not, ltb, zero-add, add-zero, slice_get, option_map, Ok, Result}
 use Rattle.std.specs.Option.{is_some}
 use Rattle.std.proofs.lemmas.List.{get_or-map}
@@ -11,7 +11,7 @@ use Rattle.event_theory.specs.Runs.{pairs, pairs_of, pairs_from}
 use Rattle.event_theory.specs.Queues.{Queue, left_pairs, after_claim, after_raise, after_take, claim, raise, take_first}
 use Rattle.event_theory.specs.Chains.{with_number, owes, forgotten, is_forgotten, claim_note, take_note, runner_after, notify, round, is_more, leave}
 use Rattle.event_theory.specs.Lawful.{IsLawfulChain}
-use Rattle.table_theory.specs.QueueOf.{run_in, is_up, queue_of}
+use Rattle.table_theory.specs.QueueOf.{run_in, is_published, queue_of}
 use Rattle.event_theory.proofs.Lists.Histories.{length-pairs_from, length-pairs_of}
 use Rattle.table_theory.proofs.Logs.{lies}
 use Rattle.event_theory.proofs.Lists.Histories.{slice_get-drop}
@@ -84,24 +84,24 @@ pair_there number first p (suc k) i (x ∷ xs) o c at below is =
     ∙ (pair_there (number + 1) (first + length x.2.places) (s.at + i) k i xs o c.1 at below (omega arith) ∙ ap (λ (z : ℕ). Some (z, i)) e)
 
 -- whether the note with the number i is raised
-pub up_is : (q : Positions) (runs : Log) → all_places runs ≡ q.places → (i : ℕ) → i < length q.places → is_raised (queue_of q runs) (get_or (pairs (map run_in runs)) i (0, 0)) ≡ is_up (place_at q i)
+pub up_is : (q : Positions) (runs : Log) → all_places runs ≡ q.places → (i : ℕ) → i < length q.places → is_raised (queue_of q runs) (get_or (pairs (map run_in runs)) i (0, 0)) ≡ is_published (place_at q i)
 up_is q runs same i below = let n = length-pairs_from 0 (map run_in runs) in let m = long_is q runs same in
     sym (get_or-map (is_raised (queue_of q runs)) (pairs (map run_in runs)) i (0, 0) false (omega arith))
-    ∙ (ap (λ (z : List Bool). get_or z i false) (up_of q runs ∙ ap (map is_up) same) ∙ get_or-map is_up q.places i blank false below)
+    ∙ (ap (λ (z : List Bool). get_or z i false) (up_of q runs ∙ ap (map is_published) same) ∙ get_or-map is_published q.places i blank false below)
 
 pub and_false : (a : Bool) → (a && false) ≡ false
 and_false true = refl
 and_false false = refl
 
-pub not_up : (e : Cell) → e.written < 2 → is_up e ≡ false
-not_up e h = let n : ℕ = e.written in dite (ℕ_discrete n 0) (λ z. let t : is_up e ≡ false = grind (arith, nat_tests) in t) (λ z. let t : is_up e ≡ false = grind (arith, nat_tests) in t)
+pub not_up : (e : Cell) → e.stage < 2 → is_published e ≡ false
+not_up e h = let n : ℕ = e.stage in dite (ℕ_discrete n 0) (λ z. let t : is_published e ≡ false = grind (arith, nat_tests) in t) (λ z. let t : is_published e ≡ false = grind (arith, nat_tests) in t)
 
 pub not_forgotten : (q : Positions) (gate : ℕ) (views : List View) (l : ViewsShow q (map part_of views)) → IsSettled q views → is_forgotten (chain_of q l.lists.runs gate views) ≡ false
 not_forgotten q gate views l settled = let c : Chain = chain_of q l.lists.runs gate views in let ps : List (ℕ × ℕ) = pairs (map run_in l.lists.runs) in let t : ℕ = q.taken in
     let n = length-pairs_from 0 (map run_in l.lists.runs) in let m = long_is q l.lists.runs l.lists.runs_are.flat in
     let first : slice_get (left_pairs c.notes) 0 ≡ slice_get ps t = slice_get-drop ps t 0 ∙ ap (slice_get ps) (add-zero t) in
     ap (forgotten c) first ∙ dite (dec_lt t (length q.places))
-    (λ below. dite (dec_lt (written_at q t) 2)
+    (λ below. dite (dec_lt (stage_at q t) 2)
     (λ low. let e : is_raised c.notes (get_or ps t (0, 0)) ≡ false = up_is q l.lists.runs l.lists.runs_are.flat t below ∙ not_up (place_at q t) low in
     ap (forgotten c) (slice_get-get_or ps t (0, 0) (omega arith)) ∙ (rw (e) refl))
     (λ up. let o = settled (omega arith) in let f = l.lists.runs_are.filed.listed o.owner o.view.own.runs o.number o.run (at_map runs_of (map part_of views) o.owner (part_of o.view) (at_map part_of views o.owner o.view o.is_view)) o.has in
@@ -188,13 +188,13 @@ module _ (o : GatedQueue) (views : List View) (id : ℕ) (v w : View) (shown : A
 
   pub claim_event : (x : ℕ) → x < 65536 → length q.places + 1 ≤ q.taken + q.room → q.shut ≡ false → w.seen.object ≡ with_note o x → w.own ≡ record v.own { runs = v.own.runs ++ record { start = head_of q; places = map fresh (x ∷ []) } ∷ [] } → IsChainEvent o (with_note o x) views shown id w (claim_note id (x ∷ []))
   unfolding listed_claim
-  claim_event x bounded room is_open is own = let xs : List ℕ = x ∷ [] in let behind = lawful.behind in let n = left_long q l.lists.runs l.lists.runs_are.flat in
-      is_event (with_note o x) (claim_note id xs) _ (listed_claim q (map part_of views) id (part_of v) (part_of w) xs l at_part behind is_open (omega arith) (λ i. (own i).runs) (λ i. (own i).takes) (sees (with_note o x) is))
+  claim_event x bounded room is_open is own = let xs : List ℕ = x ∷ [] in let following = lawful.taken_within in let n = left_long q l.lists.runs l.lists.runs_are.flat in
+      is_event (with_note o x) (claim_note id xs) _ (listed_claim q (map part_of views) id (part_of v) (part_of w) xs l at_part following is_open (omega arith) (λ i. (own i).runs) (λ i. (own i).takes) (sees (with_note o x) is))
       (claim_note_goes id x c (after_claim id xs c.notes) bounded (claim_goes 1 id xs c.notes (omega arith) (omega arith) is_open (omega arith)))
       (claimed_is q l.lists.runs id (length v.own.runs) xs) refl (sym (runner_set 0 id views v w at (λ i. (own i).runner))) (owing_same views id v w at (λ i. (own i).owes))
 
-  pub raise_event : (m p : ℕ) (e : Batch) → get_elem? v.own.runs m ≡ some e → 0 < length e.places → e.start + 0 ≡ q.first + p → q.taken ≤ p → (get_or e.places 0 blank).written < 2 → written_at q p ≤ 2
-      → w.seen.object ≡ record o { queue = with_write q p 2 } → w.own ≡ record v.own { runs = set v.own.runs m (written_to e 0 2); owes = true }
+  pub raise_event : (m p : ℕ) (e : Batch) → get_elem? v.own.runs m ≡ some e → 0 < length e.places → e.start + 0 ≡ q.first + p → q.taken ≤ p → (get_or e.places 0 blank).stage < 2 → stage_at q p ≤ 2
+      → w.seen.object ≡ record o { queue = with_write q p 2 } → w.own ≡ record v.own { runs = set v.own.runs m (with_stage e 0 2); owes = true }
       → (k : ℕ) × IsChainEvent o (record o { queue = with_write q p 2 }) views shown id w (raise_note id k 0) × (get_elem? l.lists.runs k ≡ some (id, m, e))
   unfolding listed_write
   raise_event m p e has below start ahead low more is own = let o' : GatedQueue = record o { queue = with_write q p 2 } in let r = l.lists.runs_are.filed.listed id v.own.runs m e (at_map runs_of (map part_of views) id (part_of v) at_part) has in (
@@ -205,10 +205,10 @@ module _ (o : GatedQueue) (views : List View) (id : ℕ) (v w : View) (shown : A
     r.1,
   )
 
-  pub take_event : v.own.runner ≡ true → q.taken + 1 ≤ length q.places → 2 ≤ written_at q q.taken → w.seen.object ≡ with_taken o → w.own ≡ record v.own { takes = v.own.takes ++ taking q ∷ []; taken = v.own.taken + 1; saw = false } → IsChainEvent o (with_taken o) views shown id w (take_note id 1)
+  pub take_event : v.own.runner ≡ true → q.taken + 1 ≤ length q.places → 2 ≤ stage_at q q.taken → w.seen.object ≡ with_taken o → w.own ≡ record v.own { takes = v.own.takes ++ taking q ∷ []; taken = v.own.taken + 1; saw = false } → IsChainEvent o (with_taken o) views shown id w (take_note id 1)
   unfolding listed_take
   take_event r long up is own = is_event (with_taken o) (take_note id 1) _ (listed_take q (map part_of views) id 1 (part_of v) (part_of w) l at_part (omega arith) long (λ i. (own i).takes) (λ i. (own i).runs) (sees (with_taken o) is))
-      (take_note_goes id c (after_take 1 c.notes) (take_goes 1 1 c.notes (omega arith) (omega arith) (first_raised q l.lists.runs 1 l.lists.runs_are.flat long (λ i h. let e : q.taken ≡ q.taken + i = omega arith in subst (λ (z : ℕ). 2 ≤ written_at q z) e up))) (the_runner r))
+      (take_note_goes id c (after_take 1 c.notes) (take_goes 1 1 c.notes (omega arith) (omega arith) (first_raised q l.lists.runs 1 l.lists.runs_are.flat long (λ i h. let e : q.taken ≡ q.taken + i = omega arith in subst (λ (z : ℕ). 2 ≤ stage_at q z) e up))) (the_runner r))
       refl refl (sym (runner_set 0 id views v w at (λ i. (own i).runner))) (owing_same views id v w at (λ i. (own i).owes))
 
   -- the gate is set, and the queue stays

@@ -122,7 +122,7 @@ same_items (suc n) (x ∷ xs) [] a b f = absurd (omega arith)
 same_items (suc n) (x ∷ xs) (y ∷ ys) a b f = λ k. f 0 (omega arith) k ∷ same_items n xs ys (omega arith) (omega arith) (λ i h. f (suc i) (omega arith)) k
 
 pub notes_same : (q r : Positions) → Grows q r → r.taken ≡ q.taken → q.taken ≤ length q.places → notes_of r ≡ notes_of q
-notes_same q r g is behind = let longer = g.longer in ap (λ (n : ℕ). map item_of (take n r.places)) is ∙ same_items q.taken q.places r.places behind (omega arith) (λ i h. g.items i (omega arith))
+notes_same q r g is following = let longer = g.longer in ap (λ (n : ℕ). map item_of (take n r.places)) is ∙ same_items q.taken q.places r.places following (omega arith) (λ i h. g.items i (omega arith))
 
 more_items : (n : ℕ) (l : List Cell) → n < length l → map item_of (take (suc n) l) ≡ map item_of (take n l) ++ (get_or l n blank).item ∷ []
 more_items n [] h = absurd (omega arith)

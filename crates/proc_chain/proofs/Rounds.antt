@@ -1,5 +1,5 @@
 -- The parts of a serving taken together, and the invariant of its loop.
-use Rattle.proc_chain.proofs.Common.{◌≡◌, ◌≢◌, ℕ, zero, suc, ◌+◌, ◌/◌, ◌%◌, ◌<◌, ◌≤◌, Option, Some, None, true, false, Bool, List, [], ◌∷◌, ◌++◌, map, take, length, get_or, sym, refl, ap, ◌∙◌, subst, arith, length-append, props, ∥∥₁_elim, map-append, length-map, dite, ℕ_discrete, dec_le, Me, Seat, Batch, Cell, Positions, Moment, Part, line_of, Step, load, change, blank, item_of, item_at, written_at, with_take, tail_of, IsSame, made_on, raised_below, Did, GatedQueue, place_word, raised_word, notes_of, with_taken, with_gate, taking, View, queue_of, Stepped, Found, IsTold, Carries, IsRunner, MadeSince, Serving, tail_word, gate_word}
+use Rattle.proc_chain.proofs.Common.{◌≡◌, ◌≢◌, ℕ, zero, suc, ◌+◌, ◌/◌, ◌%◌, ◌<◌, ◌≤◌, Option, Some, None, true, false, Bool, List, [], ◌∷◌, ◌++◌, map, take, length, get_or, sym, refl, ap, ◌∙◌, subst, arith, length-append, props, ∥∥₁_elim, map-append, length-map, dite, ℕ_discrete, dec_le, Me, Seat, Batch, Cell, Positions, AbsState, Part, line_of, Step, load, change, blank, item_of, item_at, stage_at, with_take, tail_of, IsSame, made_on, raised_below, ChainOps, GatedQueue, place_word, raised_word, notes_of, with_taken, with_gate, taking, View, queue_of, Stepped, Found, IsValidChainView, Carries, IsRunner, MadeSince, Serving, tail_word, gate_word}
 use Rattle.std.proofs.Common.{drop}
 use Rattle.std.proofs.lemmas.Grind.{flat_map-append}
 use Rattle.std.proofs.lemmas.List.{append-nil, append_assoc, length-take-le, take-append-le}
@@ -65,35 +65,35 @@ ran_on u v w es fs us more r r' s s' a b = let m = made_on u v w es fs (used u.o
 }
 
 -- one step of the runner by which it took nothing
-pub ran_step : (v w : View) (e : Step GatedQueue) (own : Did) (runner saw : Bool) → Stepped v e own w → e.next.object.queue ≡ e.then.object.queue → own ≡ record v.own { runner = runner; saw = saw } → (queue_of v).taken ≤ length (queue_of v).places → v.own.runner ≡ true → Ran v (e ∷ []) [] runner saw w
-ran_step v w e own runner saw s same is behind r = let sees : queue_of w ≡ e.then.object.queue = ap (λ (z : Moment GatedQueue). z.object.queue) s.seen ∙ same in let did = s.made.did ∙ is in record {
+pub ran_step : (v w : View) (e : Step GatedQueue) (own : ChainOps) (runner saw : Bool) → Stepped v e own w → e.next.object.queue ≡ e.then.object.queue → own ≡ record v.own { runner = runner; saw = saw } → (queue_of v).taken ≤ length (queue_of v).places → v.own.runner ≡ true → Ran v (e ∷ []) [] runner saw w
+ran_step v w e own runner saw s same is following r = let sees : queue_of w ≡ e.then.object.queue = ap (λ (z : AbsState GatedQueue). z.object.queue) s.seen ∙ same in let did = s.made.did ∙ is in record {
   fit = tt;
   made = record { adds = s.made.adds; did = did ∙ (λ i. record v.own { takes = sym (append-nil v.own.takes) i; runner = runner; taken = no_more v.own.taken i; saw = saw }); member = s.made.member };
   served = record {
-    notes = ap notes_of sees ∙ (notes_same (queue_of v) e.then.object.queue s.meets.grows (s.meets.turn r) behind ∙ sym (append-nil (notes_of (queue_of v))));
+    notes = ap notes_of sees ∙ (notes_same (queue_of v) e.then.object.queue s.meets.grows (s.meets.turn r) following ∙ sym (append-nil (notes_of (queue_of v))));
     taken = ap (λ (z : Positions). z.taken) sees ∙ (s.meets.turn r ∙ no_more (queue_of v).taken);
-    takes = ap (λ (z : Did). map line_of z.takes) did ∙ sym (append-nil (notes_taken v));
-    runs = ap (λ (z : Did). z.runs) did;
+    takes = ap (λ (z : ChainOps). map line_of z.takes) did ∙ sym (append-nil (notes_taken v));
+    runs = ap (λ (z : ChainOps). z.runs) did;
     share = ap (λ (z : Part). z.share) s.made.member;
   };
 }
 
 -- a look of the runner, or a look that found no note raised, is one step by which it took nothing
 pub ran_look : (v w : View) (word found : ℕ) (f : Found v word found w) → (queue_of v).taken ≤ length (queue_of v).places → v.own.runner ≡ true → Ran v (load word found f.0 ∷ []) [] true v.own.saw w
-ran_look v w word found f behind r = ran_step v w (load word found f.0) v.own true v.own.saw f.1 refl (λ i. record v.own { runner = r i }) behind r
+ran_look v w word found f following r = ran_step v w (load word found f.0) v.own true v.own.saw f.1 refl (λ i. record v.own { runner = r i }) following r
 
 -- a change of the gate by the runner is one step by which it took nothing
-pub ran_gate : (v w : View) (found gate : ℕ) (m : Moment GatedQueue) → Stepped v (change gate_word found m (with_gate m.object gate)) (record v.own { saw = false }) w → (queue_of v).taken ≤ length (queue_of v).places → v.own.runner ≡ true → Ran v (change gate_word found m (with_gate m.object gate) ∷ []) [] true false w
-ran_gate v w found gate m s behind r = ran_step v w (change gate_word found m (with_gate m.object gate)) (record v.own { saw = false }) true false s refl (λ i. record v.own { runner = r i; saw = false }) behind r
+pub ran_gate : (v w : View) (found gate : ℕ) (m : AbsState GatedQueue) → Stepped v (change gate_word found m (with_gate m.object gate)) (record v.own { saw = false }) w → (queue_of v).taken ≤ length (queue_of v).places → v.own.runner ≡ true → Ran v (change gate_word found m (with_gate m.object gate) ∷ []) [] true false w
+ran_gate v w found gate m s following r = ran_step v w (change gate_word found m (with_gate m.object gate)) (record v.own { saw = false }) true false s refl (λ i. record v.own { runner = r i; saw = false }) following r
 
 -- the first cell after the first i
-first_behind : (i : ℕ) (l : List Cell) → i < length l → map item_of (take 1 (drop i l)) ≡ (get_or l i blank).item ∷ []
-first_behind i [] h = absurd (omega arith)
-first_behind zero (x ∷ xs) h = refl
-first_behind (suc i) (x ∷ xs) h = first_behind i xs (omega arith)
+first_after : (i : ℕ) (l : List Cell) → i < length l → map item_of (take 1 (drop i l)) ≡ (get_or l i blank).item ∷ []
+first_after i [] h = absurd (omega arith)
+first_after zero (x ∷ xs) h = refl
+first_after (suc i) (x ∷ xs) h = first_after i xs (omega arith)
 
 -- a taking of the note that the runner had found raised at the first place left
-module _ (v w : View) (tail note : ℕ) (t : Took v tail w) (r : v.own.runner ≡ true) (behind : (queue_of v).taken ≤ length (queue_of v).places) (up : 2 ≤ written_at (queue_of v) (queue_of v).taken) (here : note ≡ item_at (queue_of v) (queue_of v).taken) where
+module _ (v w : View) (tail note : ℕ) (t : Took v tail w) (r : v.own.runner ≡ true) (following : (queue_of v).taken ≤ length (queue_of v).places) (up : 2 ≤ stage_at (queue_of v) (queue_of v).taken) (here : note ≡ item_at (queue_of v) (queue_of v).taken) where
   abbrev q : Positions
   q = t.0.object.queue
 
@@ -103,21 +103,21 @@ module _ (v w : View) (tail note : ℕ) (t : Took v tail w) (r : v.own.runner �
   below : q.taken < length q.places
   below = let p : Positions = queue_of v in let longer = t.1.meets.grows.longer in let same = t.1.meets.turn r in let b : p.taken < length p.places = raised_below p p.taken (omega arith) in omega arith
 
-  ran_took : note < 65536 → (m n : Moment GatedQueue) → Ran v (change tail_word tail t.0 (with_taken t.0.object) ∷ []) (took note tail m n t.0 ∷ []) true false w
-  ran_took small m n = let p : Positions = queue_of v in let f : queue_of w ≡ with_take q 1 = ap (λ (z : Moment GatedQueue). z.object.queue) t.1.seen in let more : (queue_of w).taken ≡ q.taken + 1 = ap (λ (z : Positions). z.taken) f in let same = t.1.meets.turn r in record {
+  ran_took : note < 65536 → (m n : AbsState GatedQueue) → Ran v (change tail_word tail t.0 (with_taken t.0.object) ∷ []) (took note tail m n t.0 ∷ []) true false w
+  ran_took small m n = let p : Positions = queue_of v in let f : queue_of w ≡ with_take q 1 = ap (λ (z : AbsState GatedQueue). z.object.queue) t.1.seen in let more : (queue_of w).taken ≡ q.taken + 1 = ap (λ (z : Positions). z.taken) f in let same = t.1.meets.turn r in record {
     fit = (small, tt);
     made = record { adds = t.1.made.adds; did = t.1.made.did ∙ (λ i. record v.own { takes = v.own.takes ++ taking q ∷ []; runner = r i; taken = v.own.taken + 1; saw = false }); member = t.1.made.member };
     served = record {
-      notes = ap notes_of f ∙ (notes_take q below ∙ (λ i. notes_same p q t.1.meets.grows same behind i ++ item_took i ∷ []));
+      notes = ap notes_of f ∙ (notes_take q below ∙ (λ i. notes_same p q t.1.meets.grows same following i ++ item_took i ∷ []));
       taken = omega arith;
-      takes = ap (λ (z : Did). map line_of z.takes) t.1.made.did ∙ (map-append line_of v.own.takes (taking q ∷ []) ∙ ap (λ (z : List ℕ). notes_taken v ++ z ∷ []) (first_behind q.taken q.places below ∙ ap alone item_took));
-      runs = ap (λ (z : Did). z.runs) t.1.made.did;
+      takes = ap (λ (z : ChainOps). map line_of z.takes) t.1.made.did ∙ (map-append line_of v.own.takes (taking q ∷ []) ∙ ap (λ (z : List ℕ). notes_taken v ++ z ∷ []) (first_after q.taken q.places below ∙ ap alone item_took));
+      runs = ap (λ (z : ChainOps). z.runs) t.1.made.did;
       share = ap (λ (z : Part). z.share) t.1.made.member;
     };
   }
 
 -- the runner found a note raised at the first place left
-module _ (v t u : View) (tail note : ℕ) (runner : v.own.runner ≡ true) (behind : (queue_of v).taken ≤ length (queue_of v).places) (a : Found v tail_word tail t) (at : tail ≡ tail_of (queue_of t)) (bounded : note < 65536) (b : Found t (place_word tail) (raised_word tail note) u) where
+module _ (v t u : View) (tail note : ℕ) (runner : v.own.runner ≡ true) (following : (queue_of v).taken ≤ length (queue_of v).places) (a : Found v tail_word tail t) (at : tail ≡ tail_of (queue_of t)) (bounded : note < 65536) (b : Found t (place_word tail) (raised_word tail note) u) where
   runner_then : t.own.runner ≡ true
   runner_then = (λ i. (a.1.made.did i).runner) ∙ runner
 
@@ -125,34 +125,34 @@ module _ (v t u : View) (tail note : ℕ) (runner : v.own.runner ≡ true) (behi
   e = load (place_word tail) (raised_word tail note) b.0
 
   sees : b.0.object.queue ≡ queue_of u
-  sees = ap (λ (z : Moment GatedQueue). z.object.queue) (sym b.1.seen)
+  sees = ap (λ (z : AbsState GatedQueue). z.object.queue) (sym b.1.seen)
 
   tail_there : tail ≡ tail_of b.0.object.queue
   tail_there = let same = b.1.meets.turn runner_then in let first = b.1.meets.grows.first in omega arith
 
-  up_there : 2 ≤ written_at b.0.object.queue b.0.object.queue.taken
+  up_there : 2 ≤ stage_at b.0.object.queue b.0.object.queue.taken
   up_there = let room = b.1.real.shows.0.room in let tl = tail_there in mark_says e b.0.object.queue.taken b.1.real (ap place_word tail_there) (omega arith) (omega arith) (omega arith)
 
-  pub up_now : 2 ≤ written_at (queue_of u) (queue_of u).taken
-  up_now = subst (λ (z : Positions). 2 ≤ written_at z z.taken) sees up_there
+  pub up_now : 2 ≤ stage_at (queue_of u) (queue_of u).taken
+  up_now = subst (λ (z : Positions). 2 ≤ stage_at z z.taken) sees up_there
 
   pub note_now : note ≡ item_at (queue_of u) (queue_of u).taken
   note_now = let room = b.1.real.shows.0.room in let tl = tail_there in let x : raised_word tail note % 65536 ≡ note = omega arith in
       sym x ∙ (note_says e b.0.object.queue.taken b.1.real (ap place_word tail_there) (omega arith) up_there (omega arith) ∙ ap (λ (z : Positions). item_at z z.taken) sees)
 
   -- and took it
-  pub ran_one : (w : View) (k : Took u tail w) → IsTold t → IsTold u → Ran v (entries_of (took note tail a.0 b.0 k.0)) (took note tail a.0 b.0 k.0 ∷ []) true false w
-  ran_one w k h i = ran_on v t w (load tail_word tail a.0 ∷ []) (e ∷ change tail_word tail k.0 (with_taken k.0.object) ∷ []) [] _ true true v.own.saw false (ran_look v t tail_word tail a behind runner)
-      (ran_on t u w (e ∷ []) (change tail_word tail k.0 (with_taken k.0.object) ∷ []) [] _ true true t.own.saw false (ran_look t u (place_word tail) (raised_word tail note) b h.lawful.0.behind runner_then)
-      (ran_took u w tail note k ((λ j. (b.1.made.did j).runner) ∙ runner_then) i.lawful.0.behind up_now note_now bounded a.0 b.0))
+  pub ran_one : (w : View) (k : Took u tail w) → IsValidChainView t → IsValidChainView u → Ran v (entries_of (took note tail a.0 b.0 k.0)) (took note tail a.0 b.0 k.0 ∷ []) true false w
+  ran_one w k h i = ran_on v t w (load tail_word tail a.0 ∷ []) (e ∷ change tail_word tail k.0 (with_taken k.0.object) ∷ []) [] _ true true v.own.saw false (ran_look v t tail_word tail a following runner)
+      (ran_on t u w (e ∷ []) (change tail_word tail k.0 (with_taken k.0.object) ∷ []) [] _ true true t.own.saw false (ran_look t u (place_word tail) (raised_word tail note) b h.lawful.0.taken_within runner_then)
+      (ran_took u w tail note k ((λ j. (b.1.made.did j).runner) ∙ runner_then) i.lawful.0.taken_within up_now note_now bounded a.0 b.0))
 
 -- and ran it: the quaject was made by it too
-pub ran_runner : {Q : Type 0} (made : Q → List ℕ → Type 0) (fits : Q → Type 0) (m x : Me Q View) (w : View) (note : ℕ) (d : List (ℕ × Q)) {es : List (Step GatedQueue)} {one : Use} → x.0 ≡ w → Ran m.0 es (one ∷ []) true false w → notes_run (one ∷ []) ≡ note ∷ [] → IsTold w → d ≡ m.1 → IsRunner made fits m
+pub ran_runner : {Q : Type 0} (made : Q → List ℕ → Type 0) (fits : Q → Type 0) (m x : Me Q View) (w : View) (note : ℕ) (d : List (ℕ × Q)) {es : List (Step GatedQueue)} {one : Use} → x.0 ≡ w → Ran m.0 es (one ∷ []) true false w → notes_run (one ∷ []) ≡ note ∷ [] → IsValidChainView w → d ≡ m.1 → IsRunner made fits m
     → ((notes : List ℕ) → Carries made fits notes [] d → Carries made fits (notes ++ note ∷ []) [] x.1) → IsRunner made fits x
-ran_runner made fits m x w note d is a one told held h run = let c = h.carries in let r = run (notes_of (queue_of m.0)) (c.0, held ∙ c.1, c.2, c.3) in let notes = a.served.notes ∙ ap (λ (z : List ℕ). notes_of (queue_of m.0) ++ z) one in record {
+ran_runner made fits m x w note d is a one valid held h run = let c = h.carries in let r = run (notes_of (queue_of m.0)) (c.0, held ∙ c.1, c.2, c.3) in let notes = a.served.notes ∙ ap (λ (z : List ℕ). notes_of (queue_of m.0) ++ z) one in record {
   live = subst (λ (z : ℕ). 1 ≤ z) (sym ((λ i. (is i).member.ends) ∙ (λ i. (a.made.member i).ends))) h.live;
   runner = (λ i. (is i).own.runner) ∙ (λ i. (a.made.did i).runner);
-  behind = subst (λ (z : View). (queue_of z).taken ≤ length (queue_of z).places) (sym is) told.lawful.0.behind;
+  taken_within = subst (λ (z : View). (queue_of z).taken ≤ length (queue_of z).places) (sym is) valid.lawful.0.taken_within;
   carries = (r.0, r.1, subst (made r.0) (sym (ap (λ (z : View). notes_of (queue_of z)) is ∙ notes)) r.2, r.3);
 }
 
@@ -164,26 +164,26 @@ pub was_none : (b : Bool) (v w : View) → MatchBool b (RanNote v w) (FoundNone 
 was_none b v w h is = subst (λ (z : Bool). MatchBool z (RanNote v w) (FoundNone v w)) is h
 
 -- none was raised there
-pub found_none : (v t w : View) (tail found : ℕ) → v.own.runner ≡ true → (queue_of v).taken ≤ length (queue_of v).places → Found v tail_word tail t → IsTold t → FoundNotRaised t (place_word tail) found w → found / 65536 ≢ tail + 1 → FoundNone v w
-found_none v t w tail found r behind a h low miss = let r' : t.own.runner ≡ true = (λ i. (a.1.made.did i).runner) ∙ r in (
+pub found_none : (v t w : View) (tail found : ℕ) → v.own.runner ≡ true → (queue_of v).taken ≤ length (queue_of v).places → Found v tail_word tail t → IsValidChainView t → FoundNotRaised t (place_word tail) found w → found / 65536 ≢ tail + 1 → FoundNone v w
+found_none v t w tail found r following a h low miss = let r' : t.own.runner ≡ true = (λ i. (a.1.made.did i).runner) ∙ r in (
   tail,
   found,
   a.0,
   low.0,
   miss,
-  ran_on v t w (load tail_word tail a.0 ∷ []) (load (place_word tail) found low.0 ∷ []) [] [] true true v.own.saw true (ran_look v t tail_word tail a behind r)
-      (ran_step t w (load (place_word tail) found low.0) (record t.own { saw = true }) true true low.1 refl (λ i. record t.own { runner = r' i; saw = true }) h.lawful.0.behind r'),
+  ran_on v t w (load tail_word tail a.0 ∷ []) (load (place_word tail) found low.0 ∷ []) [] [] true true v.own.saw true (ran_look v t tail_word tail a following r)
+      (ran_step t w (load (place_word tail) found low.0) (record t.own { saw = true }) true true low.1 refl (λ i. record t.own { runner = r' i; saw = true }) h.lawful.0.taken_within r'),
 )
 
-pub round_now : (v u w : View) (gate : ℕ) → v.own.runner ≡ true → (queue_of v).taken ≤ length (queue_of v).places → Found v gate_word 2 u → IsTold u → BegunRound u gate w → RoundNow v w
-round_now v u w gate r behind f h b = (gate, f.0, b.0, ran_on v u w (load gate_word 2 f.0 ∷ []) (change gate_word gate b.0 (with_gate b.0.object 1) ∷ []) [] [] true true v.own.saw false (ran_look v u gate_word 2 f behind r) (ran_gate u w gate 1 b.0 b.1 h.lawful.0.behind ((λ i. (f.1.made.did i).runner) ∙ r)))
+pub round_now : (v u w : View) (gate : ℕ) → v.own.runner ≡ true → (queue_of v).taken ≤ length (queue_of v).places → Found v gate_word 2 u → IsValidChainView u → BegunRound u gate w → RoundNow v w
+round_now v u w gate r following f h b = (gate, f.0, b.0, ran_on v u w (load gate_word 2 f.0 ∷ []) (change gate_word gate b.0 (with_gate b.0.object 1) ∷ []) [] [] true true v.own.saw false (ran_look v u gate_word 2 f following r) (ran_gate u w gate 1 b.0 b.1 h.lawful.0.taken_within ((λ i. (f.1.made.did i).runner) ∙ r)))
 
 pub left_now : (v w : View) → v.own.runner ≡ true → (queue_of v).taken ≤ length (queue_of v).places → HasLeft v w → LeftNow v w
-left_now v w r behind l = (l.0, ran_step v w (change gate_word 1 l.0 (with_gate l.0.object 0)) (record v.own { runner = false; saw = false }) false false l.1 refl refl behind r)
+left_now v w r following l = (l.0, ran_step v w (change gate_word 1 l.0 (with_gate l.0.object 0)) (record v.own { runner = false; saw = false }) false false l.1 refl refl following r)
 
 -- the quaject that was given back
 pub gave_back : {Q : Type 0} (made : Q → List ℕ → Type 0) (fits : Q → Type 0) (m m' : Me Q View) → HasLeft m.0 m'.0 → m'.1 ≡ [] → IsRunner made fits m → HasOrGave made fits false m'
-gave_back made fits m m' l none_held h = let c = h.carries in let served = (left_now m.0 m'.0 h.runner h.behind l).1.served in (none_held, (c.0, subst (made c.0) (sym (served.notes ∙ append-nil (notes_of (queue_of m.0)))) c.2, c.3))
+gave_back made fits m m' l none_held h = let c = h.carries in let served = (left_now m.0 m'.0 h.runner h.taken_within l).1.served in (none_held, (c.0, subst (made c.0) (sym (served.notes ∙ append-nil (notes_of (queue_of m.0)))) c.2, c.3))
 
 -- a leave that failed
 pub failed_one : (v u w : View) (n : FoundNone v u) (r : RoundNow u w) → Ran v (entries_of (failed n.0 n.1 r.0 n.2 n.3 r.1 r.2)) (failed n.0 n.1 r.0 n.2 n.3 r.1 r.2 ∷ []) true false w
@@ -192,7 +192,7 @@ failed_one v u w n r = let a = ran_on v u w (load tail_word n.0 n.2 ∷ load (pl
 -- the quaject at each number of notes taken
 
 length_notes : (q : Positions) → q.taken ≤ length q.places → length (notes_of q) ≡ q.taken
-length_notes q behind = length-map (take q.taken q.places) item_of ∙ length-take-le q.taken q.places behind
+length_notes q following = length-map (take q.taken q.places) item_of ∙ length-take-le q.taken q.places following
 
 module _ {Q : Type 0} (made : Q → List ℕ → Type 0) (fits : Q → Type 0) where
   -- a quaject that the notes taken made, and fits
@@ -204,15 +204,15 @@ module _ {Q : Type 0} (made : Q → List ℕ → Type 0) (fits : Q → Type 0) w
 
   -- no note more, or one
   pub since_step : (v w : View) (ns : List ℕ) → HasServed v ns w → length ns ≤ 1 → (queue_of v).taken ≤ length (queue_of v).places → (queue_of w).taken ≤ length (queue_of w).places → IsMade v → IsMade w → MadeSince made fits v w
-  since_step v w ns on few behind behind' a b n from upto = let t = on.taken in let l = length_notes (queue_of v) behind in let m = length_notes (queue_of w) behind' in dite (ℕ_discrete n (queue_of w).taken)
+  since_step v w ns on few following behind' a b n from upto = let t = on.taken in let l = length_notes (queue_of v) following in let m = length_notes (queue_of w) behind' in dite (ℕ_discrete n (queue_of w).taken)
       (λ is. let all : take n (notes_of (queue_of w)) ≡ notes_of (queue_of w) = ap (λ (z : ℕ). take z (notes_of (queue_of w))) (is ∙ sym m) ∙ take-length (notes_of (queue_of w)) in (b.0, subst (made b.0) (sym all) b.1, b.2))
       (λ ne. let is : n ≡ length (notes_of (queue_of v)) = omega arith in let all : take n (notes_of (queue_of w)) ≡ notes_of (queue_of v) = (λ i. take (is i) (on.notes i)) ∙ take-append_seam (notes_of (queue_of v)) ns in (a.0, subst (made a.0) (sym all) a.1, a.2))
 
   pub since_still : (v : View) (c : List (ℕ × Q)) → (queue_of v).taken ≤ length (queue_of v).places → Carries made fits (notes_of (queue_of v)) [] c → MadeSince made fits v v
-  since_still v c behind h = since_step v v [] (served_still v) (omega arith) behind behind (h.0, h.2, h.3) (h.0, h.2, h.3)
+  since_still v c following h = since_step v v [] (served_still v) (omega arith) following following (h.0, h.2, h.3) (h.0, h.2, h.3)
 
   pub since_then : (u v w : View) (ns : List ℕ) → MadeSince made fits u v → MadeSince made fits v w → notes_of (queue_of w) ≡ notes_of (queue_of v) ++ ns → (queue_of v).taken ≤ length (queue_of v).places → MadeSince made fits u w
-  since_then u v w ns a b notes behind n from upto = let l = length_notes (queue_of v) behind in dite (dec_le n (queue_of v).taken)
+  since_then u v w ns a b notes following n from upto = let l = length_notes (queue_of v) following in dite (dec_le n (queue_of v).taken)
       (λ low. let h = a n from low in let all : take n (notes_of (queue_of w)) ≡ take n (notes_of (queue_of v)) = ap (take n) notes ∙ take-append-le n (notes_of (queue_of v)) ns (omega arith) in (h.0, subst (made h.0) (sym all) h.1, h.2))
       (λ high. b n (omega arith) upto)
 
@@ -225,13 +225,13 @@ module _ {Q : Type 0} (made : Q → List ℕ → Type 0) (fits : Q → Type 0) w
     pub number : length (notes_run so.uses) ≡ ran
     pub few : ran ≤ count
     pub runner : IsRunner made fits now.me
-    pub told : IsTold now.me.0
+    pub valid : IsValidChainView now.me.0
     pub since : MadeSince made fits old.me.0 now.me.0
 
   module _ (old now : Seat Q View) where
-    pub rounds_begin : (gate : ℕ) → IsSame old now → BegunRound old.me.0 gate now.me.0 → now.me.1 ≡ old.me.1 → IsTold now.me.0 → IsRunner made fits old.me → InRounds old now 0 0
-    rounds_begin gate same b held told r = let v : View = old.me.0 in let w : View = now.me.0 in let a = ran_gate v w gate 1 b.0 b.1 r.behind r.runner in
-        let runner = runner_on made fits old.me now.me (seen_step v w (change gate_word gate b.0 (with_gate b.0.object 1)) (record v.own { saw = false }) b.1 refl) told (λ i. (b.1.made.did i).runner) held r in record {
+    pub rounds_begin : (gate : ℕ) → IsSame old now → BegunRound old.me.0 gate now.me.0 → now.me.1 ≡ old.me.1 → IsValidChainView now.me.0 → IsRunner made fits old.me → InRounds old now 0 0
+    rounds_begin gate same b held valid r = let v : View = old.me.0 in let w : View = now.me.0 in let a = ran_gate v w gate 1 b.0 b.1 r.taken_within r.runner in
+        let runner = runner_on made fits old.me now.me (seen_step v w (change gate_word gate b.0 (with_gate b.0.object 1)) (record v.own { saw = false }) b.1 refl) valid (λ i. (b.1.made.did i).runner) held r in record {
           same = same;
           so = record { gate = gate; begun = b.0; uses = [] };
           all = a;
@@ -239,12 +239,12 @@ module _ {Q : Type 0} (made : Q → List ℕ → Type 0) (fits : Q → Type 0) w
           number = refl;
           few = omega arith;
           runner = runner;
-          told = told;
-          since = since_step v w [] a.served (omega arith) r.behind runner.behind (made_of old.me r) (made_of now.me runner);
+          valid = valid;
+          since = since_step v w [] a.served (omega arith) r.taken_within runner.taken_within (made_of old.me r) (made_of now.me runner);
         }
 
-    pub rounds_on : (next : Seat Q View) (count ran more : ℕ) (one : Use) → InRounds old now count ran → IsSame now next → Ran now.me.0 (entries_of one) (one ∷ []) true false next.me.0 → length (notes_run (one ∷ [])) ≡ more → more ≤ 1 → IsRunner made fits next.me → IsTold next.me.0 → InRounds old next (count + 1) (ran + more)
-    rounds_on next count ran more one r same u is small runner told = let v : View = old.me.0 in let w : View = now.me.0 in let x : View = next.me.0 in let us : List Use = r.so.uses in
+    pub rounds_on : (next : Seat Q View) (count ran more : ℕ) (one : Use) → InRounds old now count ran → IsSame now next → Ran now.me.0 (entries_of one) (one ∷ []) true false next.me.0 → length (notes_run (one ∷ [])) ≡ more → more ≤ 1 → IsRunner made fits next.me → IsValidChainView next.me.0 → InRounds old next (count + 1) (ran + more)
+    rounds_on next count ran more one r same u is small runner valid = let v : View = old.me.0 in let w : View = now.me.0 in let x : View = next.me.0 in let us : List Use = r.so.uses in
         let few = r.few in let number = r.number in let long = r.long in let n = length-append us (one ∷ []) in let l = length-append (notes_run us) (notes_run (one ∷ [])) in let len = ap length (run_on us (one ∷ [])) in record {
           same = (same.0 ∙ r.same.0, same.1 ∙ r.same.1);
           so = record r.so { uses = us ++ one ∷ [] };
@@ -253,8 +253,8 @@ module _ {Q : Type 0} (made : Q → List ℕ → Type 0) (fits : Q → Type 0) w
           number = omega arith;
           few = omega arith;
           runner = runner;
-          told = told;
-          since = since_then v w x (notes_run (one ∷ [])) r.since (since_step w x (notes_run (one ∷ [])) u.served (omega arith) r.runner.behind runner.behind (made_of now.me r.runner) (made_of next.me runner)) u.served.notes r.runner.behind;
+          valid = valid;
+          since = since_then v w x (notes_run (one ∷ [])) r.since (since_step w x (notes_run (one ∷ [])) u.served (omega arith) r.runner.taken_within runner.taken_within (made_of now.me r.runner) (made_of next.me runner)) u.served.notes r.runner.taken_within;
         }
 
     -- one serving, by its own uses and entries
@@ -267,9 +267,9 @@ module _ {Q : Type 0} (made : Q → List ℕ → Type 0) (fits : Q → Type 0) w
         let a = ran_on u mid w (load tail_word n.0 n.2 ∷ load (place_word n.0) n.1 n.3 ∷ []) (change gate_word 1 l.0 (with_gate l.0.object 0) ∷ []) [] [] true false true false n.5 l.1 in
         (r.so, left, omega arith, one_run w r.so (Some left) ran (subst (λ (z : List Use). Ran v (serving r.so ++ leaving (Some left)) z false false w) (append-nil r.so.uses) (ran_on v u w (serving r.so) (leaving (Some left)) r.so.uses [] true false false false r.all a)) r.number)
 
-    pub since_done : (mid w : View) (held : List (ℕ × Q)) (count ran : ℕ) → InRounds old now count ran → FoundNone now.me.0 mid → LeftNow mid w → IsTold w → HasOrGave made fits false (w, held) → MadeSince made fits old.me.0 w
-    since_done mid w held count ran r n l told h = let u : View = now.me.0 in let on = served_on u mid w [] [] n.5.served l.1.served in
-        since_then old.me.0 u w [] r.since (since_step u w [] on (omega arith) r.runner.behind told.lawful.0.behind (made_of now.me r.runner) h.1) on.notes r.runner.behind
+    pub since_done : (mid w : View) (held : List (ℕ × Q)) (count ran : ℕ) → InRounds old now count ran → FoundNone now.me.0 mid → LeftNow mid w → IsValidChainView w → HasOrGave made fits false (w, held) → MadeSince made fits old.me.0 w
+    since_done mid w held count ran r n l valid h = let u : View = now.me.0 in let on = served_on u mid w [] [] n.5.served l.1.served in
+        since_then old.me.0 u w [] r.since (since_step u w [] on (omega arith) r.runner.taken_within valid.lawful.0.taken_within (made_of now.me r.runner) h.1) on.notes r.runner.taken_within
 
 -- several servings, the limit of each used up
 pub record AllRounds (v : View) (servings : List Serving) (total : ℕ) (w : View) : Type 0 where
@@ -303,8 +303,8 @@ pub all_done : (v u w : View) (servings : List Serving) (s : Serving) (l : Leavi
 all_done v u w servings s l total ran a less h = (servings, s, l, a.full, less, run_all v u w servings s total ran (Some l) a h)
 
 -- fewer notes than positions were run
-pub few_run : (v w : View) (ns : List ℕ) → HasServed v ns w → ∥ IsTold w ∥₁ → length ns < 4294967296
-few_run v w ns s told = ∥∥₁_elim told (search props) (λ (h : IsTold w). let taken = s.taken in let behind = h.lawful.0.behind in let bounded = h.bounded in let few : length ns < 4294967296 = omega arith in few)
+pub few_run : (v w : View) (ns : List ℕ) → HasServed v ns w → ∥ IsValidChainView w ∥₁ → length ns < 4294967296
+few_run v w ns s valid = ∥∥₁_elim valid (search props) (λ (h : IsValidChainView w). let taken = s.taken in let following = h.lawful.0.taken_within in let bounded = h.bounded in let few : length ns < 4294967296 = omega arith in few)
 
 -- the answer of one serving
 pub used_up : {Q : Type 0} (me me' : Me Q View) (limit ran : ℕ) (turn : Turn) → 0 < limit → IsUsedUp me.0 limit ran me'.0 → ServedNow me limit (served.More turn ran) me'

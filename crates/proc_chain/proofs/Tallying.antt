@@ -1,6 +1,6 @@
 -- The steps that make, split, join and count ends keep the rule.
 use Rattle.proc_chain.specs.Layout.{width, place_word}
-use Rattle.proc_chain.proofs.Common.{◌≡◌, ◌≢◌, ℕ, ◌+◌, ◌-◌, ◌<◌, ◌≤◌, ◌%◌, inl, ⊎_elim, Bool, true, false, ◌||◌, ◌&&◌, List, [], ◌∷◌, ◌++◌, map, get_or, set, sym, refl, ap, ◌∙◌, subst, arith, true≢false, map-set, map-append, some, none, some-ne-none, get_elem?, State, Me, step, Allows, Splits, Joins, at_map, set_here, set_else, Positions, QueueView, rest_of, newborn, both, emptied, ViewsShow, Grows, spot, listed_new, listed_join, at_push, at_below, grows_refl, GatedQueue, Shape, note_in, mark_in, Shows, first_queue, IsLawful, View, nothing_did, did_both, of_chains, part_of, AreShown, Rule, IsTold, view_from, head_word, tail_word, ends_word, FIRST_PLACE}
+use Rattle.proc_chain.proofs.Common.{◌≡◌, ◌≢◌, ℕ, ◌+◌, ◌-◌, ◌<◌, ◌≤◌, ◌%◌, inl, ⊎_elim, Bool, true, false, ◌||◌, ◌&&◌, List, [], ◌∷◌, ◌++◌, map, get_or, set, sym, refl, ap, ◌∙◌, subst, arith, true≢false, map-set, map-append, some, none, some-ne-none, get_elem?, State, Me, step, Allows, Splits, Joins, at_map, set_here, set_else, Positions, QueueView, rest_of, newborn, both, emptied, ViewsShow, Grows, spot, listed_new, listed_join, at_push, at_below, grows_refl, GatedQueue, Shape, note_in, mark_in, Shows, first_queue, IsLawful, View, nothing_did, did_both, of_chains, part_of, AreShown, Rule, IsValidChainView, view_from, head_word, tail_word, ends_word, FIRST_PLACE}
 use Rattle.std.proofs.Common.{replicate, get_or-set_other}
 use Rattle.std.proofs.lemmas.List.{get_or-replicate}
 use Rattle.atomic_table.specs.Table.{opening}
@@ -17,7 +17,7 @@ use Rattle.proc_chain.specs.Steps.{counts_up, counts_down, HasTallied}
 use Rattle.proc_chain.proofs.Becoming.{reaches_grow}
 use Rattle.proc_chain.proofs.Events.{and_false}
 use Rattle.proc_chain.proofs.Gates.{not_true, owed_on, covers_more, gated_same, gated_none, gated_new}
-use Rattle.proc_chain.proofs.Stepping.{undoubled_set, settled_look, table, behind_told, meets}
+use Rattle.proc_chain.proofs.Stepping.{undoubled_set, settled_look, table, after_reported, meets}
 
 undoubled_new : (views : List View) (w : View) → ((j : ℕ) (u : View) → get_elem? views j ≡ some u → u.own.doubled ≡ false) → w.own.doubled ≡ false → (j : ℕ) (u : View) → get_elem? (views ++ w ∷ []) j ≡ some u → u.own.doubled ≡ false
 undoubled_new views w old own j u has = ⊎_elim (λ t. old j u t) (λ t. ap (λ (z : View). z.own.doubled) (sym t.1) ∙ own) (at_push views w u j has)
@@ -48,10 +48,10 @@ first_shown : (first : ℕ) → AreShown (first_queue first) (view_from first �
 first_shown first = let w : View = view_from first in record { listed = listed_first (empty_from first) (part_of w) refl refl refl refl (grows_refl (empty_from first)); gate = gated_new (empty_from first) 0 [] w (gated_none (empty_from first) [] (λ j u has. absurd (some-ne-none u (sym has))) (λ h. absurd (omega arith))) refl }
 
 first_lawful : (first : ℕ) → IsLawful (first_queue first)
-first_lawful first = (record { behind = omega arith; within = omega arith; ready = λ i h. absurd (omega arith) }, omega arith)
+first_lawful first = (record { taken_within = omega arith; within = omega arith; ready = λ i h. absurd (omega arith) }, omega arith)
 
-pub first_told : (first : ℕ) → first < 4294967296 → IsTold (view_from first)
-first_told first bounded = record {
+pub first_reported : (first : ℕ) → first < 4294967296 → IsValidChainView (view_from first)
+first_reported first bounded = record {
   honest = record { leads = refl; real = tt; own = tt };
   lawful = first_lawful first;
   room = refl;
@@ -68,13 +68,13 @@ module _ {Q W : Type 0} (made : W → Q → List ℕ → Type 0) (fits : W → Q
 
   module _ (n id : ℕ) (me : Me Q View) where
     pub ups : me.0.member.ends + 1 ≤ me.0.member.share → Allows R n id me ends_word (λ x. (x + 1) % 18446744073709551616) (counts_up (step n ends_word 1 0 none) me)
-    ups parts = tables.ups (table made fits key) n id me (counts_up (step n ends_word 1 0 none) me) parts (λ s k at b. ((refl, behind_told made fits key s _ id me.0 _ at b.0 b.1), counted_up k.stands id me.0 at, meets made fits key s k id me.0 at))
+    ups parts = tables.ups (table made fits key) n id me (counts_up (step n ends_word 1 0 none) me) parts (λ s k at b. ((refl, after_reported made fits key s _ id me.0 _ at b.0 b.1), counted_up k.stands id me.0 at, meets made fits key s k id me.0 at))
 
     pub downs : 2 ≤ me.0.member.ends → Allows R n id me ends_word (λ x. (x + (18446744073709551616 - 1)) % 18446744073709551616) (counts_down (step n ends_word 1 0 none) me)
-    downs live = tables.downs (table made fits key) n id me (counts_down (step n ends_word 1 0 none) me) live (λ s k at b. ((refl, behind_told made fits key s _ id me.0 _ at b.0 b.1), counted_down k.stands id me.0 at, meets made fits key s k id me.0 at, k.undoubled id me.0 at))
+    downs live = tables.downs (table made fits key) n id me (counts_down (step n ends_word 1 0 none) me) live (λ s k at b. ((refl, after_reported made fits key s _ id me.0 _ at b.0 b.1), counted_down k.stands id me.0 at, meets made fits key s k id me.0 at, k.undoubled id me.0 at))
 
     pub tallies : me.0.member.ends ≡ 1 → Allows R n id me ends_word (λ x. x) (counts HasTallied (step n ends_word 0 0 none) me)
-    tallies one = tables.looks (table made fits key) n id me (counts HasTallied (step n ends_word 0 0 none) me) ends_word (omega arith) (λ s k at b. (refl, (behind_told made fits key s _ id me.0 _ at b.0 b.1, tallied_now k.stands id me.0 at one, meets made fits key s k id me.0 at)))
+    tallies one = tables.looks (table made fits key) n id me (counts HasTallied (step n ends_word 0 0 none) me) ends_word (omega arith) (λ s k at b. (refl, (after_reported made fits key s _ id me.0 _ at b.0 b.1, tallied_now k.stands id me.0 at one, meets made fits key s k id me.0 at)))
 
   pub splits : (id : ℕ) (v : View) → v.member.ends ≡ 2 → Splits R id v (rest_of v) (newborn nothing_did v)
   splits id v two s k at = let both_shown = newborn_shown k.now.object s.views id v record { listed = k.listed; gate = k.gate } at in record {

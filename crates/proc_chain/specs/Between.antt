@@ -15,8 +15,8 @@ use Rattle.event_theory.specs.Lawful.{IsLawfulChain}
 use Rattle.table_theory.specs.Positioned.{item_of, Grows}
 use Rattle.table_theory.specs.Filing.{Owned, ListedOnce}
 use Rattle.table_theory.specs.Listing.{all_places, Adjacent}
-use Rattle.table_theory.specs.QueueOf.{run_in, up_in, IsHistory}
-use Rattle.table_theory.specs.Ledgers.{AreTrue}
+use Rattle.table_theory.specs.QueueOf.{run_in, published_in, IsHistory}
+use Rattle.table_theory.specs.Ledgers.{AreValidViews}
 use Rattle.proc_chain.specs.declared.rule.GatedQueue.{GatedQueue}
 use Rattle.proc_chain.specs.declared.rule.Shape.{Shape}
 use Rattle.proc_chain.specs.Own.{View, nothing_did, queue_of}
@@ -47,7 +47,7 @@ pub record IsShown {W : Type 0} (key : Shape W) (words : List ℕ) (views : List
   pub once : ListedOnce runs (map (λ view. view.own.runs) views)
   -- the first run begins at the first position, and each other run begins where the previous run ends
   pub side_by_side : Adjacent key.first runs
-  pub raised : (run index : ℕ) → c.notes.raised run index ≡ up_in (slice_get runs run) index
+  pub raised : (run index : ℕ) → c.notes.raised run index ≡ published_in (slice_get runs run) index
   pub takings : List (Owned Batch)
   -- each taking is in one view, once; the takings have each position below the tail once, with the note of its run
   pub taken_once : ListedOnce takings (map (λ view. view.own.takes) views)
@@ -93,4 +93,4 @@ pub record ShowsEnds {Q W : Type 0} (key : Shape W) (s : State Q View) (now : Ga
   pub views : AreShown now s.views
   pub ends : ℕ
   pub number : slice_index_or s.words ends_word 0 ≡ ends
-  pub true_ends : AreTrue of_chains nothing_did (first_queue key.first) (record { ends = ends; object = now }) s.views
+  pub true_ends : AreValidViews of_chains nothing_did (first_queue key.first) (record { ends = ends; object = now }) s.views

@@ -3,7 +3,7 @@ use Rattle.std.specs.Prelude.{◌≡◌, ◌≢◌, ℕ, ◌+◌, ◌-◌, ◌<�
 use Rattle.table_theory.specs.declared.queues.Batch.{Batch}
 use Rattle.table_theory.specs.declared.queues.Cell.{Cell}
 use Rattle.table_theory.specs.declared.queues.Positions.{Positions}
-use Rattle.table_theory.specs.Positioned.{Lawful, place_at, item_at, written_at, head_of, tail_of}
+use Rattle.table_theory.specs.Positioned.{Lawful, place_at, item_at, stage_at, head_of, tail_of}
 use Rattle.table_theory.specs.Positioned.{with_claim, with_take}
 use Rattle.proc_chain.specs.declared.rule.GatedQueue.{GatedQueue}
 use Rattle.proc_chain.specs.declared.layout.TheConstants.{PLACES, NOTES, IDLE, RUNNING, MORE}
@@ -28,7 +28,7 @@ with_note o note = record o { queue = with_claim o.queue (note ∷ []) }
 abbrev pub with_raise : GatedQueue → ℕ → ℕ → GatedQueue
 with_raise o position note = record o {
   queue = record o.queue {
-    places = slice_set o.queue.places (position - o.queue.first) (record { item = note; written = 2 });
+    places = slice_set o.queue.places (position - o.queue.first) (record { item = note; stage = 2 });
   };
 }
 
@@ -54,9 +54,9 @@ pub record IsPlace (q : Positions) (position : ℕ) (place : Cell) : Type 0 wher
 pub data Becomes (o p : GatedQueue) : Type 0 where
   claimed : (note : ℕ) → note < NOTES → length o.queue.places + 1 ≤ o.queue.taken + o.queue.room
       → o.queue.shut ≡ false → p ≡ with_note o note → Becomes o p
-  raised : (at : ℕ) → o.queue.taken ≤ at → at < length o.queue.places → written_at o.queue at < 2
+  raised : (at : ℕ) → o.queue.taken ≤ at → at < length o.queue.places → stage_at o.queue at < 2
       → p ≡ with_raise o (o.queue.first + at) (item_at o.queue at) → Becomes o p
-  took : 2 ≤ written_at o.queue o.queue.taken → p ≡ with_taken o → Becomes o p
+  took : 2 ≤ stage_at o.queue o.queue.taken → p ≡ with_taken o → Becomes o p
   notified : p ≡ with_gate o MORE → Becomes o p
   round : o.gate ≢ IDLE → p ≡ with_gate o RUNNING → Becomes o p
   left : o.gate ≡ RUNNING → p ≡ with_gate o IDLE → Becomes o p

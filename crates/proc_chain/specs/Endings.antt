@@ -7,22 +7,22 @@ use Rattle.proc_chain.specs.Layout.{ends_word}
 use Rattle.proc_chain.specs.Own.{View, nothing_did, did_both}
 
 -- the number of ends was made one more, and the end gave a part of its share away
-abbrev pub Divided : View → View → Type 0
-Divided v w = ends.Divided ends_word v w
+abbrev pub SplitBy : View → View → Type 0
+SplitBy v w = ends.SplitBy ends_word v w
 
 -- the new end has nothing except the part of the share, and has seen what the other end had seen
-abbrev pub IsNewborn : View → View → View → Type 0
-IsNewborn old new born = ends.IsNewborn nothing_did old new born
+abbrev pub IsNewEnd : View → View → View → Type 0
+IsNewEnd old new born = ends.IsNewEnd nothing_did old new born
 
 -- the end has what both ends had, and the number of ends was made one less; not both ends had the turn
-abbrev pub TookIn : View → View → View → Type 0
-TookIn v u w = ends.TookIn did_both ends_word v u w × ((v.own.runner && u.own.runner) ≡ false)
+abbrev pub JoinedBy : View → View → View → Type 0
+JoinedBy v u w = ends.JoinedBy did_both ends_word v u w × ((v.own.runner && u.own.runner) ≡ false)
 
 -- if the flag is false, the end took in the other end and holds what it held; if it is true (the other end has the
 -- turn), the other end took in this end, and the result holds what the other end held
 abbrev pub Joined : {Q : Type 0} → Bool → Me Q View → Me Q View → Me Q View → Type 0
-Joined false me other me' = TookIn me.0 other.0 me'.0 × (me'.1 ≡ me.1)
-Joined true me other me' = TookIn other.0 me.0 me'.0 × (me'.1 ≡ other.1)
+Joined false me other me' = JoinedBy me.0 other.0 me'.0 × (me'.1 ≡ me.1)
+Joined true me other me' = JoinedBy other.0 me.0 me'.0 × (me'.1 ≡ other.1)
 
 -- the position is in this run or taking
 abbrev pub IsAmong : ℕ → Batch → Type 0

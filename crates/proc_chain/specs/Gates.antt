@@ -4,7 +4,7 @@ use mathlib.Core.Option.{Option, some, none}
 use lib.ListN.{get_elem?}
 use Rattle.table_theory.specs.declared.queues.Batch.{Batch}
 use Rattle.table_theory.specs.declared.queues.Positions.{Positions}
-use Rattle.table_theory.specs.Positioned.{written_at, tail_of}
+use Rattle.table_theory.specs.Positioned.{stage_at, tail_of}
 use Rattle.proc_chain.specs.Own.{View}
 use Rattle.proc_chain.specs.declared.layout.TheConstants.{IDLE, RUNNING, MORE}
 use Rattle.proc_chain.specs.Shown.{notes_of}
@@ -22,7 +22,7 @@ pub record IsOwed (q : Positions) (views : List View) : Type 0 where
 
 -- if the first note left is raised, the end that owns its run owes a notify
 abbrev pub IsSettled : Positions → List View → Type 0
-IsSettled q views = 2 ≤ written_at q q.taken → IsOwed q views
+IsSettled q views = 2 ≤ stage_at q q.taken → IsOwed q views
 
 -- some end has the turn
 pub record HasRunner (views : List View) : Type 0 where

@@ -5,7 +5,7 @@ use mathlib.Core.Option.{some}
 use lib.ListN.{get_elem?}
 use Rattle.event_theory.specs.declared.refusal.Refusal.{Refusal}
 use Rattle.event_theory.specs.Chains.{Chain, claim_note, raise_note, take_note, notify, round, leave}
-use Rattle.table_theory.specs.Ledgers.{Subject}
+use Rattle.table_theory.specs.Ledgers.{ObjectModel}
 use Rattle.proc_chain.specs.declared.rule.GatedQueue.{GatedQueue}
 use Rattle.proc_chain.specs.declared.layout.TheConstants.{IDLE, RUNNING, MORE}
 use Rattle.proc_chain.specs.Layout.{ends_word}
@@ -61,5 +61,5 @@ pub record Happens (o p : GatedQueue) : Type 0 where
   pub event : IsEvent o p
 
 -- chains as a subject of the theory of tables: the ends word, and what the words show, what is lawful, what can happen
-abbrev pub of_chains : Subject GatedQueue
+abbrev pub of_chains : ObjectModel GatedQueue
 of_chains = record { ends_word = ends_word; Shows = Shows; IsLawful = IsLawful; Happens = Happens }

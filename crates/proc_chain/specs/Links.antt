@@ -5,10 +5,10 @@ use Rattle.std.specs.List.{AllByRecursion, flat_map}
 use Rattle.table_theory.specs.Batches.{IsPast}
 use Rattle.table_theory.specs.declared.queues.Batch.{Batch}
 use Rattle.table_theory.specs.declared.positions.TheConstants.{POSITIONS}
-use Rattle.table_theory.specs.declared.views.Moment.{Moment}
+use Rattle.table_theory.specs.declared.views.AbsState.{AbsState}
 use Rattle.table_theory.specs.Ledgers.{Step, load, change}
 use Rattle.table_theory.specs.Positioned.{fresh}
-use Rattle.proc_chain.specs.declared.rule.Did.{Did}
+use Rattle.proc_chain.specs.declared.rule.ChainOps.{ChainOps}
 use Rattle.proc_chain.specs.declared.rule.GatedQueue.{GatedQueue}
 use Rattle.proc_chain.specs.declared.layout.TheConstants.{PLACES, IDLE, MORE}
 use Rattle.proc_chain.specs.declared.serve.TheConstants.{MOST_RUN}
@@ -31,11 +31,11 @@ IsSpent head = POSITIONS ≤ head + 1
 -- a lost try: the head and the tail that were loaded, and the head that the compare-and-swap found, each at its moment
 pub record LostTry : Type 0 where
   pub head : ℕ
-  pub at_head : Moment GatedQueue
+  pub at_head : AbsState GatedQueue
   pub tail : ℕ
-  pub at_tail : Moment GatedQueue
+  pub at_tail : AbsState GatedQueue
   pub found : ℕ
-  pub at_exchange : Moment GatedQueue
+  pub at_exchange : AbsState GatedQueue
 
 -- there was room, but the compare-and-swap found another head, past the one loaded
 abbrev pub IsLost : LostTry → Type 0
@@ -50,14 +50,14 @@ tried (t ∷ tries) = load head_word t.head t.at_head ∷ load tail_word t.tail 
 -- a note that was chained: the numbers found in the head, the tail, the place and the gate, each at its moment
 pub record Link : Type 0 where
   pub head : ℕ
-  pub at_head : Moment GatedQueue
+  pub at_head : AbsState GatedQueue
   pub tail : ℕ
-  pub at_tail : Moment GatedQueue
-  pub at_claim : Moment GatedQueue
+  pub at_tail : AbsState GatedQueue
+  pub at_claim : AbsState GatedQueue
   pub was : ℕ
-  pub at_raise : Moment GatedQueue
+  pub at_raise : AbsState GatedQueue
   pub gate : ℕ
-  pub at_gate : Moment GatedQueue
+  pub at_gate : AbsState GatedQueue
 
 -- the entries of a link: the head and the tail were loaded, a place claimed, the note raised, and the gate set to More
 abbrev pub linked : ℕ → Link → List (Step GatedQueue)
@@ -100,5 +100,5 @@ pub record IsService (s : Service) : Type 0 where
   pub uses : AllByRecursion IsUse (all_uses (servings s))
 
 -- the end's record after the service
-abbrev pub with_service : Did → Service → Did
+abbrev pub with_service : ChainOps → Service → ChainOps
 with_service d s = after_all d (all_uses (servings s)) (Some s.left)

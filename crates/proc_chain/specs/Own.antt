@@ -2,21 +2,21 @@
 use Rattle.std.specs.Prelude.{false, ◌||◌, ◌&&◌, [], ◌++◌}
 use Rattle.table_theory.specs.declared.queues.Positions.{Positions}
 use Rattle.table_theory.specs.declared.queues.QueueView.{QueueView}
-use Rattle.table_theory.specs.declared.views.Ledger.{Ledger}
-use Rattle.proc_chain.specs.declared.rule.Did.{Did}
+use Rattle.table_theory.specs.declared.views.EndState.{EndState}
+use Rattle.proc_chain.specs.declared.rule.ChainOps.{ChainOps}
 use Rattle.proc_chain.specs.declared.rule.GatedQueue.{GatedQueue}
 
 -- the view of an end of a chain: all that the end knows
 abbrev pub View : Type 0
-View = Ledger Did GatedQueue
+View = EndState ChainOps GatedQueue
 
 -- the record of an end that did nothing yet
-abbrev pub nothing_did : Did
+abbrev pub nothing_did : ChainOps
 nothing_did = record { runs = []; takes = []; runner = false; taken = 0; owes = false; saw = false; doubled = false }
 
 -- the records of two ends together: the runs and takings of both, `doubled` if either was or both had the turn, and the
 -- rest of the first end
-abbrev pub did_both : Did → Did → Did
+abbrev pub did_both : ChainOps → ChainOps → ChainOps
 did_both d e = record {
   runs = d.runs ++ e.runs;
   takes = d.takes ++ e.takes;

@@ -1,9 +1,9 @@
 -- Reports of the parts of a serving.
 use Rattle.std.specs.Prelude.{◌≡◌, ◌≢◌, ℕ, ◌+◌, ◌<◌, Bool, true, false, List, [], ◌∷◌, ◌++◌, length, Some, None}
 use Rattle.std.specs.List.{AllByRecursion}
-use Rattle.table_theory.specs.declared.views.Moment.{Moment}
-use Rattle.table_theory.specs.Ledgers.{Step, load, change, Made}
-use Rattle.proc_chain.specs.declared.rule.Did.{Did}
+use Rattle.table_theory.specs.declared.views.AbsState.{AbsState}
+use Rattle.table_theory.specs.Ledgers.{Step, load, change, Performed}
+use Rattle.proc_chain.specs.declared.rule.ChainOps.{ChainOps}
 use Rattle.proc_chain.specs.declared.rule.GatedQueue.{GatedQueue}
 use Rattle.proc_chain.specs.declared.layout.TheConstants.{IDLE, RUNNING, MORE}
 use Rattle.proc_chain.specs.Layout.{tail_word, gate_word, place_word, mark_of}
@@ -13,7 +13,7 @@ use Rattle.proc_chain.specs.Turns.{HasServed}
 use Rattle.proc_chain.specs.Servings.{Use, took, entries_of, IsUse, notes_run, takings, Serving, Leaving, HasRun}
 
 -- the runner's record after these uses; `runner` is whether it then has the turn, `saw` whether it saw no note raised
-abbrev pub used : Did → List Use → Bool → Bool → Did
+abbrev pub used : ChainOps → List Use → Bool → Bool → ChainOps
 used d uses runner saw = record d {
   takes = d.takes ++ takings uses;
   runner = runner;
@@ -26,27 +26,27 @@ used d uses runner saw = record d {
 pub record Ran (v : View) (entries : List (Step GatedQueue)) (uses : List Use) (runner saw : Bool) (w : View)
     : Type 0 where
   pub fit : AllByRecursion IsUse uses
-  pub made : Made v entries (used v.own uses runner saw) w
+  pub made : Performed v entries (used v.own uses runner saw) w
   pub served : HasServed v (notes_run uses) w
 
 -- the tail was loaded, the note at its place was found raised, and the note was taken
 abbrev pub RanNote : View → View → Type 0
-RanNote v w = (note tail : ℕ) × (m n o : Moment GatedQueue)
+RanNote v w = (note tail : ℕ) × (m n o : AbsState GatedQueue)
     × Ran v (entries_of (took note tail m n o)) (took note tail m n o ∷ []) true false w
 
 -- the tail was loaded, and the note at its place was not raised
 abbrev pub FoundNone : View → View → Type 0
-FoundNone v w = (tail word : ℕ) × (m n : Moment GatedQueue) × (mark_of word ≢ tail + 1)
+FoundNone v w = (tail word : ℕ) × (m n : AbsState GatedQueue) × (mark_of word ≢ tail + 1)
     × Ran v (load tail_word tail m ∷ load (place_word tail) word n ∷ []) [] true true w
 
 -- the end left: the compare-and-swap found the gate Running
 abbrev pub LeftNow : View → View → Type 0
-LeftNow v w = (m : Moment GatedQueue)
+LeftNow v w = (m : AbsState GatedQueue)
     × Ran v (change gate_word RUNNING m (with_gate m.object IDLE) ∷ []) [] false false w
 
 -- the end did not leave: the compare-and-swap found the gate More, and a round was begun
 abbrev pub RoundNow : View → View → Type 0
-RoundNow v w = (gate : ℕ) × (m n : Moment GatedQueue)
+RoundNow v w = (gate : ℕ) × (m n : AbsState GatedQueue)
     × Ran v (load gate_word MORE m ∷ change gate_word gate n (with_gate n.object RUNNING) ∷ []) [] true false w
 
 -- the serving left before its limit was used up

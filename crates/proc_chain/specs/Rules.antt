@@ -3,7 +3,7 @@ use Rattle.std.specs.Prelude.{◌≡◌, ◌<◌, ℕ, false, List, map}
 use mathlib.Core.Option.{some}
 use lib.ListN.{get_elem?}
 use Rattle.atomic_table.specs.Table.{State}
-use Rattle.table_theory.specs.declared.views.Moment.{Moment}
+use Rattle.table_theory.specs.declared.views.AbsState.{AbsState}
 use Rattle.table_theory.specs.Ledgers as ends
 use Rattle.table_theory.specs.Listing.{ViewsShow, AllRaised}
 use Rattle.table_theory.specs.Positioned.{head_of}
@@ -28,8 +28,8 @@ makes made_by pact x notes = made_by pact.opening.value x notes
 
 pub record Rule {Q W : Type 0} (made : W → Q → List ℕ → Type 0) (fits : W → Q → Type 0) (key : Shape W)
     (s : State Q View) : Type 0 where
-  pub now : Moment GatedQueue
-  pub stands : ends.Stands of_chains nothing_did (first_queue key.first) now s.words s.views
+  pub now : AbsState GatedQueue
+  pub stands : ends.TableInv of_chains nothing_did (first_queue key.first) now s.words s.views
   pub first : now.object.queue.first ≡ key.first
   pub listed : ViewsShow now.object.queue (map part_of s.views)
   pub gate : GateShows now.object.queue now.object.gate s.views
@@ -39,8 +39,8 @@ pub record Rule {Q W : Type 0} (made : W → Q → List ℕ → Type 0) (fits : 
 
 -- The end's list is true. The end sees a lawful queue with the chain's room, whose head is a position, and a gate. Some
 -- views show the queue and the gate, the end's view among them
-pub record IsTold (v : View) : Type 0 where
-  pub honest : ends.IsHonest of_chains v
+pub record IsValidChainView (v : View) : Type 0 where
+  pub honest : ends.IsValidView of_chains v
   pub lawful : IsLawful v.seen.object
   pub room : (queue_of v).room ≡ PLACES
   pub bounded : head_of (queue_of v) < POSITIONS

@@ -4,9 +4,9 @@ use Rattle.std.specs.Prelude.{length, Option, Some, None}
 use Rattle.std.specs.List.{AllByRecursion, flat_map}
 use Rattle.atomic_table.specs.Table.{Me}
 use Rattle.table_theory.specs.declared.queues.Batch.{Batch}
-use Rattle.table_theory.specs.declared.views.Moment.{Moment}
-use Rattle.table_theory.specs.Ledgers.{Step, load, change, Made}
-use Rattle.proc_chain.specs.declared.rule.Did.{Did}
+use Rattle.table_theory.specs.declared.views.AbsState.{AbsState}
+use Rattle.table_theory.specs.Ledgers.{Step, load, change, Performed}
+use Rattle.proc_chain.specs.declared.rule.ChainOps.{ChainOps}
 use Rattle.proc_chain.specs.declared.rule.GatedQueue.{GatedQueue}
 use Rattle.proc_chain.specs.declared.layout.TheConstants.{IDLE, RUNNING, MORE, NOTES}
 use Rattle.proc_chain.specs.declared.serve.TheConstants.{MOST_RUN}
@@ -24,8 +24,8 @@ use Rattle.proc_chain.specs.Turns.{HasServed}
 -- of the tail took the note. Or a leave failed: the tail was loaded, the note at its place was not raised, the
 -- compare-and-swap found the gate More, and a round was begun
 pub data Use : Type 0 where
-  took : (note tail : ℕ) → Moment GatedQueue → Moment GatedQueue → Moment GatedQueue → Use
-  failed : (tail word gate : ℕ) → Moment GatedQueue → Moment GatedQueue → Moment GatedQueue → Moment GatedQueue → Use
+  took : (note tail : ℕ) → AbsState GatedQueue → AbsState GatedQueue → AbsState GatedQueue → Use
+  failed : (tail word gate : ℕ) → AbsState GatedQueue → AbsState GatedQueue → AbsState GatedQueue → AbsState GatedQueue → Use
 
 -- the entries of a use
 abbrev pub entries_of : Use → List (Step GatedQueue)
@@ -53,7 +53,7 @@ takings (failed tail word gate m n o p ∷ uses) = takings uses
 -- a serving: a round was begun, from this gate, and these are the uses of the limit after that
 pub record Serving : Type 0 where
   pub gate : ℕ
-  pub begun : Moment GatedQueue
+  pub begun : AbsState GatedQueue
   pub uses : List Use
 
 -- the entries of a serving
@@ -65,9 +65,9 @@ pub record Leaving : Type 0 where
   pub tail : ℕ
   pub word : ℕ
   pub low : mark_of word ≢ tail + 1
-  pub at_tail : Moment GatedQueue
-  pub at_place : Moment GatedQueue
-  pub at_gate : Moment GatedQueue
+  pub at_tail : AbsState GatedQueue
+  pub at_place : AbsState GatedQueue
+  pub at_gate : AbsState GatedQueue
 
 -- the entries of leaving, if the end left
 abbrev pub leaving : Option Leaving → List (Step GatedQueue)
@@ -85,7 +85,7 @@ abbrev pub all_uses : List Serving → List Use
 all_uses servings = flat_map (λ s. s.uses) servings
 
 -- the end's record after these uses, and after it left, if it left: else it still has the turn
-abbrev pub after_all : Did → List Use → Option Leaving → Did
+abbrev pub after_all : ChainOps → List Use → Option Leaving → ChainOps
 after_all d uses left = record d {
   takes = d.takes ++ takings uses;
   runner = goes_on left;
@@ -97,7 +97,7 @@ after_all d uses left = record d {
 pub record HasRun (v : View) (servings : List Serving) (left : Option Leaving) (ran : ℕ) (w : View) : Type 0 where
   pub fit : AllByRecursion IsUse (all_uses servings)
   pub number : length (notes_run (all_uses servings)) ≡ ran
-  pub made : Made v (flat_map serving servings ++ leaving left)
+  pub made : Performed v (flat_map serving servings ++ leaving left)
       (after_all v.own (all_uses servings) left) w
   pub served : HasServed v (notes_run (all_uses servings)) w
 

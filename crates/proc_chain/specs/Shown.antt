@@ -2,7 +2,7 @@
 use Rattle.std.specs.Prelude.{◌≡◌, ℕ, ◌+◌, ◌<◌, ◌≤◌, false, List, length, map, take, slice_index_or}
 use Rattle.table_theory.specs.declared.positions.TheConstants.{POSITIONS}
 use Rattle.table_theory.specs.declared.queues.Positions.{Positions}
-use Rattle.table_theory.specs.Positioned.{head_of, tail_of, item_of, item_at, written_at}
+use Rattle.table_theory.specs.Positioned.{head_of, tail_of, item_of, item_at, stage_at}
 use Rattle.table_theory.specs.Windows.{PlacesShow}
 use Rattle.proc_chain.specs.declared.rule.GatedQueue.{GatedQueue}
 use Rattle.proc_chain.specs.declared.layout.TheConstants.{PLACES}
@@ -12,9 +12,9 @@ use Rattle.proc_chain.specs.Layout.{width, note_in, mark_in, gate_in, IsUnused}
 -- The word of a place while no note is raised there: 0 before the first note, and then the word of the note that was
 -- last taken there
 pub record PlacesKeep (q : Positions) (words : List ℕ) : Type 0 where
-  pub never : (i : ℕ) → q.taken ≤ i → i < PLACES → written_at q i < 2
+  pub never : (i : ℕ) → q.taken ≤ i → i < PLACES → stage_at q i < 2
       → slice_index_or words (place_word (q.first + i)) 0 ≡ 0
-  pub last : (i : ℕ) → i < q.taken → q.taken ≤ i + PLACES → written_at q (i + PLACES) < 2
+  pub last : (i : ℕ) → i < q.taken → q.taken ≤ i + PLACES → stage_at q (i + PLACES) < 2
       → slice_index_or words (place_word (q.first + i)) 0 ≡ raised_word (q.first + i) (item_at q i)
 
 -- the words show the queue's head and tail, and the places from the tail on; the words between the used words are 0

@@ -1,8 +1,8 @@
 //! The chain and its ends.
 ghost use Rattle.std.specs.Prelude.{◌≡◌, ◌||◌, [], true, false, IfOk, IfErr};
 ghost use Rattle.proc_chain.specs.Layout.{width};
-ghost use Rattle.proc_chain.specs.Rules.{view_from, IsTold, Rests};
-ghost use Rattle.proc_chain.specs.Endings.{Divided, IsNewborn, TookIn, Joined};
+ghost use Rattle.proc_chain.specs.Rules.{view_from, IsValidChainView, Rests};
+ghost use Rattle.proc_chain.specs.Endings.{SplitBy, IsNewEnd, JoinedBy, Joined};
 ghost use Rattle.proc_chain.specs.Notes.{SameNotes};
 ghost use Rattle.proc_chain.specs.Turns.{KeepsTaken};
 
@@ -41,7 +41,7 @@ pub struct ChainEnd<Q: Quaject> {
     pub(crate) turn: bool,
     ghost turned: { seat.me.0.own.runner ≡ turn },
     ghost rests: { Rests seat.me.0 },
-    ghost told: { ∥ IsTold seat.me.0 ∥₁ },
+    ghost valid: { ∥ IsValidChainView seat.me.0 ∥₁ },
 }
 
 impl<Q: Quaject> ChainEnd<Q> {
@@ -113,8 +113,8 @@ impl<Q: Quaject> ProcChain<Q> {
         requires parts { IsDivisible end.old }
         ensures notes { SameNotes (view_of end.old) (view_of end.new) }
         ensures turns { KeepsTurn end.old end.new × (turn_of result ≡ false) }
-        ensures born { IsNewborn (view_of end.old) (view_of end.new) (view_of result) }
-        ensures steps { Divided (view_of end.old) (view_of end.new) }
+        ensures born { IsNewEnd (view_of end.old) (view_of end.new) (view_of result) }
+        ensures steps { SplitBy (view_of end.old) (view_of end.new) }
         ensures ends { IsEndOf self.now end.new × IsEndOf self.now result }
         ensures same { IsSameEnd end.old end.new × KeepsTaken (view_of end.old) (view_of end.new) }
     {
@@ -156,7 +156,7 @@ impl<Q: Quaject> ProcChain<Q> {
         ensures none { turn_of other ≡ false }
         ensures turn { turn_of end.new ≡ turn_of end.old }
         ensures ends { IsEndOf self.now end.new }
-        ensures joined { TookIn (view_of end.old) (view_of other) (view_of end.new)
+        ensures joined { JoinedBy (view_of end.old) (view_of other) (view_of end.new)
             × ((me_of end.new).1 ≡ (me_of end.old).1) }
         ensures taken { KeepsTaken (view_of end.old) (view_of end.new) }
     {

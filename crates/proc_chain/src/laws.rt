@@ -8,12 +8,12 @@ ghost use lib.ListN.{get_elem?};
 ghost use Rattle.event_theory.specs.Chains.{claim_note, raise_note, take_note, notify, round, leave};
 ghost use Rattle.table_theory.specs.declared.positions.TheConstants.{POSITIONS};
 ghost use Rattle.table_theory.specs.declared.queues.Batch.{Batch};
-ghost use Rattle.table_theory.specs.declared.views.Moment.{Moment};
+ghost use Rattle.table_theory.specs.declared.views.AbsState.{AbsState};
 ghost use Rattle.table_theory.specs.Courses.{Continues};
-ghost use Rattle.table_theory.specs.Ledgers.{Step, load, change, count_down, Adds, IsReal, IsHonest, Reaches, Passes};
-ghost use Rattle.table_theory.specs.Listing.{written_to};
-ghost use Rattle.table_theory.specs.Positioned.{Grows, fresh, item_at, written_at, head_of, tail_of};
-ghost use Rattle.table_theory.specs.Seeing.{Stands};
+ghost use Rattle.table_theory.specs.Ledgers.{Step, load, change, count_down, ExtendsTrace, IsValidStep, IsValidView, Reaches, Passes};
+ghost use Rattle.table_theory.specs.Listing.{with_stage};
+ghost use Rattle.table_theory.specs.Positioned.{Grows, fresh, item_at, stage_at, head_of, tail_of};
+ghost use Rattle.table_theory.specs.Seeing.{RunIsIn};
 ghost use Rattle.proc_chain.specs.declared.chaining.ChainRefusal.TheVariants.{Full, Lost};
 ghost use Rattle.proc_chain.specs.declared.ends.ChainEnd.{ChainEnd};
 ghost use Rattle.proc_chain.specs.declared.layout.TheConstants.{PLACES, IDLE, RUNNING, MORE};
@@ -23,7 +23,7 @@ ghost use Rattle.proc_chain.specs.Answers.{NotChained, with_turn};
 ghost use Rattle.proc_chain.specs.Chainings.{AreShown, IsChainEvent};
 ghost use Rattle.proc_chain.specs.Changes.{IsLawful, IsPlace, Becomes, taking};
 ghost use Rattle.proc_chain.specs.Changes.{with_note, with_raise, with_taken, with_gate};
-ghost use Rattle.proc_chain.specs.Endings.{TookIn, IsAmong};
+ghost use Rattle.proc_chain.specs.Endings.{JoinedBy, IsAmong};
 ghost use Rattle.proc_chain.specs.Handles.{view_of, IsOnlyEnd};
 ghost use Rattle.proc_chain.specs.Layout.{head_word, tail_word, ends_word, gate_word, place_word, note_of, mark_of};
 ghost use Rattle.proc_chain.specs.Layout.{raised_word, width};
@@ -55,21 +55,21 @@ pub fn layout_is()
 /// had seen to each of these entries, in their order. The last of them left what the end sees then. If the end has the
 /// whole share, these entries alone lead there.
 pub fn lists_are_true<Q: Quaject>()
-    ensures end { (end : ChainEnd Q Q.World Q.Quaject) → ∥ IsHonest of_chains (view_of end) ∥₁ }
+    ensures end { (end : ChainEnd Q Q.World Q.Quaject) → ∥ IsValidView of_chains (view_of end) ∥₁ }
     ensures entries { (old : View) (new : ChainEnd Q Q.World Q.Quaject) (entries : List (Step GatedQueue))
-        → Adds old entries (view_of new) → ∥ AllByRecursion (IsReal of_chains) entries ∥₁ }
+        → ExtendsTrace old entries (view_of new) → ∥ AllByRecursion (IsValidStep of_chains) entries ∥₁ }
     ensures order { (old new : ChainEnd Q Q.World Q.Quaject) (entries : List (Step GatedQueue))
-        → Adds (view_of old) entries (view_of new)
+        → ExtendsTrace (view_of old) entries (view_of new)
         → ∥ Passes of_chains (view_of old).seen entries (view_of new).seen ∥₁ }
     ensures alone { (old new : ChainEnd Q Q.World Q.Quaject) (entries : List (Step GatedQueue)) → IsOnlyEnd old
-        → Adds (view_of old) entries (view_of new) → ∥ Continues (view_of old).seen entries (view_of new).seen ∥₁ }
+        → ExtendsTrace (view_of old) entries (view_of new) → ∥ Continues (view_of old).seen entries (view_of new).seen ∥₁ }
     ensures since { (old new : ChainEnd Q Q.World Q.Quaject) (entries : List (Step GatedQueue))
-        → Adds (view_of old) entries (view_of new)
+        → ExtendsTrace (view_of old) entries (view_of new)
         → ∥ Reaches of_chains (view_of old).seen (view_of new).seen ∥₁ }
-    ensures grows { (m n : Moment GatedQueue) → Reaches of_chains m n → Grows m.object.queue n.object.queue }
-    ensures change { (e : Step GatedQueue) → IsReal of_chains e
+    ensures grows { (m n : AbsState GatedQueue) → Reaches of_chains m n → Grows m.object.queue n.object.queue }
+    ensures change { (e : Step GatedQueue) → IsValidStep of_chains e
         → (e.next.object ≡ e.then.object) ⊎ Becomes e.then.object e.next.object }
-    ensures lawful { (e : Step GatedQueue) → IsReal of_chains e → IsLawful e.next.object }
+    ensures lawful { (e : Step GatedQueue) → IsValidStep of_chains e → IsLawful e.next.object }
 {}
 
 /// No head and no tail falls. A number that an end finds there is not below what the end had seen, nor below a number
@@ -77,21 +77,21 @@ pub fn lists_are_true<Q: Quaject>()
 /// what either end had seen.
 pub fn never_below<Q: Quaject>()
     ensures head { (old new : ChainEnd Q Q.World Q.Quaject) (before : List (Step GatedQueue)) (e : Step GatedQueue)
-        (after : List (Step GatedQueue)) → Adds (view_of old) (before ++ e ∷ after) (view_of new) → e.word ≡ head_word
+        (after : List (Step GatedQueue)) → ExtendsTrace (view_of old) (before ++ e ∷ after) (view_of new) → e.word ≡ head_word
         → (head_of (queue_of (view_of old)) ≤ e.found) × (e.found ≤ head_of (queue_of (view_of new))) }
     ensures tail { (old new : ChainEnd Q Q.World Q.Quaject) (before : List (Step GatedQueue)) (e : Step GatedQueue)
-        (after : List (Step GatedQueue)) → Adds (view_of old) (before ++ e ∷ after) (view_of new) → e.word ≡ tail_word
+        (after : List (Step GatedQueue)) → ExtendsTrace (view_of old) (before ++ e ∷ after) (view_of new) → e.word ≡ tail_word
         → (tail_of (queue_of (view_of old)) ≤ e.found) × (e.found ≤ tail_of (queue_of (view_of new))) }
     ensures later_head { (old new : ChainEnd Q Q.World Q.Quaject) (before : List (Step GatedQueue)) (e : Step GatedQueue)
         (between : List (Step GatedQueue)) (f : Step GatedQueue) (after : List (Step GatedQueue))
-        → Adds (view_of old) (before ++ e ∷ (between ++ f ∷ after)) (view_of new) → e.word ≡ head_word
+        → ExtendsTrace (view_of old) (before ++ e ∷ (between ++ f ∷ after)) (view_of new) → e.word ≡ head_word
         → f.word ≡ head_word → e.found ≤ f.found }
     ensures later_tail { (old new : ChainEnd Q Q.World Q.Quaject) (before : List (Step GatedQueue)) (e : Step GatedQueue)
         (between : List (Step GatedQueue)) (f : Step GatedQueue) (after : List (Step GatedQueue))
-        → Adds (view_of old) (before ++ e ∷ (between ++ f ∷ after)) (view_of new) → e.word ≡ tail_word
+        → ExtendsTrace (view_of old) (before ++ e ∷ (between ++ f ∷ after)) (view_of new) → e.word ≡ tail_word
         → f.word ≡ tail_word → e.found ≤ f.found }
     ensures joined { (old other new : ChainEnd Q Q.World Q.Quaject)
-        → TookIn (view_of old) (view_of other) (view_of new)
+        → JoinedBy (view_of old) (view_of other) (view_of new)
         → (head_of (queue_of (view_of old)) ≤ head_of (queue_of (view_of new)))
         × (tail_of (queue_of (view_of old)) ≤ tail_of (queue_of (view_of new)))
         × (head_of (queue_of (view_of other)) ≤ head_of (queue_of (view_of new)))
@@ -110,11 +110,11 @@ pub fn joins_are_apart<Q: Quaject>()
         → get_elem? u.own.takes m ≡ some a → get_elem? v.own.takes n ≡ some b → IsAmong position a
         → IsAmong position b → ⊥ }
     ensures joined_runs { (old other new : ChainEnd Q Q.World Q.Quaject)
-        → TookIn (view_of old) (view_of other) (view_of new) → (m n position : ℕ) (a b : Batch)
+        → JoinedBy (view_of old) (view_of other) (view_of new) → (m n position : ℕ) (a b : Batch)
         → get_elem? (view_of old).own.runs m ≡ some a → get_elem? (view_of other).own.runs n ≡ some b
         → IsAmong position a → IsAmong position b → ⊥ }
     ensures joined_takings { (old other new : ChainEnd Q Q.World Q.Quaject)
-        → TookIn (view_of old) (view_of other) (view_of new) → (m n position : ℕ) (a b : Batch)
+        → JoinedBy (view_of old) (view_of other) (view_of new) → (m n position : ℕ) (a b : Batch)
         → get_elem? (view_of old).own.takes m ≡ some a → get_elem? (view_of other).own.takes n ≡ some b
         → IsAmong position a → IsAmong position b → ⊥ }
 {}
@@ -123,12 +123,12 @@ pub fn joins_are_apart<Q: Quaject>()
 /// The entry of the step that counts one end less is a real step.
 pub fn joins_are_true<Q: Quaject>()
     ensures since { (old other new : ChainEnd Q Q.World Q.Quaject)
-        → TookIn (view_of old) (view_of other) (view_of new)
+        → JoinedBy (view_of old) (view_of other) (view_of new)
         → ∥ Reaches of_chains (view_of old).seen (view_of new).seen ∥₁
         × ∥ Reaches of_chains (view_of other).seen (view_of new).seen ∥₁ }
     ensures entry { (old other new : ChainEnd Q Q.World Q.Quaject)
-        (t : TookIn (view_of old) (view_of other) (view_of new))
-        → ∥ IsReal of_chains (count_down ends_word t.0.found) ∥₁ }
+        (t : JoinedBy (view_of old) (view_of other) (view_of new))
+        → ∥ IsValidStep of_chains (count_down ends_word t.0.found) ∥₁ }
 {}
 
 /// The queue and the gate that an end sees are lawful. Some views show them, the end's view among them. The queue has
@@ -138,7 +138,7 @@ pub fn ends_are_shown<Q: Quaject>()
     ensures shown { (end : ChainEnd Q Q.World Q.Quaject) → ∥ ((views : List View) × (seat : ℕ)
         × AreShown (view_of end).seen.object views × (get_elem? views seat ≡ some (view_of end))) ∥₁ }
     ensures runs { (end : ChainEnd Q Q.World Q.Quaject) (number : ℕ) (e : Batch)
-        → get_elem? (view_of end).own.runs number ≡ some e → ∥ Stands (queue_of (view_of end)) e ∥₁ }
+        → get_elem? (view_of end).own.runs number ≡ some e → ∥ RunIsIn (queue_of (view_of end)) e ∥₁ }
     ensures room { (end : ChainEnd Q Q.World Q.Quaject) → (queue_of (view_of end)).room ≡ PLACES }
     ensures bounded { (end : ChainEnd Q Q.World Q.Quaject) → head_of (queue_of (view_of end)) < POSITIONS }
 {}
@@ -146,44 +146,44 @@ pub fn ends_are_shown<Q: Quaject>()
 /// The meaning of the number that a step found: the number of ends, the head, the tail, the gate, or whether a place is
 /// raised, and with which note. The words show the places from the tail on, as many as the chain has.
 pub fn numbers_say()
-    ensures ends { (found : ℕ) (m : Moment GatedQueue) → IsReal of_chains (load ends_word found m) → found ≡ m.ends }
-    ensures head { (e : Step GatedQueue) → e.word ≡ head_word → IsReal of_chains e
+    ensures ends { (found : ℕ) (m : AbsState GatedQueue) → IsValidStep of_chains (load ends_word found m) → found ≡ m.ends }
+    ensures head { (e : Step GatedQueue) → e.word ≡ head_word → IsValidStep of_chains e
         → (e.found ≡ head_of e.then.object.queue) × (e.found < POSITIONS) }
-    ensures tail { (e : Step GatedQueue) → e.word ≡ tail_word → IsReal of_chains e
+    ensures tail { (e : Step GatedQueue) → e.word ≡ tail_word → IsValidStep of_chains e
         → e.found ≡ tail_of e.then.object.queue }
-    ensures gate { (e : Step GatedQueue) → e.word ≡ gate_word → IsReal of_chains e → e.found ≡ e.then.object.gate }
+    ensures gate { (e : Step GatedQueue) → e.word ≡ gate_word → IsValidStep of_chains e → e.found ≡ e.then.object.gate }
     ensures raised { (e : Step GatedQueue) (i : ℕ) → e.word ≡ place_word (e.then.object.queue.first + i)
-        → IsReal of_chains e → e.then.object.queue.taken ≤ i → i < e.then.object.queue.taken + PLACES
+        → IsValidStep of_chains e → e.then.object.queue.taken ≤ i → i < e.then.object.queue.taken + PLACES
         → mark_of e.found ≡ e.then.object.queue.first + i + 1
-        → (2 ≤ written_at e.then.object.queue i) × (note_of e.found ≡ item_at e.then.object.queue i) }
+        → (2 ≤ stage_at e.then.object.queue i) × (note_of e.found ≡ item_at e.then.object.queue i) }
     ensures low { (e : Step GatedQueue) (i : ℕ) → e.word ≡ place_word (e.then.object.queue.first + i)
-        → IsReal of_chains e → e.then.object.queue.taken ≤ i → i < e.then.object.queue.taken + PLACES
-        → mark_of e.found ≢ e.then.object.queue.first + i + 1 → written_at e.then.object.queue i < 2 }
+        → IsValidStep of_chains e → e.then.object.queue.taken ≤ i → i < e.then.object.queue.taken + PLACES
+        → mark_of e.found ≢ e.then.object.queue.first + i + 1 → stage_at e.then.object.queue i < 2 }
 {}
 
 /// Each change that an answer lists is one event of the core: some views, which a proof chooses, show the queue and the
 /// gate that the step found. With one of them changed, the views show the queue and the gate that the step left. The
 /// event is the one with that name, for all views that show what the step found, if one of them is the end's view.
 pub fn changes_are_events()
-    ensures each { (e : Step GatedQueue) → IsReal of_chains e
+    ensures each { (e : Step GatedQueue) → IsValidStep of_chains e
         → (e.next.object ≡ e.then.object) ⊎ IsEvent e.then.object e.next.object }
-    ensures claimed { (head note : ℕ) (m : Moment GatedQueue) (views : List View) (seat : ℕ) (v w : View)
-        (shown : AreShown m.object views) → IsReal of_chains (change head_word head m (with_note m.object note))
+    ensures claimed { (head note : ℕ) (m : AbsState GatedQueue) (views : List View) (seat : ℕ) (v w : View)
+        (shown : AreShown m.object views) → IsValidStep of_chains (change head_word head m (with_note m.object note))
         → get_elem? views seat ≡ some v → w.seen.object ≡ with_note m.object note
         → w.own ≡ record v.own { runs = v.own.runs ++ run head note ∷ [] }
         → (head ≡ head_of m.object.queue) × (m.object.queue.shut ≡ false)
         × IsChainEvent m.object (with_note m.object note) views shown seat w (claim_note seat (note ∷ [])) }
-    ensures raised { (position note found number : ℕ) (e : Batch) (m : Moment GatedQueue) (views : List View)
+    ensures raised { (position note found number : ℕ) (e : Batch) (m : AbsState GatedQueue) (views : List View)
         (seat : ℕ) (v w : View) (shown : AreShown m.object views)
-        → IsReal of_chains (change (place_word position) found m (with_raise m.object position note))
+        → IsValidStep of_chains (change (place_word position) found m (with_raise m.object position note))
         → IsPlace m.object.queue position (fresh note) → get_elem? views seat ≡ some v
         → get_elem? v.own.runs number ≡ some e → e.start ≡ position → 0 < length e.places
         → w.seen.object ≡ with_raise m.object position note
-        → w.own ≡ record v.own { runs = slice_set v.own.runs number (written_to e 0 2); owes = true }
+        → w.own ≡ record v.own { runs = slice_set v.own.runs number (with_stage e 0 2); owes = true }
         → (k : ℕ) × IsChainEvent m.object (with_raise m.object position note) views shown seat w (raise_note seat k 0)
         × (get_elem? shown.listed.lists.runs k ≡ some (seat, number, e)) }
-    ensures taken { (tail : ℕ) (m : Moment GatedQueue) (views : List View) (seat : ℕ) (v w : View)
-        (shown : AreShown m.object views) → IsReal of_chains (change tail_word tail m (with_taken m.object))
+    ensures taken { (tail : ℕ) (m : AbsState GatedQueue) (views : List View) (seat : ℕ) (v w : View)
+        (shown : AreShown m.object views) → IsValidStep of_chains (change tail_word tail m (with_taken m.object))
         → get_elem? views seat ≡ some v → v.own.runner ≡ true → w.seen.object ≡ with_taken m.object
         → w.own ≡ record v.own {
           takes = v.own.takes ++ taking m.object.queue ∷ [];
@@ -192,23 +192,23 @@ pub fn changes_are_events()
         }
         → (tail ≡ tail_of m.object.queue)
         × IsChainEvent m.object (with_taken m.object) views shown seat w (take_note seat 1) }
-    ensures notified { (gate : ℕ) (m : Moment GatedQueue) (views : List View) (seat : ℕ) (v w : View)
-        (shown : AreShown m.object views) → IsReal of_chains (change gate_word gate m (with_gate m.object MORE))
+    ensures notified { (gate : ℕ) (m : AbsState GatedQueue) (views : List View) (seat : ℕ) (v w : View)
+        (shown : AreShown m.object views) → IsValidStep of_chains (change gate_word gate m (with_gate m.object MORE))
         → get_elem? views seat ≡ some v → v.own.owes ≡ true → gate ≢ IDLE → w.seen.object ≡ with_gate m.object MORE
         → w.own ≡ record v.own { owes = false }
         → IsChainEvent m.object (with_gate m.object MORE) views shown seat w (notify seat) }
-    ensures won { (m : Moment GatedQueue) (views : List View) (seat : ℕ) (v w : View)
-        (shown : AreShown m.object views) → IsReal of_chains (change gate_word IDLE m (with_gate m.object MORE))
+    ensures won { (m : AbsState GatedQueue) (views : List View) (seat : ℕ) (v w : View)
+        (shown : AreShown m.object views) → IsValidStep of_chains (change gate_word IDLE m (with_gate m.object MORE))
         → get_elem? views seat ≡ some v → v.own.owes ≡ true → w.seen.object ≡ with_gate m.object MORE
         → w.own ≡ with_turn m.object.queue.taken (record v.own { owes = false })
         → IsChainEvent m.object (with_gate m.object MORE) views shown seat w (notify seat) }
-    ensures rounded { (gate : ℕ) (m : Moment GatedQueue) (views : List View) (seat : ℕ) (v w : View)
-        (shown : AreShown m.object views) → IsReal of_chains (change gate_word gate m (with_gate m.object RUNNING))
+    ensures rounded { (gate : ℕ) (m : AbsState GatedQueue) (views : List View) (seat : ℕ) (v w : View)
+        (shown : AreShown m.object views) → IsValidStep of_chains (change gate_word gate m (with_gate m.object RUNNING))
         → get_elem? views seat ≡ some v → v.own.runner ≡ true
         → w.seen.object ≡ with_gate m.object RUNNING → w.own ≡ record v.own { saw = false }
         → IsChainEvent m.object (with_gate m.object RUNNING) views shown seat w (round seat) }
-    ensures left { (m : Moment GatedQueue) (views : List View) (seat : ℕ) (v w : View)
-        (shown : AreShown m.object views) → IsReal of_chains (change gate_word RUNNING m (with_gate m.object IDLE))
+    ensures left { (m : AbsState GatedQueue) (views : List View) (seat : ℕ) (v w : View)
+        (shown : AreShown m.object views) → IsValidStep of_chains (change gate_word RUNNING m (with_gate m.object IDLE))
         → get_elem? views seat ≡ some v → v.own.runner ≡ true → v.own.saw ≡ true
         → w.seen.object ≡ with_gate m.object IDLE → w.own ≡ record v.own { runner = false; saw = false }
         → IsChainEvent m.object (with_gate m.object IDLE) views shown seat w (leave seat) }

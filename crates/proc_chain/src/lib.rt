@@ -70,7 +70,7 @@ pub use close::ChainClosed;
 pub use ends::{ChainEnd, ProcChain};
 pub use held::ServedKept;
 pub use quaject::{Quaject, Ran};
-pub use rule::{ChainRule, Did, GatedQueue, Pact, Shape, View};
+pub use rule::{ChainOps, ChainRule, GatedQueue, Pact, Shape, View};
 pub use running::Turn;
 pub use serve::Served;
 pub use table_theory::OpenEnds;

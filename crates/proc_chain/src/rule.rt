@@ -4,7 +4,7 @@ use atomic_table::TableRule;
 use std::collections::LinkedList;
 use std::snapshot::Snapshot;
 use table_theory::queues::{Batch, Positions};
-use table_theory::views::Ledger;
+use table_theory::views::EndState;
 
 /// The pact of the quaject of a chain: the world that it fits, and the quaject that was given to `new`.
 #[derive(Drop)]
@@ -27,7 +27,7 @@ pub struct GatedQueue {
 }
 
 /// The record of what an end did: its runs and takings in the queue of notes, and its turn. Only proofs use it.
-pub struct Did {
+pub struct ChainOps {
     pub runs: LinkedList<Batch>,
     pub takes: LinkedList<Batch>,
     /// It has the turn to run notes.
@@ -43,7 +43,7 @@ pub struct Did {
 }
 
 /// The view of an end: what it did, its steps, and all ends' steps up to its own last step.
-pub type View = Ledger<Did, GatedQueue>;
+pub type View = EndState<ChainOps, GatedQueue>;
 
 pub struct ChainRule;
 

@@ -6,9 +6,9 @@
 //! So each note is run after its taking, and before the end takes the next note, begins a round or leaves.
 ghost use Rattle.std.specs.Prelude.{◌≡◌, ◌<◌, ◌≤◌, ℕ, List, true, [], ◌∷◌, ◌++◌, MatchOption};
 ghost use Rattle.table_theory.specs.declared.positions.TheConstants.{POSITIONS};
-ghost use Rattle.table_theory.specs.Positioned.{tail_of, item_at, written_at};
+ghost use Rattle.table_theory.specs.Positioned.{tail_of, item_at, stage_at};
 ghost use Rattle.table_theory.specs.Seating.{IsSame};
-ghost use Rattle.proc_chain.specs.Rules.{suits, makes, IsTold};
+ghost use Rattle.proc_chain.specs.Rules.{suits, makes, IsValidChainView};
 ghost use Rattle.proc_chain.specs.Layout.{gate_word, width};
 ghost use Rattle.proc_chain.specs.declared.layout.TheConstants.{MORE};
 ghost use Rattle.proc_chain.specs.Own.{queue_of};
@@ -62,7 +62,7 @@ pub(crate) fn swap_more<Q: Quaject, J: Runner<Q>>(
     requires live { (1 ≤ seat.old.me.0.member.ends) × (seat.old.me.0.own.owes ≡ true) }
     requires suits { (x : Q) → suits Q.fits words.now.key.pact x → J.suits x }
     requires makes { (x : Q) (notes : List ℕ) → makes Q.made_by words.now.key.pact x notes → J.made x notes }
-    ensures stays { IsSame seat.old seat.new × IsTold seat.new.me.0 }
+    ensures stays { IsSame seat.old seat.new × IsValidChainView seat.new.me.0 }
     ensures notified { MatchOption result
         ((gate : ℕ) × (seat.new.me.1 ≡ seat.old.me.1) × Notified seat.old.me.0 gate seat.new.me.0)
         (λ turn. GotTurn J.made J.suits seat.old.me seat.new.me) }
@@ -85,7 +85,7 @@ pub(crate) fn store_tail<Q: Quaject>(
     requires queue { (seat.old.table_id ≡ words.now.table_id) × (words.now.table_id.words ≡ width) }
     requires runner { IsRunner (makes Q.made_by words.now.key.pact) (suits Q.fits words.now.key.pact) seat.old.me }
     requires tail { (tail ≡ tail_of (queue_of seat.old.me.0)) × (tail < POSITIONS) }
-    requires raised { 2 ≤ written_at (queue_of seat.old.me.0) (queue_of seat.old.me.0).taken }
+    requires raised { 2 ≤ stage_at (queue_of seat.old.me.0) (queue_of seat.old.me.0).taken }
     requires note { note ≡ item_at (queue_of seat.old.me.0) (queue_of seat.old.me.0).taken }
     ensures stays { IsSame seat.old seat.new × Stays seat.old.me seat.new.me }
     ensures took { Took seat.old.me.0 tail seat.new.me.0 }
@@ -131,7 +131,7 @@ pub(crate) fn exchange_gate<Q: Quaject>(
     requires queue { (seat.old.table_id ≡ words.now.table_id) × (words.now.table_id.words ≡ width) }
     requires runner { IsRunner (makes Q.made_by words.now.key.pact) (suits Q.fits words.now.key.pact) seat.old.me }
     requires saw { seat.old.me.0.own.saw ≡ true }
-    ensures stays { IsSame seat.old seat.new × IsTold seat.new.me.0 }
+    ensures stays { IsSame seat.old seat.new × IsValidChainView seat.new.me.0 }
     ensures left { MatchOption result ((seat.new.me.1 ≡ []) × HasLeft seat.old.me.0 seat.new.me.0)
         (λ turn. (seat.new.me.1 ≡ seat.old.me.1) × Found seat.old.me.0 gate_word MORE seat.new.me.0) }
 {

@@ -2,7 +2,7 @@
 ghost use Rattle.std.specs.Prelude.{◌≡◌, ◌+◌, ◌<◌, ℕ, List, true, false, [], ◌∷◌, ◌++◌, MatchBool, MatchOption};
 ghost use Rattle.table_theory.specs.Seating.{IsSame};
 ghost use Rattle.proc_chain.specs.Layout.{width};
-ghost use Rattle.proc_chain.specs.Rules.{suits, makes, IsTold};
+ghost use Rattle.proc_chain.specs.Rules.{suits, makes, IsValidChainView};
 ghost use Rattle.proc_chain.specs.Rounds.{RanNote, FoundNone, LeftNow, RoundNow, IsDone, IsUsedUp};
 ghost use Rattle.proc_chain.specs.Turns.{Carries, IsRunner, HasOrGave, MadeSince};
 ghost use Rattle.proc_chain.specs.Servings.{ServedNow, AllServed, is_more};
@@ -38,7 +38,7 @@ fn run_next<Q: Quaject>(
     requires queue { (seat.old.table_id ≡ words.now.table_id) × (words.now.table_id.words ≡ width) }
     requires world { words.now.key.pact.world.value ≡ world.now }
     requires runner { IsRunner (makes Q.made_by words.now.key.pact) (suits Q.fits words.now.key.pact) seat.old.me }
-    ensures stays { IsSame seat.old seat.new × IsTold seat.new.me.0 }
+    ensures stays { IsSame seat.old seat.new × IsValidChainView seat.new.me.0 }
     ensures runner { IsRunner (makes Q.made_by words.now.key.pact) (suits Q.fits words.now.key.pact) seat.new.me }
     ensures ran { MatchBool result.0 (RanNote seat.old.me.0 seat.new.me.0) (FoundNone seat.old.me.0 seat.new.me.0) }
 {
@@ -64,7 +64,7 @@ fn leave_or_round<Q: Quaject>(
     requires queue { (seat.old.table_id ≡ words.now.table_id) × (words.now.table_id.words ≡ width) }
     requires runner { IsRunner (makes Q.made_by words.now.key.pact) (suits Q.fits words.now.key.pact) seat.old.me }
     requires saw { seat.old.me.0.own.saw ≡ true }
-    ensures stays { IsSame seat.old seat.new × IsTold seat.new.me.0 }
+    ensures stays { IsSame seat.old seat.new × IsValidChainView seat.new.me.0 }
     ensures gave { MatchOption result
         (HasOrGave (makes Q.made_by words.now.key.pact) (suits Q.fits words.now.key.pact) false seat.new.me)
         (λ turn. IsRunner (makes Q.made_by words.now.key.pact) (suits Q.fits words.now.key.pact) seat.new.me) }
@@ -96,7 +96,7 @@ fn serve_seat<Q: Quaject>(
     requires world { words.now.key.pact.world.value ≡ world.now }
     requires runner { IsRunner (makes Q.made_by words.now.key.pact) (suits Q.fits words.now.key.pact) seat.old.me }
     requires some_limit { 0 < limit }
-    ensures stays { IsSame seat.old seat.new × IsTold seat.new.me.0 }
+    ensures stays { IsSame seat.old seat.new × IsValidChainView seat.new.me.0 }
     ensures gave { MatchOption result.0
         (HasOrGave (makes Q.made_by words.now.key.pact) (suits Q.fits words.now.key.pact) false seat.new.me)
         (λ turn. IsRunner (makes Q.made_by words.now.key.pact) (suits Q.fits words.now.key.pact) seat.new.me) }

@@ -74,7 +74,7 @@ pub(crate) fn store_place<Q: Quaject>(
     requires bounded { start < POSITIONS }
     requires mine { (e : Batch)
         × (get_elem? seat.old.me.0.own.runs (number_of start seat.old.me.0.own.runs) ≡ some e)
-        × (e.start ≡ start) × (0 < length e.places) × ((slice_index_or e.places 0 blank).written < 2)
+        × (e.start ≡ start) × (0 < length e.places) × ((slice_index_or e.places 0 blank).stage < 2)
         × ((slice_index_or e.places 0 blank).item ≡ note) }
     ensures stays { IsSame seat.old seat.new × Stays seat.old.me seat.new.me }
     ensures raised { (e : Batch) → get_elem? seat.old.me.0.own.runs (number_of start seat.old.me.0.own.runs) ≡ some e

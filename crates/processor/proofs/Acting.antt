@@ -1,11 +1,11 @@
 -- The parts that a hand keeps over several steps, and the sum of its events.
-use Rattle.processor.proofs.Common.{◌≡◌, inr, ℕ, zero, suc, true, List, [], ◌∷◌, Option, Some, None, false, get_or, set, refl, sym, ap, ◌∙◌, arith, append_assoc, append-nil, View, Keeps, serves, running, Tally, tally, behind, no_events, Adds, NeverFalls}
+use Rattle.processor.proofs.Common.{◌≡◌, inr, ℕ, zero, suc, true, List, [], ◌∷◌, Option, Some, None, false, get_or, set, refl, sym, ap, ◌∙◌, arith, append_assoc, append-nil, View, Keeps, serves, running, Tally, tally, followed_by, no_events, AddsToTally, NeverFalls}
 use Rattle.turn_dispatch.specs.Holdings.{OnlyAdds, Steady}
-use Rattle.processor.specs.Acts.{Acts, SteadyOn}
+use Rattle.processor.specs.Acts.{AddsOnly, SteadyOn}
 use Rattle.processor.proofs.Rising.{rises_on}
 
-pub behind_assoc : (a b c : Tally) → behind (behind a b) c ≡ behind a (behind b c)
-behind_assoc a b c = λ i. record {
+pub after_assoc : (a b c : Tally) → followed_by (followed_by a b) c ≡ followed_by a (followed_by b c)
+after_assoc a b c = λ i. record {
   done = append_assoc a.done b.done c.done i;
   signalled = append_assoc a.signalled b.signalled c.signalled i;
   delivered = append_assoc a.delivered b.delivered c.delivered i;
@@ -13,11 +13,11 @@ behind_assoc a b c = λ i. record {
   taken = append_assoc a.taken b.taken c.taken i;
 }
 
-pub adds_on : (s t : Tally) (u v w : View) → Adds s u v → Adds t v w → Adds (behind s t) u w
-adds_on s t u v w a b = b ∙ ap (λ z. behind z t) a ∙ behind_assoc (tally u.own.made) s t
+pub adds_on : (s t : Tally) (u v w : View) → AddsToTally s u v → AddsToTally t v w → AddsToTally (followed_by s t) u w
+adds_on s t u v w a b = b ∙ ap (λ z. followed_by z t) a ∙ after_assoc (tally u.own.made) s t
 
-pub nothing_behind : (t : Tally) → behind t no_events ≡ t
-nothing_behind t = λ i. record {
+pub nothing_after : (t : Tally) → followed_by t no_events ≡ t
+nothing_after t = λ i. record {
   done = append-nil t.done i;
   signalled = append-nil t.signalled i;
   delivered = append-nil t.delivered i;
@@ -37,13 +37,13 @@ runs_still v w p e k h = ap (λ xs. get_or xs p None) k.on ∙ h
 pub steady_on : (v w : View) → Keeps v w → Steady v w → SteadyOn v w
 steady_on v w k s p e low serve on = s e low (inr (p, serve, on)) (inr (p, serves_still v w p k serve, runs_still v w p e k on))
 
-pub acts_by : (t : Tally) (v w : View) → Keeps v w → Adds t v w → Steady v w → NeverFalls v w → Acts t v w
+pub acts_by : (t : Tally) (v w : View) → Keeps v w → AddsToTally t v w → Steady v w → NeverFalls v w → AddsOnly t v w
 acts_by t v w k a s r = record { keeps = k; adds = a; steady = steady_on v w k s; rises = r }
 
-pub acts_only : (t : Tally) (v w : View) → OnlyAdds t v w → NeverFalls v w → Acts t v w
+pub acts_only : (t : Tally) (v w : View) → OnlyAdds t v w → NeverFalls v w → AddsOnly t v w
 acts_only t v w o r = acts_by t v w o.keeps o.adds o.steady r
 
-pub acts_on : (s t : Tally) (u v w : View) → Acts s u v → Acts t v w → Acts (behind s t) u w
+pub acts_on : (s t : Tally) (u v w : View) → AddsOnly s u v → AddsOnly t v w → AddsOnly (followed_by s t) u w
 acts_on s t u v w a b = record {
   keeps = keeps_on u v w a.keeps b.keeps;
   adds = adds_on s t u v w a.adds b.adds;
@@ -52,10 +52,10 @@ acts_on s t u v w a b = record {
 }
 
 -- nothing was done
-pub acts_none : (v : View) → Acts no_events v v
+pub acts_none : (v : View) → AddsOnly no_events v v
 acts_none v = record {
   keeps = record { first = refl; serves = refl; on = refl; share = refl };
-  adds = sym (nothing_behind (tally v.own.made));
+  adds = sym (nothing_after (tally v.own.made));
   steady = λ p e low serve on. refl;
   rises = λ e. omega arith;
 }

@@ -27,7 +27,7 @@ pub use Rattle.thread_table.specs.Own.{View}
 pub use Rattle.thread_table.specs.Rules.{done_at, running, serves}
 pub use Rattle.turn_dispatch.specs.Countings.{CountAnswer, IsNumber, counted_step}
 pub use Rattle.turn_dispatch.specs.Holdings.{Shows}
-pub use Rattle.turn_dispatch.specs.Tallies.{Adds, Tally, behind, no_events, tally}
+pub use Rattle.turn_dispatch.specs.Tallies.{AddsToTally, Tally, followed_by, no_events, tally}
 pub use Rattle.turn_dispatch.specs.Tendings.{tick_to}
 pub use Rattle.turn_dispatch.specs.declared.counting.Counted.{Counted}
 pub use Rattle.turn_dispatch.specs.declared.dispatch.Begun.{Begun}
@@ -38,19 +38,19 @@ pub use Rattle.turn_io.specs.EndLists.{OnEnd, knows_shut_at}
 pub use Rattle.turn_io.specs.declared.gate.Point.TheVariants.{Turn}
 pub use Rattle.processor.specs.Accounts.{account, nothing, seat_parted, shares, shown_in, ◌⊕◌}
 pub use Rattle.processor.specs.Acts.{NeverFalls}
-pub use Rattle.processor.specs.Deeds.{IsDeedOf, is_done, line_in}
-pub use Rattle.processor.specs.Doings.{heard_by, is_heard, raised_by, told_shut}
+pub use Rattle.processor.specs.Outcomes.{IsOutcomeOf, is_done, line_in}
+pub use Rattle.processor.specs.Doings.{heard_by, is_heard, raised_by, saw_shut}
 pub use Rattle.processor.specs.Entries.{FollowsStep, LogEntry, beginning, trying}
 pub use Rattle.processor.specs.Logs.{Climbs, EndsWorked, HasDone, Ran, Went, numbers_of}
-pub use Rattle.processor.specs.Manning.{StaysManned}
+pub use Rattle.processor.specs.Manning.{KeepsStation}
 pub use Rattle.processor.specs.Partings.{HaveBoth}
-pub use Rattle.processor.specs.Points.{ToldTurns}
+pub use Rattle.processor.specs.Points.{HookedTurns}
 pub use Rattle.processor.specs.Programs.{AreHears, IsHear, hear_count, hears_in, is_hear, program, same_key, step_of}
 pub use Rattle.processor.specs.Queues.{DidAt}
 pub use Rattle.processor.specs.Rooms.{IsPast, key_of}
 pub use Rattle.processor.specs.Running.{Goes, Stepped}
 pub use Rattle.processor.specs.Turns.{AreAtRest, is_last}
-pub use Rattle.processor.specs.declared.deed.Deed.{Deed}
-pub use Rattle.processor.specs.declared.sending.SentOn.{SentOn}
+pub use Rattle.processor.specs.declared.step_outcome.StepOutcome.{StepOutcome}
+pub use Rattle.processor.specs.declared.sending.Rescheduled.{Rescheduled}
 pub use Rattle.processor.specs.declared.shared.Shared.{Shared}
 pub use Rattle.processor.specs.declared.station.Parts.{Parts}

@@ -1,10 +1,10 @@
 -- A station that a processor can use stays one.
-use Rattle.processor.proofs.Common.{◌≡◌, ℕ, false, None, get_or, refl, sym, ap, subst, ◌∙◌, by_index, queue_shares, chain_shares, view_of, Keeps, View, Shared, Parts, shares, seat_parted, NeverFalls, StaysManned, AreAtRest}
+use Rattle.processor.proofs.Common.{◌≡◌, ℕ, false, None, get_or, refl, sym, ap, subst, ◌∙◌, by_index, queue_shares, chain_shares, view_of, Keeps, View, Shared, Parts, shares, seat_parted, NeverFalls, KeepsStation, AreAtRest}
 use Rattle.turn_io.specs.EndLists.{AreEndsOf, AreSameEnds, AreChainEndsOf, AreSameChainEnds}
 use Rattle.turn_dispatch.specs.Holdings.{IsFree}
 use Rattle.meters.specs.Handles as meters
 use Rattle.thread_table.specs.Handles.{IsSameHand}
-use Rattle.processor.specs.Manning.{IsManned}
+use Rattle.processor.specs.Manning.{IsRunnable}
 use Rattle.processor.specs.Stations.{AreSameParts}
 use Rattle.processor.proofs.Rooming.{room_kept}
 
@@ -17,7 +17,7 @@ same_on u v w a b = record {
   meters = (b.meters.0 ∙ a.meters.0, b.meters.1 ∙ a.meters.1);
 }
 
-pub stays_on : (shared : Shared) (p : ℕ) (u v w : Parts) → StaysManned shared p u v → StaysManned shared p v w → StaysManned shared p u w
+pub stays_on : (shared : Shared) (p : ℕ) (u v w : Parts) → KeepsStation shared p u v → KeepsStation shared p v w → KeepsStation shared p u w
 stays_on shared p u v w a b = record {
   manned = b.manned;
   same = same_on u v w a.same b.same;
@@ -27,7 +27,7 @@ stays_on shared p u v w a b = record {
   seat = b.seat ∙ a.seat;
 }
 
-pub stays_still : (shared : Shared) (p : ℕ) (parts : Parts) → IsManned shared p parts → StaysManned shared p parts parts
+pub stays_still : (shared : Shared) (p : ℕ) (parts : Parts) → IsRunnable shared p parts → KeepsStation shared p parts parts
 stays_still shared p parts h = record {
   manned = h;
   same = record {
@@ -47,9 +47,9 @@ pub free_still : (p : ℕ) (v w : View) → w.own.serves ≡ v.own.serves → w.
 free_still p v w s o h = (ap (λ xs. get_or xs p false) s ∙ h.0, ap (λ xs. get_or xs p None) o ∙ h.1)
 
 -- the ends of queues and chains rest
-pub rest_stays : (shared : Shared) (p : ℕ) (old new : Parts) → IsManned shared p old → AreAtRest old new → IsSameHand old.hand new.hand → Keeps (view_of old.hand) (view_of new.hand)
+pub rest_stays : (shared : Shared) (p : ℕ) (old new : Parts) → IsRunnable shared p old → AreAtRest old new → IsSameHand old.hand new.hand → Keeps (view_of old.hand) (view_of new.hand)
     → NeverFalls (view_of old.hand) (view_of new.hand) → meters.IsSameSeat old.meters new.meters → (shares new).meters ≡ (shares old).meters → seat_parted new ≡ seat_parted old
-    → StaysManned shared p old new
+    → KeepsStation shared p old new
 rest_stays shared p old new h r hand keeps up meter share seat = record {
   manned = record {
     parts_are = record {

@@ -1,5 +1,5 @@
 -- The account of several pieces of a processor's work, one after the other.
-use Rattle.processor.proofs.Common.{◌≡◌, ◌||◌, ◌+◌, ◌≤◌, ◌==◌, ℕ, zero, suc, Bool, true, false, List, [], ◌∷◌, ◌++◌, map, refl, sym, ap, subst, ◌∙◌, ⊎_elim, Result, Ok, Err, MatchResult, arith, append-nil, list_any-append, BootPlan, QueueIndex, Small, Large, QueueEnd, queue_account, chain_account, by_index, queue_shares, StaySound, knows_shut_at, Begun, Idle, Shows, Tally, Adds, no_events, nothing_did, did_both, view_of, done_at, Parts, nothing, ◌⊕◌, account, shown_in, seat_parted, NeverFalls, LogEntry, beginning, Climbs, HasDone, Ran, Went, numbers_of, Key, AreAtRest}
+use Rattle.processor.proofs.Common.{◌≡◌, ◌||◌, ◌+◌, ◌≤◌, ◌==◌, ℕ, zero, suc, Bool, true, false, List, [], ◌∷◌, ◌++◌, map, refl, sym, ap, subst, ◌∙◌, ⊎_elim, Result, Ok, Err, MatchResult, arith, append-nil, list_any-append, BootPlan, QueueIndex, Small, Large, QueueEnd, queue_account, chain_account, by_index, queue_shares, StaySound, knows_shut_at, Begun, Idle, Shows, Tally, AddsToTally, no_events, nothing_did, did_both, view_of, done_at, Parts, nothing, ◌⊕◌, account, shown_in, seat_parted, NeverFalls, LogEntry, beginning, Climbs, HasDone, Ran, Went, numbers_of, Key, AreAtRest}
 use Rattle.std.specs.List.{All}
 use Rattle.std.proofs.lemmas.Bool.{or_cases}
 use Rattle.std.proofs.lemmas.List.{map-append}
@@ -14,13 +14,13 @@ use Rattle.event_theory.proofs.Lists.Placed.{all_append as all_on}
 use Rattle.turn_dispatch.specs.Sendings.{retired}
 use Rattle.turn_dispatch.specs.Dispatches.{mask_of}
 use Rattle.turn_dispatch.specs.Tallies.{one_delivery, delivery}
-use Rattle.meters.specs.declared.rule.Did.{Did}
+use Rattle.meters.specs.declared.rule.MeterOps.{MeterOps}
 use Rattle.meters.specs.Handles as seats
 use Rattle.table_theory.specs.declared.queues.Batch.{Batch}
 use Rattle.table_theory.specs.Interleaving.{InOrder}
 use Rattle.table_theory.proofs.Ordering.{order_none}
 use Rattle.processor.specs.Accounts.{Account}
-use Rattle.processor.specs.Entries.{FollowsPlan, OutcomeFollows, entry_account, outcome_account, outcome_told_shut, tending, turn_told_shut}
+use Rattle.processor.specs.Entries.{FollowsPlan, OutcomeFollows, entry_account, outcome_account, outcome_saw_shut, tending, turn_saw_shut}
 use Rattle.processor.specs.Logs.{IsFresh, Leaves, knows_shut, sum_of, was_shut}
 use Rattle.processor.proofs.Summing.{accounts_add, dids_add, queue_sums, chain_sums, none_shows, more_shows}
 use mathlib.Core.Option.{some, some-ne-none}
@@ -80,11 +80,11 @@ none_done parts = record {
 }
 
 -- the account of a hand and a seat, with the signals that were shown
-abbrev by_hand : Tally → Did → (ℕ → ℕ → Bool) → Account
+abbrev by_hand : Tally → MeterOps → (ℕ → ℕ → Bool) → Account
 by_hand hand meters shown = record nothing { hand = hand; meters = meters; shown = shown }
 
 -- no end but the hand and the seat did anything
-pub hand_done : (hand : Tally) (ticks : Did) (shown : ℕ → ℕ → Bool) (old new : Parts) → AreAtRest old new → Adds hand (view_of old.hand) (view_of new.hand)
+pub hand_done : (hand : Tally) (ticks : MeterOps) (shown : ℕ → ℕ → Bool) (old new : Parts) → AreAtRest old new → AddsToTally hand (view_of old.hand) (view_of new.hand)
     → (account new).meters ≡ did_both (account old).meters ticks → shown_in new.signals ≡ (λ e s. shown_in old.signals e s || shown e s)
     → ((t : ℕ) → Climbs (numbers_of t hand.done) (known_done old t) (known_done new t)) → HasDone (by_hand hand ticks shown) old new
 hand_done hand ticks shown old new r h m s o = record {
@@ -105,7 +105,7 @@ no_ticks : (old new : Parts) → new.meters ≡ old.meters → (account new).met
 no_ticks old new m = ap (λ z. (seats.view_of z).own) m ∙ sym (dids_add.none_last (account old).meters)
 
 -- an element was added to the free ones, or stayed where it was
-pub retired_done : (e n : ℕ) (moved : Bool) (old new : Parts) → AreAtRest old new → Adds (retired moved e n) (view_of old.hand) (view_of new.hand)
+pub retired_done : (e n : ℕ) (moved : Bool) (old new : Parts) → AreAtRest old new → AddsToTally (retired moved e n) (view_of old.hand) (view_of new.hand)
     → new.meters ≡ old.meters → new.signals ≡ old.signals → NeverFalls (view_of old.hand) (view_of new.hand) → HasDone (record nothing { hand = retired moved e n }) old new
 retired_done e n moved old new r h m s up = hand_done (retired moved e n) nothing_did nothing.shown old new r h
     (no_ticks old new m)
@@ -117,7 +117,7 @@ retired_done e n moved old new r h m s up = hand_done (retired moved e n) nothin
 
 -- signals were delivered, or nothing was at hand
 pub begun_done : (begun : Result Begun Idle) (old new : Parts)
-    → MatchResult begun (λ b. Adds (one_delivery b.element (mask_of b.delivered)) (view_of old.hand) (view_of new.hand)) (λ i. Adds no_events (view_of old.hand) (view_of new.hand))
+    → MatchResult begun (λ b. AddsToTally (one_delivery b.element (mask_of b.delivered)) (view_of old.hand) (view_of new.hand)) (λ i. AddsToTally no_events (view_of old.hand) (view_of new.hand))
     → NeverFalls (view_of old.hand) (view_of new.hand) → AreAtRest old new → new.meters ≡ old.meters
     → MatchResult begun (λ b. Shows (delivery b.element (mask_of b.delivered)) old.signals new.signals) (λ i. new.signals ≡ old.signals)
     → MatchResult begun (λ b. HasDone (beginning b) old new) (λ i. HasDone nothing old new)
@@ -140,12 +140,12 @@ pub ran_on : (plan : BootPlan) (xs ys : List LogEntry) (a b c : Parts) → Ran p
 ran_on plan xs ys a b c f g = record {
   planned = all_on (FollowsPlan plan) xs ys f.planned g.planned;
   done = subst (λ z. HasDone z a c) (sym (sum_on xs ys)) (done_on (sum_of xs) (sum_of ys) a b c f.done g.done);
-  told = λ q h. ⊎_elim (λ l. knows_still (sum_of ys) b c g.done q (f.told q l)) (λ r. g.told q r)
-      (or_cases (was_shut xs q) (was_shut ys q) (sym (list_any-append (turn_told_shut q) xs ys) ∙ h));
+  reported = λ q h. ⊎_elim (λ l. knows_still (sum_of ys) b c g.done q (f.reported q l)) (λ r. g.reported q r)
+      (or_cases (was_shut xs q) (was_shut ys q) (sym (list_any-append (turn_saw_shut q) xs ys) ∙ h));
 }
 
 pub none_ran : (plan : BootPlan) (parts : Parts) → Ran plan [] parts parts
-none_ran plan parts = record { planned = tt; done = none_done parts; told = λ q h. cc }
+none_ran plan parts = record { planned = tt; done = none_done parts; reported = λ q h. cc }
 
 only : (b : Bool) → (b || false) ≡ true → b ≡ true
 only true h = refl
@@ -153,12 +153,12 @@ only false h = cc
 
 -- a turn: of the alarms, and then of an element's turn
 pub turn_ran : (plan : BootPlan) (entry : LogEntry) (a b c : Parts) → HasDone (tending entry.tended) a b
-    → Went (OutcomeFollows plan entry.outcome entry.line) (outcome_account entry.outcome entry.line) (outcome_told_shut entry.outcome) b c
+    → Went (OutcomeFollows plan entry.outcome entry.line) (outcome_account entry.outcome entry.line) (outcome_saw_shut entry.outcome) b c
     → Ran plan (entry ∷ []) a c
 turn_ran plan entry a b c t w = record {
   planned = (w.planned, tt);
   done = subst (λ z. HasDone z a c) (sym (accounts_add.none_last (entry_account entry))) (done_on (tending entry.tended) (outcome_account entry.outcome entry.line) a b c t w.done);
-  told = λ q h. w.told q (only (turn_told_shut q entry) h);
+  reported = λ q h. w.reported q (only (turn_saw_shut q entry) h);
 }
 
 -- THE STATE AFTER IT
@@ -188,7 +188,7 @@ leaves plan log old new f seat r = record {
   planned = r.planned;
   did = r.done.did ∙ (ap (λ z. z ⊕ sum_of log) f.did ∙ accounts_add.none_first (sum_of log));
   order = λ t. climbs_from (numbers_of t (sum_of log).hand.done) 0 (known_done old t) (known_done new t) (omega arith) (r.done.order t);
-  told = r.told;
+  reported = r.reported;
   seat = seat ∙ f.seat;
   small = (r.done.small.claimed (none_claimed old.small.items (λ q k. ((f.did k).queues (Small q)).put)), r.done.small.took (none_taken old.small.items (λ q k. ((f.did k).queues (Small q)).taken)));
   large = (r.done.large.claimed (none_claimed old.large.items (λ q k. ((f.did k).queues (Large q)).put)), r.done.large.took (none_taken old.large.items (λ q k. ((f.did k).queues (Large q)).taken)));

@@ -1,24 +1,24 @@
 -- The sights of the gate around a try, and turn by turn.
-use Rattle.processor.proofs.Common.{◌≡◌, ◌+◌, ℕ, suc, List, [], ◌∷◌, ◌++◌, Option, length, refl, ap, arith, subst, ◌∙◌, QueueEnd, QueueIndex, LogEntry, Parts, Shared, ToldTurns, Turn, view_of}
+use Rattle.processor.proofs.Common.{◌≡◌, ◌+◌, ℕ, suc, List, [], ◌∷◌, ◌++◌, Option, length, refl, ap, arith, subst, ◌∙◌, QueueEnd, QueueIndex, LogEntry, Parts, Shared, HookedTurns, Turn, view_of}
 use Rattle.std.proofs.Math.Nat.{add-zero}
 use Rattle.std.proofs.lemmas.List.{length-append}
 use Rattle.thread_table.specs.declared.hand.Hand.{Hand}
 use Rattle.thread_table.specs.Answers.{PutsOn}
 use Rattle.thread_table.specs.Handles.{IsSameHand}
 use Rattle.turn_io.specs.declared.gate.Point.{Point}
-use Rattle.processor.specs.declared.outcome.Outcome.{Outcome}
-use Rattle.processor.specs.declared.outcome.Outcome.TheVariants as outcomes
-use Rattle.processor.specs.Orders.{CameInOrder, Count, QueueShown, QueueStood, TurnInOrder, TurnsInOrder, behind_ticket, count_of, one_more}
+use Rattle.processor.specs.declared.outcome.TurnOutcome.{TurnOutcome}
+use Rattle.processor.specs.declared.outcome.TurnOutcome.TheVariants as outcomes
+use Rattle.processor.specs.Orders.{CameInOrder, Count, QueueShown, QueueStood, TurnInOrder, TurnsInOrder, after_ticket, count_of, one_more}
 use Rattle.processor.specs.Points.{GateSaw, points_out}
 use Rattle.processor.specs.Sights.{Sights}
 use Rattle.processor.specs.Turns.{CameOf}
 
 -- a try between two looks at its queue, after the reading of a ticket of the wait queue
-pub tried_between : (S : Sights) (wait wait' : Option ℕ) (queue : QueueIndex) (old hand : Hand) (small small' : List (QueueEnd 64)) (large large' : List (QueueEnd 256)) → wait ≡ wait' → count_of hand ≡ behind_ticket wait (count_of old)
-    → QueueShown S hand queue small large → QueueShown S hand queue small' large' → QueueStood S (behind_ticket wait' (count_of old)) queue small small' large large'
+pub tried_between : (S : Sights) (wait wait' : Option ℕ) (queue : QueueIndex) (old hand : Hand) (small small' : List (QueueEnd 64)) (large large' : List (QueueEnd 256)) → wait ≡ wait' → count_of hand ≡ after_ticket wait (count_of old)
+    → QueueShown S hand queue small large → QueueShown S hand queue small' large' → QueueStood S (after_ticket wait' (count_of old)) queue small small' large large'
 tried_between S wait wait' queue old hand small small' large large' is counted before after = record {
   hand = hand;
-  counted = counted ∙ ap (λ w. behind_ticket w (count_of old)) is;
+  counted = counted ∙ ap (λ w. after_ticket w (count_of old)) is;
   before = before;
   after = after;
 }
@@ -52,11 +52,11 @@ turns_more S T shared p number (first ∷ log) entry old mid new g h g' t turn s
     shift a b = omega arith
 
 -- the result of turns in order is the result of the turns
-came_of : (S : Sights) (shared : Shared) (p : ℕ) (outcome : Outcome) (line : List ℕ) (old new : Parts) → CameInOrder S shared p outcome line old new → CameOf shared p outcome line old new
+came_of : (S : Sights) (shared : Shared) (p : ℕ) (outcome : TurnOutcome) (line : List ℕ) (old new : Parts) → CameInOrder S shared p outcome line old new → CameOf shared p outcome line old new
 came_of S shared p (outcomes.Idle idle) line old new c = c
-came_of S shared p (outcomes.Had begun had) line old new c = (c.0, c.1, c.2)
+came_of S shared p (outcomes.OfElement begun had) line old new c = (c.0, c.1, c.2)
 
-pub told_of : {G : Type 0} (S : Sights) (T : G → ℕ → Point → G → Type 0) (shared : Shared) (p number : ℕ) (log : List LogEntry) (old new : Parts) (g g' : G) → TurnsInOrder S T shared p number log old new g g' → ToldTurns T shared p number log old new g g'
+pub told_of : {G : Type 0} (S : Sights) (T : G → ℕ → Point → G → Type 0) (shared : Shared) (p number : ℕ) (log : List LogEntry) (old new : Parts) (g g' : G) → TurnsInOrder S T shared p number log old new g g' → HookedTurns T shared p number log old new g g'
 told_of S T shared p number [] old new g g' t = t
 told_of S T shared p number (entry ∷ log) old new g g' t =
     (t.0, t.1, (t.2.0, t.2.1, came_of S shared p entry.outcome entry.line t.2.0 t.0 t.2.2), t.3, told_of S T shared p (suc number) log t.0 new t.1 g' t.4)

@@ -13,7 +13,7 @@ use Rattle.thread_table.specs.declared.states.Started.TheVariants as started
 use Rattle.thread_table.specs.declared.takings.NextRefusal.{NextRefusal}
 use Rattle.thread_table.specs.declared.takings.NextRefusal.TheVariants as nexts
 use Rattle.thread_table.specs.Answers.{TakeAnswer, MoveAnswer, WaitAnswer, StartAnswer, ParkAnswer, DeliverAnswer, SignalAnswer, StoppedNow, PutsOn}
-use Rattle.thread_table.specs.Telling.{IsHonest}
+use Rattle.thread_table.specs.Telling.{IsValidHandView}
 use Rattle.thread_table.proofs.Schedule.Once.{done_grows}
 use Rattle.turn_dispatch.specs.declared.waking.Woken.{Woken}
 use Rattle.turn_dispatch.specs.declared.waking.Resumed.{Resumed}
@@ -35,12 +35,12 @@ abbrev pub Later : View → View → Type 0
 Later v w = Begins v.seen.object w.seen.object
 
 -- so no number of steps fell
-pub falls : (v w : View) → ∥ IsHonest w ∥₁ → Later v w → NeverFalls v w
-falls v w told later = λ e. ∥∥₁_elim told le_prop (λ (h : IsHonest w). done_grows v.seen.object w.seen.object later h.allowed e)
+pub falls : (v w : View) → ∥ IsValidHandView w ∥₁ → Later v w → NeverFalls v w
+falls v w reported later = λ e. ∥∥₁_elim reported le_prop (λ (h : IsValidHandView w). done_grows v.seen.object w.seen.object later h.allowed e)
 
 -- no number of steps fell between two states of a hand
 pub fallen : (old new : Hand) → Later (view_of old) (view_of new) → NeverFalls (view_of old) (view_of new)
-fallen old new later = falls (view_of old) (view_of new) new.told later
+fallen old new later = falls (view_of old) (view_of new) new.reported later
 
 later_same : (v w : View) → w ≡ v → Later v w
 later_same v w same = subst (Later v) (sym same) (begins_refl v.seen.object)

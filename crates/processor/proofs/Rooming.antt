@@ -1,28 +1,28 @@
 -- There is room for each line that is heard.
-use Rattle.processor.proofs.Common.{◌≡◌, ◌+◌, ℕ, ◌<◌, ◌≤◌, ◌==◌, Bool, true, false, List, [], ◌∷◌, ◌++◌, map, length, Some, refl, sym, ap, ◌∙◌, subst, arith, eqb-true, append-nil, AllByRecursion, BootPlan, Step, Counted, CountAnswer, IsNumber, View, done_at, Deed, NeverFalls, IsDeedOf, heard_by, is_heard, Key, same_key, is_hear, IsHear, AreHears, hear_count, step_of, key_of, IsPast, Parts, view_of, Stepped, Line}
+use Rattle.processor.proofs.Common.{◌≡◌, ◌+◌, ℕ, ◌<◌, ◌≤◌, ◌==◌, Bool, true, false, List, [], ◌∷◌, ◌++◌, map, length, Some, refl, sym, ap, ◌∙◌, subst, arith, eqb-true, append-nil, AllByRecursion, BootPlan, Step, Counted, CountAnswer, IsNumber, View, done_at, StepOutcome, NeverFalls, IsOutcomeOf, heard_by, is_heard, Key, same_key, is_hear, IsHear, AreHears, hear_count, step_of, key_of, IsPast, Parts, view_of, Stepped, Line}
 use Rattle.std.proofs.Common.{length-append}
 use Rattle.std.proofs.lemmas.Bool.{and_parts as split}
 use Rattle.std.proofs.lemmas.List.{map-append}
 use Rattle.std.specs.List.{IsDistinct}
 use Rattle.boot_data.specs.declared.plan.Step.TheVariants as steps
 use Rattle.turn_dispatch.specs.declared.counting.Counted.TheVariants as counted
-use Rattle.processor.specs.declared.deed.Deed.TheVariants as deeds
+use Rattle.processor.specs.declared.step_outcome.StepOutcome.TheVariants as step_outcomes
 use Rattle.processor.specs.declared.tries.HearAnswer.TheVariants as answers
 use Rattle.processor.specs.Programs.{longest_line}
 use Rattle.processor.specs.Rooms.{HasRoom}
 use Rattle.processor.proofs.Rooms.{few}
 
-abbrev pub key_in : Deed → ℕ → ℕ → List Key
-key_in (deeds.Hear queue (answers.Taken paid)) e n = (e, n) ∷ []
-key_in deed e n = []
+abbrev pub key_in : StepOutcome → ℕ → ℕ → List Key
+key_in (step_outcomes.Hear queue (answers.Taken paid)) e n = (e, n) ∷ []
+key_in step_outcome e n = []
 
-key_of_heard : (deed : Deed) (e n : ℕ) (text : List ℕ) → map key_of (heard_by deed e n text) ≡ key_in deed e n
-key_of_heard (deeds.Hear queue (answers.Taken paid)) e n text = refl
-key_of_heard deed e n text = refl
+key_of_heard : (step_outcome : StepOutcome) (e n : ℕ) (text : List ℕ) → map key_of (heard_by step_outcome e n text) ≡ key_in step_outcome e n
+key_of_heard (step_outcomes.Hear queue (answers.Taken paid)) e n text = refl
+key_of_heard step_outcome e n text = refl
 
 -- whose lines there are, with what is kept of a step
-pub keys_more : (lines lines' : List Line) (deed : Deed) (e n : ℕ) (text : List ℕ) → lines' ≡ lines ++ heard_by deed e n text → map key_of lines' ≡ map key_of lines ++ key_in deed e n
-keys_more lines lines' deed e n text h = ap (map key_of) h ∙ map-append key_of lines (heard_by deed e n text) ∙ ap (λ ks. map key_of lines ++ ks) (key_of_heard deed e n text)
+pub keys_more : (lines lines' : List Line) (step_outcome : StepOutcome) (e n : ℕ) (text : List ℕ) → lines' ≡ lines ++ heard_by step_outcome e n text → map key_of lines' ≡ map key_of lines ++ key_in step_outcome e n
+keys_more lines lines' step_outcome e n text h = ap (map key_of) h ∙ map-append key_of lines (heard_by step_outcome e n text) ∙ ap (λ ks. map key_of lines ++ ks) (key_of_heard step_outcome e n text)
 
 all_push : (P : Key → Type 0) (ks : List Key) (k : Key) → AllByRecursion P ks → P k → AllByRecursion P (ks ++ k ∷ [])
 all_push P [] k all p = (p, tt)
@@ -50,19 +50,19 @@ all_later v w [] rises all = tt
 all_later v w (k ∷ ks) rises all = (let a = all.0 in let b = rises k.0 in omega arith, all_later v w ks rises all.1)
 
 -- a step that heard a line hears
-heard_hears : (step : Step) (deed : Deed) (line : List ℕ) → IsDeedOf step deed line → is_heard deed ≡ true → is_hear step ≡ true
-heard_hears (steps.Hear queue) deed line a h = refl
-heard_hears (steps.Say queue text) (deeds.Hear at answer) line a h = absurd a
-heard_hears (steps.Wait wait) (deeds.Hear at answer) line a h = absurd a
-heard_hears (steps.Wake wait) (deeds.Hear at answer) line a h = absurd a
-heard_hears (steps.Signal thread signal) (deeds.Hear at answer) line a h = absurd a
-heard_hears (steps.Stop thread) (deeds.Hear at answer) line a h = absurd a
-heard_hears (steps.Start thread) (deeds.Hear at answer) line a h = absurd a
-heard_hears (steps.Tick gauge amount) (deeds.Hear at answer) line a h = absurd a
-heard_hears (steps.Poke mover) (deeds.Hear at answer) line a h = absurd a
-heard_hears steps.Pass (deeds.Hear at answer) line a h = absurd a
-heard_hears (steps.Close queue) (deeds.Hear at answer) line a h = absurd a
-heard_hears step deed line a h = cc
+heard_hears : (step : Step) (step_outcome : StepOutcome) (line : List ℕ) → IsOutcomeOf step step_outcome line → is_heard step_outcome ≡ true → is_hear step ≡ true
+heard_hears (steps.Hear queue) step_outcome line a h = refl
+heard_hears (steps.Say queue text) (step_outcomes.Hear at answer) line a h = absurd a
+heard_hears (steps.Wait wait) (step_outcomes.Hear at answer) line a h = absurd a
+heard_hears (steps.Wake wait) (step_outcomes.Hear at answer) line a h = absurd a
+heard_hears (steps.Signal thread signal) (step_outcomes.Hear at answer) line a h = absurd a
+heard_hears (steps.Stop thread) (step_outcomes.Hear at answer) line a h = absurd a
+heard_hears (steps.Start thread) (step_outcomes.Hear at answer) line a h = absurd a
+heard_hears (steps.Tick gauge amount) (step_outcomes.Hear at answer) line a h = absurd a
+heard_hears (steps.Poke mover) (step_outcomes.Hear at answer) line a h = absurd a
+heard_hears steps.Pass (step_outcomes.Hear at answer) line a h = absurd a
+heard_hears (steps.Close queue) (step_outcomes.Hear at answer) line a h = absurd a
+heard_hears step step_outcome line a h = cc
 
 -- the answer to a count holds over a longer stretch, if no step of the element was counted before and after
 pub number_on : (answer : Counted) (e : ℕ) (v did after w : View) → done_at did.seen.object e ≡ done_at v.seen.object e → done_at w.seen.object e ≡ done_at after.seen.object e → IsNumber answer e did after → IsNumber answer e v w
@@ -78,26 +78,26 @@ counts_one call e counted.Spent did after v w a is low = absurd (let p = is.0 in
 counts_one call e counted.Undone did after v w a is low = absurd a
 
 -- with a line more that was heard
-pub hears_more : (e n : ℕ) (plan : BootPlan) (step : Step) (deed : Deed) (line : List ℕ) (v : View) (keys : List Key) → step_of plan e n ≡ Some step → IsDeedOf step deed line → n ≡ done_at v.seen.object e
-    → AreHears plan keys → AllByRecursion (IsPast v) keys → AreHears plan (keys ++ key_in deed e n)
-hears_more e n plan step (deeds.Hear queue (answers.Taken paid)) line v keys is d now hears past = (
-  all_push (IsHear plan) keys (e, n) hears.0 (record { step = step; is = is; hears = heard_hears step (deeds.Hear queue (answers.Taken paid)) line d refl }),
+pub hears_more : (e n : ℕ) (plan : BootPlan) (step : Step) (step_outcome : StepOutcome) (line : List ℕ) (v : View) (keys : List Key) → step_of plan e n ≡ Some step → IsOutcomeOf step step_outcome line → n ≡ done_at v.seen.object e
+    → AreHears plan keys → AllByRecursion (IsPast v) keys → AreHears plan (keys ++ key_in step_outcome e n)
+hears_more e n plan step (step_outcomes.Hear queue (answers.Taken paid)) line v keys is d now hears past = (
+  all_push (IsHear plan) keys (e, n) hears.0 (record { step = step; is = is; hears = heard_hears step (step_outcomes.Hear queue (answers.Taken paid)) line d refl }),
   distinct_push keys (e, n) hears.1 (all_apart v e n keys now past),
 )
-hears_more e n plan step deed line v keys is d now hears past = subst (AreHears plan) (sym (append-nil keys)) hears
+hears_more e n plan step step_outcome line v keys is d now hears past = subst (AreHears plan) (sym (append-nil keys)) hears
 
-pub past_more : (call p e n : ℕ) (plan : BootPlan) (deed : Deed) (answer : Counted) (v u w : View) (keys : List Key)
-    → Stepped call plan p e deed answer v u → IsNumber answer e v u → n ≡ done_at v.seen.object e → n < 64 → NeverFalls v u → NeverFalls u w
-    → AllByRecursion (IsPast v) keys → AllByRecursion (IsPast w) (keys ++ key_in deed e n)
-past_more call p e n plan (deeds.Hear queue (answers.Taken paid)) answer v u w keys s is now low rises on past =
+pub past_more : (call p e n : ℕ) (plan : BootPlan) (step_outcome : StepOutcome) (answer : Counted) (v u w : View) (keys : List Key)
+    → Stepped call plan p e step_outcome answer v u → IsNumber answer e v u → n ≡ done_at v.seen.object e → n < 64 → NeverFalls v u → NeverFalls u w
+    → AllByRecursion (IsPast v) keys → AllByRecursion (IsPast w) (keys ++ key_in step_outcome e n)
+past_more call p e n plan (step_outcomes.Hear queue (answers.Taken paid)) answer v u w keys s is now low rises on past =
     let counts = counts_one call e answer s.did s.after v u s.counts is (omega (arith, now, low)) in
     all_push (IsPast w) keys (e, n) (all_later u w keys on (all_later v u keys rises past)) (let q = on e in omega (arith, now, counts, q))
-past_more call p e n plan deed answer v u w keys s is now low rises on past =
+past_more call p e n plan step_outcome answer v u w keys s is now low rises on past =
     subst (AllByRecursion (IsPast w)) (sym (append-nil keys)) (all_later u w keys on (all_later v u keys rises past))
 
-pub room_left : (plan : BootPlan) (keys : List Key) (deed : Deed) (e n : ℕ) → AreHears plan (keys ++ key_in deed e n) → is_heard deed ≡ true → length keys < hear_count plan
-room_left plan keys (deeds.Hear queue (answers.Taken paid)) e n h is = let f = few plan (keys ++ (e, n) ∷ []) h in omega (arith, length-append keys ((e, n) ∷ []), f)
-room_left plan keys deed e n h is = cc
+pub room_left : (plan : BootPlan) (keys : List Key) (step_outcome : StepOutcome) (e n : ℕ) → AreHears plan (keys ++ key_in step_outcome e n) → is_heard step_outcome ≡ true → length keys < hear_count plan
+room_left plan keys (step_outcomes.Hear queue (answers.Taken paid)) e n h is = let f = few plan (keys ++ (e, n) ∷ []) h in omega (arith, length-append keys ((e, n) ∷ []), f)
+room_left plan keys step_outcome e n h is = cc
 
 -- nothing more was heard, and no step is undone
 pub room_kept : (plan : BootPlan) (old new : Parts) → HasRoom plan old → new.heard ≡ old.heard → NeverFalls (view_of old.hand) (view_of new.hand) → HasRoom plan new

@@ -1,5 +1,5 @@
 -- The accounts and the shares of stations add up.
-use Rattle.processor.proofs.Common.{◌≡◌, arith, ◌||◌, ◌&&◌, ℕ, Bool, true, false, List, refl, sym, ap, ◌∙◌, nat_tests, append-nil, append_assoc, QueueIndex, QueueEnd, both_queue, both_chain, idle_queue, idle_chain, queue_account, at_each, by_index, queues_add, by_sizes, Shows, tally, no_events, behind, nothing_did, did_both, is_in, view_of, View, Parts, nothing, ◌⊕◌, shown_in, account, seat_parted, shares, HaveBoth}
+use Rattle.processor.proofs.Common.{◌≡◌, arith, ◌||◌, ◌&&◌, ℕ, Bool, true, false, List, refl, sym, ap, ◌∙◌, nat_tests, append-nil, append_assoc, QueueIndex, QueueEnd, both_queue, both_chain, idle_queue, idle_chain, queue_account, at_each, by_index, queues_add, by_sizes, Shows, tally, no_events, followed_by, nothing_did, did_both, is_in, view_of, View, Parts, nothing, ◌⊕◌, shown_in, account, seat_parted, shares, HaveBoth}
 use Rattle.std.specs.Prelude.{nat_lt, slice_index_or}
 use Rattle.std.proofs.Math.Bool.{or_assoc, or-false}
 use Rattle.std.proofs.Math.Nat.{add_comm}
@@ -7,7 +7,7 @@ use Rattle.std.proofs.Math.Path.{fun_ext}
 use Rattle.std.proofs.lemmas.Bool.{ltb-true}
 use Rattle.table_theory.specs.Sharing.{given, kept}
 use Rattle.table_theory.proofs.Counting.{given_kept}
-use Rattle.claim_queue.specs.declared.rule.Did as queues
+use Rattle.claim_queue.specs.declared.rule.QueueOps as queues
 use Rattle.turn_io.specs.Accounts.{Stake, AddsUp, lines_of, stakes}
 use Rattle.turn_io.specs.Splits as splits
 use Rattle.turn_io.proofs.Accounting.{kept_at, given_at, joined_at, chain_kept_at, chain_given_at, chain_joined_at}
@@ -28,7 +28,7 @@ queue_sums = each_adds queues_add
 pub chain_sums : AddsUp (λ (q : ℕ). idle_chain) (at_each both_chain)
 chain_sums = each_adds chains_add
 
-tallies_add : AddsUp no_events behind
+tallies_add : AddsUp no_events followed_by
 tallies_add = record { regroups = behind_more; none_first = λ a. refl; none_last = behind_none }
 
 pub dids_add : AddsUp nothing_did did_both
@@ -213,7 +213,7 @@ module _ (old other new : Parts) (j : AreJoined old other new) where
   }
     where
       lines : {n : ℕ} (xs ys zs : List (QueueEnd n)) → splits.AreJoined xs ys zs → (q : ℕ) → queue_account zs q ≡ both_queue (queue_account xs q) (queue_account ys q)
-      lines xs ys zs h q = ap (λ (f : ℕ → Stake queues.Did). lines_of (f q).did) (joined_at xs zs ys h.each) ∙ lines_add (stakes xs q).did (stakes ys q).did
+      lines xs ys zs h q = ap (λ (f : ℕ → Stake queues.QueueOps). lines_of (f q).did) (joined_at xs zs ys h.each) ∙ lines_add (stakes xs q).did (stakes ys q).did
 
   pub joined_shares : shares new ≡ both_shares (shares old) (shares other)
   joined_shares = λ i. record {

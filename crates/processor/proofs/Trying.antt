@@ -1,5 +1,5 @@
 -- The result of the try of a step: how it is counted, what its ends did, and what they know.
-use Rattle.processor.proofs.Common.{◌≡◌, ◌+◌, ◌==◌, ◌<◌, ⊎_elim, ℕ, zero, suc, Bool, true, false, cond, List, [], ◌∷◌, ◌++◌, map, length, get_or, set, Some, Result, Ok, Err, refl, sym, ap, subst, ◌∙◌, arith, if◌then◌else◌, eqb-true, eqb_tells, append-nil, QueueIndex, Small, Large, Step, QueueEnd, by_index, OnEnd, knows_shut_at, Counted, CountAnswer, IsNumber, counted_step, Tally, Adds, behind, view_of, View, done_at, Deed, SentOn, Shared, Parts, shown_in, NeverFalls, IsDeedOf, is_done, line_in, heard_by, raised_by, told_shut, FollowsStep, trying, Climbs, EndsWorked, Went, numbers_of, Key, program, step_of, Stepped, Goes, is_last}
+use Rattle.processor.proofs.Common.{◌≡◌, ◌+◌, ◌==◌, ◌<◌, ⊎_elim, ℕ, zero, suc, Bool, true, false, cond, List, [], ◌∷◌, ◌++◌, map, length, get_or, set, Some, Result, Ok, Err, refl, sym, ap, subst, ◌∙◌, arith, if◌then◌else◌, eqb-true, eqb_tells, append-nil, QueueIndex, Small, Large, Step, QueueEnd, by_index, OnEnd, knows_shut_at, Counted, CountAnswer, IsNumber, counted_step, Tally, AddsToTally, followed_by, view_of, View, done_at, StepOutcome, Rescheduled, Shared, Parts, shown_in, NeverFalls, IsOutcomeOf, is_done, line_in, heard_by, raised_by, saw_shut, FollowsStep, trying, Climbs, EndsWorked, Went, numbers_of, Key, program, step_of, Stepped, Goes, is_last}
 use Rattle.std.proofs.Common.{slice_get}
 use Rattle.std.proofs.Math.Bool.{Bool-set}
 use Rattle.std.proofs.lemmas.Bool.{leb-true, and_parts as split}
@@ -12,15 +12,15 @@ use Rattle.claim_queue.specs.declared.take.TakeRefusal.TheVariants as takes
 use Rattle.claim_queue.specs.Handles as queues
 use Rattle.claim_queue.specs.Takings.{IsBegun, IsLine}
 use Rattle.turn_io.specs.Accounts.{room_of}
-use Rattle.turn_io.specs.Deeds.{Said, Heard}
+use Rattle.turn_io.specs.Outcomes.{Said, Heard}
 use Rattle.turn_io.specs.EndLists.{end_knows_shut}
 use Rattle.turn_dispatch.specs.declared.counting.Counted.TheVariants as counted
-use Rattle.processor.specs.declared.deed.Deed.TheVariants as deeds
+use Rattle.processor.specs.declared.step_outcome.StepOutcome.TheVariants as step_outcomes
 use Rattle.processor.specs.declared.sending.Moved.{Moved}
 use Rattle.processor.specs.declared.sending.Moved.TheVariants as moveds
 use Rattle.processor.specs.declared.tries.HearAnswer.TheVariants as hears
 use Rattle.processor.specs.declared.tries.SayAnswer.TheVariants as says
-use Rattle.processor.specs.Deeds.{IsLineIf}
+use Rattle.processor.specs.Outcomes.{IsLineIf}
 use Rattle.processor.specs.Entries.{IsOver, count_of, gone}
 use Rattle.processor.specs.Queues.{HeardAt}
 use Rattle.processor.specs.Steps.{QueuesDid}
@@ -39,9 +39,9 @@ line_heard_at (Large k) line (Ok done) old new old' new' h = h.0.does.0
 line_heard_at (Large k) line (Err refusal) old new old' new' h = h.0.does.0
 
 -- the record of a line that was heard
-pub heard_line : (step : Step) (deed : Deed) (e n : ℕ) (text : List ℕ) → IsDeedOf step deed (line_in step text) → heard_by deed e n text ≡ heard_by deed e n (line_in step text)
-heard_line (steps.Say queue said) (deeds.Hear at answer) e n text d = absurd d
-heard_line step deed e n text d = refl
+pub heard_line : (step : Step) (step_outcome : StepOutcome) (e n : ℕ) (text : List ℕ) → IsOutcomeOf step step_outcome (line_in step text) → heard_by step_outcome e n text ≡ heard_by step_outcome e n (line_in step text)
+heard_line (steps.Say queue said) (step_outcomes.Hear at answer) e n text d = absurd d
+heard_line step step_outcome e n text d = refl
 
 -- a say with this answer found its queue shut
 found_so : {n : ℕ} (line : List ℕ) (old new : QueueEnd n) → Said {A = Unit {0}} line (Err claims.Closed) old new → end_knows_shut new ≡ true
@@ -66,17 +66,17 @@ on_so R k old new so o q at = let e = eqb-true q k (if_true (q == k) at) in
     subst (λ (z : ℕ). knows_shut_at new z ≡ true) (sym e) (ap (λ z. knows_shut_at z k) o.now ∙ set_there end_knows_shut old k o.end o.after o.was (so o.end o.after o.does))
 
 -- the end of a queue knows that the queue is shut, if a step was answered so
-told_so : (deed : Deed) (line : List ℕ) (old new : List (QueueEnd 64)) (old' new' : List (QueueEnd 256)) → QueuesDid deed line old new old' new'
-    → (queue : QueueIndex) → told_shut deed queue ≡ true → by_index (knows_shut_at new) (knows_shut_at new') queue ≡ true
-told_so (deeds.Say (Small k) says.Over) line old new old' new' d (Small q) at = on_so (Said {A = Unit {0}} line (Err claims.Closed)) k old new (found_so line) d.1.0 q at
-told_so (deeds.Say (Small k) says.Over) line old new old' new' d (Large q) at = cc
-told_so (deeds.Say (Large k) says.Over) line old new old' new' d (Small q) at = cc
-told_so (deeds.Say (Large k) says.Over) line old new old' new' d (Large q) at = on_so (Said {A = Unit {0}} line (Err claims.Closed)) k old' new' (found_so line) d.1.0 q at
-told_so (deeds.Hear (Small k) (hears.Over paid)) line old new old' new' d (Small q) at = on_so (Heard {A = Unit {0}} line (Err takes.Closed)) k old new (heard_so line) d.1.0 q at
-told_so (deeds.Hear (Small k) (hears.Over paid)) line old new old' new' d (Large q) at = cc
-told_so (deeds.Hear (Large k) (hears.Over paid)) line old new old' new' d (Small q) at = cc
-told_so (deeds.Hear (Large k) (hears.Over paid)) line old new old' new' d (Large q) at = on_so (Heard {A = Unit {0}} line (Err takes.Closed)) k old' new' (heard_so line) d.1.0 q at
-told_so deed line old new old' new' d queue at = cc
+reported_so : (step_outcome : StepOutcome) (line : List ℕ) (old new : List (QueueEnd 64)) (old' new' : List (QueueEnd 256)) → QueuesDid step_outcome line old new old' new'
+    → (queue : QueueIndex) → saw_shut step_outcome queue ≡ true → by_index (knows_shut_at new) (knows_shut_at new') queue ≡ true
+reported_so (step_outcomes.Say (Small k) says.Over) line old new old' new' d (Small q) at = on_so (Said {A = Unit {0}} line (Err claims.Closed)) k old new (found_so line) d.1.0 q at
+reported_so (step_outcomes.Say (Small k) says.Over) line old new old' new' d (Large q) at = cc
+reported_so (step_outcomes.Say (Large k) says.Over) line old new old' new' d (Small q) at = cc
+reported_so (step_outcomes.Say (Large k) says.Over) line old new old' new' d (Large q) at = on_so (Said {A = Unit {0}} line (Err claims.Closed)) k old' new' (found_so line) d.1.0 q at
+reported_so (step_outcomes.Hear (Small k) (hears.Over paid)) line old new old' new' d (Small q) at = on_so (Heard {A = Unit {0}} line (Err takes.Closed)) k old new (heard_so line) d.1.0 q at
+reported_so (step_outcomes.Hear (Small k) (hears.Over paid)) line old new old' new' d (Large q) at = cc
+reported_so (step_outcomes.Hear (Large k) (hears.Over paid)) line old new old' new' d (Small q) at = cc
+reported_so (step_outcomes.Hear (Large k) (hears.Over paid)) line old new old' new' d (Large q) at = on_so (Heard {A = Unit {0}} line (Err takes.Closed)) k old' new' (heard_so line) d.1.0 q at
+reported_so step_outcome line old new old' new' d queue at = cc
 
 -- a step is counted by its number if it is done
 counted_so : (call element : ℕ) (done : Bool) (number : ℕ) (answer : Counted) (did after v w : View) → CountAnswer call element done did answer after → IsNumber answer element v w
@@ -99,9 +99,9 @@ count_climbs (counted.Done m) element number t u v w up on now is = ⊎_elim
     (λ other. subst (λ z. Climbs z (done_at u.seen.object t) (done_at w.seen.object t)) (sym (ap (λ (b : Bool). map (λ (key : Key). key.1) (cond b ((element, number) ∷ []) [])) other.0)) (up t))
     (eqb_tells t element)
 
-raises_done : (deed : Deed) → (raised_by deed).done ≡ []
-raises_done (deeds.Signal thread signal answer) = refl
-raises_done deed = refl
+raises_done : (step_outcome : StepOutcome) → (raised_by step_outcome).done ≡ []
+raises_done (step_outcomes.Signal thread signal answer) = refl
+raises_done step_outcome = refl
 
 gone_done : (moved : Moved) (e n : ℕ) → (gone moved e n).done ≡ []
 gone_done (moveds.Freed true) e n = refl
@@ -109,43 +109,43 @@ gone_done (moveds.Freed false) e n = refl
 gone_done moved e n = refl
 
 -- after the last step no step is left
-over_so : (call : ℕ) (deed : Deed) (done : Bool) (steps e n : ℕ) (moved : Moved) (v w : View) → Goes call deed (is_last done n steps) e moved v w → IsOver moved (n + 1) steps
-over_so call deed done steps e n (moveds.Freed moved) v w g = leb-true steps (n + 1) (split done _ g.2).1
-over_so call deed done steps e n moved v w g = tt
+over_so : (call : ℕ) (step_outcome : StepOutcome) (done : Bool) (steps e n : ℕ) (moved : Moved) (v w : View) → Goes call step_outcome (is_last done n steps) e moved v w → IsOver moved (n + 1) steps
+over_so call step_outcome done steps e n (moveds.Freed moved) v w g = leb-true steps (n + 1) (split done _ g.2).1
+over_so call step_outcome done steps e n moved v w g = tt
 
 -- an element that goes to the free ones did one more step
-gone_so : (call call' : ℕ) (deed : Deed) (done : Bool) (steps e n : ℕ) (moved : Moved) (answer : Counted) (did after u v w : View) → Goes call deed (is_last done n steps) e moved v w
+gone_so : (call call' : ℕ) (step_outcome : StepOutcome) (done : Bool) (steps e n : ℕ) (moved : Moved) (answer : Counted) (did after u v w : View) → Goes call step_outcome (is_last done n steps) e moved v w
     → CountAnswer call' e done did answer after → IsNumber answer e u v → n ≡ done_at u.seen.object e → n < 64 → gone moved e (done_at v.seen.object e) ≡ gone moved e (n + 1)
-gone_so call call' deed done steps e n (moveds.Freed moved) answer did after u v w g c is now low = ap (gone (moveds.Freed moved) e) (one_more done answer (split done _ g.2).0 c is)
+gone_so call call' step_outcome done steps e n (moveds.Freed moved) answer did after u v w g c is now low = ap (gone (moveds.Freed moved) e) (one_more done answer (split done _ g.2).0 c is)
   where
     one_more : (done : Bool) (answer : Counted) → done ≡ true → CountAnswer call' e done did answer after → IsNumber answer e u v → done_at v.seen.object e ≡ n + 1
     one_more true (counted.Done m) d c is = is.1 ∙ (is.0 ∙ ap (λ z. z + 1) (sym now))
     one_more true counted.Spent d c is = absurd (let p = is.0 in omega arith)
     one_more true counted.Undone d c is = absurd c
     one_more false answer d c is = absurd cc
-gone_so call call' deed done steps e n moved answer did after u v w g c is now low = refl
+gone_so call call' step_outcome done steps e n moved answer did after u v w g c is now low = refl
 
-module _ (shared : Shared) (call call' p e n : ℕ) (step : Step) (sent : SentOn) (line : List ℕ) (old mid new : Parts)
-    (is : step_of shared.plan e n ≡ Some step) (deed : IsDeedOf step sent.tried.deed line)
-    (ran : Stepped call shared.plan p e sent.tried.deed sent.tried.counted (view_of old.hand) (view_of mid.hand))
+module _ (shared : Shared) (call call' p e n : ℕ) (step : Step) (sent : Rescheduled) (line : List ℕ) (old mid new : Parts)
+    (is : step_of shared.plan e n ≡ Some step) (step_outcome : IsOutcomeOf step sent.tried.step_outcome line)
+    (ran : Stepped call shared.plan p e sent.tried.step_outcome sent.tried.counted (view_of old.hand) (view_of mid.hand))
     (number : IsNumber sent.tried.counted e (view_of old.hand) (view_of mid.hand)) (now : n ≡ done_at (view_of old.hand).seen.object e) (low : n < 64)
-    (goes : Goes call' sent.tried.deed (is_last (is_done sent.tried.deed) n (length (program shared.plan e))) e sent.moved (view_of mid.hand) (view_of new.hand)) where
+    (goes : Goes call' sent.tried.step_outcome (is_last (is_done sent.tried.step_outcome) n (length (program shared.plan e))) e sent.moved (view_of mid.hand) (view_of new.hand)) where
   follows : FollowsStep shared.plan e n sent line
   follows = record {
     step = step;
     is = is;
-    deed = deed;
-    counts = counted_so call e (is_done sent.tried.deed) n sent.tried.counted ran.did ran.after (view_of old.hand) (view_of mid.hand) ran.counts number now low;
-    over = over_so call' sent.tried.deed (is_done sent.tried.deed) (length (program shared.plan e)) e n sent.moved (view_of mid.hand) (view_of new.hand) goes;
+    step_outcome = step_outcome;
+    counts = counted_so call e (is_done sent.tried.step_outcome) n sent.tried.counted ran.did ran.after (view_of old.hand) (view_of mid.hand) ran.counts number now low;
+    over = over_so call' sent.tried.step_outcome (is_done sent.tried.step_outcome) (length (program shared.plan e)) e n sent.moved (view_of mid.hand) (view_of new.hand) goes;
   }
 
   -- a step was tried on a processor, and its element moved on after it
   pub tried_went : NeverFalls (view_of old.hand) (view_of mid.hand) → NeverFalls (view_of mid.hand) (view_of new.hand)
-      → Adds (behind (raised_by sent.tried.deed) (counted_step sent.tried.counted e (done_at (view_of old.hand).seen.object e))) (view_of old.hand) (view_of mid.hand)
-      → Adds (gone sent.moved e (done_at (view_of mid.hand).seen.object e)) (view_of mid.hand) (view_of new.hand)
-      → QueuesDid sent.tried.deed line old.small.items new.small.items old.large.items new.large.items → EndsWorked sent.tried.deed line old new
-      → heard_lines new ≡ heard_lines old ++ heard_by sent.tried.deed e n line → new.signals ≡ old.signals
-      → Went (FollowsStep shared.plan e n sent line) (trying e n sent line) (told_shut sent.tried.deed) old new
+      → AddsToTally (followed_by (raised_by sent.tried.step_outcome) (counted_step sent.tried.counted e (done_at (view_of old.hand).seen.object e))) (view_of old.hand) (view_of mid.hand)
+      → AddsToTally (gone sent.moved e (done_at (view_of mid.hand).seen.object e)) (view_of mid.hand) (view_of new.hand)
+      → QueuesDid sent.tried.step_outcome line old.small.items new.small.items old.large.items new.large.items → EndsWorked sent.tried.step_outcome line old new
+      → heard_lines new ≡ heard_lines old ++ heard_by sent.tried.step_outcome e n line → new.signals ≡ old.signals
+      → Went (FollowsStep shared.plan e n sent line) (trying e n sent line) (saw_shut sent.tried.step_outcome) old new
   tried_went up on adds more queues worked lines signals = record {
     planned = follows;
     done = record {
@@ -162,20 +162,20 @@ module _ (shared : Shared) (call call' p e n : ℕ) (step : Step) (sent : SentOn
       small = worked.small;
       large = worked.large;
     };
-    told = told_so sent.tried.deed line old.small.items new.small.items old.large.items new.large.items queues;
+    reported = reported_so sent.tried.step_outcome line old.small.items new.small.items old.large.items new.large.items queues;
   }
     where
       counts : Tally
       counts = counted_step sent.tried.counted e n
 
-      adds_here : Adds (behind (raised_by sent.tried.deed) counts) (view_of old.hand) (view_of mid.hand)
-      adds_here = subst (λ z. Adds (behind (raised_by sent.tried.deed) (counted_step sent.tried.counted e z)) (view_of old.hand) (view_of mid.hand)) (sym now) adds
+      adds_here : AddsToTally (followed_by (raised_by sent.tried.step_outcome) counts) (view_of old.hand) (view_of mid.hand)
+      adds_here = subst (λ z. AddsToTally (followed_by (raised_by sent.tried.step_outcome) (counted_step sent.tried.counted e z)) (view_of old.hand) (view_of mid.hand)) (sym now) adds
 
-      more_here : Adds (gone sent.moved e (n + 1)) (view_of mid.hand) (view_of new.hand)
-      more_here = subst (λ z. Adds z (view_of mid.hand) (view_of new.hand)) (gone_so call' call sent.tried.deed (is_done sent.tried.deed) (length (program shared.plan e)) e n sent.moved sent.tried.counted ran.did ran.after (view_of old.hand) (view_of mid.hand) (view_of new.hand) goes ran.counts number now low) more
+      more_here : AddsToTally (gone sent.moved e (n + 1)) (view_of mid.hand) (view_of new.hand)
+      more_here = subst (λ z. AddsToTally z (view_of mid.hand) (view_of new.hand)) (gone_so call' call sent.tried.step_outcome (is_done sent.tried.step_outcome) (length (program shared.plan e)) e n sent.moved sent.tried.counted ran.did ran.after (view_of old.hand) (view_of mid.hand) (view_of new.hand) goes ran.counts number now low) more
 
-      all : Adds (trying e n sent line).hand (view_of old.hand) (view_of new.hand)
-      all = adds_on (behind (raised_by sent.tried.deed) counts) (gone sent.moved e (n + 1)) (view_of old.hand) (view_of mid.hand) (view_of new.hand) adds_here more_here
+      all : AddsToTally (trying e n sent line).hand (view_of old.hand) (view_of new.hand)
+      all = adds_on (followed_by (raised_by sent.tried.step_outcome) counts) (gone sent.moved e (n + 1)) (view_of old.hand) (view_of mid.hand) (view_of new.hand) adds_here more_here
 
       one : (trying e n sent line).hand.done ≡ counts.done
-      one = ap (λ z. (z ++ counts.done) ++ (gone sent.moved e (n + 1)).done) (raises_done sent.tried.deed) ∙ (ap (λ z. counts.done ++ z) (gone_done sent.moved e (n + 1)) ∙ append-nil counts.done)
+      one = ap (λ z. (z ++ counts.done) ++ (gone sent.moved e (n + 1)).done) (raises_done sent.tried.step_outcome) ∙ (ap (λ z. counts.done ++ z) (gone_done sent.moved e (n + 1)) ∙ append-nil counts.done)

@@ -4,8 +4,8 @@ use Rattle.boot_data.specs.Hearing.{Line}
 use Rattle.boot_data.specs.declared.plan.QueueIndex.{QueueIndex}
 use Rattle.turn_io.specs.Accounts.{AtQueue, idle_queue, both_queue, AtChain, idle_chain, both_chain, at_each}
 use Rattle.turn_io.specs.Accounts.{by_index, queue_account, queue_shares, chain_account, chain_shares}
-use Rattle.turn_dispatch.specs.Tallies.{Tally, tally, no_events, behind}
-use Rattle.meters.specs.declared.rule.Did.{Did}
+use Rattle.turn_dispatch.specs.Tallies.{Tally, tally, no_events, followed_by}
+use Rattle.meters.specs.declared.rule.MeterOps.{MeterOps}
 use Rattle.meters.specs.Handles as seats
 use Rattle.meters.specs.Own.{nothing_did, did_both}
 use Rattle.thread_table.specs.Answers.{is_in}
@@ -18,7 +18,7 @@ pub record Account : Type 0 where
   pub queues : QueueIndex → AtQueue
   pub chains : ℕ → AtChain
   pub hand : Tally
-  pub meters : Did
+  pub meters : MeterOps
   pub heard : List Line
   pub shown : ℕ → ℕ → Bool
 
@@ -39,7 +39,7 @@ abbrev pub ◌⊕◌ : Account → Account → Account
 a ⊕ b = record {
   queues = at_each both_queue a.queues b.queues;
   chains = at_each both_chain a.chains b.chains;
-  hand = behind a.hand b.hand;
+  hand = followed_by a.hand b.hand;
   meters = did_both a.meters b.meters;
   heard = a.heard ++ b.heard;
   shown = λ element signal. a.shown element signal || b.shown element signal;

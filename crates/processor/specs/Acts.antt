@@ -3,7 +3,7 @@ use Rattle.std.specs.Prelude.{◌≡◌, ◌≤◌, ◌<◌, ℕ, true, Some}
 use Rattle.thread_table.specs.Own.{View}
 use Rattle.thread_table.specs.Keeping.{Keeps}
 use Rattle.thread_table.specs.Rules.{done_at, serves, running}
-use Rattle.turn_dispatch.specs.Tallies.{Tally, Adds}
+use Rattle.turn_dispatch.specs.Tallies.{Tally, AddsToTally}
 
 -- no element's number of steps done is lower than before
 abbrev pub NeverFalls : View → View → Type 0
@@ -16,8 +16,8 @@ SteadyOn v w = (p e : ℕ) → e < 64 → serves v p ≡ true → running v p �
 
 -- The hand keeps its processors, its share and the elements on its processors, of which no step was counted. Its events
 -- add this tally, and no element's number of steps done fell
-pub record Acts (more : Tally) (v w : View) : Type 0 where
+pub record AddsOnly (more : Tally) (v w : View) : Type 0 where
   pub keeps : Keeps v w
-  pub adds : Adds more v w
+  pub adds : AddsToTally more v w
   pub steady : SteadyOn v w
   pub rises : NeverFalls v w

@@ -11,20 +11,20 @@ use Rattle.turn_dispatch.specs.declared.dispatch.Begun.{Begun}
 use Rattle.turn_dispatch.specs.Countings.{counted_step}
 use Rattle.turn_dispatch.specs.Dispatches.{mask_of}
 use Rattle.turn_dispatch.specs.Sendings.{retired}
-use Rattle.turn_dispatch.specs.Tallies.{Tally, behind, no_events, one_delivery, delivery, signals_for, is_delivered}
+use Rattle.turn_dispatch.specs.Tallies.{Tally, followed_by, no_events, one_delivery, delivery, signals_for, is_delivered}
 use Rattle.turn_dispatch.specs.Tendings.{tick_to}
 use Rattle.meters.specs.declared.gauges.AdvanceRefusal.{AdvanceRefusal}
 use Rattle.meters.specs.Own.{nothing_did}
-use Rattle.processor.specs.declared.outcome.Had.{Had}
-use Rattle.processor.specs.declared.outcome.Had.TheVariants as hads
-use Rattle.processor.specs.declared.outcome.Outcome.{Outcome}
-use Rattle.processor.specs.declared.outcome.Outcome.TheVariants as outcomes
+use Rattle.processor.specs.declared.outcome.TurnResult.{TurnResult}
+use Rattle.processor.specs.declared.outcome.TurnResult.TheVariants as hads
+use Rattle.processor.specs.declared.outcome.TurnOutcome.{TurnOutcome}
+use Rattle.processor.specs.declared.outcome.TurnOutcome.TheVariants as outcomes
 use Rattle.processor.specs.declared.sending.Moved.{Moved}
 use Rattle.processor.specs.declared.sending.Moved.TheVariants as moveds
-use Rattle.processor.specs.declared.sending.SentOn.{SentOn}
+use Rattle.processor.specs.declared.sending.Rescheduled.{Rescheduled}
 use Rattle.processor.specs.Accounts.{Account, nothing, ◌⊕◌}
-use Rattle.processor.specs.Deeds.{is_done, IsDeedOf}
-use Rattle.processor.specs.Doings.{queues_by, chains_by, ticks_by, raised_by, heard_by, told_shut}
+use Rattle.processor.specs.Outcomes.{is_done, IsOutcomeOf}
+use Rattle.processor.specs.Doings.{queues_by, chains_by, ticks_by, raised_by, heard_by, saw_shut}
 use Rattle.processor.specs.Programs.{program, step_of}
 
 -- the result of tending the alarms: the tick to which the clock was advanced, or the refusal; and the alarms fired
@@ -36,7 +36,7 @@ pub record Tended : Type 0 where
 -- the step was to say, or heard; it is empty if the step did neither
 pub record LogEntry : Type 0 where
   pub tended : Option Tended
-  pub outcome : Outcome
+  pub outcome : TurnOutcome
   pub line : List ℕ
 
 -- THE ACCOUNT OF A TURN
@@ -64,25 +64,25 @@ gone moved element number = no_events
 
 -- the account of a tried step: its deed with this line, its count if it is done, and the element's retirement if it was
 -- retired
-abbrev pub trying : ℕ → ℕ → SentOn → List ℕ → Account
+abbrev pub trying : ℕ → ℕ → Rescheduled → List ℕ → Account
 trying element number sent line = record nothing {
-  queues = queues_by sent.tried.deed line;
-  chains = chains_by sent.tried.deed;
-  hand = behind (behind (raised_by sent.tried.deed) (counted_step sent.tried.counted element number))
+  queues = queues_by sent.tried.step_outcome line;
+  chains = chains_by sent.tried.step_outcome;
+  hand = followed_by (followed_by (raised_by sent.tried.step_outcome) (counted_step sent.tried.counted element number))
       (gone sent.moved element (number + 1));
-  meters = ticks_by sent.tried.deed;
-  heard = heard_by sent.tried.deed element number line;
+  meters = ticks_by sent.tried.step_outcome;
+  heard = heard_by sent.tried.step_outcome element number line;
 }
 
 -- the account of an element's turn: its retirement, or the try of its step
-abbrev pub having : ℕ → ℕ → Had → List ℕ → Account
-having element number (hads.Ended moved) line = record nothing { hand = retired moved element number }
+abbrev pub having : ℕ → ℕ → TurnResult → List ℕ → Account
+having element number (hads.Retired moved) line = record nothing { hand = retired moved element number }
 having element number (hads.Ran sent) line = trying element number sent line
 
 -- the account of an element's turn; nothing, if no element was at hand
-abbrev pub outcome_account : Outcome → List ℕ → Account
+abbrev pub outcome_account : TurnOutcome → List ℕ → Account
 outcome_account (outcomes.Idle idle) line = nothing
-outcome_account (outcomes.Had begun had) line = beginning begun ⊕ having begun.element begun.number had line
+outcome_account (outcomes.OfElement begun had) line = beginning begun ⊕ having begun.element begun.number had line
 
 -- the account of a turn
 abbrev pub entry_account : LogEntry → Account
@@ -102,22 +102,22 @@ IsOver moved number steps = Unit {0}
 
 -- The tried step is the plan's step of this thread with this number, the deed and the line are its result, and it was
 -- counted if it is done. An element sent to the free elements has no step left
-pub record FollowsStep (plan : BootPlan) (element number : ℕ) (sent : SentOn) (line : List ℕ) : Type 0 where
+pub record FollowsStep (plan : BootPlan) (element number : ℕ) (sent : Rescheduled) (line : List ℕ) : Type 0 where
   pub step : Step
   pub is : step_of plan element number ≡ Some step
-  pub deed : IsDeedOf step sent.tried.deed line
-  pub counts : sent.tried.counted ≡ count_of (is_done sent.tried.deed) number
+  pub step_outcome : IsOutcomeOf step sent.tried.step_outcome line
+  pub counts : sent.tried.counted ≡ count_of (is_done sent.tried.step_outcome) number
   pub over : IsOver sent.moved (number + 1) (length (program plan element))
 
 -- the turn of an element with this number of steps done follows the plan
-abbrev pub HadFollows : BootPlan → ℕ → ℕ → Had → List ℕ → Type 0
-HadFollows plan element number (hads.Ended moved) line = (length (program plan element) ≤ number) × (line ≡ [])
-HadFollows plan element number (hads.Ran sent) line = FollowsStep plan element number sent line
+abbrev pub TurnResultFollows : BootPlan → ℕ → ℕ → TurnResult → List ℕ → Type 0
+TurnResultFollows plan element number (hads.Retired moved) line = (length (program plan element) ≤ number) × (line ≡ [])
+TurnResultFollows plan element number (hads.Ran sent) line = FollowsStep plan element number sent line
 
 -- the result of an element's turn, if one was at hand, follows the plan
-abbrev pub OutcomeFollows : BootPlan → Outcome → List ℕ → Type 0
+abbrev pub OutcomeFollows : BootPlan → TurnOutcome → List ℕ → Type 0
 OutcomeFollows plan (outcomes.Idle idle) line = line ≡ []
-OutcomeFollows plan (outcomes.Had begun had) line = HadFollows plan begun.element begun.number had line
+OutcomeFollows plan (outcomes.OfElement begun had) line = TurnResultFollows plan begun.element begun.number had line
 
 -- An element that had a turn was sent to the free elements with all its steps done, or its next step of the plan was
 -- tried. In both cases an element sent to the free elements has no step left. A turn without a try has no line
@@ -127,10 +127,10 @@ FollowsPlan plan entry = OutcomeFollows plan entry.outcome entry.line
 -- WHICH QUEUES A TURN FOUND SHUT
 
 -- for each queue: whether the say or hear of an element's turn was answered that the queue is shut
-abbrev pub outcome_told_shut : Outcome → QueueIndex → Bool
-outcome_told_shut (outcomes.Had begun (hads.Ran sent)) = told_shut sent.tried.deed
-outcome_told_shut outcome = λ queue. false
+abbrev pub outcome_saw_shut : TurnOutcome → QueueIndex → Bool
+outcome_saw_shut (outcomes.OfElement begun (hads.Ran sent)) = saw_shut sent.tried.step_outcome
+outcome_saw_shut outcome = λ queue. false
 
 -- whether the say or hear of a turn was answered that this queue is shut
-abbrev pub turn_told_shut : QueueIndex → LogEntry → Bool
-turn_told_shut queue entry = outcome_told_shut entry.outcome queue
+abbrev pub turn_saw_shut : QueueIndex → LogEntry → Bool
+turn_saw_shut queue entry = outcome_saw_shut entry.outcome queue

@@ -1,8 +1,8 @@
 pub mod Programs
 pub mod Queues
 pub mod Tries
-pub mod Deeds
-pub mod Acts
+pub mod Outcomes
+pub mod AddsOnly
 pub mod Pipes
 pub mod Steps
 pub mod Running

@@ -10,13 +10,13 @@ use Rattle.turn_io.specs.EndLists.{ClaimedInOrder, TookInOrder, knows_shut_at}
 use Rattle.meters.specs.Own.{did_both}
 use Rattle.thread_table.specs.Handles.{view_of}
 use Rattle.thread_table.specs.Rules.{done_at}
-use Rattle.processor.specs.declared.deed.Deed.{Deed}
+use Rattle.processor.specs.declared.step_outcome.StepOutcome.{StepOutcome}
 use Rattle.processor.specs.declared.shared.Shared.{Shared}
 use Rattle.processor.specs.declared.station.Parts.{Parts}
 use Rattle.processor.specs.Accounts.{Account, nothing, ◌⊕◌, account, shares, seat_parted}
 use Rattle.processor.specs.Doings.{queues_by, chains_by, ticks_by}
-use Rattle.processor.specs.Entries.{LogEntry, entry_account, FollowsPlan, turn_told_shut}
-use Rattle.processor.specs.Points.{ToldTurns}
+use Rattle.processor.specs.Entries.{LogEntry, entry_account, FollowsPlan, turn_saw_shut}
+use Rattle.processor.specs.Points.{HookedTurns}
 use Rattle.processor.specs.Stations.{IsUnused}
 
 -- the account of a log: the sum of its turns, in their order
@@ -26,7 +26,7 @@ sum_of (entry ∷ log) = entry_account entry ⊕ sum_of log
 
 -- whether a say or a hear of the log was answered that the queue is shut
 abbrev pub was_shut : List LogEntry → QueueIndex → Bool
-was_shut log queue = list_any (turn_told_shut queue) log
+was_shut log queue = list_any (turn_saw_shut queue) log
 
 -- the numbers of the thread's steps in this list, in the list's order
 abbrev pub numbers_of : ℕ → List Key → List ℕ
@@ -58,10 +58,10 @@ pub record HasDone (more : Account) (old new : Parts) : Type 0 where
 
 -- The result of a part of a processor's work: it follows the plan, and the ends did this. If an answer was that a queue
 -- is shut, the queue's end knows that
-pub record Went (IsPlanned : Type 0) (more : Account) (was_told : QueueIndex → Bool) (old new : Parts) : Type 0 where
+pub record Went (IsPlanned : Type 0) (more : Account) (was_reported : QueueIndex → Bool) (old new : Parts) : Type 0 where
   pub planned : IsPlanned
   pub done : HasDone more old new
-  pub told : (queue : QueueIndex) → was_told queue ≡ true → knows_shut new queue ≡ true
+  pub reported : (queue : QueueIndex) → was_reported queue ≡ true → knows_shut new queue ≡ true
 
 -- The result of a processor's turns: each follows the plan, and the ends did the log's sum. If the log has an answer
 -- that a queue is shut, the queue's end knows that
@@ -70,10 +70,10 @@ Ran plan log old new = Went (AllByRecursion (FollowsPlan plan) log) (sum_of log)
 
 -- A step did this at the ends of queues and chains and at the seat, as sums. Each of these ends keeps its share. Ends
 -- of queues keep what they knew, and still have claimed and taken in order. The seat was neither split nor joined
-pub record EndsWorked (deed : Deed) (line : List ℕ) (old new : Parts) : Type 0 where
-  pub queues : (account new).queues ≡ at_each both_queue (account old).queues (queues_by deed line)
-  pub chains : (account new).chains ≡ at_each both_chain (account old).chains (chains_by deed)
-  pub ticks : (account new).meters ≡ did_both (account old).meters (ticks_by deed)
+pub record EndsWorked (step_outcome : StepOutcome) (line : List ℕ) (old new : Parts) : Type 0 where
+  pub queues : (account new).queues ≡ at_each both_queue (account old).queues (queues_by step_outcome line)
+  pub chains : (account new).chains ≡ at_each both_chain (account old).chains (chains_by step_outcome)
+  pub ticks : (account new).meters ≡ did_both (account old).meters (ticks_by step_outcome)
   pub small : StaySound old.small.items new.small.items
   pub large : StaySound old.large.items new.large.items
   pub chains_kept : chain_shares new.chains.items ≡ chain_shares old.chains.items
@@ -94,17 +94,17 @@ pub record Leaves (plan : BootPlan) (log : List LogEntry) (parts : Parts) : Type
   pub planned : AllByRecursion (FollowsPlan plan) log
   pub did : account parts ≡ sum_of log
   pub order : (thread : ℕ) → Climbs (numbers_done log thread) 0 (done_at (view_of parts.hand).seen.object thread)
-  pub told : (queue : QueueIndex) → was_shut log queue ≡ true → knows_shut parts queue ≡ true
+  pub reported : (queue : QueueIndex) → was_shut log queue ≡ true → knows_shut parts queue ≡ true
   pub seat : seat_parted parts ≡ (0, 0)
   pub small : All ClaimedInOrder parts.small.items × All TookInOrder parts.small.items
   pub large : All ClaimedInOrder parts.large.items × All TookInOrder parts.large.items
 
 -- Processor p had this many turns. The log has the result of each, in order, and each was reported to the gate. The
 -- ends did the log's sum. On a fresh station the turns leave what the log says
-pub record HasTurned {G : Type 0} (T : G → ℕ → Point → G → Type 0) (shared : Shared) (p turns : ℕ) (gate gate' : G)
+pub record RanTurns {G : Type 0} (T : G → ℕ → Point → G → Type 0) (shared : Shared) (p turns : ℕ) (gate gate' : G)
     (old new : Parts) : Type 0 where
   pub log : List LogEntry
   pub many : length log ≡ turns
-  pub told : ToldTurns T shared p 0 log old new gate gate'
+  pub reported : HookedTurns T shared p 0 log old new gate gate'
   pub ran : Ran shared.plan log old new
   pub leaves : IsFresh old → Leaves shared.plan log new

@@ -13,16 +13,16 @@ use Rattle.quajects.specs.declared.world.Queues.{Queues}
 use Rattle.thread_table.specs.declared.hand.Hand.{Hand}
 use Rattle.turn_io.specs.declared.gate.Point.{Point}
 use Rattle.turn_io.specs.declared.gate.Point.TheVariants.{Turn}
-use Rattle.processor.specs.declared.deed.Deed.{Deed}
-use Rattle.processor.specs.declared.deed.Deed.TheVariants as deeds
-use Rattle.processor.specs.declared.outcome.Had.{Had}
-use Rattle.processor.specs.declared.outcome.Had.TheVariants as hads
-use Rattle.processor.specs.declared.outcome.Outcome.{Outcome}
-use Rattle.processor.specs.declared.outcome.Outcome.TheVariants as outcomes
+use Rattle.processor.specs.declared.step_outcome.StepOutcome.{StepOutcome}
+use Rattle.processor.specs.declared.step_outcome.StepOutcome.TheVariants as step_outcomes
+use Rattle.processor.specs.declared.outcome.TurnResult.{TurnResult}
+use Rattle.processor.specs.declared.outcome.TurnResult.TheVariants as hads
+use Rattle.processor.specs.declared.outcome.TurnOutcome.{TurnOutcome}
+use Rattle.processor.specs.declared.outcome.TurnOutcome.TheVariants as outcomes
 use Rattle.processor.specs.declared.shared.Shared.{Shared}
 use Rattle.processor.specs.declared.station.Parts.{Parts}
 use Rattle.processor.specs.Entries.{LogEntry}
-use Rattle.processor.specs.Logs.{HasTurned}
+use Rattle.processor.specs.Logs.{RanTurns}
 use Rattle.processor.specs.Pipes.{readers_of, writers_of}
 use Rattle.processor.specs.Points.{GateSaw, points_out}
 use Rattle.processor.specs.Queues.{waits_at}
@@ -44,9 +44,9 @@ abbrev pub one_more : Count → Count
 one_more count = record count { steps = count.steps + 1 }
 
 -- the count after a ticket was read, which is one step if there is a wait queue
-abbrev pub behind_ticket : Option ℕ → Count → Count
-behind_ticket None count = count
-behind_ticket (Some wait) count = one_more count
+abbrev pub after_ticket : Option ℕ → Count → Count
+after_ticket None count = count
+after_ticket (Some wait) count = one_more count
 
 -- the gate was shown the hand and, at the same moment, the queue's end in the list for its size
 abbrev pub QueueShown : Sights → Hand → QueueIndex → List (QueueEnd 64) → List (QueueEnd 256) → Type 0
@@ -84,44 +84,44 @@ QueueStood S count queue small small' large large' =
 
 -- For a step that began at this count of the hand: the try at a queue came after the reading of the ticket, if the
 -- queue is a pipe, and before the wakes. A queue was shut before the wakes
-abbrev pub QueuesInOrder : Sights → BootPlan → Count → Deed → List (QueueEnd 64) → List (QueueEnd 64)
+abbrev pub QueuesInOrder : Sights → BootPlan → Count → StepOutcome → List (QueueEnd 64) → List (QueueEnd 64)
     → List (QueueEnd 256) → List (QueueEnd 256) → Type 0
-QueuesInOrder S plan start (deeds.Say queue answer) small small' large large' =
-    QueueStood S (behind_ticket (writers_of (waits_at plan queue)) start) queue small small' large large'
-QueuesInOrder S plan start (deeds.Hear queue answer) small small' large large' =
-    QueueStood S (behind_ticket (readers_of (waits_at plan queue)) start) queue small small' large large'
-QueuesInOrder S plan start (deeds.Close queue was_open readers writers) small small' large large' =
+QueuesInOrder S plan start (step_outcomes.Say queue answer) small small' large large' =
+    QueueStood S (after_ticket (writers_of (waits_at plan queue)) start) queue small small' large large'
+QueuesInOrder S plan start (step_outcomes.Hear queue answer) small small' large large' =
+    QueueStood S (after_ticket (readers_of (waits_at plan queue)) start) queue small small' large large'
+QueuesInOrder S plan start (step_outcomes.Close queue was_open readers writers) small small' large large' =
     SmallStood S start small small' queue
-QueuesInOrder S plan start deed small small' large large' = Unit {0}
+QueuesInOrder S plan start step_outcome small small' large large' = Unit {0}
 
 -- for a step that began at this count of the hand: a poke, with its Turn, came before all other steps of the hand
-abbrev pub ChainsInOrder : Sights → Count → Deed → List (ChainEnd AnyQuaject Queues ghosts)
+abbrev pub ChainsInOrder : Sights → Count → StepOutcome → List (ChainEnd AnyQuaject Queues ghosts)
     → List (ChainEnd AnyQuaject Queues ghosts) → Type 0
-ChainsInOrder S start (deeds.Poke mover answer) old new = ChainStood S start old new mover
-ChainsInOrder S start deed old new = Unit {0}
+ChainsInOrder S start (step_outcomes.Poke mover answer) old new = ChainStood S start old new mover
+ChainsInOrder S start step_outcome old new = Unit {0}
 
 -- for a step that began at this count of the hand: a tick came before all other steps of the hand
-abbrev pub SeatInOrder : Sights → Count → Deed → MeterSeat → MeterSeat → Type 0
-SeatInOrder S start (deeds.Tick gauge amount before) old new = SeatStood S start old new
-SeatInOrder S start deed old new = Unit {0}
+abbrev pub SeatInOrder : Sights → Count → StepOutcome → MeterSeat → MeterSeat → Type 0
+SeatInOrder S start (step_outcomes.Tick gauge amount before) old new = SeatStood S start old new
+SeatInOrder S start step_outcome old new = Unit {0}
 
 -- a step that began at this count of the hand did its parts in order
-pub record InOrder (S : Sights) (plan : BootPlan) (start : Count) (deed : Deed) (old new : Parts) : Type 0 where
-  pub queues : QueuesInOrder S plan start deed old.small.items new.small.items old.large.items new.large.items
-  pub chains : ChainsInOrder S start deed old.chains.items new.chains.items
-  pub seat : SeatInOrder S start deed old.meters new.meters
+pub record InOrder (S : Sights) (plan : BootPlan) (start : Count) (step_outcome : StepOutcome) (old new : Parts) : Type 0 where
+  pub queues : QueuesInOrder S plan start step_outcome old.small.items new.small.items old.large.items new.large.items
+  pub chains : ChainsInOrder S start step_outcome old.chains.items new.chains.items
+  pub seat : SeatInOrder S start step_outcome old.meters new.meters
 
 -- The step of an element's turn did its parts in order. It began after the element was put on the processor, which is
 -- one step of the hand
-abbrev pub HadInOrder : Sights → BootPlan → Had → Parts → Parts → Type 0
-HadInOrder S plan (hads.Ended moved) old new = Unit {0}
-HadInOrder S plan (hads.Ran sent) old new = InOrder S plan (one_more (count_of old.hand)) sent.tried.deed old new
+abbrev pub TurnResultInOrder : Sights → BootPlan → TurnResult → Parts → Parts → Type 0
+TurnResultInOrder S plan (hads.Retired moved) old new = Unit {0}
+TurnResultInOrder S plan (hads.Ran sent) old new = InOrder S plan (one_more (count_of old.hand)) sent.tried.step_outcome old new
 
 -- the result of an element's turn, if one was at hand, with its parts in order
-abbrev pub CameInOrder : Sights → Shared → ℕ → Outcome → List ℕ → Parts → Parts → Type 0
+abbrev pub CameInOrder : Sights → Shared → ℕ → TurnOutcome → List ℕ → Parts → Parts → Type 0
 CameInOrder S shared p (outcomes.Idle idle) line old new = CameOf shared p (outcomes.Idle idle) line old new
-CameInOrder S shared p (outcomes.Had begun had) line old new = (mid : Parts) × BegunAt begun old mid
-    × HadTurn shared p begun.element begun.number had line mid new × HadInOrder S shared.plan had mid new
+CameInOrder S shared p (outcomes.OfElement begun had) line old new = (mid : Parts) × BegunAt begun old mid
+    × HadTurn shared p begun.element begun.number had line mid new × TurnResultInOrder S shared.plan had mid new
 
 -- the result of a turn, with its parts in order
 abbrev pub TurnInOrder : Sights → Shared → ℕ → LogEntry → Parts → Parts → Type 0
@@ -133,13 +133,13 @@ TurnInOrder S shared p entry old new =
 abbrev pub TurnsInOrder : {G : Type 0} → Sights → (G → ℕ → Point → G → Type 0) → Shared → ℕ → ℕ → List LogEntry → Parts
     → Parts → G → G → Type 0
 TurnsInOrder S T shared p number [] old new gate gate' = (new ≡ old) × (gate' ≡ gate)
-TurnsInOrder {G} S T shared p number (entry ∷ log) old new gate gate' = (between : Parts) × (told : G)
+TurnsInOrder {G} S T shared p number (entry ∷ log) old new gate gate' = (between : Parts) × (reported : G)
     × TurnInOrder S shared p entry old between
-    × GateSaw T p (Turn number ∷ points_out entry.outcome) gate told
-    × TurnsInOrder S T shared p (suc number) log between new told gate'
+    × GateSaw T p (Turn number ∷ points_out entry.outcome) gate reported
+    × TurnsInOrder S T shared p (suc number) log between new reported gate'
 
 -- this many turns with their log, and each turn of this log did its parts in order
-pub record HasTurnedInOrder {G : Type 0} (S : Sights) (T : G → ℕ → Point → G → Type 0) (shared : Shared) (p turns : ℕ)
+pub record RanTurnsInOrder {G : Type 0} (S : Sights) (T : G → ℕ → Point → G → Type 0) (shared : Shared) (p turns : ℕ)
     (gate gate' : G) (old new : Parts) : Type 0 where
-  pub turned : HasTurned T shared p turns gate gate' old new
+  pub turned : RanTurns T shared p turns gate gate' old new
   pub order : TurnsInOrder S T shared p 0 turned.log old new gate gate'

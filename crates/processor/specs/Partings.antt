@@ -34,14 +34,14 @@ pub record HaveRoom (shared : Shared) (lists : Lists) : Type 0 where
 -- Each end gave a part to a new end, and the hand gave the processors of the mask. The lines heard and the signals are
 -- unchanged
 pub record AreSplit (processors : ℕ) (old new born : Parts) : Type 0 where
-  pub hand : hands.Divided processors (threads.view_of old.hand) (threads.view_of new.hand)
-  pub born_hand : hands.IsNewborn processors (threads.view_of old.hand) (threads.view_of new.hand)
+  pub hand : hands.SplitBy processors (threads.view_of old.hand) (threads.view_of new.hand)
+  pub born_hand : hands.IsNewEnd processors (threads.view_of old.hand) (threads.view_of new.hand)
       (threads.view_of born.hand)
   pub small : splits.AreSplit old.small.items new.small.items born.small.items
   pub large : splits.AreSplit old.large.items new.large.items born.large.items
   pub chains : splits.AreChainsSplit old.chains.items new.chains.items born.chains.items
-  pub meters : seat_ends.Divided (seats.view_of old.meters) (seats.view_of new.meters)
-  pub born_meters : seat_ends.IsNewborn (seats.view_of old.meters) (seats.view_of new.meters)
+  pub meters : seat_ends.SplitBy (seats.view_of old.meters) (seats.view_of new.meters)
+  pub born_meters : seat_ends.IsNewEnd (seats.view_of old.meters) (seats.view_of new.meters)
       (seats.view_of born.meters)
   pub own : DidSplit (seats.view_of old.meters) (seats.view_of new.meters)
   pub heard : new.heard ≡ old.heard
@@ -56,11 +56,11 @@ HaveBoth a b both = (element signal : ℕ) → element < 64 → signal < 16
 -- Each end took in the other station's end at its place, and has what both had. The signals are those of both. The
 -- lines heard are unchanged
 pub record AreJoined (old other new : Parts) : Type 0 where
-  pub hand : hands.TookIn (threads.view_of old.hand) (threads.view_of other.hand) (threads.view_of new.hand)
+  pub hand : hands.JoinedBy (threads.view_of old.hand) (threads.view_of other.hand) (threads.view_of new.hand)
   pub small : splits.AreJoined old.small.items other.small.items new.small.items
   pub large : splits.AreJoined old.large.items other.large.items new.large.items
   pub chains : splits.AreChainsJoined old.chains.items other.chains.items new.chains.items
-  pub meters : seat_ends.TookIn (seats.view_of old.meters) (seats.view_of other.meters) (seats.view_of new.meters)
+  pub meters : seat_ends.JoinedBy (seats.view_of old.meters) (seats.view_of other.meters) (seats.view_of new.meters)
   pub own : DidBoth (seats.view_of old.meters) (seats.view_of other.meters) (seats.view_of new.meters)
   pub heard : new.heard ≡ old.heard
   pub signals : HaveBoth old.signals other.signals new.signals

@@ -2,11 +2,11 @@
 use Rattle.std.specs.Prelude.{◌≡◌, ℕ, suc, List, [], ◌∷◌}
 use Rattle.turn_io.specs.declared.gate.Point.{Point}
 use Rattle.turn_io.specs.declared.gate.Point.TheVariants.{Turn, Claimed, Raised, TakeAnswered, Chained}
-use Rattle.processor.specs.declared.deed.Deed.{Deed}
-use Rattle.processor.specs.declared.deed.Deed.TheVariants as deeds
-use Rattle.processor.specs.declared.outcome.Had.TheVariants as hads
-use Rattle.processor.specs.declared.outcome.Outcome.{Outcome}
-use Rattle.processor.specs.declared.outcome.Outcome.TheVariants as outcomes
+use Rattle.processor.specs.declared.step_outcome.StepOutcome.{StepOutcome}
+use Rattle.processor.specs.declared.step_outcome.StepOutcome.TheVariants as step_outcomes
+use Rattle.processor.specs.declared.outcome.TurnResult.TheVariants as hads
+use Rattle.processor.specs.declared.outcome.TurnOutcome.{TurnOutcome}
+use Rattle.processor.specs.declared.outcome.TurnOutcome.TheVariants as outcomes
 use Rattle.processor.specs.declared.shared.Shared.{Shared}
 use Rattle.processor.specs.declared.station.Parts.{Parts}
 use Rattle.processor.specs.declared.tries.SayAnswer.TheVariants as says
@@ -20,23 +20,23 @@ GateSaw {G} T p (point ∷ points) old new = (between : G) × T old p point betw
 
 -- the points of a step, by its result: `Claimed` and `Raised` of a say whose line was put, `TakeAnswered` of a hear,
 -- and `Chained` of a poke
-abbrev pub points_of : Deed → List Point
-points_of (deeds.Say queue (says.Put paid)) = Claimed ∷ Raised ∷ []
-points_of (deeds.Hear queue answer) = TakeAnswered ∷ []
-points_of (deeds.Poke mover answer) = Chained ∷ []
-points_of deed = []
+abbrev pub points_of : StepOutcome → List Point
+points_of (step_outcomes.Say queue (says.Put paid)) = Claimed ∷ Raised ∷ []
+points_of (step_outcomes.Hear queue answer) = TakeAnswered ∷ []
+points_of (step_outcomes.Poke mover answer) = Chained ∷ []
+points_of step_outcome = []
 
 -- the points of an element's turn: the points of its step, if one was tried
-abbrev pub points_out : Outcome → List Point
-points_out (outcomes.Had begun (hads.Ran sent)) = points_of sent.tried.deed
+abbrev pub points_out : TurnOutcome → List Point
+points_out (outcomes.OfElement begun (hads.Ran sent)) = points_of sent.tried.step_outcome
 points_out outcome = []
 
 -- The turns of the log, one after the other, the first with this number. For each turn the gate was called with the
 -- turn's number, then with the points of its step, and with nothing else
-abbrev pub ToldTurns : {G : Type 0} → (G → ℕ → Point → G → Type 0) → Shared → ℕ → ℕ → List LogEntry → Parts → Parts
+abbrev pub HookedTurns : {G : Type 0} → (G → ℕ → Point → G → Type 0) → Shared → ℕ → ℕ → List LogEntry → Parts → Parts
     → G → G → Type 0
-ToldTurns T shared p number [] old new gate gate' = (new ≡ old) × (gate' ≡ gate)
-ToldTurns {G} T shared p number (entry ∷ log) old new gate gate' = (between : Parts) × (told : G)
+HookedTurns T shared p number [] old new gate gate' = (new ≡ old) × (gate' ≡ gate)
+HookedTurns {G} T shared p number (entry ∷ log) old new gate gate' = (between : Parts) × (reported : G)
     × TurnOf shared p entry old between
-    × GateSaw T p (Turn number ∷ points_out entry.outcome) gate told
-    × ToldTurns T shared p (suc number) log between new told gate'
+    × GateSaw T p (Turn number ∷ points_out entry.outcome) gate reported
+    × HookedTurns T shared p (suc number) log between new reported gate'

@@ -10,7 +10,7 @@ use Rattle.claim_queue.specs.declared.claim.ClaimRefusal.{ClaimRefusal}
 use Rattle.claim_queue.specs.declared.ends.QueueEnd.{QueueEnd}
 use Rattle.claim_queue.specs.declared.take.TakeRefusal.{TakeRefusal}
 use Rattle.turn_io.specs.Accounts.{AtQueue, at_each, both_queue, by_index, idle_queue, only, queue_account}
-use Rattle.turn_io.specs.Deeds.{Said, Heard}
+use Rattle.turn_io.specs.Outcomes.{Said, Heard}
 use Rattle.turn_io.specs.EndLists.{OnEnd}
 use Rattle.quajects.specs.declared.world.Queues.{Queues}
 

@@ -8,40 +8,40 @@ use Rattle.turn_dispatch.specs.Sendings.{Sent, WaitedAt}
 use Rattle.meters.specs.Handles as meters
 use Rattle.thread_table.specs.Own.{View}
 use Rattle.thread_table.specs.Answers.{PutsOn, TakesOff}
-use Rattle.processor.specs.declared.deed.Deed.{Deed}
+use Rattle.processor.specs.declared.step_outcome.StepOutcome.{StepOutcome}
 use Rattle.processor.specs.declared.ticket.Ticket.{Ticket}
 use Rattle.processor.specs.declared.sending.Moved.{Moved}
 use Rattle.processor.specs.declared.sending.Moved.TheVariants as moveds
 use Rattle.processor.specs.declared.shared.Shared.{Shared}
 use Rattle.processor.specs.declared.station.Parts.{Parts}
-use Rattle.processor.specs.Deeds.{is_done, sleeps_on, wait_of}
+use Rattle.processor.specs.Outcomes.{is_done, sleeps_on, wait_of}
 use Rattle.processor.specs.Steps.{HandDid, QueuesDid, ChainsDid, SeatDid}
 
 -- the element was put on the processor, its step was tried, and counted if it is done, and the element was taken off
-pub record Stepped (call : ℕ) (plan : BootPlan) (p element : ℕ) (deed : Deed) (counted : Counted) (v w : View)
+pub record Stepped (call : ℕ) (plan : BootPlan) (p element : ℕ) (step_outcome : StepOutcome) (counted : Counted) (v w : View)
     : Type 0 where
   pub on : View
   pub did : View
   pub after : View
   pub puts : PutsOn call p element v on
-  pub does : HandDid call plan deed on did
-  pub counts : CountAnswer call element (is_done deed) did counted after
+  pub does : HandDid call plan step_outcome on did
+  pub counts : CountAnswer call element (is_done step_outcome) did counted after
   pub takes : TakesOff call p element after w
 
 -- the effect of the step at all ends except the hand
-pub record EndsDid (shared : Shared) (deed : Deed) (line : List ℕ) (old new : Parts) : Type 0 where
-  pub queues : QueuesDid deed line old.small.items new.small.items old.large.items new.large.items
-  pub chains : ChainsDid shared.chains.items deed old.chains.items new.chains.items
-  pub seat : SeatDid deed (meters.view_of old.meters) (meters.view_of new.meters)
+pub record EndsDid (shared : Shared) (step_outcome : StepOutcome) (line : List ℕ) (old new : Parts) : Type 0 where
+  pub queues : QueuesDid step_outcome line old.small.items new.small.items old.large.items new.large.items
+  pub chains : ChainsDid shared.chains.items step_outcome old.chains.items new.chains.items
+  pub seat : SeatDid step_outcome (meters.view_of old.meters) (meters.view_of new.meters)
 
 -- The element was sent on after its step: with its ticket to the wait queue of a pipe; for a step that waits, to the
 -- step's wait queue; after its last step to the free elements; and otherwise to the ready ring
-abbrev pub Goes : ℕ → Deed → Bool → ℕ → Moved → View → View → Type 0
-Goes call deed last element (moveds.Ticketed waited) v w = (ticket : Ticket) × (sleeps_on deed ≡ Some ticket)
+abbrev pub Goes : ℕ → StepOutcome → Bool → ℕ → Moved → View → View → Type 0
+Goes call step_outcome last element (moveds.Ticketed waited) v w = (ticket : Ticket) × (sleeps_on step_outcome ≡ Some ticket)
     × WaitedAt call ticket.wait element ticket.number waited v w
-Goes call deed last element (moveds.Waits moved) v w = (wait : ℕ) × (sleeps_on deed ≡ None)
-    × (wait_of deed ≡ Some wait) × Sent call (wait_ring wait) element moved v w
-Goes call deed last element (moveds.Freed moved) v w =
-    (sleeps_on deed ≡ None) × (wait_of deed ≡ None) × (last ≡ true) × Sent call 1 element moved v w
-Goes call deed last element (moveds.Ready moved) v w =
-    (sleeps_on deed ≡ None) × (wait_of deed ≡ None) × (last ≡ false) × Sent call 0 element moved v w
+Goes call step_outcome last element (moveds.Waits moved) v w = (wait : ℕ) × (sleeps_on step_outcome ≡ None)
+    × (wait_of step_outcome ≡ Some wait) × Sent call (wait_ring wait) element moved v w
+Goes call step_outcome last element (moveds.Freed moved) v w =
+    (sleeps_on step_outcome ≡ None) × (wait_of step_outcome ≡ None) × (last ≡ true) × Sent call 1 element moved v w
+Goes call step_outcome last element (moveds.Ready moved) v w =
+    (sleeps_on step_outcome ≡ None) × (wait_of step_outcome ≡ None) × (last ≡ false) × Sent call 0 element moved v w

@@ -5,7 +5,7 @@ use Rattle.boot_data.specs.declared.plan.QueueIndex.TheVariants.{Small}
 use Rattle.boot_data.specs.declared.plan.Step.{Step}
 use Rattle.boot_data.specs.declared.plan.Step.TheVariants as steps
 use Rattle.claim_queue.specs.declared.ends.QueueEnd.{QueueEnd}
-use Rattle.turn_io.specs.Deeds.{HasShut, PokedAt}
+use Rattle.turn_io.specs.Outcomes.{HasShut, PokedAt}
 use Rattle.turn_io.specs.EndLists.{OnEnd}
 use Rattle.turn_dispatch.specs.Wakings.{Woke, ResumeAnswer}
 use Rattle.meters.specs.Own.{SeatView, DidTick}
@@ -16,14 +16,14 @@ use Rattle.proc_chain.specs.declared.quaject.Quaject.{Ghosts}
 use Rattle.quajects.specs.declared.world.Queues.{Queues}
 use Rattle.thread_table.specs.Own.{View}
 use Rattle.thread_table.specs.Answers.{SignalAnswer, StoppedNow}
-use Rattle.processor.specs.declared.deed.Deed.{Deed}
-use Rattle.processor.specs.declared.deed.Deed.TheVariants as deeds
+use Rattle.processor.specs.declared.step_outcome.StepOutcome.{StepOutcome}
+use Rattle.processor.specs.declared.step_outcome.StepOutcome.TheVariants as step_outcomes
 use Rattle.processor.specs.declared.ticket.Ticket.{Ticket}
 use Rattle.processor.specs.declared.tries.HearAnswer.{HearAnswer}
 use Rattle.processor.specs.declared.tries.HearAnswer.TheVariants as hears
 use Rattle.processor.specs.declared.tries.SayAnswer.{SayAnswer}
 use Rattle.processor.specs.declared.tries.SayAnswer.TheVariants as says
-use Rattle.processor.specs.declared.waking.Paid.{Paid}
+use Rattle.processor.specs.declared.waking.WakeDone.{WakeDone}
 use Rattle.processor.specs.Pipes.{TicketFor, WokeFor, readers_of, writers_of}
 use Rattle.processor.specs.Queues.{IsThere, SaidAt, HeardAt, waits_at}
 use Rattle.processor.specs.Tries.{said, heard, is_shut, is_over}
@@ -38,64 +38,64 @@ Fits queues chains step = Unit {0}
 
 -- Elements that wait for a line were woken if the say put one, and otherwise not. A refused say has the ticket that was
 -- read before its try
-abbrev pub WokeBySay : ℕ → Option ℕ → Option Ticket → SayAnswer Paid → View → View → Type 0
+abbrev pub WokeBySay : ℕ → Option ℕ → Option Ticket → SayAnswer WakeDone → View → View → Type 0
 WokeBySay call wait ticket (says.Put paid) v w = WokeFor call wait v paid.woken w
 WokeBySay call wait ticket says.Over v w = w ≡ v
 WokeBySay call wait ticket (says.Refused unsaid) v w = (unsaid.ticket ≡ ticket) × (w ≡ v)
 
 -- Elements that wait for room were woken if the hear took a line, or if no line will come, and otherwise not. A refused
 -- hear has the ticket that was read before its try
-abbrev pub WokeByHear : ℕ → Option ℕ → Option Ticket → HearAnswer Paid → View → View → Type 0
+abbrev pub WokeByHear : ℕ → Option ℕ → Option Ticket → HearAnswer WakeDone → View → View → Type 0
 WokeByHear call wait ticket (hears.Taken paid) v w = WokeFor call wait v paid.woken w
 WokeByHear call wait ticket (hears.Over paid) v w = WokeFor call wait v paid.woken w
 WokeByHear call wait ticket (hears.Refused unheard) v w = (unheard.ticket ≡ ticket) × (w ≡ v)
 
 -- The effect of a deed at the hand. For a say or a hear at a pipe a ticket was read, and then elements were woken by
 -- the answer. For a shut those who wait to hear were woken first, and then those who wait for room
-abbrev pub HandDid : ℕ → BootPlan → Deed → View → View → Type 0
-HandDid call plan (deeds.Say queue answer) v w = (ticket : Option Ticket) × (u : View)
+abbrev pub HandDid : ℕ → BootPlan → StepOutcome → View → View → Type 0
+HandDid call plan (step_outcomes.Say queue answer) v w = (ticket : Option Ticket) × (u : View)
     × TicketFor (writers_of (waits_at plan queue)) v ticket u
     × WokeBySay call (readers_of (waits_at plan queue)) ticket answer u w
-HandDid call plan (deeds.Hear queue answer) v w = (ticket : Option Ticket) × (u : View)
+HandDid call plan (step_outcomes.Hear queue answer) v w = (ticket : Option Ticket) × (u : View)
     × TicketFor (readers_of (waits_at plan queue)) v ticket u
     × WokeByHear call (writers_of (waits_at plan queue)) ticket answer u w
-HandDid call plan (deeds.Wake wait woken) v w = Woke call wait woken v w
-HandDid call plan (deeds.Signal thread signal answer) v w = SignalAnswer call v thread signal answer w
-HandDid call plan (deeds.Stop thread was_clear) v w = StoppedNow call v thread was_clear w
-HandDid call plan (deeds.Start thread answer) v w = ResumeAnswer call thread answer v w
-HandDid call plan (deeds.Close queue was_open readers writers) v w = (u : View)
+HandDid call plan (step_outcomes.Wake wait woken) v w = Woke call wait woken v w
+HandDid call plan (step_outcomes.Signal thread signal answer) v w = SignalAnswer call v thread signal answer w
+HandDid call plan (step_outcomes.Stop thread was_clear) v w = StoppedNow call v thread was_clear w
+HandDid call plan (step_outcomes.Start thread answer) v w = ResumeAnswer call thread answer v w
+HandDid call plan (step_outcomes.Close queue was_open readers writers) v w = (u : View)
     × WokeFor call (readers_of (waits_at plan (Small queue))) v readers.woken u
     × WokeFor call (writers_of (waits_at plan (Small queue))) u writers.woken w
-HandDid call plan deed v w = w ≡ v
+HandDid call plan step_outcome v w = w ≡ v
 
 -- a refused say was refused for another reason than that the queue is shut
-abbrev pub IsOpenSay : SayAnswer Paid → Type 0
+abbrev pub IsOpenSay : SayAnswer WakeDone → Type 0
 IsOpenSay (says.Refused unsaid) = is_shut unsaid.refusal ≡ false
 IsOpenSay answer = Unit {0}
 
 -- a refused hear was refused for another reason than that the queue is shut and has nothing left
-abbrev pub IsOpenHear : HearAnswer Paid → Type 0
+abbrev pub IsOpenHear : HearAnswer WakeDone → Type 0
 IsOpenHear (hears.Refused unheard) = is_over unheard.refusal ≡ false
 IsOpenHear answer = Unit {0}
 
 -- the effect of a deed at the ends of the queues, with the line said or heard
-abbrev pub QueuesDid : Deed → List ℕ → List (QueueEnd 64) → List (QueueEnd 64) → List (QueueEnd 256)
+abbrev pub QueuesDid : StepOutcome → List ℕ → List (QueueEnd 64) → List (QueueEnd 64) → List (QueueEnd 256)
     → List (QueueEnd 256) → Type 0
-QueuesDid (deeds.Say queue answer) line old new old' new' =
+QueuesDid (step_outcomes.Say queue answer) line old new old' new' =
     IsOpenSay answer × SaidAt queue line (said answer) old new old' new'
-QueuesDid (deeds.Hear queue answer) line old new old' new' =
+QueuesDid (step_outcomes.Hear queue answer) line old new old' new' =
     IsOpenHear answer × HeardAt queue line (heard answer) old new old' new'
-QueuesDid (deeds.Close queue was_open readers writers) line old new old' new' =
+QueuesDid (step_outcomes.Close queue was_open readers writers) line old new old' new' =
     OnEnd queue (HasShut was_open) old new × (new' ≡ old')
-QueuesDid deed line old new old' new' = (new ≡ old) × (new' ≡ old')
+QueuesDid step_outcome line old new old' new' = (new ≡ old) × (new' ≡ old')
 
 -- the effect of a deed at the ends of the chains
-abbrev pub ChainsDid : {Q W : Type 0} {g : Ghosts Q W} → List (ProcChain Q W) → Deed → List (ChainEnd Q W g)
+abbrev pub ChainsDid : {Q W : Type 0} {g : Ghosts Q W} → List (ProcChain Q W) → StepOutcome → List (ChainEnd Q W g)
     → List (ChainEnd Q W g) → Type 0
-ChainsDid chains (deeds.Poke mover answer) old new = PokedAt chains mover 0 answer old new
-ChainsDid chains deed old new = new ≡ old
+ChainsDid chains (step_outcomes.Poke mover answer) old new = PokedAt chains mover 0 answer old new
+ChainsDid chains step_outcome old new = new ≡ old
 
 -- the effect of a deed at the seat of the meters
-abbrev pub SeatDid : Deed → SeatView → SeatView → Type 0
-SeatDid (deeds.Tick gauge amount before) v w = Ticked v gauge amount before w × DidTick gauge amount v w
-SeatDid deed v w = w ≡ v
+abbrev pub SeatDid : StepOutcome → SeatView → SeatView → Type 0
+SeatDid (step_outcomes.Tick gauge amount before) v w = Ticked v gauge amount before w × DidTick gauge amount v w
+SeatDid step_outcome v w = w ≡ v

@@ -12,14 +12,14 @@ use Rattle.turn_dispatch.specs.Tendings.{Fires, RaisedAll}
 use Rattle.meters.specs.Handles as meters
 use Rattle.thread_table.specs.Own.{View}
 use Rattle.thread_table.specs.Handles.{view_of, call_of}
-use Rattle.processor.specs.declared.outcome.Had.{Had}
-use Rattle.processor.specs.declared.outcome.Had.TheVariants as hads
-use Rattle.processor.specs.declared.outcome.Outcome.{Outcome}
-use Rattle.processor.specs.declared.outcome.Outcome.TheVariants as outcomes
-use Rattle.processor.specs.declared.sending.SentOn.{SentOn}
+use Rattle.processor.specs.declared.outcome.TurnResult.{TurnResult}
+use Rattle.processor.specs.declared.outcome.TurnResult.TheVariants as hads
+use Rattle.processor.specs.declared.outcome.TurnOutcome.{TurnOutcome}
+use Rattle.processor.specs.declared.outcome.TurnOutcome.TheVariants as outcomes
+use Rattle.processor.specs.declared.sending.Rescheduled.{Rescheduled}
 use Rattle.processor.specs.declared.shared.Shared.{Shared}
 use Rattle.processor.specs.declared.station.Parts.{Parts}
-use Rattle.processor.specs.Deeds.{is_done, IsDeedOf}
+use Rattle.processor.specs.Outcomes.{is_done, IsOutcomeOf}
 use Rattle.processor.specs.Doings.{heard_by}
 use Rattle.processor.specs.Entries.{LogEntry, Tended}
 use Rattle.processor.specs.Programs.{program, step_of}
@@ -49,19 +49,19 @@ pub record BegunAt (begun : Begun) (old new : Parts) : Type 0 where
 
 -- The element's step was tried on the processor, with its effect at all ends, and the element moved on. The bytes of a
 -- line that was heard are kept
-pub record RanStep (shared : Shared) (p element number : ℕ) (sent : SentOn) (line : List ℕ) (old new : Parts)
+pub record RanStep (shared : Shared) (p element number : ℕ) (sent : Rescheduled) (line : List ℕ) (old new : Parts)
     : Type 0 where
   pub step : Step
   pub is : step_of shared.plan element number ≡ Some step
-  pub deed : IsDeedOf step sent.tried.deed line
+  pub step_outcome : IsOutcomeOf step sent.tried.step_outcome line
   pub stepped : View
-  pub ran : Stepped (call_of old.hand) shared.plan p element sent.tried.deed sent.tried.counted (view_of old.hand)
+  pub ran : Stepped (call_of old.hand) shared.plan p element sent.tried.step_outcome sent.tried.counted (view_of old.hand)
       stepped
-  pub goes : Goes (call_of old.hand) sent.tried.deed
-      (is_last (is_done sent.tried.deed) number (length (program shared.plan element))) element sent.moved stepped
+  pub goes : Goes (call_of old.hand) sent.tried.step_outcome
+      (is_last (is_done sent.tried.step_outcome) number (length (program shared.plan element))) element sent.moved stepped
       (view_of new.hand)
-  pub ends : EndsDid shared sent.tried.deed line old new
-  pub lines : heard_lines new ≡ heard_lines old ++ heard_by sent.tried.deed element number line
+  pub ends : EndsDid shared sent.tried.step_outcome line old new
+  pub lines : heard_lines new ≡ heard_lines old ++ heard_by sent.tried.step_outcome element number line
   pub signals : new.signals ≡ old.signals
 
 -- no element was at hand, and all ends except the hand are unchanged
@@ -71,16 +71,16 @@ IdleAt idle old new = WasIdle (call_of old.hand) idle (view_of old.hand) (view_o
 
 -- the result of the turn of an element at hand: it had no step left and was sent to the free elements, or its step was
 -- tried with this line
-abbrev pub HadTurn : Shared → ℕ → ℕ → ℕ → Had → List ℕ → Parts → Parts → Type 0
-HadTurn shared p element number (hads.Ended moved) line old new = (length (program shared.plan element) ≤ number)
+abbrev pub HadTurn : Shared → ℕ → ℕ → ℕ → TurnResult → List ℕ → Parts → Parts → Type 0
+HadTurn shared p element number (hads.Retired moved) line old new = (length (program shared.plan element) ≤ number)
     × Sent (call_of old.hand) 1 element moved (view_of old.hand) (view_of new.hand)
     × AreAtRest old new × (new.meters ≡ old.meters) × (new.signals ≡ old.signals) × (line ≡ [])
 HadTurn shared p element number (hads.Ran sent) line old new = RanStep shared p element number sent line old new
 
 -- the result of an element's turn, if one was at hand
-abbrev pub CameOf : Shared → ℕ → Outcome → List ℕ → Parts → Parts → Type 0
+abbrev pub CameOf : Shared → ℕ → TurnOutcome → List ℕ → Parts → Parts → Type 0
 CameOf shared p (outcomes.Idle idle) line old new = IdleAt idle old new × (line ≡ [])
-CameOf shared p (outcomes.Had begun had) line old new = (mid : Parts) × BegunAt begun old mid
+CameOf shared p (outcomes.OfElement begun had) line old new = (mid : Parts) × BegunAt begun old mid
     × HadTurn shared p begun.element begun.number had line mid new
 
 -- processor 0 tended the alarms, and no other did

@@ -7,7 +7,6 @@
 
 mod attempt;
 mod counting;
-mod deed;
 mod laws;
 mod lines;
 mod outcome;
@@ -20,6 +19,7 @@ mod shared;
 mod showing;
 mod splitting;
 mod station;
+mod step_outcome;
 mod steps;
 mod thread_steps;
 mod ticket;
@@ -28,17 +28,17 @@ mod turn;
 mod waking;
 mod watch;
 
-pub use counting::Tried;
-pub use deed::Deed;
+pub use counting::StepCounted;
 pub use laws::{accounts_add, hears_are_few, steps_fit};
-pub use outcome::{Had, Outcome};
+pub use outcome::{TurnOutcome, TurnResult};
 pub use programs::hears_of;
-pub use sending::{Moved, SentOn};
+pub use sending::{Moved, Rescheduled};
 pub use shared::Shared;
 pub use station::{Parts, Station};
+pub use step_outcome::StepOutcome;
 pub use ticket::Ticket;
 pub use tries::{HearAnswer, SayAnswer, Unheard, Unsaid};
 pub use turn::run;
 pub use turn_io::{Gate, Point};
-pub use waking::Paid;
+pub use waking::WakeDone;
 pub use watch::Watch;

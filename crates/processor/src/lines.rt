@@ -4,8 +4,8 @@ ghost use Rattle.turn_io.specs.Accounts.{StaySound, at_each, at_one, both_queue,
 ghost use Rattle.turn_io.specs.Accounts.{taken_if};
 ghost use Rattle.turn_io.specs.EndLists.{AreEndsOf, AreSameEnds, OnEnd};
 ghost use Rattle.turn_io.specs.declared.gate.Point.TheVariants.{TakeAnswered};
-ghost use Rattle.turn_io.specs.Deeds.{Heard};
-ghost use Rattle.turn_io.specs.Gates.{ToldOfSay};
+ghost use Rattle.turn_io.specs.Outcomes.{Heard};
+ghost use Rattle.turn_io.specs.Gates.{HookSawSay};
 ghost use Rattle.processor.specs.Queues.{DidAt, IsThere, SaidAt, HeardAt, said_line};
 
 use arrayvec::ArrayVec;
@@ -65,7 +65,7 @@ pub(crate) fn say_at<G: Gate>(
     ensures said { SaidAt queue line.now result small.old small.new large.old large.new }
     ensures did { DidAt queue (put_if result line.now) small.old small.new large.old large.new }
     ensures sound { StaySound small.old small.new × StaySound large.old large.new }
-    ensures gate { ToldOfSay G.told p result gate.old gate.new }
+    ensures gate { HookSawSay G.observes p result gate.old gate.new }
 {
     match queue {
         QueueIndex::Small(at) => say(queues.small.as_slice(), small, at, line, p, gate),
@@ -102,7 +102,7 @@ fn hear_small<G: Gate>(
     ensures did { queue_account small.new
         ≡ at_each both_queue (queue_account small.old) (at_one idle_queue at (taken_if result room.new.heard.items)) }
     ensures sound { StaySound small.old small.new }
-    ensures gate { G.told gate.old p TakeAnswered gate.new }
+    ensures gate { G.observes gate.old p TakeAnswered gate.new }
 {
     room.short.clear();
     let answer = hear(queues.small.as_slice(), small, at, &mut room.short, p, gate);
@@ -130,7 +130,7 @@ pub(crate) fn hear_at<G: Gate>(
     ensures heard { HeardAt queue room.new.heard.items result small.old small.new large.old large.new }
     ensures did { DidAt queue (taken_if result room.new.heard.items) small.old small.new large.old large.new }
     ensures sound { StaySound small.old small.new × StaySound large.old large.new }
-    ensures gate { G.told gate.old p TakeAnswered gate.new }
+    ensures gate { G.observes gate.old p TakeAnswered gate.new }
 {
     match queue {
         QueueIndex::Small(at) => hear_small(queues, small, at, room, p, gate),

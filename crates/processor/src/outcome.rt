@@ -1,21 +1,21 @@
 //! The result of an element's turn.
 
-use crate::sending::SentOn;
+use crate::sending::Rescheduled;
 use turn_dispatch::{Begun, Idle};
 
 /// The result of the turn of an element at hand.
 #[derive(Drop)]
-pub enum Had {
+pub enum TurnResult {
     /// All its steps were done, and it was retired. If it wasn't, the free elements have no position left, and the hand
     /// holds it.
     Ended(bool),
     /// Its next step was tried, and it went on.
-    Ran(SentOn),
+    Ran(Rescheduled),
 }
 
 /// The result of an element's turn, if one was at hand.
 #[derive(Drop)]
-pub enum Outcome {
+pub enum TurnOutcome {
     Idle(Idle),
-    Had(Begun, Had),
+    TurnResult(Begun, TurnResult),
 }

@@ -2,12 +2,12 @@
 ghost use Rattle.std.specs.Prelude.{◌≡◌, ◌<◌, [], length};
 ghost use Rattle.turn_io.specs.Accounts.{StaySound, at_each, at_one, both_queue, idle_queue, put_if, queue_account};
 ghost use Rattle.turn_io.specs.Accounts.{shut_if, taken_if};
-ghost use Rattle.turn_io.specs.Deeds.{HasShut};
+ghost use Rattle.turn_io.specs.Outcomes.{HasShut};
 ghost use Rattle.turn_io.specs.EndLists.{AreEndsOf, AreSameEnds, OnEnd};
 ghost use Rattle.turn_dispatch.specs.Tallies.{no_events};
 ghost use Rattle.thread_table.specs.Handles.{view_of, call_of, IsHandOf, IsSameHand};
-ghost use Rattle.processor.specs.Acts.{Acts};
-ghost use Rattle.processor.specs.declared.deed.Deed.TheVariants as deeds;
+ghost use Rattle.processor.specs.Acts.{AddsOnly};
+ghost use Rattle.processor.specs.declared.step_outcome.StepOutcome.TheVariants as step_outcomes;
 ghost use Rattle.processor.specs.Orders.{QueuesInOrder, SmallStood, count_of};
 ghost use Rattle.processor.specs.Points.{GateSaw, points_of};
 ghost use Rattle.processor.specs.Queues.{DidAt, IsThere, said_line};
@@ -20,7 +20,7 @@ use crate::shared::Shared;
 use crate::showing::{show_queue, show_small_end};
 use crate::ticket::ticket_for;
 use crate::tries::{HearAnswer, SayAnswer, WasShut, shut_at, try_hear, try_say};
-use crate::waking::{Paid, wake_for};
+use crate::waking::{WakeDone, wake_for};
 use crate::watch::Watch;
 use arrayvec::ArrayVec;
 use boot_data::Text;
@@ -41,21 +41,21 @@ pub(crate) fn say_step<R: Wait, G: Watch>(
     line: &mut ArrayVec<u64, 64>,
     p: u8,
     gate: &mut G,
-) -> SayAnswer<Paid>
+) -> SayAnswer<WakeDone>
     requires hand { IsHandOf shared.now.threads hand.old }
     requires small { AreEndsOf shared.now.queues.small.items small.old }
     requires large { AreEndsOf shared.now.queues.large.items large.old }
     requires there { IsThere shared.now.queues queue }
     ensures small { AreEndsOf shared.now.queues.small.items small.new }
     ensures large { AreEndsOf shared.now.queues.large.items large.new }
-    ensures hand { HandDid (call_of hand.old) shared.now.plan (deeds.Say queue result) (view_of hand.old)
+    ensures hand { HandDid (call_of hand.old) shared.now.plan (step_outcomes.Say queue result) (view_of hand.old)
         (view_of hand.new) }
-    ensures acts { Acts no_events (view_of hand.old) (view_of hand.new) }
-    ensures queues { QueuesDid (deeds.Say queue result) (said_line text.now) small.old small.new large.old large.new }
+    ensures acts { AddsOnly no_events (view_of hand.old) (view_of hand.new) }
+    ensures queues { QueuesDid (step_outcomes.Say queue result) (said_line text.now) small.old small.new large.old large.new }
     ensures did { DidAt queue (put_if (said result) (said_line text.now)) small.old small.new large.old large.new }
     ensures sound { StaySound small.old small.new × StaySound large.old large.new }
-    ensures gate { GateSaw G.told p (points_of (deeds.Say queue result)) gate.old gate.new }
-    ensures order { QueuesInOrder G.shown shared.now.plan (count_of hand.old) (deeds.Say queue result) small.old small.new
+    ensures gate { GateSaw G.observes p (points_of (step_outcomes.Say queue result)) gate.old gate.new }
+    ensures order { QueuesInOrder G.shown shared.now.plan (count_of hand.old) (step_outcomes.Say queue result) small.old small.new
         large.old large.new }
     ensures same { IsSameHand hand.old hand.new × AreSameEnds small.old small.new × AreSameEnds large.old large.new }
 {
@@ -94,7 +94,7 @@ pub(crate) fn hear_step<R: Wait, G: Watch>(
     room: &mut LineRoom,
     p: u8,
     gate: &mut G,
-) -> HearAnswer<Paid>
+) -> HearAnswer<WakeDone>
     requires hand { IsHandOf shared.now.threads hand.old }
     requires small { AreEndsOf shared.now.queues.small.items small.old }
     requires large { AreEndsOf shared.now.queues.large.items large.old }
@@ -102,14 +102,14 @@ pub(crate) fn hear_step<R: Wait, G: Watch>(
     requires empty { room.old.heard.items ≡ [] }
     ensures small { AreEndsOf shared.now.queues.small.items small.new }
     ensures large { AreEndsOf shared.now.queues.large.items large.new }
-    ensures hand { HandDid (call_of hand.old) shared.now.plan (deeds.Hear queue result) (view_of hand.old)
+    ensures hand { HandDid (call_of hand.old) shared.now.plan (step_outcomes.Hear queue result) (view_of hand.old)
         (view_of hand.new) }
-    ensures acts { Acts no_events (view_of hand.old) (view_of hand.new) }
-    ensures queues { QueuesDid (deeds.Hear queue result) room.new.heard.items small.old small.new large.old large.new }
+    ensures acts { AddsOnly no_events (view_of hand.old) (view_of hand.new) }
+    ensures queues { QueuesDid (step_outcomes.Hear queue result) room.new.heard.items small.old small.new large.old large.new }
     ensures did { DidAt queue (taken_if (heard result) room.new.heard.items) small.old small.new large.old large.new }
     ensures sound { StaySound small.old small.new × StaySound large.old large.new }
-    ensures gate { GateSaw G.told p (points_of (deeds.Hear queue result)) gate.old gate.new }
-    ensures order { QueuesInOrder G.shown shared.now.plan (count_of hand.old) (deeds.Hear queue result) small.old small.new
+    ensures gate { GateSaw G.observes p (points_of (step_outcomes.Hear queue result)) gate.old gate.new }
+    ensures order { QueuesInOrder G.shown shared.now.plan (count_of hand.old) (step_outcomes.Hear queue result) small.old small.new
         large.old large.new }
     ensures same { IsSameHand hand.old hand.new × AreSameEnds small.old small.new × AreSameEnds large.old large.new }
 {
@@ -137,14 +137,14 @@ pub(crate) fn close_step<R: Wait, G: Watch>(
     small: &mut [QueueEnd<64>],
     queue: usize,
     gate: &G,
-) -> WasShut<Paid>
+) -> WasShut<WakeDone>
     requires hand { IsHandOf shared.now.threads hand.old }
     requires small { AreEndsOf shared.now.queues.small.items small.old }
     requires there { queue < length shared.now.queues.small.items }
     ensures small { AreEndsOf shared.now.queues.small.items small.new }
     ensures hand { HandDid (call_of hand.old) shared.now.plan
-        (deeds.Close queue result.was_open result.readers result.writers) (view_of hand.old) (view_of hand.new) }
-    ensures acts { Acts no_events (view_of hand.old) (view_of hand.new) }
+        (step_outcomes.Close queue result.was_open result.readers result.writers) (view_of hand.old) (view_of hand.new) }
+    ensures acts { AddsOnly no_events (view_of hand.old) (view_of hand.new) }
     ensures shut { OnEnd queue (HasShut result.was_open) small.old small.new }
     ensures did { queue_account small.new
         ≡ at_each both_queue (queue_account small.old) (at_one idle_queue queue (shut_if result.was_open)) }

@@ -2,11 +2,11 @@
 ghost use Rattle.std.specs.Prelude.{◌≡◌, ◌<◌, ◌≤◌, [], true, ◌++◌, length};
 ghost use Rattle.turn_dispatch.specs.Countings.{IsNumber, counted_step};
 ghost use Rattle.turn_dispatch.specs.Holdings.{IsFree};
-ghost use Rattle.turn_dispatch.specs.Tallies.{Adds, behind};
+ghost use Rattle.turn_dispatch.specs.Tallies.{AddsToTally, followed_by};
 ghost use Rattle.thread_table.specs.Handles.{view_of, call_of};
 ghost use Rattle.thread_table.specs.Rules.{has, done_at};
 ghost use Rattle.processor.specs.Acts.{NeverFalls};
-ghost use Rattle.processor.specs.Deeds.{IsDeedOf, line_in};
+ghost use Rattle.processor.specs.Outcomes.{IsOutcomeOf, line_in};
 ghost use Rattle.processor.specs.Doings.{heard_by, is_heard, raised_by};
 ghost use Rattle.processor.specs.Logs.{EndsWorked};
 ghost use Rattle.processor.specs.Orders.{InOrder, count_of, one_more};
@@ -16,11 +16,11 @@ ghost use Rattle.processor.specs.Stations.{ArePartsOf, AreSameParts};
 ghost use Rattle.processor.specs.Steps.{Fits};
 
 use crate::attempt::{do_step, seat};
-use crate::counting::{Tried, count_step};
-use crate::deed::Deed;
+use crate::counting::{StepCounted, count_step};
 use crate::lines::LineRoom;
 use crate::shared::Shared;
 use crate::station::Parts;
+use crate::step_outcome::StepOutcome;
 use crate::tries::HearAnswer;
 use crate::watch::Watch;
 use boot_data::HeardLines;
@@ -39,7 +39,7 @@ pub(crate) fn run_step<R: Wait, G: Watch>(
     step: &Step,
     room: &mut LineRoom,
     gate: &mut G,
-) -> Tried
+) -> StepCounted
     requires parts { ArePartsOf shared.now parts.old }
     requires held { has (view_of parts.old.hand) element ≡ true }
     requires free { IsFree p (view_of parts.old.hand) }
@@ -49,12 +49,12 @@ pub(crate) fn run_step<R: Wait, G: Watch>(
     ensures same { AreSameParts parts.old parts.new }
     ensures held { has (view_of parts.new.hand) element ≡ true }
     ensures free { IsFree p (view_of parts.new.hand) }
-    ensures hand { Stepped (call_of parts.old.hand) shared.now.plan p element result.deed result.counted
+    ensures hand { Stepped (call_of parts.old.hand) shared.now.plan p element result.step_outcome result.counted
         (view_of parts.old.hand) (view_of parts.new.hand) }
-    ensures deed { IsDeedOf step.now result.deed (line_in step.now room.new.heard.items) }
-    ensures ends { EndsDid shared.now result.deed (line_in step.now room.new.heard.items) parts.old parts.new }
-    ensures worked { EndsWorked result.deed (line_in step.now room.new.heard.items) parts.old parts.new }
-    ensures adds { Adds (behind (raised_by result.deed) (counted_step result.counted element
+    ensures step_outcome { IsOutcomeOf step.now result.step_outcome (line_in step.now room.new.heard.items) }
+    ensures ends { EndsDid shared.now result.step_outcome (line_in step.now room.new.heard.items) parts.old parts.new }
+    ensures worked { EndsWorked result.step_outcome (line_in step.now room.new.heard.items) parts.old parts.new }
+    ensures adds { AddsToTally (followed_by (raised_by result.step_outcome) (counted_step result.counted element
         (done_at (view_of parts.old.hand).seen.object element))) (view_of parts.old.hand) (view_of parts.new.hand) }
     ensures number { IsNumber result.counted element (view_of parts.old.hand) (view_of parts.new.hand) }
     ensures rises { NeverFalls (view_of parts.old.hand) (view_of parts.new.hand) }
@@ -63,8 +63,8 @@ pub(crate) fn run_step<R: Wait, G: Watch>(
     ensures on { (view_of parts.new.hand).own.on ≡ (view_of parts.old.hand).own.on }
     ensures heard { parts.new.heard ≡ parts.old.heard }
     ensures signals { parts.new.signals ≡ parts.old.signals }
-    ensures gate { GateSaw G.told p (points_of result.deed) gate.old gate.new }
-    ensures order { InOrder G.shown shared.now.plan (one_more (count_of parts.old.hand)) result.deed parts.old parts.new }
+    ensures gate { GateSaw G.observes p (points_of result.step_outcome) gate.old gate.new }
+    ensures order { InOrder G.shown shared.now.plan (one_more (count_of parts.old.hand)) result.step_outcome parts.old parts.new }
 {
     let threads = &shared.threads;
     let seated = seat(threads, &mut parts.hand, p, element);
@@ -75,18 +75,24 @@ pub(crate) fn run_step<R: Wait, G: Watch>(
 }
 
 // Keeps the bytes of a line that was heard. It allocates no memory.
-pub(crate) fn keep(lines: &mut HeardLines, deed: &Deed, thread: Element, number: u64, line: &[u64])
-    requires room { is_heard deed.now ≡ true → length lines.old.lines < lines.old.room }
-    requires few { is_heard deed.now ≡ true → length line.now ≤ lines.old.longest }
+pub(crate) fn keep(
+    lines: &mut HeardLines,
+    step_outcome: &StepOutcome,
+    thread: Element,
+    number: u64,
+    line: &[u64],
+)
+    requires room { is_heard step_outcome.now ≡ true → length lines.old.lines < lines.old.room }
+    requires few { is_heard step_outcome.now ≡ true → length line.now ≤ lines.old.longest }
     requires low { number < 64 }
-    ensures lines { lines.new.lines ≡ lines.old.lines ++ heard_by deed.now thread number line.now }
+    ensures lines { lines.new.lines ≡ lines.old.lines ++ heard_by step_outcome.now thread number line.now }
     ensures room { lines.new.room ≡ lines.old.room }
     ensures longest { lines.new.longest ≡ lines.old.longest }
 {
-    if let Deed::Hear {
+    if let StepOutcome::Hear {
         answer: HearAnswer::Taken(_),
         ..
-    } = deed
+    } = step_outcome
     {
         lines.push(thread.number(), number as u8, line);
     }

@@ -1,19 +1,19 @@
 //! The queue to which an element goes after its step.
 //!
-//! The type keeps an order: an element goes on after the try and the count of its step. A `SentOn`, the result of the
-//! element's turn, contains the `Tried` that only the count makes; so no `SentOn` exists before the count.
+//! The type keeps an order: an element goes on after the try and the count of its step. A `Rescheduled`, the result of the
+//! element's turn, contains the `StepCounted` that only the count makes; so no `Rescheduled` exists before the count.
 ghost use Rattle.std.specs.Prelude.{◌≡◌, true, option_copied};
-ghost use Rattle.turn_dispatch.specs.Tallies.{Adds};
+ghost use Rattle.turn_dispatch.specs.Tallies.{AddsToTally};
 ghost use Rattle.thread_table.specs.Handles.{view_of, call_of, IsHandOf, IsSameHand};
 ghost use Rattle.thread_table.specs.Keeping.{Keeps};
 ghost use Rattle.thread_table.specs.Rules.{has, done_at};
 ghost use Rattle.processor.specs.Acts.{NeverFalls};
-ghost use Rattle.processor.specs.Deeds.{sleeps_on};
+ghost use Rattle.processor.specs.Outcomes.{sleeps_on};
 ghost use Rattle.processor.specs.Entries.{gone};
 ghost use Rattle.processor.specs.Running.{Goes};
 
-use crate::counting::Tried;
-use crate::deed::Deed;
+use crate::counting::StepCounted;
+use crate::step_outcome::StepOutcome;
 use crate::ticket::{Ticket, wait_with};
 use crate::tries::{HearAnswer, SayAnswer};
 use event_theory::Element;
@@ -37,8 +37,8 @@ pub enum Moved {
 
 /// The result of a step, and the queue to which its element went after it.
 #[derive(Drop)]
-pub struct SentOn {
-    tried: Tried,
+pub struct Rescheduled {
+    tried: StepCounted,
     moved: Moved,
 }
 
@@ -49,24 +49,24 @@ fn go_on<R: Wait>(
     threads: &ThreadTable,
     hand: &mut Hand,
     element: Element,
-    deed: &Deed,
+    step_outcome: &StepOutcome,
     ticket: Option<&Ticket>,
     last: bool,
 ) -> Moved
     requires table { IsHandOf threads.now hand.old }
     requires held { has (view_of hand.old) element ≡ true }
-    requires ticket { option_copied ticket ≡ sleeps_on deed.now }
+    requires ticket { option_copied ticket ≡ sleeps_on step_outcome.now }
     ensures keeps { Keeps (view_of hand.old) (view_of hand.new) }
-    ensures adds { Adds (gone result element (done_at (view_of hand.old).seen.object element)) (view_of hand.old)
+    ensures adds { AddsToTally (gone result element (done_at (view_of hand.old).seen.object element)) (view_of hand.old)
         (view_of hand.new) }
     ensures rises { NeverFalls (view_of hand.old) (view_of hand.new) }
-    ensures goes { Goes (call_of hand.old) deed.now last element result (view_of hand.old) (view_of hand.new) }
+    ensures goes { Goes (call_of hand.old) step_outcome.now last element result (view_of hand.old) (view_of hand.new) }
     ensures same { IsSameHand hand.old hand.new }
 {
     if let Some(ticket) = ticket {
         return Moved::Ticketed(wait_with(rt, threads, hand, element, ticket));
     }
-    if let Some(wait) = deed.waits_in() {
+    if let Some(wait) = step_outcome.waits_in() {
         return Moved::Waits(wait_in(rt, threads, hand, element, wait));
     }
     if last {
@@ -83,22 +83,22 @@ fn move_on<R: Wait>(
     threads: &ThreadTable,
     hand: &mut Hand,
     element: Element,
-    tried: &Tried,
+    tried: &StepCounted,
     last: bool,
 ) -> Moved
     requires table { IsHandOf threads.now hand.old }
     requires held { has (view_of hand.old) element ≡ true }
     ensures keeps { Keeps (view_of hand.old) (view_of hand.new) }
-    ensures adds { Adds (gone result element (done_at (view_of hand.old).seen.object element)) (view_of hand.old)
+    ensures adds { AddsToTally (gone result element (done_at (view_of hand.old).seen.object element)) (view_of hand.old)
         (view_of hand.new) }
     ensures rises { NeverFalls (view_of hand.old) (view_of hand.new) }
-    ensures goes { Goes (call_of hand.old) tried.now.deed last element result (view_of hand.old)
+    ensures goes { Goes (call_of hand.old) tried.now.step_outcome last element result (view_of hand.old)
         (view_of hand.new) }
     ensures same { IsSameHand hand.old hand.new }
 {
-    let deed = tried.deed();
-    match deed {
-        Deed::Say {
+    let step_outcome = tried.step_outcome();
+    match step_outcome {
+        StepOutcome::Say {
             answer: SayAnswer::Refused(unsaid),
             ..
         } => go_on(
@@ -106,11 +106,11 @@ fn move_on<R: Wait>(
             threads,
             hand,
             element,
-            deed,
+            step_outcome,
             unsaid.ticket_if_full(),
             last,
         ),
-        Deed::Hear {
+        StepOutcome::Hear {
             answer: HearAnswer::Refused(unheard),
             ..
         } => go_on(
@@ -118,11 +118,11 @@ fn move_on<R: Wait>(
             threads,
             hand,
             element,
-            deed,
+            step_outcome,
             unheard.ticket_if_empty(),
             last,
         ),
-        _ => go_on(rt, threads, hand, element, deed, None, last),
+        _ => go_on(rt, threads, hand, element, step_outcome, None, last),
     }
 }
 
@@ -132,20 +132,20 @@ pub(crate) fn send_on<R: Wait>(
     threads: &ThreadTable,
     hand: &mut Hand,
     element: Element,
-    tried: Tried,
+    tried: StepCounted,
     last: bool,
-) -> SentOn
+) -> Rescheduled
     requires table { IsHandOf threads.now hand.old }
     requires held { has (view_of hand.old) element ≡ true }
     ensures tried { result.tried ≡ tried }
     ensures keeps { Keeps (view_of hand.old) (view_of hand.new) }
-    ensures adds { Adds (gone result.moved element (done_at (view_of hand.old).seen.object element)) (view_of hand.old)
+    ensures adds { AddsToTally (gone result.moved element (done_at (view_of hand.old).seen.object element)) (view_of hand.old)
         (view_of hand.new) }
     ensures rises { NeverFalls (view_of hand.old) (view_of hand.new) }
-    ensures goes { Goes (call_of hand.old) tried.deed last element result.moved (view_of hand.old)
+    ensures goes { Goes (call_of hand.old) tried.step_outcome last element result.moved (view_of hand.old)
         (view_of hand.new) }
     ensures same { IsSameHand hand.old hand.new }
 {
     let moved = move_on(rt, threads, hand, element, &tried, last);
-    SentOn { tried, moved }
+    Rescheduled { tried, moved }
 }

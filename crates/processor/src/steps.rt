@@ -1,8 +1,8 @@
 //! The one try of a step.
 ghost use Rattle.std.specs.Prelude.{◌≡◌, [], length};
 ghost use Rattle.thread_table.specs.Handles.{view_of, call_of};
-ghost use Rattle.processor.specs.Acts.{Acts};
-ghost use Rattle.processor.specs.Deeds.{IsDeedOf, line_in};
+ghost use Rattle.processor.specs.Acts.{AddsOnly};
+ghost use Rattle.processor.specs.Outcomes.{IsOutcomeOf, line_in};
 ghost use Rattle.processor.specs.Doings.{raised_by};
 ghost use Rattle.processor.specs.Logs.{EndsWorked};
 ghost use Rattle.processor.specs.Orders.{InOrder, count_of};
@@ -11,12 +11,12 @@ ghost use Rattle.processor.specs.Running.{EndsDid};
 ghost use Rattle.processor.specs.Stations.{ArePartsOf, AreSameParts};
 ghost use Rattle.processor.specs.Steps.{Fits, HandDid};
 
-use crate::deed::Deed;
 use crate::lines::LineRoom;
 use crate::queue_steps::{close_step, hear_step, say_step};
 use crate::shared::Shared;
 use crate::showing::show_chain_end;
 use crate::station::Parts;
+use crate::step_outcome::StepOutcome;
 use crate::thread_steps::{signal_step, start_step, stop_step, wake_step};
 use crate::tries::WasShut;
 use crate::watch::Watch;
@@ -33,26 +33,26 @@ pub(crate) fn try_step<R: Wait, G: Watch>(
     room: &mut LineRoom,
     p: u8,
     gate: &mut G,
-) -> Deed
+) -> StepOutcome
     requires parts { ArePartsOf shared.now parts.old }
     requires fits { Fits shared.now.queues (length shared.now.chains.items) step.now }
     requires empty { room.old.heard.items ≡ [] }
-    ensures deed { IsDeedOf step.now result (line_in step.now room.new.heard.items) }
+    ensures step_outcome { IsOutcomeOf step.now result (line_in step.now room.new.heard.items) }
     ensures parts { ArePartsOf shared.now parts.new }
     ensures same { AreSameParts parts.old parts.new }
     ensures hand { HandDid (call_of parts.old.hand) shared.now.plan result (view_of parts.old.hand)
         (view_of parts.new.hand) }
     ensures ends { EndsDid shared.now result (line_in step.now room.new.heard.items) parts.old parts.new }
     ensures worked { EndsWorked result (line_in step.now room.new.heard.items) parts.old parts.new }
-    ensures acts { Acts (raised_by result) (view_of parts.old.hand) (view_of parts.new.hand) }
+    ensures acts { AddsOnly (raised_by result) (view_of parts.old.hand) (view_of parts.new.hand) }
     ensures heard { parts.new.heard ≡ parts.old.heard }
     ensures signals { parts.new.signals ≡ parts.old.signals }
-    ensures gate { GateSaw G.told p (points_of result) gate.old gate.new }
+    ensures gate { GateSaw G.observes p (points_of result) gate.old gate.new }
     ensures order { InOrder G.shown shared.now.plan (count_of parts.old.hand) result parts.old parts.new }
 {
     let threads = &shared.threads;
     match step {
-        Step::Say { queue, text } => Deed::Say {
+        Step::Say { queue, text } => StepOutcome::Say {
             queue: *queue,
             answer: say_step(
                 rt,
@@ -67,7 +67,7 @@ pub(crate) fn try_step<R: Wait, G: Watch>(
                 gate,
             ),
         },
-        Step::Hear { queue } => Deed::Hear {
+        Step::Hear { queue } => StepOutcome::Hear {
             queue: *queue,
             answer: hear_step(
                 rt,
@@ -81,21 +81,21 @@ pub(crate) fn try_step<R: Wait, G: Watch>(
                 gate,
             ),
         },
-        Step::Wait { wait } => Deed::Wait { wait: *wait },
-        Step::Wake { wait } => Deed::Wake {
+        Step::Wait { wait } => StepOutcome::Wait { wait: *wait },
+        Step::Wake { wait } => StepOutcome::Wake {
             wait: *wait,
             woken: wake_step(rt, threads, &mut parts.hand, *wait),
         },
-        Step::Signal { thread, signal } => Deed::Signal {
+        Step::Signal { thread, signal } => StepOutcome::Signal {
             thread: *thread,
             signal: *signal,
             answer: signal_step(threads, &mut parts.hand, *thread, *signal),
         },
-        Step::Stop { thread } => Deed::Stop {
+        Step::Stop { thread } => StepOutcome::Stop {
             thread: *thread,
             was_clear: stop_step(threads, &mut parts.hand, *thread),
         },
-        Step::Start { thread } => Deed::Start {
+        Step::Start { thread } => StepOutcome::Start {
             thread: *thread,
             answer: start_step(rt, threads, &mut parts.hand, *thread),
         },
@@ -104,7 +104,7 @@ pub(crate) fn try_step<R: Wait, G: Watch>(
             gate.show_seat(&parts.hand, &parts.meters);
             let before = shared.meters.tick(&mut parts.meters, number, *amount);
             gate.show_seat(&parts.hand, &parts.meters);
-            Deed::Tick {
+            StepOutcome::Tick {
                 gauge: *gauge,
                 amount: *amount,
                 before,
@@ -116,12 +116,12 @@ pub(crate) fn try_step<R: Wait, G: Watch>(
             let ends = parts.chains.as_mut_slice();
             let answer = poke(rt, &shared.queues, chains, ends, *mover, p, gate);
             show_chain_end(gate, &parts.hand, chains, parts.chains.as_slice(), *mover);
-            Deed::Poke {
+            StepOutcome::Poke {
                 mover: *mover,
                 answer,
             }
         }
-        Step::Pass => Deed::Pass,
+        Step::Pass => StepOutcome::Pass,
         Step::Close { queue } => {
             let small = parts.small.as_mut_slice();
             let WasShut {
@@ -129,7 +129,7 @@ pub(crate) fn try_step<R: Wait, G: Watch>(
                 readers,
                 writers,
             } = close_step(rt, shared, &mut parts.hand, small, *queue, gate);
-            Deed::Close {
+            StepOutcome::Close {
                 queue: *queue,
                 was_open,
                 readers,

@@ -3,7 +3,7 @@ ghost use Rattle.turn_dispatch.specs.Tallies.{no_events, one_signal};
 ghost use Rattle.turn_dispatch.specs.Wakings.{Woke, ResumeAnswer};
 ghost use Rattle.thread_table.specs.Answers.{SignalAnswer, StoppedNow};
 ghost use Rattle.thread_table.specs.Handles.{view_of, call_of, IsHandOf, IsSameHand};
-ghost use Rattle.processor.specs.Acts.{Acts};
+ghost use Rattle.processor.specs.Acts.{AddsOnly};
 
 use event_theory::{Element, Signal, WaitNumber};
 use std::sync::Wait;
@@ -20,7 +20,7 @@ pub(crate) fn wake_step<R: Wait>(
     requires { IsHandOf threads.now hand.old }
     ensures same { IsSameHand hand.old hand.new }
     ensures woken { Woke (call_of hand.old) wait result (view_of hand.old) (view_of hand.new) }
-    ensures acts { Acts no_events (view_of hand.old) (view_of hand.new) }
+    ensures acts { AddsOnly no_events (view_of hand.old) (view_of hand.new) }
 {
     wake(rt, threads, hand, wait)
 }
@@ -35,7 +35,7 @@ pub(crate) fn signal_step(
     requires { IsHandOf threads.now hand.old }
     ensures same { IsSameHand hand.old hand.new }
     ensures raised { SignalAnswer (call_of hand.old) (view_of hand.old) thread signal result (view_of hand.new) }
-    ensures acts { Acts (one_signal thread signal) (view_of hand.old) (view_of hand.new) }
+    ensures acts { AddsOnly (one_signal thread signal) (view_of hand.old) (view_of hand.new) }
 {
     calls_only_add();
     threads.signal(hand, thread, signal)
@@ -46,7 +46,7 @@ pub(crate) fn stop_step(threads: &ThreadTable, hand: &mut Hand, thread: Element)
     requires { IsHandOf threads.now hand.old }
     ensures same { IsSameHand hand.old hand.new }
     ensures stopped { StoppedNow (call_of hand.old) (view_of hand.old) thread result (view_of hand.new) }
-    ensures acts { Acts no_events (view_of hand.old) (view_of hand.new) }
+    ensures acts { AddsOnly no_events (view_of hand.old) (view_of hand.new) }
 {
     calls_only_add();
     threads.stop(hand, thread)
@@ -62,7 +62,7 @@ pub(crate) fn start_step<R: Wait>(
     requires { IsHandOf threads.now hand.old }
     ensures same { IsSameHand hand.old hand.new }
     ensures started { ResumeAnswer (call_of hand.old) thread result (view_of hand.old) (view_of hand.new) }
-    ensures acts { Acts no_events (view_of hand.old) (view_of hand.new) }
+    ensures acts { AddsOnly no_events (view_of hand.old) (view_of hand.new) }
 {
     start(rt, threads, hand, thread)
 }

@@ -5,12 +5,12 @@
 //! makes tickets. A try takes one by value, has no hand to read another with, and returns the ticket if it was refused.
 ghost use Rattle.std.specs.Prelude.{◌≡◌, true};
 ghost use Rattle.turn_dispatch.specs.Sendings.{WaitedAt};
-ghost use Rattle.turn_dispatch.specs.Tallies.{Adds, no_events};
+ghost use Rattle.turn_dispatch.specs.Tallies.{AddsToTally, no_events};
 ghost use Rattle.thread_table.specs.Handles.{view_of, call_of, IsHandOf, IsSameHand};
 ghost use Rattle.thread_table.specs.Keeping.{Keeps};
 ghost use Rattle.thread_table.specs.Rules.{has};
-ghost use Rattle.processor.specs.Acts.{Acts};
-ghost use Rattle.processor.specs.Orders.{behind_ticket, count_of};
+ghost use Rattle.processor.specs.Acts.{AddsOnly};
+ghost use Rattle.processor.specs.Orders.{after_ticket, count_of};
 ghost use Rattle.processor.specs.Pipes.{TicketFor, IsTicketOf};
 
 use event_theory::{Element, WaitNumber};
@@ -35,8 +35,8 @@ pub(crate) fn ticket_for(
     ensures same { IsSameHand hand.old hand.new }
     ensures ticket { TicketFor wait (view_of hand.old) result (view_of hand.new) }
     ensures its { IsTicketOf wait result }
-    ensures count { count_of hand.new ≡ behind_ticket wait (count_of hand.old) }
-    ensures acts { Acts no_events (view_of hand.old) (view_of hand.new) }
+    ensures count { count_of hand.new ≡ after_ticket wait (count_of hand.old) }
+    ensures acts { AddsOnly no_events (view_of hand.old) (view_of hand.new) }
 {
     match wait {
         Some(wait) => {
@@ -59,7 +59,7 @@ pub(crate) fn wait_with<R: Wait>(
     requires table { IsHandOf threads.now hand.old }
     requires held { has (view_of hand.old) element ≡ true }
     ensures keeps { Keeps (view_of hand.old) (view_of hand.new) }
-    ensures adds { Adds no_events (view_of hand.old) (view_of hand.new) }
+    ensures adds { AddsToTally no_events (view_of hand.old) (view_of hand.new) }
     ensures waited { WaitedAt (call_of hand.old) ticket.now.wait element ticket.now.number result (view_of hand.old)
         (view_of hand.new) }
     ensures same { IsSameHand hand.old hand.new }

@@ -7,11 +7,11 @@
 ghost use Rattle.std.specs.Prelude.{◌≡◌, ◌<◌, ℕ, [], length, option_copied};
 ghost use Rattle.turn_io.specs.Accounts.{StaySound, at_each, at_one, both_queue, idle_queue, put_if, queue_account};
 ghost use Rattle.turn_io.specs.Accounts.{shut_if, taken_if};
-ghost use Rattle.turn_io.specs.Deeds.{HasShut};
+ghost use Rattle.turn_io.specs.Outcomes.{HasShut};
 ghost use Rattle.turn_io.specs.EndLists.{AreEndsOf, AreSameEnds, OnEnd};
-ghost use Rattle.turn_io.specs.Gates.{ToldOfSay};
+ghost use Rattle.turn_io.specs.Gates.{HookSawSay};
 ghost use Rattle.turn_io.specs.declared.gate.Point.TheVariants.{TakeAnswered};
-ghost use Rattle.processor.specs.Deeds.{if_full, if_empty};
+ghost use Rattle.processor.specs.Outcomes.{if_full, if_empty};
 ghost use Rattle.processor.specs.Pipes.{IsTicketOf, readers_of, writers_of};
 ghost use Rattle.processor.specs.Queues.{DidAt, IsThere, SaidAt, HeardAt, waits_at};
 ghost use Rattle.processor.specs.Tries.{said, heard, is_shut, is_over, IsUnsaid, IsUnheard};
@@ -26,7 +26,7 @@ use turn_io::{Gate, shut_queue};
 
 // A wake that is owed to those who wait at a pipe.
 #[derive(Drop)]
-pub(crate) struct Owed(());
+pub(crate) struct WakeDue(());
 
 /// A line that was not put though the queue is open, and for a pipe the ticket of those who wait for room.
 #[derive(Drop)]
@@ -121,7 +121,7 @@ pub(crate) fn try_say<G: Gate>(
     ticket: Option<Ticket>,
     p: u8,
     gate: &mut G,
-) -> SayAnswer<Owed>
+) -> SayAnswer<WakeDue>
     requires small { AreEndsOf shared.now.queues.small.items small.old }
     requires large { AreEndsOf shared.now.queues.large.items large.old }
     requires there { IsThere shared.now.queues queue }
@@ -133,10 +133,10 @@ pub(crate) fn try_say<G: Gate>(
     ensures refused { IsUnsaid ticket result }
     ensures did { DidAt queue (put_if (said result) line.now) small.old small.new large.old large.new }
     ensures sound { StaySound small.old small.new × StaySound large.old large.new }
-    ensures gate { ToldOfSay G.told p (said result) gate.old gate.new }
+    ensures gate { HookSawSay G.observes p (said result) gate.old gate.new }
 {
     match say_at(&shared.queues, small, large, queue, line, p, gate) {
-        Ok(()) => SayAnswer::Put(Owed(())),
+        Ok(()) => SayAnswer::Put(WakeDue(())),
         Err(refusal) => {
             if is_shut(&refusal) {
                 SayAnswer::Over
@@ -157,7 +157,7 @@ pub(crate) fn try_hear<G: Gate>(
     ticket: Option<Ticket>,
     p: u8,
     gate: &mut G,
-) -> HearAnswer<Owed>
+) -> HearAnswer<WakeDue>
     requires small { AreEndsOf shared.now.queues.small.items small.old }
     requires large { AreEndsOf shared.now.queues.large.items large.old }
     requires there { IsThere shared.now.queues queue }
@@ -170,13 +170,13 @@ pub(crate) fn try_hear<G: Gate>(
     ensures refused { IsUnheard ticket result }
     ensures did { DidAt queue (taken_if (heard result) room.new.heard.items) small.old small.new large.old large.new }
     ensures sound { StaySound small.old small.new × StaySound large.old large.new }
-    ensures gate { G.told gate.old p TakeAnswered gate.new }
+    ensures gate { G.observes gate.old p TakeAnswered gate.new }
 {
     match hear_at(&shared.queues, small, large, queue, room, p, gate) {
-        Ok(()) => HearAnswer::Taken(Owed(())),
+        Ok(()) => HearAnswer::Taken(WakeDue(())),
         Err(refusal) => {
             if is_over(&refusal) {
-                HearAnswer::Over(Owed(()))
+                HearAnswer::Over(WakeDue(()))
             } else {
                 HearAnswer::Refused(Unheard { refusal, ticket })
             }
@@ -185,7 +185,7 @@ pub(crate) fn try_hear<G: Gate>(
 }
 
 // Shuts a small queue.
-pub(crate) fn shut_at(queues: &Queues, small: &mut [QueueEnd<64>], queue: usize) -> WasShut<Owed>
+pub(crate) fn shut_at(queues: &Queues, small: &mut [QueueEnd<64>], queue: usize) -> WasShut<WakeDue>
     requires small { AreEndsOf queues.now.small.items small.old }
     requires there { queue < length queues.now.small.items }
     ensures same { AreSameEnds small.old small.new }
@@ -198,7 +198,7 @@ pub(crate) fn shut_at(queues: &Queues, small: &mut [QueueEnd<64>], queue: usize)
     let was_open = shut_queue(queues.small.as_slice(), small, queue);
     WasShut {
         was_open,
-        readers: Owed(()),
-        writers: Owed(()),
+        readers: WakeDue(()),
+        writers: WakeDue(()),
     }
 }

@@ -3,24 +3,24 @@ ghost use Rattle.std.specs.Prelude.{◌≡◌, ◌<◌, ◌≤◌, ℕ, List, []
 ghost use Rattle.turn_dispatch.specs.Sendings.{Sent};
 ghost use Rattle.thread_table.specs.Handles.{view_of, call_of};
 ghost use Rattle.thread_table.specs.Rules.{has, done_at};
-ghost use Rattle.processor.specs.declared.outcome.Had.TheVariants as hads;
+ghost use Rattle.processor.specs.declared.outcome.TurnResult.TheVariants as hads;
 ghost use Rattle.processor.specs.Accounts.{nothing};
-ghost use Rattle.processor.specs.Doings.{told_shut};
+ghost use Rattle.processor.specs.Doings.{saw_shut};
 ghost use Rattle.processor.specs.Entries.{FollowsStep, LogEntry, OutcomeFollows, Tended, beginning, having};
-ghost use Rattle.processor.specs.Entries.{outcome_account, outcome_told_shut, tending, trying};
+ghost use Rattle.processor.specs.Entries.{outcome_account, outcome_saw_shut, tending, trying};
 ghost use Rattle.processor.specs.Logs.{HasDone, Ran, Went};
-ghost use Rattle.processor.specs.Manning.{IsManned, StaysManned};
-ghost use Rattle.processor.specs.Orders.{CameInOrder, HasTurnedInOrder, InOrder, TurnInOrder, count_of, one_more};
+ghost use Rattle.processor.specs.Manning.{IsRunnable, KeepsStation};
+ghost use Rattle.processor.specs.Orders.{CameInOrder, RanTurnsInOrder, InOrder, TurnInOrder, count_of, one_more};
 ghost use Rattle.processor.specs.Points.{GateSaw, points_of, points_out};
 ghost use Rattle.processor.specs.Programs.{program, step_of};
 ghost use Rattle.processor.specs.Turns.{AreAtRest, BegunAt, IdleAt, TendedBy, RanStep, is_last};
 
 use crate::laws::steps_fit;
 use crate::lines::LineRoom;
-use crate::outcome::{Had, Outcome};
+use crate::outcome::{TurnOutcome, TurnResult};
 use crate::programs::program_of;
 use crate::running::{keep, run_step};
-use crate::sending::{SentOn, send_on};
+use crate::sending::{Rescheduled, send_on};
 use crate::shared::Shared;
 use crate::station::{Parts, Station};
 use crate::watch::Watch;
@@ -50,20 +50,20 @@ fn run_element<R: Wait, G: Watch>(
     steps: usize,
     room: &mut LineRoom,
     gate: &mut G,
-) -> SentOn
-    requires manned { IsManned shared.now p parts.old }
+) -> Rescheduled
+    requires manned { IsRunnable shared.now p parts.old }
     requires held { has (view_of parts.old.hand) begun.now.element ≡ true }
     requires known { begun.now.number ≡ done_at (view_of parts.old.hand).seen.object begun.now.element }
     requires low { begun.now.number < 64 }
     requires its { step_of shared.now.plan begun.now.element begun.now.number ≡ Some step.now }
     requires all { steps ≡ length (program shared.now.plan begun.now.element) }
-    ensures manned { StaysManned shared.now p parts.old parts.new }
+    ensures manned { KeepsStation shared.now p parts.old parts.new }
     ensures ran { (line : List ℕ)
         × RanStep shared.now p begun.now.element begun.now.number result line parts.old parts.new
         × Went (FollowsStep shared.now.plan begun.now.element begun.now.number result line)
-        (trying begun.now.element begun.now.number result line) (told_shut result.tried.deed) parts.old parts.new }
-    ensures gate { GateSaw G.told p (points_of result.tried.deed) gate.old gate.new }
-    ensures order { InOrder G.shown shared.now.plan (one_more (count_of parts.old.hand)) result.tried.deed parts.old
+        (trying begun.now.element begun.now.number result line) (saw_shut result.tried.step_outcome) parts.old parts.new }
+    ensures gate { GateSaw G.observes p (points_of result.tried.step_outcome) gate.old gate.new }
+    ensures order { InOrder G.shown shared.now.plan (one_more (count_of parts.old.hand)) result.tried.step_outcome parts.old
         parts.new }
 {
     steps_fit();
@@ -73,12 +73,12 @@ fn run_element<R: Wait, G: Watch>(
     let tried = run_step(rt, shared, parts, p, element, step, room, gate);
     keep(
         &mut parts.heard,
-        tried.deed(),
+        tried.step_outcome(),
         element,
         number,
         room.heard.as_slice(),
     );
-    let last = is_last(tried.deed().is_done(), number, steps);
+    let last = is_last(tried.step_outcome().is_done(), number, steps);
     let threads = &shared.threads;
     send_on(rt, threads, &mut parts.hand, element, tried, last)
 }
@@ -90,8 +90,8 @@ fn begin_turn<R: Wait>(
     parts: &mut Parts,
     p: Processor,
 ) -> Result<Begun, Idle>
-    requires manned { IsManned shared.now p parts.old }
-    ensures manned { StaysManned shared.now p parts.old parts.new }
+    requires manned { IsRunnable shared.now p parts.old }
+    ensures manned { KeepsStation shared.now p parts.old parts.new }
     ensures begun { MatchResult result (λ begun. BegunAt begun parts.old parts.new)
         (λ idle. IdleAt idle parts.old parts.new) }
     ensures held { IfOk result (λ begun. has (view_of parts.new.hand) begun.element ≡ true) }
@@ -110,14 +110,14 @@ fn retire_at<R: Wait>(
     p: Processor,
     element: Element,
 ) -> bool
-    requires manned { IsManned shared.now p parts.old }
+    requires manned { IsRunnable shared.now p parts.old }
     requires held { has (view_of parts.old.hand) element ≡ true }
     requires over { length (program shared.now.plan element) ≤ done_at (view_of parts.old.hand).seen.object element }
-    ensures manned { StaysManned shared.now p parts.old parts.new }
+    ensures manned { KeepsStation shared.now p parts.old parts.new }
     ensures sent { Sent (call_of parts.old.hand) 1 element result (view_of parts.old.hand) (view_of parts.new.hand) }
     ensures rest { AreAtRest parts.old parts.new }
     ensures others { (parts.new.meters ≡ parts.old.meters) × (parts.new.signals ≡ parts.old.signals) }
-    ensures done { HasDone (having element (done_at (view_of parts.old.hand).seen.object element) (hads.Ended result)
+    ensures done { HasDone (having element (done_at (view_of parts.old.hand).seen.object element) (hads.Retired result)
         []) parts.old parts.new }
 {
     let threads = &shared.threads;
@@ -133,13 +133,13 @@ fn dispatch<R: Wait, G: Watch>(
     p: Processor,
     room: &mut LineRoom,
     gate: &mut G,
-) -> Outcome
-    requires manned { IsManned shared.now p parts.old }
-    ensures manned { StaysManned shared.now p parts.old parts.new }
+) -> TurnOutcome
+    requires manned { IsRunnable shared.now p parts.old }
+    ensures manned { KeepsStation shared.now p parts.old parts.new }
     ensures came { (line : List ℕ) × CameInOrder G.shown shared.now p result line parts.old parts.new
-        × Went (OutcomeFollows shared.now.plan result line) (outcome_account result line) (outcome_told_shut result)
+        × Went (OutcomeFollows shared.now.plan result line) (outcome_account result line) (outcome_saw_shut result)
         parts.old parts.new }
-    ensures gate { GateSaw G.told p (points_out result) gate.old gate.new }
+    ensures gate { GateSaw G.observes p (points_out result) gate.old gate.new }
 {
     steps_fit();
     match begin_turn(rt, shared, parts, p) {
@@ -149,20 +149,20 @@ fn dispatch<R: Wait, G: Watch>(
             let steps = program_of(&shared.plan, element);
             if number >= steps.len() as u64 {
                 let moved = retire_at(rt, shared, parts, p, element);
-                return Outcome::Had(begun, Had::Ended(moved));
+                return TurnOutcome::OfElement(begun, TurnResult::Retired(moved));
             }
             let step = &steps[number as usize];
             let sent = run_element(rt, shared, parts, p, &begun, step, steps.len(), room, gate);
-            Outcome::Had(begun, Had::Ran(sent))
+            TurnOutcome::OfElement(begun, TurnResult::Ran(sent))
         }
-        Err(idle) => Outcome::Idle(idle),
+        Err(idle) => TurnOutcome::Idle(idle),
     }
 }
 
 // Processor 0 tends the alarms. The list is room for the alarms that are fired.
 fn tend(shared: &Shared, parts: &mut Parts, p: Processor, fired: &mut ArrayVec<Alarm, 16>)
-    requires manned { IsManned shared.now p parts.old }
-    ensures manned { StaysManned shared.now p parts.old parts.new }
+    requires manned { IsRunnable shared.now p parts.old }
+    ensures manned { KeepsStation shared.now p parts.old parts.new }
     ensures tended { (tended : Option Tended) × TendedBy p tended parts.old parts.new
         × HasDone (tending tended) parts.old parts.new }
 {
@@ -189,11 +189,11 @@ fn turn<R: Wait, G: Watch>(
     room: &mut LineRoom,
     gate: &mut G,
 )
-    requires manned { IsManned shared.now p parts.old }
-    ensures manned { StaysManned shared.now p parts.old parts.new }
+    requires manned { IsRunnable shared.now p parts.old }
+    ensures manned { KeepsStation shared.now p parts.old parts.new }
     ensures turn { (entry : LogEntry) × TurnInOrder G.shown shared.now p entry parts.old parts.new
         × Ran shared.now.plan (entry ∷ []) parts.old parts.new
-        × GateSaw G.told p (points_out entry.outcome) gate.old gate.new }
+        × GateSaw G.observes p (points_out entry.outcome) gate.old gate.new }
 {
     tend(shared, parts, p, fired);
     let _ = dispatch(rt, shared, parts, p, room, gate);
@@ -213,9 +213,9 @@ pub fn run<R: Wait, G: Watch>(
     turns: u32,
     gate: &mut G,
 ) -> Station
-    requires manned { IsManned shared.now p station.parts }
-    ensures manned { StaysManned shared.now p station.parts result.parts }
-    ensures turned { HasTurnedInOrder G.shown G.told shared.now p turns gate.old gate.new station.parts result.parts }
+    requires manned { IsRunnable shared.now p station.parts }
+    ensures manned { KeepsStation shared.now p station.parts result.parts }
+    ensures turned { RanTurnsInOrder G.shown G.observes shared.now p turns gate.old gate.new station.parts result.parts }
 {
     let Station { mut parts } = station;
     let mut fired = ArrayVec::new();

@@ -1,13 +1,13 @@
 //! Waking those who wait at a pipe.
 //!
-//! The type keeps an order: those who wait are woken after the try that has news for them. A `Paid`, which a deed
-//! reports, contains the debt that only a try makes; so no `Paid` exists before its try.
+//! The type keeps an order: those who wait are woken after the try that has news for them. A `WakeDone`, which a deed
+//! reports, contains the debt that only a try makes; so no `WakeDone` exists before its try.
 ghost use Rattle.turn_dispatch.specs.Tallies.{no_events};
 ghost use Rattle.thread_table.specs.Handles.{view_of, call_of, IsHandOf, IsSameHand};
-ghost use Rattle.processor.specs.Acts.{Acts};
+ghost use Rattle.processor.specs.Acts.{AddsOnly};
 ghost use Rattle.processor.specs.Pipes.{WokeFor};
 
-use crate::tries::Owed;
+use crate::tries::WakeDue;
 use event_theory::WaitNumber;
 use std::sync::Wait;
 use thread_table::{Hand, ThreadTable};
@@ -15,9 +15,9 @@ use turn_dispatch::{Woken, wake};
 
 /// A wake that was owed, and that was made if the queue is a pipe.
 #[derive(Drop)]
-pub struct Paid {
+pub struct WakeDone {
     woken: Option<Woken>,
-    owed: Owed,
+    owed: WakeDue,
 }
 
 // Wakes all who wait in a wait queue, where there is one, as a try owes it to them.
@@ -26,18 +26,18 @@ pub(crate) fn wake_for<R: Wait>(
     threads: &ThreadTable,
     hand: &mut Hand,
     wait: Option<WaitNumber>,
-    owed: Owed,
-) -> Paid
+    owed: WakeDue,
+) -> WakeDone
     requires { IsHandOf threads.now hand.old }
     ensures same { IsSameHand hand.old hand.new }
     ensures woken { WokeFor (call_of hand.old) wait (view_of hand.old) result.woken (view_of hand.new) }
-    ensures acts { Acts no_events (view_of hand.old) (view_of hand.new) }
+    ensures acts { AddsOnly no_events (view_of hand.old) (view_of hand.new) }
 {
     match wait {
         Some(wait) => {
             let woken = Some(wake(rt, threads, hand, wait));
-            Paid { woken, owed }
+            WakeDone { woken, owed }
         }
-        None => Paid { woken: None, owed },
+        None => WakeDone { woken: None, owed },
     }
 }

@@ -10,13 +10,13 @@ use Rattle.table_theory.specs.Listing.{AllRaised}
 use Rattle.table_theory.specs.Positioned.{item_of}
 use Rattle.table_theory.specs.Sharing.{IsWhole}
 use Rattle.table_theory.specs.declared.views.Part.{Part}
-use Rattle.claim_queue.specs.declared.rule.Did.{Did}
+use Rattle.claim_queue.specs.declared.rule.QueueOps.{QueueOps}
 use Rattle.claim_queue.specs.declared.ends.QueueEnd.{QueueEnd}
 use Rattle.claim_queue.specs.Own.{View}
 use Rattle.claim_queue.specs.Closings.{ClosedNow, shown}
 use Rattle.claim_queue.specs.Layout.{ends_word}
 use Rattle.table_theory.specs.Ledgers.{WereOpen}
-use Rattle.claim_queue.specs.Endings.{TookIn}
+use Rattle.claim_queue.specs.Endings.{JoinedBy}
 use Rattle.claim_queue.specs.Handles.{view_of}
 use Rattle.claim_queue.specs.Lines.{line_of, lines_put, lines_taken, IsSettled}
 use Rattle.quajects.specs.Settled.{views_of, share_of, shuts_of, runs_of, takings_of, HasRaised, HasAll, SettledNow, StillOpen}
@@ -44,15 +44,15 @@ more_lines : {A : Type 0} (f : View → List A) (ends : List View) (v u w : View
 more_lines {A} f ends v u w h e = e ∙ ap (λ (z : List A). z ++ f u) h ∙ ap (λ (z : List A). flat_map f ends ++ z) (sym (append-nil (f u))) ∙ sym (flat_map-append f ends (u ∷ []))
 
 -- one more end was joined
-pub joined_has : (ends : List View) (v u w : View) → HasAll ends v → TookIn v u w → (lines_put w ≡ lines_put v ++ lines_put u) × (lines_taken w ≡ lines_taken v ++ lines_taken u) → HasAll (ends ++ u ∷ []) w
+pub joined_has : (ends : List View) (v u w : View) → HasAll ends v → JoinedBy v u w → (lines_put w ≡ lines_put v ++ lines_put u) × (lines_taken w ≡ lines_taken v ++ lines_taken u) → HasAll (ends ++ u ∷ []) w
 joined_has ends v u w h j l = record {
   puts = more_lines lines_put ends v u w h.puts l.0;
   takes = more_lines lines_taken ends v u w h.takes l.1;
   share = ap (λ (z : Part). z.share) j.member ∙ ap (λ (z : ℕ). z + share_of u) h.share ∙ sym (sum_by_push share_of ends u);
-  shuts = ap (λ (z : Did). z.shuts) j.own ∙ ap (λ (z : ℕ). z + shuts_of u) h.shuts ∙ sym (sum_by_push shuts_of ends u);
-  runs = more_lines runs_of ends v u w h.runs (ap (λ (z : Did). z.runs) j.own);
-  takings = more_lines takings_of ends v u w h.takings (ap (λ (z : Did). z.takes) j.own);
-  raised = λ all. subst AllRaised (sym (ap (λ (z : Did). z.runs) j.own))
+  shuts = ap (λ (z : QueueOps). z.shuts) j.own ∙ ap (λ (z : ℕ). z + shuts_of u) h.shuts ∙ sym (sum_by_push shuts_of ends u);
+  runs = more_lines runs_of ends v u w h.runs (ap (λ (z : QueueOps). z.runs) j.own);
+  takings = more_lines takings_of ends v u w h.takings (ap (λ (z : QueueOps). z.takes) j.own);
+  raised = λ all. subst AllRaised (sym (ap (λ (z : QueueOps). z.runs) j.own))
       (raised_both v.own.runs u.own.runs (h.raised (front_holds HasRaised ends (u ∷ []) all)) (last_holds HasRaised ends u all));
 }
 
@@ -60,7 +60,7 @@ module _ {n : ℕ} where
   views_more : (end : QueueEnd n) (others : List (QueueEnd n)) (other : QueueEnd n) → views_of end others ++ view_of other ∷ [] ≡ views_of end (others ++ other ∷ [])
   views_more end others other = ap (λ (z : List View). view_of end ∷ z) (sym (map-append view_of others (other ∷ [])))
 
-  pub join_more : (end : QueueEnd n) (others : List (QueueEnd n)) (other before after : QueueEnd n) → HasAll (views_of end others) (view_of before) → TookIn (view_of before) (view_of other) (view_of after)
+  pub join_more : (end : QueueEnd n) (others : List (QueueEnd n)) (other before after : QueueEnd n) → HasAll (views_of end others) (view_of before) → JoinedBy (view_of before) (view_of other) (view_of after)
       → (lines_put (view_of after) ≡ lines_put (view_of before) ++ lines_put (view_of other)) × (lines_taken (view_of after) ≡ lines_taken (view_of before) ++ lines_taken (view_of other)) → HasAll (views_of end (others ++ other ∷ [])) (view_of after)
   join_more end others other before after h j l = subst (λ (z : List View). HasAll z (view_of after)) (views_more end others other) (joined_has (views_of end others) (view_of before) (view_of other) (view_of after) h j l)
 
@@ -85,13 +85,13 @@ still_open ends v w others h o = let did = o.tallied.made.did in let share = ap 
   had = h;
   found = o;
   has = record {
-    puts = ap (λ (z : Did). map line_of z.runs) did ∙ h.puts;
-    takes = ap (λ (z : Did). map line_of z.takes) did ∙ h.takes;
+    puts = ap (λ (z : QueueOps). map line_of z.runs) did ∙ h.puts;
+    takes = ap (λ (z : QueueOps). map line_of z.takes) did ∙ h.takes;
     share = share ∙ h.share;
-    shuts = ap (λ (z : Did). z.shuts) did ∙ h.shuts;
-    runs = ap (λ (z : Did). z.runs) did ∙ h.runs;
-    takings = ap (λ (z : Did). z.takes) did ∙ h.takings;
-    raised = λ all. subst AllRaised (sym (ap (λ (z : Did). z.runs) did)) (h.raised all);
+    shuts = ap (λ (z : QueueOps). z.shuts) did ∙ h.shuts;
+    runs = ap (λ (z : QueueOps). z.runs) did ∙ h.runs;
+    takings = ap (λ (z : QueueOps). z.takes) did ∙ h.takings;
+    raised = λ all. subst AllRaised (sym (ap (λ (z : QueueOps). z.runs) did)) (h.raised all);
   };
   some_other = o.some_other;
 }

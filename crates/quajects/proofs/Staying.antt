@@ -1,7 +1,7 @@
 -- The parts of an end that no try changes.
 use Rattle.std.proofs.Common.{◌≡◌, ℕ, List, length, refl, ap, ◌∙◌}
 use Rattle.std.specs.Prelude.{Result, Ok, Err, MatchResult}
-use Rattle.claim_queue.specs.declared.rule.Did.{Did}
+use Rattle.claim_queue.specs.declared.rule.QueueOps.{QueueOps}
 use Rattle.claim_queue.specs.declared.ends.QueueEnd.{QueueEnd}
 use Rattle.claim_queue.specs.declared.claim.ClaimRefusal.{ClaimRefusal}
 use Rattle.claim_queue.specs.declared.take.TakeRefusal.{TakeRefusal}
@@ -14,11 +14,11 @@ use Rattle.quajects.specs.Ports.{post_of}
 
 module _ {n : ℕ} (index index' : ℕ) (old new : QueueEnd n) where
   -- the same end of the same queue, with the same share, that has shut the queue equally often
-  same_post : (own : Did) → own.shuts ≡ (view_of old).own.shuts → index' ≡ index → IsSameEnd old new → Does (view_of old) own (view_of new) → post_of index' new ≡ post_of index old
+  same_post : (own : QueueOps) → own.shuts ≡ (view_of old).own.shuts → index' ≡ index → IsSameEnd old new → Does (view_of old) own (view_of new) → post_of index' new ≡ post_of index old
   same_post own shuts at end d = λ i. record { index = at i; table = end.0 i; call = end.1 i; share = (d.member i).share; shuts = shut i }
     where
       shut : (view_of new).own.shuts ≡ (view_of old).own.shuts
-      shut = ap (λ (z : Did). z.shuts) d.did ∙ shuts
+      shut = ap (λ (z : QueueOps). z.shuts) d.did ∙ shuts
 
   pub put_post : (items : List ℕ) (r : Result ℕ ClaimRefusal) → index' ≡ index → IsSameEnd old new
       → MatchResult r (λ start. IsPut n (view_of old) start items (view_of new)) (λ e. Refused n (view_of old) (length items) e (view_of new)) → post_of index' new ≡ post_of index old

@@ -48,7 +48,7 @@ abbrev pub homes_in : List Came → List Home
 homes_in all = map home_in all
 
 -- these numbers are the numbers of the home
-pub record TellsHome (came : Came) : Type 0 where
+pub record HasHome (came : Came) : Type 0 where
   pub chained : came.chained ≡ (home_in came).chained
   pub left : came.left ≡ (home_in came).left
   pub notes : came.notes ≡ (home_in came).notes

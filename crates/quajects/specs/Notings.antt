@@ -3,8 +3,8 @@ use Rattle.std.specs.Prelude.{◌≡◌, ◌+◌, ◌≤◌, ℕ, List, [], ◌�
 use Rattle.std.specs.Prelude.{false, if◌then◌else◌, Result, Ok, Err, is_ok}
 use Rattle.std.specs.List.{AllByRecursion}
 use Rattle.atomic_table.specs.Table.{Me}
-use Rattle.table_theory.specs.declared.views.Moment.{Moment}
-use Rattle.table_theory.specs.Ledgers.{Step, load, Made}
+use Rattle.table_theory.specs.declared.views.AbsState.{AbsState}
+use Rattle.table_theory.specs.Ledgers.{Step, load, Performed}
 use Rattle.proc_chain.specs.declared.rule.GatedQueue.{GatedQueue}
 use Rattle.proc_chain.specs.declared.chaining.Chained.{Chained}
 use Rattle.proc_chain.specs.declared.chaining.Chained.TheVariants.{Run, Left}
@@ -29,7 +29,7 @@ pub record IsRun {Q : Type 0} (made : Q → List ℕ → Type 0) (fits : Q → T
   pub idle : FoundIdle link
   pub service : Service
   pub is : IsService service
-  pub steps : Made me.0 (before ++ linked note link ++ served service)
+  pub steps : Performed me.0 (before ++ linked note link ++ served service)
       (with_service (with_turn link.at_gate.object.queue.taken (with_run me.0.own link.head note)) service) me'.0
   pub number : length (notes_in service) ≡ ran
   pub notes : notes_of (queue_of me'.0) ≡ notes_of link.at_gate.object.queue ++ notes_in service
@@ -42,17 +42,17 @@ pub record IsRun {Q : Type 0} (made : Q → List ℕ → Type 0) (fits : Q → T
 -- after these entries the note was chained, and left to the end that has the Turn
 abbrev pub IsLeft : {Q : Type 0} → Me Q View → List (Step GatedQueue) → ℕ → Me Q View → Type 0
 IsLeft me before note me' = (l : Link) × IsLink me.0.own.runs note l × (FoundIdle l → ⊥)
-    × Made me.0 (before ++ linked note l) (with_run me.0.own l.head note) me'.0 × (me'.1 ≡ me.1)
+    × Performed me.0 (before ++ linked note l) (with_run me.0.own l.head note) me'.0 × (me'.1 ≡ me.1)
 
 -- After these entries one try was answered. If the try gave the Turn, the Turn was served to its end. Lost is no answer
 abbrev pub Notified : {Q : Type 0} → (Q → List ℕ → Type 0) → (Q → Type 0) → Me Q View → List (Step GatedQueue) → ℕ
     → Result Chained ChainRefusal → Me Q View → Type 0
 Notified made fits me before note (Ok (Run turn)) me' = (ran : ℕ) × IsRun made fits me before note ran me'
 Notified made fits me before note (Ok Left) me' = IsLeft me before note me'
-Notified made fits me before note (Err Spent) me' = (head : ℕ) × (m : Moment GatedQueue) × IsSpent head
-    × Made me.0 (before ++ load head_word head m ∷ []) me.0.own me'.0 × (me'.1 ≡ me.1)
-Notified made fits me before note (Err (Full head tail)) me' = (m n : Moment GatedQueue) × IsFull head tail
-    × Made me.0 (before ++ load head_word head m ∷ load tail_word tail n ∷ []) me.0.own me'.0 × (me'.1 ≡ me.1)
+Notified made fits me before note (Err Spent) me' = (head : ℕ) × (m : AbsState GatedQueue) × IsSpent head
+    × Performed me.0 (before ++ load head_word head m ∷ []) me.0.own me'.0 × (me'.1 ≡ me.1)
+Notified made fits me before note (Err (Full head tail)) me' = (m n : AbsState GatedQueue) × IsFull head tail
+    × Performed me.0 (before ++ load head_word head m ∷ load tail_word tail n ∷ []) me.0.own me'.0 × (me'.1 ≡ me.1)
 Notified made fits me before note (Err (Lost head)) me' = ⊥
 
 -- After tries that were lost the note was chained, or was refused by a chain that was Full or Spent. A chained note is
@@ -62,6 +62,6 @@ pub record Noted {Q : Type 0} (made : Q → List ℕ → Type 0) (fits : Q → T
   pub lost : List LostTry
   pub tries : AllByRecursion IsLost lost
   pub answer : Result Chained ChainRefusal
-  pub told : Notified made fits me (tried lost) note answer me'
+  pub reported : Notified made fits me (tried lost) note answer me'
   pub puts : notes_put me'.0 ≡ (if is_ok answer then notes_put me.0 ++ alone note ∷ [] else notes_put me.0)
   pub share : me'.0.member.share ≡ me.0.member.share

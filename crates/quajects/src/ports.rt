@@ -3,7 +3,7 @@
 ghost use Rattle.std.specs.Prelude.{◌≡◌, [], ◌++◌, ◌∷◌, if◌then◌else◌};
 ghost use Rattle.table_theory.specs.Listing.{AllRaised};
 ghost use Rattle.claim_queue.specs.Claims.{KeepsClaims};
-ghost use Rattle.claim_queue.specs.Endings.{TookIn};
+ghost use Rattle.claim_queue.specs.Endings.{JoinedBy};
 ghost use Rattle.claim_queue.specs.Handles.{view_of, IsEndOf, IsSameEnd};
 ghost use Rattle.claim_queue.specs.Lines.{lines_put, lines_taken};
 ghost use Rattle.quajects.specs.Lines.{held_line, counted};
@@ -59,7 +59,7 @@ impl<const N: usize> Port<N> {
         ensures lines { (lines_put (view_of end.new) ≡ lines_put (view_of end.old)
             ++ lines_put (view_of self.entry.end))
             × (lines_taken (view_of end.new) ≡ lines_taken (view_of end.old) ++ lines_taken (view_of self.entry.end)) }
-        ensures joined { TookIn (view_of end.old) (view_of self.entry.end) (view_of end.new) }
+        ensures joined { JoinedBy (view_of end.old) (view_of self.entry.end) (view_of end.new) }
         ensures claims { KeepsClaims (view_of end.old) (view_of end.new)
             × KeepsClaims (view_of self.entry.end) (view_of end.new) }
         ensures same { IsSameEnd end.old end.new }

@@ -23,10 +23,10 @@ pub struct Pipe {
     pub writers: u8,
 }
 
-type Made<const N: usize> = (Vec<ClaimQueue<N>>, Vec<QueueEnd<N>>);
+type MadeQueues<const N: usize> = (Vec<ClaimQueue<N>>, Vec<QueueEnd<N>>);
 
 // This many empty queues at 0, each with its only end.
-fn queues_of<const N: usize>(alloc: Global, count: usize) -> Result<Made<N>, OutOfMemory>
+fn queues_of<const N: usize>(alloc: Global, count: usize) -> Result<MadeQueues<N>, OutOfMemory>
     requires { (1 ≤ N) × (N ≤ 256) }
     ensures { IfOk result (λ r. AreFresh count r.0.items r.1.items) }
 {

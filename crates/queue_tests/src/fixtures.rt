@@ -106,6 +106,6 @@ pub(crate) fn chain_one<R: Wait, Q: Quaject>(
 }
 
 /// Whether a refusal is reported in these words.
-pub(crate) fn is_told<T: Copy + Display>(alloc: Global, refusal: T, words: &str) -> bool {
+pub(crate) fn is_reported<T: Copy + Display>(alloc: Global, refusal: T, words: &str) -> bool {
     format!(in alloc; "{refusal}").is_ok_and(|text| text.as_str() == words)
 }

@@ -37,8 +37,8 @@ run_order : (v w : View) (b : Batch) → w.own.runs ≡ v.own.runs ++ b ∷ [] �
 run_order v w b runs past some up = subst InOrder (sym runs) (order_push v.own.runs b up past some)
 
 -- the end sent what it sends after a beginning in which nothing was sent
-pub sent_behind : (u v w : View) (notes : List ℕ) → Stays u v → HasSent notes v w → HasSent notes u w
-sent_behind u v w notes s h = record {
+pub sent_after : (u v w : View) (notes : List ℕ) → Stays u v → HasSent notes v w → HasSent notes u w
+sent_after u v w notes s h = record {
   puts = h.puts ∙ ap (λ (z : List Batch). map line_of z ++ map alone notes) s.runs;
   order = λ up. h.order (subst InOrder (sym s.runs) up);
   share = h.share ∙ s.share;

@@ -7,7 +7,7 @@ use Rattle.table_theory.specs.Interleaving.{joined}
 use Rattle.table_theory.specs.Sharing.{total}
 use Rattle.claim_queue.specs.declared.ends.QueueEnd.{QueueEnd}
 use Rattle.claim_queue.specs.Own.{View}
-use Rattle.claim_queue.specs.Endings.{TookIn}
+use Rattle.claim_queue.specs.Endings.{JoinedBy}
 use Rattle.claim_queue.specs.Handles.{view_of}
 use Rattle.spooler.specs.declared.line.Line.{Line}
 use Rattle.spooler.specs.Doings.{HasPut}
@@ -29,7 +29,7 @@ gathered_none v = record { runs = sym (append-nil v.own.runs); takes = sym (appe
 more_lists : (f : View → List Batch) (v w u z : View) (us : List View) → f w ≡ f v ++ joined (map f us) → f z ≡ f w ++ f u → f z ≡ f v ++ joined (map f (us ++ u ∷ []))
 more_lists f v w u z us h t = t ∙ (ap (λ (l : List Batch). l ++ f u) h ∙ (append_assoc (f v) (joined (map f us)) (f u) ∙ ap (λ (l : List Batch). f v ++ l) (sym (joined_push f us u))))
 
-pub gathered_more : (v w u z : View) (us : List View) → Gathered v us w → TookIn w u z → Gathered v (us ++ u ∷ []) z
+pub gathered_more : (v w u z : View) (us : List View) → Gathered v us w → JoinedBy w u z → Gathered v (us ++ u ∷ []) z
 gathered_more v w u z us h t = record {
   runs = more_lists (λ (x : View). x.own.runs) v w u z us h.runs (λ i. (t.own i).runs);
   takes = more_lists (λ (x : View). x.own.takes) v w u z us h.takes (λ i. (t.own i).takes);

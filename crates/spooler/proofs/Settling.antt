@@ -108,7 +108,7 @@ whole_two a b l (suc (suc k)) at = absurd (some-ne-none l (sym at))
 
 -- a queue that was shut with all taken stays so
 all_out : (q r : Positions) → Grows q r → q.shut ≡ true → q.taken ≡ length q.places → r.taken ≤ length r.places → r.taken ≡ length r.places
-all_out q r g shut all behind = let s = g.still shut in let f = g.further in omega arith
+all_out q r g shut all following = let s = g.still shut in let f = g.further in omega arith
 
 -- a queue that grew twice
 pub grown_two : (q r s : Positions) → ∥ Grows q r ∥₁ → ∥ Grows r s ∥₁ → ∥ Grows q s ∥₁
@@ -134,7 +134,7 @@ module _ (jobs : List (Vec Line)) (one other : List Line) (first p t u v : View)
       let n = takes_merge q (part_of v) (t.own.takes ∷ u.own.takes ∷ []) closed.listed (λ k z at. two t.own.takes u.own.takes z s'.order.0 s''.order.0 k at) now in
       let put_so : Interleaves m.0 lines_in = subst (λ (z : List (List (List ℕ))). Interleaves m.0 z) s.puts m.1 in
       let took_so : Interleaves n.0 (lines_of one ∷ lines_of other ∷ []) = subst (λ (z : List (List (List ℕ))). Interleaves n.0 z) (λ i. s'.takes i ∷ s''.takes i ∷ []) n.1 in
-      let behind = closed.settled.behind in
+      let following = closed.settled.taken_within in
       let is = closed.taken_is in
       let long : length (map item_of q.places) ≡ length q.places = length-map q.places item_of in
       let out : q.taken ≡ length q.places =

@@ -5,7 +5,7 @@ use Rattle.std.proofs.Math.Bridge.{le_prop}
 use Rattle.std.proofs.lemmas.List.{length-map, length-take, length-drop}
 use Rattle.std.proofs.Math.Logic.{∥∥₁_elim}
 use Rattle.std.proofs.Math.Nat.{ℕ_set}
-use Rattle.table_theory.specs.Ledgers.{load, change, IsHonest}
+use Rattle.table_theory.specs.Ledgers.{load, change, IsValidView}
 use Rattle.table_theory.specs.Positioned.{item_of, with_take}
 use Rattle.table_theory.proofs.Reaching.{passes_since}
 use Rattle.claim_queue.specs.declared.ends.QueueEnd.{QueueEnd}
@@ -31,20 +31,20 @@ pub puts_through : (u v w : View) → KeepsPuts u v → lines_put w ≡ lines_pu
 puts_through u v w k puts share = record { puts = puts ∙ k.puts; share = share ∙ k.share }
 
 -- an end whose try returned Closed has seen the queue shut, and all taken
-closed_seen : (v w : View) → ∥ IsHonest of_queues v ∥₁ → ∥ IsHonest of_queues w ∥₁ → RefusedTake (IsBegun 64) (IsLine 64) 64 v Closed w → (w.seen.object.shut ≡ true) × (w.seen.object.taken ≡ length w.seen.object.places)
-closed_seen v w x y h = let d = λ (a : IsHonest of_queues v) (b : IsHonest of_queues w). done_says v w a b (IsBegun 64) (IsLine 64) 64 h in (
-  ∥∥₁_elim x (Bool-set _ _) (λ (a : IsHonest of_queues v). ∥∥₁_elim y (Bool-set _ _) (λ (b : IsHonest of_queues w). (d a b).0)),
-  ∥∥₁_elim x (ℕ_set _ _) (λ (a : IsHonest of_queues v). ∥∥₁_elim y (ℕ_set _ _) (λ (b : IsHonest of_queues w). (d a b).1)),
+closed_seen : (v w : View) → ∥ IsValidView of_queues v ∥₁ → ∥ IsValidView of_queues w ∥₁ → RefusedTake (IsBegun 64) (IsLine 64) 64 v Closed w → (w.seen.object.shut ≡ true) × (w.seen.object.taken ≡ length w.seen.object.places)
+closed_seen v w x y h = let d = λ (a : IsValidView of_queues v) (b : IsValidView of_queues w). done_says v w a b (IsBegun 64) (IsLine 64) 64 h in (
+  ∥∥₁_elim x (Bool-set _ _) (λ (a : IsValidView of_queues v). ∥∥₁_elim y (Bool-set _ _) (λ (b : IsValidView of_queues w). (d a b).0)),
+  ∥∥₁_elim x (ℕ_set _ _) (λ (a : IsValidView of_queues v). ∥∥₁_elim y (ℕ_set _ _) (λ (b : IsValidView of_queues w). (d a b).1)),
 )
 
-pub refused_ordered : (v w : View) (r : TakeRefusal) → ∥ IsHonest of_queues v ∥₁ → ∥ IsHonest of_queues w ∥₁ → RefusedTake (IsBegun 64) (IsLine 64) 64 v r w → TakesInOrder v → TakesInOrder w
+pub refused_ordered : (v w : View) (r : TakeRefusal) → ∥ IsValidView of_queues v ∥₁ → ∥ IsValidView of_queues w ∥₁ → RefusedTake (IsBegun 64) (IsLine 64) 64 v r w → TakesInOrder v → TakesInOrder w
 refused_ordered v w r x y h up = order_of v w x y (λ a b. refused_order v w a b (IsBegun 64) (IsLine 64) 64 r h up)
 
-pub took_ordered : (v w : View) (items : List ℕ) → ∥ IsHonest of_queues v ∥₁ → ∥ IsHonest of_queues w ∥₁ → 0 < length items → TookItems 64 v items w → TakesInOrder v → TakesInOrder w
+pub took_ordered : (v w : View) (items : List ℕ) → ∥ IsValidView of_queues v ∥₁ → ∥ IsValidView of_queues w ∥₁ → 0 < length items → TookItems 64 v items w → TakesInOrder v → TakesInOrder w
 took_ordered v w items x y some_item t up = order_of v w x y (λ a b. took_order v w a b 64 items some_item t up)
 
 -- the queue was found shut and all taken
-pub all_taken : (u v w : View) (kept : List (List ℕ)) (r : TakeRefusal) → r ≡ Closed → ∥ IsHonest of_queues v ∥₁ → ∥ IsHonest of_queues w ∥₁ → RefusedTake (IsBegun 64) (IsLine 64) 64 v r w → SameLines v w
+pub all_taken : (u v w : View) (kept : List (List ℕ)) (r : TakeRefusal) → r ≡ Closed → ∥ IsValidView of_queues v ∥₁ → ∥ IsValidView of_queues w ∥₁ → RefusedTake (IsBegun 64) (IsLine 64) 64 v r w → SameLines v w
     → (TakesInOrder u → TakesInOrder v) → lines_taken v ≡ lines_taken u ++ kept → HasTaken kept u w
 all_taken u v w kept r is x y h s up taken = let d = closed_seen v w x y (subst (λ (z : TakeRefusal). RefusedTake (IsBegun 64) (IsLine 64) 64 v z w) is h) in record {
   takes = s.takes ∙ taken;

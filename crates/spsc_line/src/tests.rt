@@ -63,7 +63,7 @@ fn the_longest_line(rt: HostRuntime) -> Result<(), Fail> {
 
 /// If an allocation is refused, there is no line, and a later try makes one.
 #[test]
-fn memory_may_be_wanting(rt: HostRuntime) {
+fn memory_may_run_out(rt: HostRuntime) {
     let mut made = false;
     for _ in 0..3 {
         match line(rt.alloc(), 4) {
@@ -83,7 +83,7 @@ fn memory_may_be_wanting(rt: HostRuntime) {
 }
 
 #[test]
-fn the_error_is_told(rt: HostRuntime) -> Result<(), Fail> {
+fn the_error_is_reported(rt: HostRuntime) -> Result<(), Fail> {
     assert!(rt; format!(in rt.alloc(); "{OutOfMemory}")?.as_str() == "no memory");
     Ok(())
 }

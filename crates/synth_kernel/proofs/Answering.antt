@@ -1,25 +1,25 @@
 -- Answers of a boot, from those of its parts.
-use Rattle.synth_kernel.proofs.Common.{◌≡◌, ℕ, suc, ◌+◌, List, [], ◌∷◌, length, Option, Some, None, refl, sym, ap, subst, ◌∙◌, AllByRecursion, BootPlan, Unmade, Point, Shared, Parts, LogEntry, Leaves, AllTold, CameBack}
+use Rattle.synth_kernel.proofs.Common.{◌≡◌, ℕ, suc, ◌+◌, List, [], ◌∷◌, length, Option, Some, None, refl, sym, ap, subst, ◌∙◌, AllByRecursion, BootPlan, TornDown, Point, Shared, Parts, LogEntry, Leaves, HooksSaw, BootWithHooks}
 use Rattle.std.proofs.Common.{◌==◌, Result, Ok, Err, IfOk, eq-eqb, ne_eqb}
 use Rattle.std.specs.Option.{is_some}
 use Rattle.processor.specs.Entries.{Tended}
-use Rattle.processor.specs.Points.{ToldTurns}
+use Rattle.processor.specs.Points.{HookedTurns}
 use Rattle.processor.specs.Turns.{TendedBy}
 use Rattle.boot_laws.specs.ClosedTables.{ClosedTables}
 use Rattle.turn_io.specs.declared.gate.NoGate.{NoGate}
 use Rattle.synth_kernel.specs.declared.printing.Booted.{Booted}
 use Rattle.synth_kernel.specs.declared.outcome.Ended.{Ended}
 use Rattle.synth_kernel.specs.declared.outcome.BootFault.{BootFault}
-use Rattle.synth_kernel.specs.Boots.{IsLogOf, AreLogs, HadTurns, WasTold, ToldNothing, CameBackPlain, IsRun, Says, IsBoot, IsBootAnswer}
+use Rattle.synth_kernel.specs.Boots.{IsLogOf, AreLogs, LogsHaveTurns, HookSaw, SawNothing, CameBackPlain, IsRun, Says, IsBoot, IsBootAnswer}
 use Rattle.boot_threads.specs.Works.{RunsOf}
 
 -- the answer alone
 pub alone : (Did : BootPlan → ClosedTables → List (List LogEntry) → Type 0) (read : Option (List ℕ)) (ended : Ended) (old new : Option (List ℕ)) → IsBoot Did read ended old new → IsBootAnswer Did read ended
 alone Did read ended old new boot = record { plan = boot.plan; says = boot.says; report = boot.run.report; booted = boot.run.booted; ends = boot.run.ends }
 
-module _ {G : Type 0} (ran : RunsOf G) (shown : Unmade → Type 0) (T : G → ℕ → Point → G → Type 0) (turns : ℕ) (gates : List G) where
+module _ {G : Type 0} (ran : RunsOf G) (shown : TornDown → Type 0) (T : G → ℕ → Point → G → Type 0) (turns : ℕ) (gates : List G) where
   pub boots : (read : Option (List ℕ)) (answer : Result (Booted G) BootFault) (plan : BootPlan) (old new : Option (List ℕ)) → Says read plan
-      → IfOk answer (λ booted. IsRun (CameBack ran shown T turns gates booted.gates.items booted.closed) plan booted.ended old new) → IfOk answer (λ booted. IsBoot (CameBack ran shown T turns gates booted.gates.items booted.closed) read booted.ended old new)
+      → IfOk answer (λ booted. IsRun (BootWithHooks ran shown T turns gates booted.gates.items booted.closed) plan booted.ended old new) → IfOk answer (λ booted. IsBoot (BootWithHooks ran shown T turns gates booted.gates.items booted.closed) read booted.ended old new)
   boots read (Ok booted) plan old new says run = record { plan = plan; says = says; run = run }
   boots read (Err fault) plan old new says run = tt
 
@@ -28,23 +28,23 @@ tends : (p : ℕ) (tended : Option Tended) (old new : Parts) → TendedBy p tend
 tends p None old new by = sym (ne_eqb p 0 by.0)
 tends p (Some tended) old new by = sym (eq-eqb p 0 by.0)
 
-all_tend : {G : Type 0} (T : G → ℕ → Point → G → Type 0) (shared : Shared) (p number : ℕ) (log : List LogEntry) (old new : Parts) (gate gate' : G) → ToldTurns T shared p number log old new gate gate'
+all_tend : {G : Type 0} (T : G → ℕ → Point → G → Type 0) (shared : Shared) (p number : ℕ) (log : List LogEntry) (old new : Parts) (gate gate' : G) → HookedTurns T shared p number log old new gate gate'
     → AllByRecursion (λ (entry : LogEntry). is_some entry.tended ≡ (p == 0)) log
-all_tend T shared p number [] old new gate gate' told = tt
-all_tend T shared p number (entry ∷ log) old new gate gate' told =
-    (tends p entry.tended old told.2.0 told.2.1, all_tend T shared p (suc number) log told.0 new told.1 gate' told.4)
+all_tend T shared p number [] old new gate gate' reported = tt
+all_tend T shared p number (entry ∷ log) old new gate gate' reported =
+    (tends p entry.tended old reported.2.0 reported.2.1, all_tend T shared p (suc number) log reported.0 new reported.1 gate' reported.4)
 
 -- the facts that remain if the gates and the closed objects are forgotten
-module _ {G : Type 0} (ran : RunsOf G) (shown : Unmade → Type 0) (T : G → ℕ → Point → G → Type 0) (turns : ℕ) where
-  had_one : (shared : Shared) (p : ℕ) (gate back : G) (log : List LogEntry) → WasTold ran T shared p turns gate back log → IsLogOf shared.plan p turns log
-  had_one shared p gate back log told = subst (IsLogOf shared.plan p turns) told.log_is (record {
-    many = told.turned.many;
-    tends = all_tend T shared p 0 told.turned.log told.old.parts told.new.parts gate back told.turned.told;
-    station = told.new.parts;
-    left = told.turned.leaves told.fresh;
+module _ {G : Type 0} (ran : RunsOf G) (shown : TornDown → Type 0) (T : G → ℕ → Point → G → Type 0) (turns : ℕ) where
+  had_one : (shared : Shared) (p : ℕ) (gate back : G) (log : List LogEntry) → HookSaw ran T shared p turns gate back log → IsLogOf shared.plan p turns log
+  had_one shared p gate back log reported = subst (IsLogOf shared.plan p turns) reported.log_is (record {
+    many = reported.turned.many;
+    tends = all_tend T shared p 0 reported.turned.log reported.old.parts reported.new.parts gate back reported.turned.reported;
+    station = reported.new.parts;
+    left = reported.turned.leaves reported.fresh;
   })
 
-  had_each : (shared : Shared) (p : ℕ) (gates back : List G) (logs : List (List LogEntry)) → AllTold ran T shared p turns gates back logs → (length logs ≡ length gates) × AreLogs shared.plan p turns logs
+  had_each : (shared : Shared) (p : ℕ) (gates back : List G) (logs : List (List LogEntry)) → HooksSaw ran T shared p turns gates back logs → (length logs ≡ length gates) × AreLogs shared.plan p turns logs
   had_each shared p [] [] [] all = (refl, tt)
   had_each shared p [] [] (log ∷ logs) all = absurd all
   had_each shared p [] (back ∷ backs) logs all = absurd all
@@ -54,14 +54,14 @@ module _ {G : Type 0} (ran : RunsOf G) (shown : Unmade → Type 0) (T : G → �
       let rest = had_each shared (p + 1) gates backs logs all.1 in (ap suc rest.0, (had_one shared p gate back log all.0, rest.1))
 
   -- so each processor had its turns
-  pub had : (gates back : List G) (ended : Unmade) (plan : BootPlan) (closed : ClosedTables) (logs : List (List LogEntry)) → CameBack ran shown T turns gates back ended plan closed logs → HadTurns (length gates) turns plan closed logs
+  pub had : (gates back : List G) (ended : TornDown) (plan : BootPlan) (closed : ClosedTables) (logs : List (List LogEntry)) → BootWithHooks ran shown T turns gates back ended plan closed logs → LogsHaveTurns (length gates) turns plan closed logs
   had gates back ended plan closed logs came =
-      let each = had_each came.shared 0 gates back logs came.told in
+      let each = had_each came.shared 0 gates back logs came.reported in
       record { many = each.0; each = subst (λ (z : BootPlan). AreLogs z 0 turns logs) came.plan_is each.1 }
 
 -- a boot whose gates do nothing
-pub plain : (ran : RunsOf NoGate) (shown : Unmade → Type 0) (turns : ℕ) (gates back : List NoGate) (closed : Unmade) (processors : ℕ) (read : Option (List ℕ)) (ended : Ended) (plan : BootPlan) (old new : Option (List ℕ)) → length gates ≡ processors
-    → Says read plan → IsRun (CameBack ran shown ToldNothing turns gates back closed) plan ended old new → IsBoot (CameBackPlain ran shown processors turns back closed) read ended old new
+pub plain : (ran : RunsOf NoGate) (shown : TornDown → Type 0) (turns : ℕ) (gates back : List NoGate) (closed : TornDown) (processors : ℕ) (read : Option (List ℕ)) (ended : Ended) (plan : BootPlan) (old new : Option (List ℕ)) → length gates ≡ processors
+    → Says read plan → IsRun (BootWithHooks ran shown SawNothing turns gates back closed) plan ended old new → IsBoot (CameBackPlain ran shown processors turns back closed) read ended old new
 plain ran shown turns gates back closed processors read ended plan old new many says run = let b = run.booted in record {
   plan = plan;
   says = says;
@@ -73,11 +73,11 @@ plain ran shown turns gates back closed processors read ended plan old new many 
   };
 }
 
-pub plain_ok : (ran : RunsOf NoGate) (shown : Unmade → Type 0) (turns : ℕ) (gates : List NoGate) (processors : ℕ) (read : Option (List ℕ)) (answer : Result (Booted NoGate) BootFault) (plan : BootPlan) (old new : Option (List ℕ)) → length gates ≡ processors → Says read plan
-    → IfOk answer (λ booted. IsRun (CameBack ran shown ToldNothing turns gates booted.gates.items booted.closed) plan booted.ended old new) → IfOk answer (λ booted. IsBoot (CameBackPlain ran shown processors turns booted.gates.items booted.closed) read booted.ended old new)
+pub plain_ok : (ran : RunsOf NoGate) (shown : TornDown → Type 0) (turns : ℕ) (gates : List NoGate) (processors : ℕ) (read : Option (List ℕ)) (answer : Result (Booted NoGate) BootFault) (plan : BootPlan) (old new : Option (List ℕ)) → length gates ≡ processors → Says read plan
+    → IfOk answer (λ booted. IsRun (BootWithHooks ran shown SawNothing turns gates booted.gates.items booted.closed) plan booted.ended old new) → IfOk answer (λ booted. IsBoot (CameBackPlain ran shown processors turns booted.gates.items booted.closed) read booted.ended old new)
 plain_ok ran shown turns gates processors read (Ok booted) plan old new many says run = plain ran shown turns gates booted.gates.items booted.closed processors read booted.ended plan old new many says run
 plain_ok ran shown turns gates processors read (Err fault) plan old new many says run = tt
 
-pub had_plain : (ran : RunsOf NoGate) (shown : Unmade → Type 0) (processors turns : ℕ) (back : List NoGate) (ended : Unmade) (plan : BootPlan) (closed : ClosedTables) (logs : List (List LogEntry)) → CameBackPlain ran shown processors turns back ended plan closed logs → HadTurns processors turns plan closed logs
+pub had_plain : (ran : RunsOf NoGate) (shown : TornDown → Type 0) (processors turns : ℕ) (back : List NoGate) (ended : TornDown) (plan : BootPlan) (closed : ClosedTables) (logs : List (List LogEntry)) → CameBackPlain ran shown processors turns back ended plan closed logs → LogsHaveTurns processors turns plan closed logs
 had_plain ran shown processors turns back ended plan closed logs came =
-    subst (λ (z : ℕ). HadTurns z turns plan closed logs) came.many (had ran shown ToldNothing turns came.gates back ended plan closed logs came.came)
+    subst (λ (z : ℕ). LogsHaveTurns z turns plan closed logs) came.many (had ran shown SawNothing turns came.gates back ended plan closed logs came.came)

@@ -88,16 +88,16 @@ first_back posts ttys backs f =
     let long : length (map back_of (processed_in backs)) ≡ posts = length-map (processed_in backs) back_of ∙ f.posts_are in
     (λ i. take (sym long i) (f.is i)) ∙ take_first (map back_of (processed_in backs)) (map back_served (served_in backs))
 
-get_behind : {A : Type 0} (xs ys : List A) (t : ℕ) → slice_get (xs ++ ys) (length xs + t) ≡ slice_get ys t
-get_behind [] ys t = let e : 0 + t ≡ t = omega arith in ap (slice_get ys) e
-get_behind (x ∷ xs) ys t = let e : suc (length xs) + t ≡ suc (length xs + t) = omega arith in ap (slice_get (x ∷ xs ++ ys)) e ∙ get_behind xs ys t
+get_after : {A : Type 0} (xs ys : List A) (t : ℕ) → slice_get (xs ++ ys) (length xs + t) ≡ slice_get ys t
+get_after [] ys t = let e : 0 + t ≡ t = omega arith in ap (slice_get ys) e
+get_after (x ∷ xs) ys t = let e : suc (length xs) + t ≡ suc (length xs + t) = omega arith in ap (slice_get (x ∷ xs ++ ys)) e ∙ get_after xs ys t
 
 get_mapped : {A B : Type 0} (f : A → B) (xs : List A) (t : ℕ) (x : A) → slice_get xs t ≡ Some x → slice_get (map f xs) t ≡ Some (f x)
 get_mapped f [] t x h = absurd (cc)
 get_mapped f (y ∷ xs) zero x h = let e : y ≡ x = cc in ap (λ z. Some (f z)) e
 get_mapped f (y ∷ xs) (suc t) x h = get_mapped f xs t x h
 
-pub served_behind : {G : Type 0} (posts ttys : ℕ) (backs : List (Back G)) → Sorted posts ttys backs → (t : ℕ) (one : Served) → slice_get (served_in backs) t ≡ Some one → slice_get backs (posts + t) ≡ Some (back_served one)
-served_behind posts ttys backs f t one at =
+pub served_after : {G : Type 0} (posts ttys : ℕ) (backs : List (Back G)) → Sorted posts ttys backs → (t : ℕ) (one : Served) → slice_get (served_in backs) t ≡ Some one → slice_get backs (posts + t) ≡ Some (back_served one)
+served_after posts ttys backs f t one at =
     let long : length (map back_of (processed_in backs)) ≡ posts = length-map (processed_in backs) back_of ∙ f.posts_are in
-    (λ i. slice_get (f.is i) (sym long i + t)) ∙ (get_behind (map back_of (processed_in backs)) (map back_served (served_in backs)) t ∙ get_mapped back_served (served_in backs) t one at)
+    (λ i. slice_get (f.is i) (sym long i + t)) ∙ (get_after (map back_of (processed_in backs)) (map back_served (served_in backs)) t ∙ get_mapped back_served (served_in backs) t one at)

@@ -7,7 +7,7 @@ use Rattle.boot_objects.proofs.Common.{dids_add}
 use Rattle.boot_objects.specs.Gains.{Gained, port_stakes}
 use Rattle.boot_objects.specs.RawEnds.{raw_ports}
 use Rattle.claim_queue.specs.declared.ends.QueueEnd.{QueueEnd}
-use Rattle.claim_queue.specs.declared.rule.Did.{Did}
+use Rattle.claim_queue.specs.declared.rule.QueueOps.{QueueOps}
 use Rattle.claim_queue.specs.Own.{nothing_did, did_both}
 use Rattle.meters.specs.Handles as seats
 use Rattle.processor.specs.Accounts.{account, shown_in}
@@ -37,8 +37,8 @@ none_before raw (tty ∷ ttys) q low =
 -- the end of such a queue did what it had done
 as_before : (raw : ℕ) (ttys : List RawTty) (old new : List (QueueEnd 64)) (q : ℕ) → Gained (raw_ports raw ttys) old new → q < raw → queue_account new q ≡ queue_account old q
 as_before raw ttys old new q gained low =
-    ap (λ (f : ℕ → Stake Did). lines_of (f q).did) gained.stakes_are
-    ∙ ap (λ (d : Did). lines_of (did_both (stakes old q).did d)) (none_before raw ttys q low)
+    ap (λ (f : ℕ → Stake QueueOps). lines_of (f q).did) gained.stakes_are
+    ∙ ap (λ (d : QueueOps). lines_of (did_both (stakes old q).did d)) (none_before raw ttys q low)
     ∙ ap lines_of (dids_add.none_last (stakes old q).did)
 
 -- The devices' ends added work at no other place: everywhere else it is the last station's work

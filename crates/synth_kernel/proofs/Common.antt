@@ -9,7 +9,7 @@ pub use Rattle.boot_data.specs.declared.report.Report.{Report}
 pub use Rattle.boot_objects.specs.Endings.{AllClosed}
 pub use Rattle.boot_objects.specs.RawEnds.{AreRawsOf, TookRaws}
 pub use Rattle.boot_objects.specs.Wholes.{HasWholes}
-pub use Rattle.boot_objects.specs.declared.closing.all.Unmade.{Unmade}
+pub use Rattle.boot_objects.specs.declared.closing.all.TornDown.{TornDown}
 pub use Rattle.boot_objects.specs.declared.device.Device.{Device}
 pub use Rattle.boot_report.specs.Reported.{IsReported, lines_of}
 pub use Rattle.boot_report.specs.declared.ttys.Typed.{Typed}
@@ -36,7 +36,7 @@ pub use Rattle.spsc_line.specs.Lines.{IsLine}
 pub use Rattle.spsc_line.specs.declared.line_in.LineIn.{LineIn}
 pub use Rattle.turn_io.specs.Splits.{AllThree}
 pub use Rattle.turn_io.specs.declared.gate.Point.{Point}
-pub use Rattle.synth_kernel.specs.Boots.{AllTold, CameBack, IsBootOf}
+pub use Rattle.synth_kernel.specs.Boots.{HooksSaw, BootWithHooks, IsBootOf}
 pub use Rattle.synth_kernel.specs.Gatherings.{TotalsAre, all_there, processed_in, served_in, tty_of}
 pub use Rattle.synth_kernel.specs.Readies.{IsReady}
 pub use Rattle.synth_kernel.specs.Stops.{HasStopped}

@@ -16,7 +16,7 @@ use Rattle.boot_threads.specs.declared.work.Worked.TheVariants as worked
 use Rattle.boot_threads.specs.Backs.{IsDeviceBack, device_of}
 use Rattle.boot_threads.proofs.Returning.{device_back, short}
 use Rattle.event_theory.proofs.Lists.Placed.{there as some_at, zip_from}
-use Rattle.synth_kernel.proofs.Backs.{Sorted, served_behind}
+use Rattle.synth_kernel.proofs.Backs.{Sorted, served_after}
 use Rattle.boot_threads.specs.Works.{RunsOf, RefusalsOf}
 
 -- LISTS
@@ -85,7 +85,7 @@ module _ {G : Type 0} (ran : RunsOf G) (refused : RefusalsOf G) (T : G → ℕ �
   device_came : (t : ℕ) (p : PlannedTty) (device : Device) (input : LineIn) (one : Served) → slice_get shared.plan.ttys t ≡ Some p → slice_get devices t ≡ Some device → slice_get inputs t ≡ Some input
       → slice_get (served_in backs) t ≡ Some one → IsDeviceBack shared t p device input one.line one.tty
   device_came t p device input one at at' at'' its =
-      let b = device_back ran refused T shared devices posts ws backs inputs are serving gave typed t p device input (worked.Served one.line one.tty) at at' at'' (served_behind (length posts) (length shared.plan.ttys) backs f t one its) in
+      let b = device_back ran refused T shared devices posts ws backs inputs are serving gave typed t p device input (worked.Served one.line one.tty) at at' at'' (served_after (length posts) (length shared.plan.ttys) backs f t one its) in
       let s = same_served {G = G} one.line b.0 one.tty b.1 b.2 in
       subst (λ (l : LineOut). IsDeviceBack shared t p device input l one.tty) (sym s.0) (subst (λ (y : RawTty). IsDeviceBack shared t p device input b.0 y) (sym s.1) b.3)
 
@@ -116,12 +116,12 @@ module _ {G : Type 0} (ran : RunsOf G) (refused : RefusalsOf G) (T : G → ℕ �
       (λ k one d at at'. let c = came_at k one at in
       (λ i. (c.6.shares.0 i, c.6.shares.1 i)) ∙ ap (λ (d : Device). tty_shares d.tty) (one_same c.1 d (slice_get devices k) c.4 at'))
 
-  module _ (told : List Typed) (tolds : AllThree TotalsAre (served_in backs) inputs told) where
-    told_at : (t : ℕ) (one : Served) (its : slice_get (served_in backs) t ≡ Some one) → (what : Typed) × (slice_get told t ≡ Some what) × TotalsAre one (came_at t one its).2 what
+  module _ (reported : List Typed) (reports : AllThree TotalsAre (served_in backs) inputs reported) where
+    told_at : (t : ℕ) (one : Served) (its : slice_get (served_in backs) t ≡ Some one) → (what : Typed) × (slice_get reported t ≡ Some what) × TotalsAre one (came_at t one its).2 what
     told_at t one its =
-        let low = at_below (served_in backs) t one its in let l = (three_lengths TotalsAre (served_in backs) inputs told tolds).1 in
-        let w = some_at told t (omega arith) in
-        (w.0, w.1, three_of TotalsAre (served_in backs) inputs told t one (came_at t one its).2 w.0 tolds its (came_at t one its).5 w.1)
+        let low = at_below (served_in backs) t one its in let l = (three_lengths TotalsAre (served_in backs) inputs reported reports).1 in
+        let w = some_at reported t (omega arith) in
+        (w.0, w.1, three_of TotalsAre (served_in backs) inputs reported t one (came_at t one its).2 w.0 reports its (came_at t one its).5 w.1)
 
     ended_at : (t : ℕ) (one : Served) (its : slice_get (served_in backs) t ≡ Some one) → DeviceEnded (came_at t one its).0 (end_of one.tty) (did_of one)
     ended_at t one its = (came_at t one its).6.all (told_at t one its).2.whole
@@ -136,9 +136,9 @@ module _ {G : Type 0} (ran : RunsOf G) (refused : RefusalsOf G) (T : G → ℕ �
         (subst (λ (z : RawTty). DeviceEnded (came_at t m.0 m.1).0 (end_of z) d) m.2
         (subst (λ (z : closed.Device). DeviceEnded (came_at t m.0 m.1).0 (end_of m.0.tty) z) (ap did_of (sym same) ∙ n.2) e))
 
-    pub devices_shown : ShowsDevices (map did_of (served_in backs)) told
+    pub devices_shown : ShowsDevices (map did_of (served_in backs)) reported
     devices_shown = record {
-      as_many = (three_lengths TotalsAre (served_in backs) inputs told tolds).1 ∙ sym (length-map (served_in backs) did_of);
+      as_many = (three_lengths TotalsAre (served_in backs) inputs reported reports).1 ∙ sym (length-map (served_in backs) did_of);
       each = λ k d its at at'.
           let n = mapped_at did_of (served_in backs) k d at in
           let w = told_at k n.0 n.1 in
@@ -146,7 +146,7 @@ module _ {G : Type 0} (ran : RunsOf G) (refused : RefusalsOf G) (T : G → ℕ �
           let e = ended_at k n.0 n.1 in
           let few = short shared.plan k c.0 c.3 in
           let all = ap length e.popped in
-          let same : w.0 ≡ its = one_same w.0 its (slice_get told k) w.1 at' in
+          let same : w.0 ≡ its = one_same w.0 its (slice_get reported k) w.1 at' in
           subst (λ (z : closed.Device). ShowsDevice z its) n.2 (subst (λ (z : Typed). ShowsDevice (did_of n.0) z) same (record {
             popped = let p = w.2.popped in p ∙ low_mod (length (bytes_received n.0.line)) (let a = all in omega arith);
             refused = w.2.refused;

@@ -1,10 +1,10 @@
 -- An element of a list, by the elements before and after it.
 use Rattle.synth_kernel.proofs.Common.{◌≡◌, zero, suc, List, [], ◌∷◌, ◌++◌, map, length, refl, ap, sym, subst, arith, All, AllZip}
 
-pub here : {A B : Type 0} (f : A → B) (P : B → Type 0) (before : List A) (x : A) (behind all : List A) → before ++ x ∷ behind ≡ all → All P (map f all) → P (f x)
-here {A = A} f P [] x behind all is each = subst (λ (z : List A). All P (map f z)) (sym is) each zero (f x) (omega arith)
-here f P (y ∷ before) x behind [] is each = absurd cc
-here f P (y ∷ before) x behind (z ∷ all) is each = here f P before x behind all (cc) (λ k d l. each (suc k) d (omega arith))
+pub here : {A B : Type 0} (f : A → B) (P : B → Type 0) (before : List A) (x : A) (following all : List A) → before ++ x ∷ following ≡ all → All P (map f all) → P (f x)
+here {A = A} f P [] x following all is each = subst (λ (z : List A). All P (map f z)) (sym is) each zero (f x) (omega arith)
+here f P (y ∷ before) x following [] is each = absurd cc
+here f P (y ∷ before) x following (z ∷ all) is each = here f P before x following all (cc) (λ k d l. each (suc k) d (omega arith))
 
 -- the heads of two lists, and their tails, place by place
 module _ {A B : Type 0} (R : A → B → Type 0) where

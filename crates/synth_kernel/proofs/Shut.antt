@@ -1,5 +1,5 @@
 -- What a boot knows when all that it gave its threads came back, and all was joined and closed.
-use Rattle.synth_kernel.proofs.Common.{◌≡◌, ◌≤◌, ℕ, zero, suc, ◌+◌, true, List, [], ◌∷◌, map, drop, length, Option, Some, Ok, flat_map, refl, sym, ap, subst, ◌∙◌, arith, length-map, All, AllZip, AllByRecursion, BootPlan, Report, Unmade, AllClosed, AreRawsOf, TookRaws, HasWholes, Point, AllThree, Shared, Parts, LogEntry, Leaves, hear_count, ArePartsOf, heard_lines, AllJoined, Typed, IsReported, LineIn, IsLine, Work, Processed, Worked, parts_of, gate_of, back_of, GaveBack, input_of, ArePosted, AreTyped, Back, HasWorked, as_many_posts, Served, Ready, IsBootOf, AllTold, CameBack, processed_in, served_in, all_there, tty_of, TotalsAre, IsReady}
+use Rattle.synth_kernel.proofs.Common.{◌≡◌, ◌≤◌, ℕ, zero, suc, ◌+◌, true, List, [], ◌∷◌, map, drop, length, Option, Some, Ok, flat_map, refl, sym, ap, subst, ◌∙◌, arith, length-map, All, AllZip, AllByRecursion, BootPlan, Report, TornDown, AllClosed, AreRawsOf, TookRaws, HasWholes, Point, AllThree, Shared, Parts, LogEntry, Leaves, hear_count, ArePartsOf, heard_lines, AllJoined, Typed, IsReported, LineIn, IsLine, Work, Processed, Worked, parts_of, gate_of, back_of, GaveBack, input_of, ArePosted, AreTyped, Back, HasWorked, as_many_posts, Served, Ready, IsBootOf, HooksSaw, BootWithHooks, processed_in, served_in, all_there, tty_of, TotalsAre, IsReady}
 use Rattle.boot_data.specs.Hearing.{Key}
 use Rattle.boot_objects.proofs.Backs.{come_home}
 use Rattle.processor.specs.Accounts.{Account, account}
@@ -41,17 +41,17 @@ module _ {G : Type 0} (ran : RunsOf G) (refused : RefusalsOf G) (T : G → ℕ �
   posted_did p turns (g ∷ gates) old new (w ∷ posts) a = posted_did (p + 1) turns gates a.0 new posts a.2 ∙ a.1.did
 
   -- each processor's log, by the turns that its gate observed
-  logs_told : (p turns : ℕ) (gates : List G) (came : List (Processed G)) → AllTurned ran T shared p turns gates came → (logs : List (List LogEntry)) × AllZip (Leaves shared.plan) logs (map parts_of came) × AllTold ran T shared p turns gates (map gate_of came) logs
-  logs_told p turns [] [] t = ([], tt, tt)
-  logs_told p turns [] (s ∷ came) t = absurd t
-  logs_told p turns (g ∷ gates) [] t = absurd t
-  logs_told p turns (g ∷ gates) (s ∷ came) t = let had = t.0 in let rest = logs_told (p + 1) turns gates came t.1 in (
+  logs_reported : (p turns : ℕ) (gates : List G) (came : List (Processed G)) → AllTurned ran T shared p turns gates came → (logs : List (List LogEntry)) × AllZip (Leaves shared.plan) logs (map parts_of came) × HooksSaw ran T shared p turns gates (map gate_of came) logs
+  logs_reported p turns [] [] t = ([], tt, tt)
+  logs_reported p turns [] (s ∷ came) t = absurd t
+  logs_reported p turns (g ∷ gates) [] t = absurd t
+  logs_reported p turns (g ∷ gates) (s ∷ came) t = let had = t.0 in let rest = logs_reported (p + 1) turns gates came t.1 in (
     had.4.1.log ∷ rest.0,
     (had.4.1.leaves had.2, rest.1),
     (record { old = had.0; manned = had.1; fresh = had.2; new = s.station; joined = had.3; stays = had.4.0; turned = had.4.1; log_is = refl }, rest.2),
   )
 
-module _ {G : Type 0} (ran : RunsOf G) (refused : RefusalsOf G) (shown : Unmade → Type 0) (T : G → ℕ → Point → G → Type 0) (plan : BootPlan) (turns : ℕ) (gates : List G) (ready : Ready G) (r : IsReady plan turns gates ready) (backs : List (Back G)) (inputs : List LineIn)
+module _ {G : Type 0} (ran : RunsOf G) (refused : RefusalsOf G) (shown : TornDown → Type 0) (T : G → ℕ → Point → G → Type 0) (plan : BootPlan) (turns : ℕ) (gates : List G) (ready : Ready G) (r : IsReady plan turns gates ready) (backs : List (Back G)) (inputs : List LineIn)
     (gave : AllZip (GaveBack ran refused (HasWorked T) ready.shared) ready.works.items backs) (typed : AreTyped ready.shared.plan.ttys (drop (length gates) backs) ready.inputs.items inputs) where
   posts_long : length r.posts ≡ length gates
   posts_long = as_many_posts ready.shared 0 turns gates r.first ready.station.parts r.posts r.posted
@@ -89,8 +89,8 @@ module _ {G : Type 0} (ran : RunsOf G) (refused : RefusalsOf G) (shown : Unmade 
       together : CameTogether ran T ready.shared turns gates r.first last (processed_in backs)
       together = came_together G ran refused T ready.shared turns gates r.first ready.station.parts last r.posts (processed_in backs) r.posted had_run joined r.none_on r.free
 
-      logged : (logs : List (List LogEntry)) × AllZip (Leaves ready.shared.plan) logs (map parts_of (processed_in backs)) × AllTold ran T ready.shared 0 turns gates (map gate_of (processed_in backs)) logs
-      logged = logs_told ran refused T ready.shared 0 turns gates (processed_in backs) together.turned
+      logged : (logs : List (List LogEntry)) × AllZip (Leaves ready.shared.plan) logs (map parts_of (processed_in backs)) × HooksSaw ran T ready.shared 0 turns gates (map gate_of (processed_in backs)) logs
+      logged = logs_reported ran refused T ready.shared 0 turns gates (processed_in backs) together.turned
 
       pub wholes : (parts : Parts) → TookRaws (length ready.shared.plan.queues) (length ready.shared.plan.movers) (map tty_of (served_in backs)) last parts → HasWholes ready.shared parts
       wholes parts took =
@@ -98,8 +98,8 @@ module _ {G : Type 0} (ran : RunsOf G) (refused : RefusalsOf G) (shown : Unmade 
           come_home ready.shared r.made last parts r.devices (map tty_of (served_in backs)) r.whole r.devices_are back.2
           (had_back ran refused T ready.shared r.devices r.posts ready.works.items backs inputs r.devices_are r.works gave typed_in its) took
 
-      module _ (its_parts : ArePartsOf ready.shared last) (told : List Typed) (tolds : AllThree TotalsAre (served_in backs) inputs told) (parts : Parts)
-          (took : TookRaws (length ready.shared.plan.queues) (length ready.shared.plan.movers) (map tty_of (served_in backs)) last parts) (ended : Unmade) (closes : AllClosed ready.shared parts ended) where
+      module _ (its_parts : ArePartsOf ready.shared last) (noted : List Typed) (reports : AllThree TotalsAre (served_in backs) inputs noted) (parts : Parts)
+          (took : TookRaws (length ready.shared.plan.queues) (length ready.shared.plan.movers) (map tty_of (served_in backs)) last parts) (ended : TornDown) (closes : AllClosed ready.shared parts ended) where
         abbrev shut : Shutdown
         shut = record {
           shared = ready.shared;
@@ -121,7 +121,7 @@ module _ {G : Type 0} (ran : RunsOf G) (refused : RefusalsOf G) (shown : Unmade 
           its = its_parts;
           all_ttys = length-map (served_in backs) tty_of ∙ its.ttys_are;
           all_devices = length-map (served_in backs) did_of ∙ its.ttys_are;
-          ttys_ended = devices_ended ran refused T ready.shared r.devices r.posts ready.works.items backs inputs r.devices_are r.works gave typed_in its told tolds;
+          ttys_ended = devices_ended ran refused T ready.shared r.devices r.posts ready.works.items backs inputs r.devices_are r.works gave typed_in its noted reports;
           took = took;
           closed = closes;
           quajects = r.quajects;
@@ -130,18 +130,18 @@ module _ {G : Type 0} (ran : RunsOf G) (refused : RefusalsOf G) (shown : Unmade 
         pub few_lines : length (flat_map heard_lines (map parts_of (processed_in backs))) ≤ hear_count ended.plan
         few_lines = subst (λ (z : BootPlan). length (flat_map heard_lines (map parts_of (processed_in backs))) ≤ hear_count z) (sym closes.rest.2) (heard_is_few shut is_shut)
 
-        pub booted : shown ended → (report : Report) → IsReported ended (flat_map heard_lines (map parts_of (processed_in backs))) told report → IsBootOf (CameBack ran shown T turns gates (map gate_of (processed_in backs)) ended) plan report
+        pub booted : shown ended → (report : Report) → IsReported ended (flat_map heard_lines (map parts_of (processed_in backs))) noted report → IsBootOf (BootWithHooks ran shown T turns gates (map gate_of (processed_in backs)) ended) plan report
         booted seen report reported =
-            let shows = devices_shown ran refused T ready.shared r.devices r.posts ready.works.items backs inputs r.devices_are r.works gave typed_in its told tolds in
-            let e = ends shut is_shut told report shows reported in
-            subst (λ (z : BootPlan). IsBootOf (CameBack ran shown T turns gates (map gate_of (processed_in backs)) ended) z report) r.plan_is (record {
+            let shows = devices_shown ran refused T ready.shared r.devices r.posts ready.works.items backs inputs r.devices_are r.works gave typed_in its noted reports in
+            let e = ends shut is_shut noted report shows reported in
+            subst (λ (z : BootPlan). IsBootOf (BootWithHooks ran shown T turns gates (map gate_of (processed_in backs)) ended) z report) r.plan_is (record {
               closed = closed_shut shut is_shut;
               logs = logged.0;
               heard = reported.heard;
               did = record {
                 shared = ready.shared;
                 plan_is = refl;
-                told = logged.2;
+                noted = logged.2;
                 boot = boot_shut shut;
                 worked = worked shut is_shut;
                 was_shown = seen;
@@ -151,8 +151,8 @@ module _ {G : Type 0} (ran : RunsOf G) (refused : RefusalsOf G) (shown : Unmade 
                 quajects = came_home ready.shared.chains.items parts.chains.items (homes_in ended.counts.items) is_shut.closed.homes;
                 devices = map did_of (served_in backs);
                 made = refl;
-                typed = told;
-                shows = all_shown shut is_shut told shows;
+                typed = noted;
+                shows = all_shown shut is_shut noted shows;
               };
               agrees = report_agrees _ _ _ _ _ _ e;
             })

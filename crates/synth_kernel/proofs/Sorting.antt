@@ -38,13 +38,13 @@ pub none_served : {G : Type 0} (xs : List (Back G)) (lost : NotStarted Shared (W
 none_served xs lost = sym (served_append xs (Err lost ∷ []) ∙ append-nil (served_in xs))
 
 -- a list of sorted results has room for one more, if it has room for the sorted results of all
-pub room_for : {G A : Type 0} (sorted : List (Back G) → List A) → ((xs ys : List (Back G)) → sorted (xs ++ ys) ≡ sorted xs ++ sorted ys) → (before : List (Back G)) (x : Back G) (behind all : List (Back G)) (list : List A)
-    → before ++ x ∷ behind ≡ all → list ≡ sorted before → (room : ℕ) → length (sorted all) ≤ room → length (list ++ sorted (x ∷ [])) ≤ room
-room_for sorted append before x behind all list is its room few =
-    let cut : sorted all ≡ sorted before ++ (sorted (x ∷ []) ++ sorted behind) = ap sorted (sym is) ∙ (append before (x ∷ behind) ∙ ap (λ z. sorted before ++ z) (append (x ∷ []) behind)) in
+pub room_for : {G A : Type 0} (sorted : List (Back G) → List A) → ((xs ys : List (Back G)) → sorted (xs ++ ys) ≡ sorted xs ++ sorted ys) → (before : List (Back G)) (x : Back G) (following all : List (Back G)) (list : List A)
+    → before ++ x ∷ following ≡ all → list ≡ sorted before → (room : ℕ) → length (sorted all) ≤ room → length (list ++ sorted (x ∷ [])) ≤ room
+room_for sorted append before x following all list is its room few =
+    let cut : sorted all ≡ sorted before ++ (sorted (x ∷ []) ++ sorted following) = ap sorted (sym is) ∙ (append before (x ∷ following) ∙ ap (λ z. sorted before ++ z) (append (x ∷ []) following)) in
     let long = ap length cut in
-    let one = length-append (sorted before) (sorted (x ∷ []) ++ sorted behind) in
-    let two = length-append (sorted (x ∷ [])) (sorted behind) in
+    let one = length-append (sorted before) (sorted (x ∷ []) ++ sorted following) in
+    let two = length-append (sorted (x ∷ [])) (sorted following) in
     let mine = length-append list (sorted (x ∷ [])) in
     let same = ap length its in
     omega arith

@@ -1,20 +1,20 @@
 -- What a boot knows of all that it has when its threads have stopped.
-use Rattle.synth_kernel.proofs.Common.{◌≤◌, ℕ, List, length, flat_map, map, sym, subst, BootPlan, Report, Unmade, AllClosed, AreRawsOf, TookRaws, HasWholes, Point, parts_of, gate_of, Shared, Parts, hear_count, heard_lines, RawTty, IsReported, lines_of, Ready, IsBootOf, CameBack, processed_in, served_in, tty_of, IsReady, HasStopped}
+use Rattle.synth_kernel.proofs.Common.{◌≤◌, ℕ, List, length, flat_map, map, sym, subst, BootPlan, Report, TornDown, AllClosed, AreRawsOf, TookRaws, HasWholes, Point, parts_of, gate_of, Shared, Parts, hear_count, heard_lines, RawTty, IsReported, lines_of, Ready, IsBootOf, BootWithHooks, processed_in, served_in, tty_of, IsReady, HasStopped}
 use Rattle.boot_data.specs.Hearing.{Line}
 use Rattle.boot_report.specs.Rooms as reporting
 use Rattle.synth_kernel.specs.declared.running.Stopped.{Stopped}
 use Rattle.synth_kernel.proofs.Shut.{raws_came, wholes, few_lines, booted}
 use Rattle.boot_threads.specs.Works.{RunsOf, RefusalsOf}
 
-module _ {G : Type 0} (ran : RunsOf G) (refused : RefusalsOf G) (shown : Unmade → Type 0) (T : G → ℕ → Point → G → Type 0) (plan : BootPlan) (turns : ℕ) (gates : List G) (ready : Ready G) (r : IsReady plan turns gates ready) (stopped : Stopped G) (s : HasStopped ran refused T (length gates) ready stopped) where
+module _ {G : Type 0} (ran : RunsOf G) (refused : RefusalsOf G) (shown : TornDown → Type 0) (T : G → ℕ → Point → G → Type 0) (plan : BootPlan) (turns : ℕ) (gates : List G) (ready : Ready G) (r : IsReady plan turns gates ready) (stopped : Stopped G) (s : HasStopped ran refused T (length gates) ready stopped) where
   -- the known facts, if these are the objects, and these raw ttys, gates and lines came back
   pub record Knows (shared : Shared) (ttys : List RawTty) (back : List G) (lines : List Line) : Type 0 where
     pub raws : AreRawsOf shared ttys
     pub wholes : (parts : Parts) → TookRaws (length shared.plan.queues) (length shared.plan.movers) ttys stopped.gathered.station.parts parts → HasWholes shared parts
     pub report : reporting.HasAllRoom shared.plan stopped.report
-    pub few : (parts : Parts) (ended : Unmade) → TookRaws (length shared.plan.queues) (length shared.plan.movers) ttys stopped.gathered.station.parts parts → AllClosed shared parts ended → length lines ≤ hear_count ended.plan
-    pub booted : (parts : Parts) (ended : Unmade) → TookRaws (length shared.plan.queues) (length shared.plan.movers) ttys stopped.gathered.station.parts parts → AllClosed shared parts ended
-        → shown ended → (report : Report) → IsReported ended lines stopped.gathered.told.items report → IsBootOf (CameBack ran shown T turns gates back ended) plan report
+    pub few : (parts : Parts) (ended : TornDown) → TookRaws (length shared.plan.queues) (length shared.plan.movers) ttys stopped.gathered.station.parts parts → AllClosed shared parts ended → length lines ≤ hear_count ended.plan
+    pub booted : (parts : Parts) (ended : TornDown) → TookRaws (length shared.plan.queues) (length shared.plan.movers) ttys stopped.gathered.station.parts parts → AllClosed shared parts ended
+        → shown ended → (report : Report) → IsReported ended lines stopped.gathered.reported.items report → IsBootOf (BootWithHooks ran shown T turns gates back ended) plan report
 
   came : Knows ready.shared (map tty_of (served_in s.backs)) (map gate_of (processed_in s.backs)) (flat_map heard_lines (map parts_of (processed_in s.backs)))
   came = record {
@@ -22,9 +22,9 @@ module _ {G : Type 0} (ran : RunsOf G) (refused : RefusalsOf G) (shown : Unmade 
     wholes = wholes ran refused shown T plan turns gates ready r s.backs s.inputs s.worked s.typed s.gathered.all stopped.gathered.station.parts s.gathered.joined;
     report = subst (reporting.HasAllRoom ready.shared.plan) (sym s.report_is) r.room.report;
     few = λ parts ended took closes. few_lines ran refused shown T plan turns gates ready r s.backs s.inputs s.worked s.typed s.gathered.all stopped.gathered.station.parts s.gathered.joined
-        s.gathered.parts stopped.gathered.told.items s.gathered.told parts took ended closes;
+        s.gathered.parts stopped.gathered.reported.items s.gathered.reported parts took ended closes;
     booted = λ parts ended took closes. booted ran refused shown T plan turns gates ready r s.backs s.inputs s.worked s.typed s.gathered.all stopped.gathered.station.parts s.gathered.joined
-        s.gathered.parts stopped.gathered.told.items s.gathered.told parts took ended closes;
+        s.gathered.parts stopped.gathered.reported.items s.gathered.reported parts took ended closes;
   }
 
   pub knows : Knows stopped.shared stopped.gathered.ttys.items stopped.gathered.gates.items (flat_map lines_of stopped.gathered.heards.items)

@@ -13,7 +13,7 @@ use Rattle.boot_data.specs.Plans.{Plan}
 use Rattle.boot_script.specs.declared.fault.ScriptFault.{ScriptFault}
 use Rattle.boot_script.specs.Plans.{text_plan}
 use Rattle.boot_script.specs.Reports.{report_text}
-use Rattle.boot_objects.specs.declared.closing.all.Unmade.{Unmade}
+use Rattle.boot_objects.specs.declared.closing.all.TornDown.{TornDown}
 use Rattle.turn_io.specs.declared.gate.NoGate.{NoGate}
 use Rattle.turn_io.specs.declared.gate.Point.{Point}
 use Rattle.processor.specs.declared.shared.Shared.{Shared}
@@ -21,8 +21,8 @@ use Rattle.processor.specs.declared.station.Parts.{Parts}
 use Rattle.processor.specs.declared.station.Station.{Station}
 use Rattle.processor.specs.Accounts.{Account, account}
 use Rattle.processor.specs.Entries.{LogEntry}
-use Rattle.processor.specs.Logs.{IsFresh, Leaves, HasTurned}
-use Rattle.processor.specs.Manning.{IsManned, StaysManned}
+use Rattle.processor.specs.Logs.{IsFresh, Leaves, RanTurns}
+use Rattle.processor.specs.Manning.{IsRunnable, KeepsStation}
 use Rattle.processor.specs.Stations.{ArePartsOf}
 use Rattle.quajects.specs.declared.any.AnyQuaject.{AnyQuaject}
 use Rattle.quajects.specs.Homes.{homes_in}
@@ -61,7 +61,7 @@ AreLogs plan p turns [] = Unit {0}
 AreLogs plan p turns (log ∷ logs) = IsLogOf plan p turns log × AreLogs plan (p + 1) turns logs
 
 -- each of so many processors had so many turns; the closed tables may be any
-pub record HadTurns (processors turns : ℕ) (plan : BootPlan) (closed : ClosedTables) (logs : List (List LogEntry))
+pub record LogsHaveTurns (processors turns : ℕ) (plan : BootPlan) (closed : ClosedTables) (logs : List (List LogEntry))
     : Type 0 where
   pub many : length logs ≡ processors
   pub each : AreLogs plan 0 turns logs
@@ -72,25 +72,25 @@ pub record HadTurns (processors turns : ℕ) (plan : BootPlan) (closed : ClosedT
 -- the station had done nothing. `log` is the log of these turns. The gate observed these turns and nothing else, and so
 -- became `gate'`. The thread of exactly this work, on these objects, was joined and gave back the station and the gate,
 -- as `ran` says. A proof knows of `ran` only what joining a thread ensures
-pub record WasTold {G : Type 0} (ran : RunsOf G) (T : G → ℕ → Point → G → Type 0)
+pub record HookSaw {G : Type 0} (ran : RunsOf G) (T : G → ℕ → Point → G → Type 0)
     (shared : Shared) (p turns : ℕ) (gate gate' : G) (log : List LogEntry) : Type 0 where
   pub old : Station
-  pub manned : IsManned shared p old.parts
+  pub manned : IsRunnable shared p old.parts
   pub fresh : IsFresh old.parts
   pub new : Station
   pub joined : WasRun {B = Worked G} ran shared (works.Process old p turns gate)
       (worked.Processed (record { station = new; gate = gate' }))
-  pub stays : StaysManned shared p old.parts new.parts
-  pub turned : HasTurned T shared p turns gate gate' old.parts new.parts
+  pub stays : KeepsStation shared p old.parts new.parts
+  pub turned : RanTurns T shared p turns gate gate' old.parts new.parts
   pub log_is : turned.log ≡ log
 
 -- each of these gates observed the turns of its processor, from the number p on, in their order
-abbrev pub AllTold : {G : Type 0} → RunsOf G → (G → ℕ → Point → G → Type 0) → Shared → ℕ → ℕ
+abbrev pub HooksSaw : {G : Type 0} → RunsOf G → (G → ℕ → Point → G → Type 0) → Shared → ℕ → ℕ
     → List G → List G → List (List LogEntry) → Type 0
-AllTold ran T shared p turns [] [] [] = Unit {0}
-AllTold ran T shared p turns (gate ∷ gates) (gate' ∷ gates') (log ∷ logs) =
-    WasTold ran T shared p turns gate gate' log × AllTold ran T shared (p + 1) turns gates gates' logs
-AllTold ran T shared p turns gates gates' logs = ⊥
+HooksSaw ran T shared p turns [] [] [] = Unit {0}
+HooksSaw ran T shared p turns (gate ∷ gates) (gate' ∷ gates') (log ∷ logs) =
+    HookSaw ran T shared p turns gate gate' log × HooksSaw ran T shared (p + 1) turns gates gates' logs
+HooksSaw ran T shared p turns gates gates' logs = ⊥
 
 -- These ends did `did` at all objects of the plan, except the raw queue and the chain of each tty. The tty's device had
 -- ends of these two too
@@ -106,12 +106,12 @@ pub record DidAll (plan : BootPlan) (did : Account) (parts : Parts) : Type 0 whe
 -- its place. `ended` is the result of closing these objects, and was shown to the runtime. The ends that closed all
 -- belong to these objects. They did the work before the turns, followed by what the logs come to. The closed tables are
 -- made from `ended` and from the work of ends, quajects and devices, and show the numbers of `ended`
-pub record CameBack {G : Type 0} (ran : RunsOf G) (shown : Unmade → Type 0)
-    (T : G → ℕ → Point → G → Type 0) (turns : ℕ) (gates back : List G) (ended : Unmade) (plan : BootPlan)
+pub record BootWithHooks {G : Type 0} (ran : RunsOf G) (shown : TornDown → Type 0)
+    (T : G → ℕ → Point → G → Type 0) (turns : ℕ) (gates back : List G) (ended : TornDown) (plan : BootPlan)
     (closed : ClosedTables) (logs : List (List LogEntry)) : Type 0 where
   pub shared : Shared
   pub plan_is : shared.plan ≡ plan
-  pub told : AllTold ran T shared 0 turns gates back logs
+  pub reported : HooksSaw ran T shared 0 turns gates back logs
   pub boot : Boot
   pub worked : WorkedTogether plan logs boot.done
   pub was_shown : shown ended
@@ -125,16 +125,16 @@ pub record CameBack {G : Type 0} (ran : RunsOf G) (shown : Unmade → Type 0)
   pub shows : Shows closed ended typed
 
 -- the law of the gate that does nothing: it allows any call
-abbrev pub ToldNothing : NoGate → ℕ → Point → NoGate → Type 0
-ToldNothing old p point new = Unit {0}
+abbrev pub SawNothing : NoGate → ℕ → Point → NoGate → Type 0
+SawNothing old p point new = Unit {0}
 
 -- a boot without gates: its gates are so many gates that do nothing, which came back
-pub record CameBackPlain (ran : RunsOf NoGate) (shown : Unmade → Type 0)
-    (processors turns : ℕ) (back : List NoGate) (ended : Unmade) (plan : BootPlan) (closed : ClosedTables)
+pub record CameBackPlain (ran : RunsOf NoGate) (shown : TornDown → Type 0)
+    (processors turns : ℕ) (back : List NoGate) (ended : TornDown) (plan : BootPlan) (closed : ClosedTables)
     (logs : List (List LogEntry)) : Type 0 where
   pub gates : List NoGate
   pub many : length gates ≡ processors
-  pub came : CameBack ran shown ToldNothing turns gates back ended plan closed logs
+  pub came : BootWithHooks ran shown SawNothing turns gates back ended plan closed logs
 
 -- the boot had so many processors, and so many turns on each
 abbrev pub HasNumbers : {G : Type 0} → ℕ → ℕ → Booted G → Type 0

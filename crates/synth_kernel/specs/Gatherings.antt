@@ -46,10 +46,10 @@ tty_of served = served.tty
 
 -- The totals of a device: the number of bytes popped, modulo 2^64, and the number of bytes refused. The bytes popped
 -- and the bytes left in the line are the bytes sent
-pub record TotalsAre (served : Served) (input : LineIn) (told : Typed) : Type 0 where
+pub record TotalsAre (served : Served) (input : LineIn) (reported : Typed) : Type 0 where
   pub whole : bytes_received served.line ++ bytes_left input served.line ≡ bytes_sent input
-  pub popped : told.popped ≡ length (bytes_received served.line) % 2 ^ 64
-  pub refused : told.refused ≡ overruns_of served.tty
+  pub popped : reported.popped ≡ length (bytes_received served.line) % 2 ^ 64
+  pub refused : reported.refused ≡ overruns_of served.tty
 
 -- the lists are empty, and have room for the sorted results of all threads, and for what is made from them
 pub record HaveRoomFor {G : Type 0} (backs : List (Back G)) (lists : Lists G) : Type 0 where
@@ -58,7 +58,7 @@ pub record HaveRoomFor {G : Type 0} (backs : List (Back G)) (lists : Lists G) : 
   pub ttys : (lists.ttys.items ≡ []) × (length (served_in backs) ≤ vec_capacity lists.ttys)
   pub heards : (lists.heards.items ≡ []) × (length (processed_in backs) ≤ vec_capacity lists.heards)
   pub gates : (lists.gates.items ≡ []) × (length (processed_in backs) ≤ vec_capacity lists.gates)
-  pub told : (lists.told.items ≡ []) × (length (served_in backs) ≤ vec_capacity lists.told)
+  pub reported : (lists.reported.items ≡ []) × (length (served_in backs) ≤ vec_capacity lists.reported)
 
 -- Each thread gave a result. The stations were joined to the first, which became `gathered.station`. The lines that
 -- they heard, their gates, the raw ttys and the devices' totals are in `gathered`, in order
@@ -70,4 +70,4 @@ pub record IsGathered {G : Type 0} (shared : Shared) (first : Station) (backs : 
   pub heard : flat_map lines_of gathered.heards.items ≡ flat_map heard_lines (map parts_of (processed_in backs))
   pub gates : gathered.gates.items ≡ map gate_of (processed_in backs)
   pub ttys : gathered.ttys.items ≡ map tty_of (served_in backs)
-  pub told : AllThree TotalsAre (served_in backs) inputs gathered.told.items
+  pub reported : AllThree TotalsAre (served_in backs) inputs gathered.reported.items

@@ -31,7 +31,7 @@ pub record HasPlaces {G : Type 0} (shared : Shared) (processors : ℕ) (room : R
   pub ttys : (room.ttys.items ≡ []) × (length shared.plan.ttys ≤ vec_capacity room.ttys)
   pub heards : (room.heards.items ≡ []) × (processors ≤ vec_capacity room.heards)
   pub gates : (room.gates.items ≡ []) × (processors ≤ vec_capacity room.gates)
-  pub told : (room.told.items ≡ []) × (length shared.plan.ttys ≤ vec_capacity room.told)
+  pub reported : (room.reported.items ≡ []) × (length shared.plan.ttys ≤ vec_capacity room.reported)
   pub answers : closing.HaveRoom shared room.answers
   pub report : reporting.HasAllRoom shared.plan room.report
 

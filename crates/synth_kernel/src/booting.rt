@@ -1,13 +1,13 @@
 //! A boot, from its plan to its report.
 ghost use Rattle.std.specs.Prelude.{◌≤◌, vec_len, IfOk};
-ghost use Rattle.synth_kernel.specs.Boots.{IsBootOf, CameBack};
+ghost use Rattle.synth_kernel.specs.Boots.{IsBootOf, BootWithHooks};
 
 use crate::gathering::Gathered;
 use crate::ready::get_ready;
 use crate::running::{Stopped, run_threads};
 use crate::shutting::shut_down;
 use boot_data::{BootPlan, Report};
-use boot_objects::Unmade;
+use boot_objects::TornDown;
 use boot_report::report_boot;
 use boot_threads::{Witness, Work, Worked};
 use event_theory::OutOfMemory;
@@ -28,12 +28,12 @@ pub(crate) fn boot_plan<R, G>(
     plan: BootPlan,
     turns: u32,
     gates: Vec<G>,
-) -> Result<(Report, Vec<G>, Unmade), OutOfMemory>
+) -> Result<(Report, Vec<G>, TornDown), OutOfMemory>
 where
     R: Witness<Shared, Worked<G>, Work<G>> + Wait + Sync,
     G: Gate + Send + Drop,
     requires gates { (1 ≤ vec_len gates) × (vec_len gates ≤ 8) }
-    ensures { IfOk result (λ r. IsBootOf (CameBack R.ran R.shown G.told turns gates.items r.1.items r.2) plan r.0) }
+    ensures { IfOk result (λ r. IsBootOf (BootWithHooks R.ran R.shown G.observes turns gates.items r.1.items r.2) plan r.0) }
 {
     let processors = gates.len();
     let ready = get_ready(rt, alloc, plan, turns, gates)?;
@@ -49,10 +49,10 @@ where
         heards,
         gates,
         ttys,
-        told,
+        reported,
     } = gathered;
     let ended = shut_down(shared, station, ttys, answers);
     rt.show(&ended);
-    let report = report_boot(&ended, heards, told.as_slice(), report);
+    let report = report_boot(&ended, heards, reported.as_slice(), report);
     Ok((report, gates, ended))
 }

@@ -34,7 +34,7 @@ pub(crate) struct Lists<G> {
     pub(crate) ttys: Vec<RawTty>,
     pub(crate) heards: Vec<HeardLines>,
     pub(crate) gates: Vec<G>,
-    pub(crate) told: Vec<Typed>,
+    pub(crate) reported: Vec<Typed>,
 }
 
 /// The gathered results of all threads. All stations are joined to `station`. The lists have the lines that each
@@ -45,7 +45,7 @@ pub(crate) struct Gathered<G> {
     pub(crate) heards: Vec<HeardLines>,
     pub(crate) gates: Vec<G>,
     pub(crate) ttys: Vec<RawTty>,
-    pub(crate) told: Vec<Typed>,
+    pub(crate) reported: Vec<Typed>,
 }
 
 // Puts the result of a thread into its list.
@@ -123,18 +123,18 @@ fn join_stations<G: Drop>(
 fn finish_one(input: LineIn, served: Served) -> (RawTty, Typed)
     requires { IsLine input served.line }
     ensures tty { result.0 ≡ served.tty }
-    ensures told { TotalsAre served input result.1 }
+    ensures reported { TotalsAre served input result.1 }
 {
     let Served { line, tty } = served;
     let totals = finish(input, line);
-    let told = Typed {
+    let reported = Typed {
         popped: totals.received as u64,
         refused: tty.overruns(),
     };
-    (tty, told)
+    (tty, reported)
 }
 
-// Ends the lines of all devices. The raw ttys go into `ttys`, and the devices' totals into `told`, in the order of the
+// Ends the lines of all devices. The raw ttys go into `ttys`, and the devices' totals into `reported`, in the order of the
 // devices. Both lists are empty and have room, so it takes no memory.
 //
 // Conditions: there is an input for each device, in the order of the devices, which is the input of its line.
@@ -142,16 +142,16 @@ fn finish_all(
     inputs: Vec<LineIn>,
     served: Vec<Served>,
     ttys: Vec<RawTty>,
-    told: Vec<Typed>,
+    reported: Vec<Typed>,
 ) -> (Vec<RawTty>, Vec<Typed>)
     requires lines { AllZip (λ one input. IsLine input one.line) served.items inputs.items }
     requires ttys { (ttys.items ≡ []) × (length served.items ≤ vec_capacity ttys) }
-    requires told { (told.items ≡ []) × (length served.items ≤ vec_capacity told) }
+    requires reported { (reported.items ≡ []) × (length served.items ≤ vec_capacity reported) }
     ensures ttys { result.0.items ≡ map tty_of served.items }
-    ensures told { AllThree TotalsAre served.items inputs.items result.1.items }
+    ensures reported { AllThree TotalsAre served.items inputs.items result.1.items }
 {
     let mut ttys = ttys;
-    let mut told = told;
+    let mut reported = reported;
     let mut inputs = inputs.into_iter();
     for one in served {
         let Some(input) = inputs.next() else {
@@ -159,9 +159,9 @@ fn finish_all(
         };
         let (tty, what) = finish_one(input, one);
         ttys.push_reserved(tty);
-        told.push_reserved(what);
+        reported.push_reserved(what);
     }
-    (ttys, told)
+    (ttys, reported)
 }
 
 /// Joins the stations of the processors to the first, and ends the devices' lines, each in their order. The gates are
@@ -192,16 +192,16 @@ pub(crate) fn gather<G: Drop>(
         ttys,
         heards,
         gates,
-        told,
+        reported,
     } = lists;
     let (processed, served) = sort_backs(backs, processed, served)?;
-    let (ttys, told) = finish_all(inputs, served, ttys, told);
+    let (ttys, reported) = finish_all(inputs, served, ttys, reported);
     let (station, heards, gates) = join_stations(shared, first, processed, heards, gates);
     Some(Gathered {
         station,
         heards,
         gates,
         ttys,
-        told,
+        reported,
     })
 }

@@ -3,8 +3,8 @@ ghost use Rattle.std.specs.Prelude.{◌≡◌, ◌≢◌, ◌≤◌, List, vec_l
 ghost use Rattle.std.specs.Io.KnownBytes.{Keeps};
 ghost use Rattle.boot_script.specs.Plans.{text_plan};
 ghost use Rattle.boot_script.specs.StreamFaults.{IsReadFault, IsWriteFault};
-ghost use Rattle.boot_objects.specs.declared.closing.all.Unmade.{Unmade};
-ghost use Rattle.synth_kernel.specs.Boots.{CameBack, CameBackPlain, HasNumbers, IsBoot, IsBootAnswer};
+ghost use Rattle.boot_objects.specs.declared.closing.all.TornDown.{TornDown};
+ghost use Rattle.synth_kernel.specs.Boots.{BootWithHooks, CameBackPlain, HasNumbers, IsBoot, IsBootAnswer};
 ghost use Rattle.synth_kernel.specs.Boots.{IsBootFault, IsRead};
 
 use crate::outcome::{BootFault, Ended};
@@ -118,7 +118,7 @@ where
     requires number { (1 ≤ processors) × (processors ≤ 8) }
     requires gates { vec_len gates ≡ processors }
     ensures numbers { IfOk result (HasNumbers processors turns) }
-    ensures ok { IfOk result (λ booted. IsBoot (CameBack R.ran R.shown G.told turns gates.items booted.gates.items
+    ensures ok { IfOk result (λ booted. IsBoot (BootWithHooks R.ran R.shown G.observes turns gates.items booted.gates.items
         booted.closed) (I.remaining reader.old) booted.ended (O.contents writer.old) (O.contents writer.new)) }
     ensures fault { IfErr result (λ fault. IfSome (I.remaining reader.old) (λ bytes. IsBootFault
         (text_plan bytes) fault)) }
@@ -147,7 +147,7 @@ where
     I: Source + Drop,
     O: Sink + Drop,
     requires { (1 ≤ processors) × (processors ≤ 8) }
-    ensures ok { IfOk result (λ ended. (back : List NoGate) × (closed : Unmade)
+    ensures ok { IfOk result (λ ended. (back : List NoGate) × (closed : TornDown)
         × IsBootAnswer (CameBackPlain R.ran R.shown processors turns back closed) (I.remaining reader) ended) }
     ensures fault { IfErr result (λ fault. IfSome (I.remaining reader) (λ bytes. IsBootFault (text_plan bytes)
         fault)) }
@@ -177,8 +177,8 @@ where
     G: Gate + Send + Drop,
     requires number { (1 ≤ processors) × (processors ≤ 8) }
     requires gates { vec_len gates ≡ processors }
-    ensures ok { IfOk result (λ ended. (back : List G) × (closed : Unmade)
-        × IsBootAnswer (CameBack R.ran R.shown G.told turns gates.items back closed) (I.remaining reader) ended) }
+    ensures ok { IfOk result (λ ended. (back : List G) × (closed : TornDown)
+        × IsBootAnswer (BootWithHooks R.ran R.shown G.observes turns gates.items back closed) (I.remaining reader) ended) }
     ensures fault { IfErr result (λ fault. IfSome (I.remaining reader) (λ bytes. IsBootFault (text_plan bytes)
         fault)) }
     ensures read { IfErr result (λ fault. fault ≡ BootFault.Read → (last : I) × IsReadFault I.answers reader last) }

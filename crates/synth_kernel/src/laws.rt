@@ -2,9 +2,9 @@
 ghost use Rattle.std.specs.Prelude.{ℕ, List, length};
 ghost use Rattle.boot_data.specs.declared.boot_plan.BootPlan.{BootPlan};
 ghost use Rattle.boot_laws.specs.ClosedTables.{ClosedTables};
-ghost use Rattle.boot_objects.specs.declared.closing.all.Unmade.{Unmade};
+ghost use Rattle.boot_objects.specs.declared.closing.all.TornDown.{TornDown};
 ghost use Rattle.processor.specs.Entries.{LogEntry};
-ghost use Rattle.synth_kernel.specs.Boots.{CameBack, CameBackPlain, HadTurns};
+ghost use Rattle.synth_kernel.specs.Boots.{BootWithHooks, CameBackPlain, LogsHaveTurns};
 
 use boot_threads::{Witness, Work, Worked};
 use processor::Shared;
@@ -17,11 +17,11 @@ pub fn turns_were_had<
     N: Witness<Shared, Worked<NoGate>, Work<NoGate>>,
     G: Gate + Drop,
 >()
-    ensures gates { (turns : ℕ) (gates back : List G) (ended : Unmade) (plan : BootPlan) (closed : ClosedTables)
-        (logs : List (List LogEntry)) → CameBack R.ran R.shown G.told turns gates back ended plan closed logs
-        → HadTurns (length gates) turns plan closed logs }
-    ensures plain { (processors turns : ℕ) (back : List NoGate) (ended : Unmade) (plan : BootPlan)
+    ensures gates { (turns : ℕ) (gates back : List G) (ended : TornDown) (plan : BootPlan) (closed : ClosedTables)
+        (logs : List (List LogEntry)) → BootWithHooks R.ran R.shown G.observes turns gates back ended plan closed logs
+        → LogsHaveTurns (length gates) turns plan closed logs }
+    ensures plain { (processors turns : ℕ) (back : List NoGate) (ended : TornDown) (plan : BootPlan)
         (closed : ClosedTables) (logs : List (List LogEntry))
         → CameBackPlain N.ran N.shown processors turns back ended plan closed logs
-        → HadTurns processors turns plan closed logs }
+        → LogsHaveTurns processors turns plan closed logs }
 {}

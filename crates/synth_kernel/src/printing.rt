@@ -3,12 +3,12 @@ ghost use Rattle.std.specs.Prelude.{◌≡◌, ◌≢◌, ◌≤◌, vec_len, If
 ghost use Rattle.std.specs.Io.KnownBytes.{Keeps};
 ghost use Rattle.boot_laws.specs.Saying.{live_threads};
 ghost use Rattle.boot_script.specs.StreamFaults.{IsWriteFault};
-ghost use Rattle.synth_kernel.specs.Boots.{ended_of, CameBack, HasNumbers, IsLate, IsRun};
+ghost use Rattle.synth_kernel.specs.Boots.{ended_of, BootWithHooks, HasNumbers, IsLate, IsRun};
 
 use crate::booting::boot_plan;
 use crate::outcome::{BootFault, Ended};
 use boot_data::{BootPlan, Report};
-use boot_objects::Unmade;
+use boot_objects::TornDown;
 use boot_report::live_of;
 use boot_script::{Sink, print_report};
 use boot_threads::{Witness, Work, Worked};
@@ -24,7 +24,7 @@ use turn_io::Gate;
 pub struct Booted<G> {
     ended: Ended,
     gates: Vec<G>,
-    closed: Unmade,
+    closed: TornDown,
     processors: u8,
     turns: u32,
 }
@@ -45,7 +45,7 @@ impl<G> Booted<G> {
     }
 
     /// The result of closing all.
-    pub fn closed(&self) -> &Unmade
+    pub fn closed(&self) -> &TornDown
         ensures { result.now ≡ self.now.closed }
     {
         &self.closed
@@ -95,7 +95,7 @@ where
     requires number { (1 ≤ processors) × (processors ≤ 8) }
     requires gates { vec_len gates ≡ processors }
     ensures numbers { IfOk result (HasNumbers processors turns) }
-    ensures ok { IfOk result (λ booted. IsRun (CameBack R.ran R.shown G.told turns gates.items booted.gates.items
+    ensures ok { IfOk result (λ booted. IsRun (BootWithHooks R.ran R.shown G.observes turns gates.items booted.gates.items
         booted.closed) plan booted.ended (O.contents writer.old) (O.contents writer.new)) }
     ensures fault { IfErr result (λ fault. IsLate fault) }
     ensures unwritten { IfErr result (λ fault. fault ≢ BootFault.Write

@@ -26,7 +26,7 @@ pub(crate) struct Room<G> {
     pub(crate) ttys: Vec<RawTty>,
     pub(crate) heards: Vec<HeardLines>,
     pub(crate) gates: Vec<G>,
-    pub(crate) told: Vec<Typed>,
+    pub(crate) reported: Vec<Typed>,
     pub(crate) answers: Answers,
     pub(crate) report: Lines,
 }
@@ -61,7 +61,7 @@ fn make_room<G: Drop>(
     let ttys = Vec::with_capacity(alloc, devices)?;
     let heards = Vec::with_capacity(alloc, processors)?;
     let gates = Vec::with_capacity(alloc, processors)?;
-    let told = Vec::with_capacity(alloc, devices)?;
+    let reported = Vec::with_capacity(alloc, devices)?;
     let answers = Answers::new(alloc, shared)?;
     Ok(Room {
         backs,
@@ -71,7 +71,7 @@ fn make_room<G: Drop>(
         ttys,
         heards,
         gates,
-        told,
+        reported,
         answers,
         report,
     })

@@ -39,7 +39,7 @@ where
     R: Witness<Shared, Worked<G>, Work<G>> + Wait + Sync,
     G: Gate + Send + Drop,
     requires ready { IsReadyFor processors ready }
-    ensures { IfOk result (HasStopped R.ran R.refused G.told processors ready) }
+    ensures { IfOk result (HasStopped R.ran R.refused G.observes processors ready) }
 {
     let handles = Vec::with_capacity(alloc, ready.works.len())?;
     let Ready {
@@ -57,7 +57,7 @@ where
         ttys,
         heards,
         gates,
-        told,
+        reported,
         answers,
         report,
     } = room;
@@ -70,7 +70,7 @@ where
         ttys,
         heards,
         gates,
-        told,
+        reported,
     };
     match gather(&shared, station, backs, inputs, lists) {
         Some(gathered) => Ok(Stopped {

@@ -7,7 +7,7 @@ ghost use Rattle.boot_objects.specs.Wholes.{HasWholes};
 ghost use Rattle.processor.specs.declared.station.Parts.{Parts};
 ghost use Rattle.processor.specs.Stations.{ArePartsOf};
 
-use boot_objects::{Answers, Unmade, close_all, join_raws};
+use boot_objects::{Answers, TornDown, close_all, join_raws};
 use processor::{Shared, Station};
 use quajects::RawTty;
 
@@ -21,7 +21,7 @@ pub(crate) fn shut_down(
     last: Station,
     ttys: Vec<RawTty>,
     answers: Answers,
-) -> Unmade
+) -> TornDown
     requires last { ArePartsOf shared last.parts }
     requires ttys { AreRawsOf shared ttys.items }
     requires wholes { (parts : Parts) → TookRaws (length shared.plan.queues) (length shared.plan.movers) ttys.items

@@ -11,10 +11,10 @@ use Rattle.synth_kernel.specs.Boots.{CameBackPlain, HasNumbers, IsBoot, IsBootFa
 use Rattle.turn_io.specs.declared.gate.NoGate.{NoGate}
 use Rattle.synthesis.specs.Runs.{answer_in, BootAnswers, IsBootedBy, IsBootAnswerOf}
 use Rattle.synth_kernel.specs.Boots.{RunsOf}
-use Rattle.boot_objects.specs.declared.closing.all.Unmade.{Unmade}
+use Rattle.boot_objects.specs.declared.closing.all.TornDown.{TornDown}
 
 -- what a boot returned is in the exit
-pub booted_by : (ran : RunsOf NoGate) (shown : Unmade → Type 0) (read : Option (List ℕ)) (processors turns : ℕ) (answer : Result (Booted NoGate) BootFault) (old new : Option (List ℕ))
+pub booted_by : (ran : RunsOf NoGate) (shown : TornDown → Type 0) (read : Option (List ℕ)) (processors turns : ℕ) (answer : Result (Booted NoGate) BootFault) (old new : Option (List ℕ))
     → IfOk answer (HasNumbers processors turns)
     → IfOk answer (λ booted. IsBoot (CameBackPlain ran shown processors turns booted.gates.items booted.closed) read booted.ended old new)
     → IfErr answer (λ fault. IfSome read (λ bytes. IsBootFault (text_plan bytes) fault))
@@ -24,7 +24,7 @@ booted_by ran shown read processors turns (Ok booted) old new numbers boot fault
 booted_by ran shown read processors turns (Err why) old new numbers boot fault unwritten = (fault, unwritten)
 
 pub answer_alone :
-    (ran : RunsOf NoGate) (shown : Unmade → Type 0) (read : Option (List ℕ)) (processors turns : ℕ) (answer : Result endings.Ended BootFault) (booted : Option (Booted NoGate)) (old new : Option (List ℕ))
+    (ran : RunsOf NoGate) (shown : TornDown → Type 0) (read : Option (List ℕ)) (processors turns : ℕ) (answer : Result endings.Ended BootFault) (booted : Option (Booted NoGate)) (old new : Option (List ℕ))
     → BootAnswers ran shown read processors turns answer booted old new → IsBootAnswerOf ran shown read processors turns answer
 answer_alone ran shown read processors turns (Ok ended) (Some booted) old new h = (
   booted.gates.items,

@@ -10,7 +10,7 @@ use Rattle.boot_script.specs.declared.outcome.Replayed.TheVariants.{AllAllowed, 
 use Rattle.boot_script.specs.declared.outcome.ReplayFault.{ReplayFault}
 use Rattle.boot_script.specs.declared.outcome.ReplayFault.TheVariants.{Script, Memory, Read, Write}
 use Rattle.boot_script.specs.Printed.{end_of_line, replay_fault_text}
-use Rattle.boot_objects.specs.declared.closing.all.Unmade.{Unmade}
+use Rattle.boot_objects.specs.declared.closing.all.TornDown.{TornDown}
 use Rattle.boot_script.specs.Plans.{text_plan}
 use Rattle.boot_script.specs.Scripts.{text_events}
 use Rattle.boot_script.specs.Replays.{IsReplay, IsAnswer, IsReplayFault}
@@ -71,7 +71,7 @@ HasCause answers fails answer old new written = IfErr answer (λ fault.
 
 -- the exit has this status; if the error stream took all words, exactly these words were appended to it
 abbrev pub IsExit : Exit → ℕ → List ℕ → Option (List ℕ) → Option (List ℕ) → Type 0
-IsExit exit status words old new = (exit.status ≡ status) × OnOk exit.told (Appends old new words)
+IsExit exit status words old new = (exit.status ≡ status) × OnOk exit.reported (Appends old new words)
 
 -- the answer is correct for the text, whatever was written
 abbrev pub IsAnswerOf : Result (ℕ × List (ℕ × Event)) ScriptFault → Result Replayed ReplayFault → Type 0
@@ -103,7 +103,7 @@ answer_in (Err fault) = Err fault
 
 -- The answer of a boot on this many processors, with this many turns each, is correct for what was read. If the report
 -- was printed, exactly the report is appended, and `booted` has this answer and both numbers; else `booted` is None
-abbrev pub BootAnswers : RunsOf NoGate → (Unmade → Type 0) → Option (List ℕ) → ℕ → ℕ
+abbrev pub BootAnswers : RunsOf NoGate → (TornDown → Type 0) → Option (List ℕ) → ℕ → ℕ
     → Result endings.Ended BootFault → Option (Booted NoGate) → Option (List ℕ) → Option (List ℕ) → Type 0
 BootAnswers ran shown read processors turns (Ok ended) (Some booted) old new = (booted.ended ≡ ended)
     × HasNumbers processors turns booted
@@ -119,7 +119,7 @@ IsBootUnwritten (Err fault) old new = fault ≢ boot_faults.Write → Keeps old 
 
 -- the answer of a boot and `booted` are correct for what was read, if known; after a fault other than `Write` nothing
 -- was written
-abbrev pub IsBootedBy : RunsOf NoGate → (Unmade → Type 0) → Option (List ℕ) → ℕ → ℕ
+abbrev pub IsBootedBy : RunsOf NoGate → (TornDown → Type 0) → Option (List ℕ) → ℕ → ℕ
     → Result endings.Ended BootFault → Option (Booted NoGate) → Option (List ℕ) → Option (List ℕ) → Type 0
 IsBootedBy ran shown read processors turns answer booted old new =
     BootAnswers ran shown read processors turns answer booted old new × IsBootUnwritten answer old new
@@ -135,14 +135,14 @@ abbrev pub HasStreamFailed : {R W : Type 0} → (R → Result ℕ Error → R �
 HasStreamFailed answers fails old new written = IsReadFault answers old new ⊎ IsWriteFault fails written
 
 -- the answer of a boot is correct for what was read, whatever was written
-abbrev pub IsBootAnswerOf : RunsOf NoGate → (Unmade → Type 0) → Option (List ℕ) → ℕ → ℕ
+abbrev pub IsBootAnswerOf : RunsOf NoGate → (TornDown → Type 0) → Option (List ℕ) → ℕ → ℕ
     → Result endings.Ended BootFault → Type 0
-IsBootAnswerOf ran shown read processors turns (Ok ended) = (back : List NoGate) × (closed : Unmade)
+IsBootAnswerOf ran shown read processors turns (Ok ended) = (back : List NoGate) × (closed : TornDown)
     × IsBootAnswer (CameBackPlain ran shown processors turns back closed) read ended
 IsBootAnswerOf ran shown read processors turns (Err fault) = IfSome read (λ bytes. IsBootFault (text_plan bytes) fault)
 
 -- the status is the exit status of a boot of what was read, on this many processors, with this many turns of each
-abbrev pub IsBootStatus : RunsOf NoGate → (Unmade → Type 0) → Option (List ℕ) → ℕ → ℕ → ℕ
+abbrev pub IsBootStatus : RunsOf NoGate → (TornDown → Type 0) → Option (List ℕ) → ℕ → ℕ → ℕ
     → Type 0
 IsBootStatus ran shown read processors turns status = (answer : Result endings.Ended BootFault)
     × IsBootAnswerOf ran shown read processors turns answer × (status ≡ boot_exit_code_of answer)

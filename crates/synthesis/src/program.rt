@@ -30,7 +30,7 @@ pub struct Exit {
     /// The exit status.
     pub status: u8,
     /// Whether the error stream took all the words for it.
-    pub told: io::Result<()>,
+    pub reported: io::Result<()>,
     /// The result of a boot whose report was printed.
     pub booted: Option<Booted<NoGate>>,
 }
@@ -68,7 +68,7 @@ pub fn run_on<
         Some(Command::Replay) => run_replay(alloc, reader, writer, errors),
         Some(Command::Boot { processors, turns }) => {
             let answer = boot_on(rt, alloc, reader, writer, processors, turns);
-            told_of_boot(answer, errors)
+            answer_of_boot(answer, errors)
         }
         None => usage(errors),
     }
@@ -104,22 +104,22 @@ fn run_replay<R: Source, W: Sink, E: Write>(
         × IsExit result (exit_code_of answer) (words_of answer) (E.contents errors.old) (E.contents errors.new) }
 {
     let answer = replay_on(alloc, reader, writer);
-    told_of_replay(answer, errors)
+    answer_of_replay(answer, errors)
 }
 
 /// Reports how a replay has ended.
-fn told_of_replay<E: Write>(answer: Result<Replayed, ReplayFault>, errors: &mut E) -> Exit
+fn answer_of_replay<E: Write>(answer: Result<Replayed, ReplayFault>, errors: &mut E) -> Exit
     ensures { IsExit result (exit_code_of answer) (words_of answer) (E.contents errors.old) (E.contents errors.new) }
 {
     Exit {
         status: status(answer),
-        told: tell(answer, errors),
+        reported: tell(answer, errors),
         booted: None,
     }
 }
 
 /// Reports how a boot has ended.
-fn told_of_boot<E: Write>(answer: Result<Booted<NoGate>, BootFault>, errors: &mut E) -> Exit
+fn answer_of_boot<E: Write>(answer: Result<Booted<NoGate>, BootFault>, errors: &mut E) -> Exit
     ensures exit { IsExit result (boot_exit_code_of (answer_in answer)) (boot_words_of (answer_in answer))
         (E.contents errors.old) (E.contents errors.new) }
     ensures booted { result.booted ≡ result_ok answer }
@@ -127,12 +127,12 @@ fn told_of_boot<E: Write>(answer: Result<Booted<NoGate>, BootFault>, errors: &mu
     match answer {
         Ok(booted) => Exit {
             status: boot_status(Ok(booted.ended())),
-            told: Ok(()),
+            reported: Ok(()),
             booted: Some(booted),
         },
         Err(fault) => Exit {
             status: boot_status(Err(fault)),
-            told: writeln!(errors, "{fault}"),
+            reported: writeln!(errors, "{fault}"),
             booted: None,
         },
     }
@@ -142,7 +142,7 @@ fn told_of_boot<E: Write>(answer: Result<Booted<NoGate>, BootFault>, errors: &mu
 pub fn no_memory<E: Write>(errors: &mut E) -> Exit
     ensures { IsExit result 3 no_memory_words (E.contents errors.old) (E.contents errors.new) }
 {
-    told_of_replay(Err(ReplayFault::Memory), errors)
+    answer_of_replay(Err(ReplayFault::Memory), errors)
 }
 
 /// Reports the commands, as after words that are no command.
@@ -151,7 +151,7 @@ pub fn usage<E: Write>(errors: &mut E) -> Exit
 {
     Exit {
         status: USAGE_FAULT,
-        told: tell_usage(errors),
+        reported: tell_usage(errors),
         booted: None,
     }
 }

@@ -14,17 +14,17 @@ pub use Rattle.event_theory.specs.Runs.{flat, pairs}
 pub use Rattle.table_theory.specs.Courses.{Continues, IsCourse}
 pub use Rattle.table_theory.specs.Ends.{Begins, later_of}
 pub use Rattle.table_theory.specs.Filing.{ListedOnce, Owned, entry_of, moved, sole}
-pub use Rattle.table_theory.specs.Ledgers.{Adds, AreTrue, CountedDown, CountedUp, EndsStand, IsHonest, IsIdle, IsReal, Made, Passes, Reaches, Stands, Step, StepEffect, Subject, Tallied, TookIn, both, emptied, event, fewer, first_of, more, newborn, opened, rest_of, stays}
-pub use Rattle.table_theory.specs.Listing.{Adjacent, IsListed, PartsShow, ViewsShow, all_places, runs_of, written_to}
+pub use Rattle.table_theory.specs.Ledgers.{ExtendsTrace, AreValidViews, CountedDown, CountedUp, EndsStand, IsValidView, IsIdle, IsValidStep, Performed, Passes, Reaches, TableInv, Step, StepEffect, ObjectModel, Tallied, JoinedBy, both, emptied, event, fewer, first_of, more, newborn, opened, rest_of, stays}
+pub use Rattle.table_theory.specs.Listing.{Adjacent, IsListed, PartsShow, ViewsShow, all_places, runs_of, with_stage}
 pub use Rattle.table_theory.specs.Orders.{AreOrdered}
-pub use Rattle.table_theory.specs.Positioned.{Grows, Lawful, blank, fresh, head_of, item_at, item_of, place_at, tail_of, with_claim, with_shut, with_take, with_write, written_at}
-pub use Rattle.table_theory.specs.QueueOf.{IsHistory, is_up, queue_of, run_in, up_in}
+pub use Rattle.table_theory.specs.Positioned.{Grows, Lawful, blank, fresh, head_of, item_at, item_of, place_at, tail_of, with_claim, with_shut, with_take, with_write, stage_at}
+pub use Rattle.table_theory.specs.QueueOf.{IsHistory, is_published, queue_of, run_in, published_in}
 pub use Rattle.table_theory.specs.Sharing.{IsCount, IsWhole, given, kept, total}
 pub use Rattle.table_theory.specs.declared.queues.Batch.{Batch}
 pub use Rattle.table_theory.specs.declared.queues.Cell.{Cell}
 pub use Rattle.table_theory.specs.declared.queues.Positions.{Positions}
 pub use Rattle.table_theory.specs.declared.queues.QueueView.{QueueView}
 pub use Rattle.table_theory.specs.declared.views.Entry.{Entry}
-pub use Rattle.table_theory.specs.declared.views.Ledger.{Ledger}
-pub use Rattle.table_theory.specs.declared.views.Moment.{Moment}
+pub use Rattle.table_theory.specs.declared.views.EndState.{EndState}
+pub use Rattle.table_theory.specs.declared.views.AbsState.{AbsState}
 pub use Rattle.table_theory.specs.declared.views.Part.{Part}

@@ -4,7 +4,7 @@ use Rattle.std.specs.List.{concat}
 use Rattle.table_theory.specs.Interleaving.{Ascending, joined, Interleaves}
 use Rattle.table_theory.specs.Listing.{IsSolid}
 use Rattle.table_theory.proofs.Logs.{one_start, starts_past}
-use Rattle.table_theory.proofs.Owned.{at_below, at_behind, at_joined, at_map_back, one_at}
+use Rattle.table_theory.proofs.Owned.{at_below, at_after, at_joined, at_map_back, one_at}
 
 -- PLACES IN JOINED LISTS
 
@@ -25,7 +25,7 @@ module _ {A : Type 0} where
   at_spot : (lists : List (List A)) (j m : ℕ) (l : List A) (e : A) → get_elem? lists j ≡ some l → get_elem? l m ≡ some e → get_elem? (joined lists) (spot lists j m) ≡ some e
   at_spot [] j m l e at is = absurd (some-ne-none l (sym at))
   at_spot (x ∷ lists) zero m l e at is = at_longer x (joined lists) m e (subst (λ (z : List A). get_elem? z m ≡ some e) (sym (some-injective x l at)) is)
-  at_spot (x ∷ lists) (suc j) m l e at is = at_behind x (joined lists) (spot lists j m) e (at_spot lists j m l e at is)
+  at_spot (x ∷ lists) (suc j) m l e at is = at_after x (joined lists) (spot lists j m) e (at_spot lists j m l e at is)
 
   one_spot : (lists : List (List A)) (j k m n : ℕ) (l r : List A) → get_elem? lists j ≡ some l → get_elem? lists k ≡ some r → m < length l → n < length r → spot lists j m ≡ spot lists k n → j ≡ k
   one_spot [] j k m n l r at to low below same = absurd (some-ne-none l (sym at))
@@ -48,8 +48,8 @@ record Ready (log : List Batch) (lists : List (List Batch)) : Type 0 where
   listed : (j : ℕ) (e : Batch) → Has lists j e → In log e
   stands : (e : Batch) → In log e → (j : ℕ) × Has lists j e
 
-up_behind : (x : Batch) (xs : List Batch) → Ascending (x ∷ xs) → Ascending xs
-up_behind x xs up i j e f at is low = up (suc i) (suc j) e f at is (omega arith)
+up_after : (x : Batch) (xs : List Batch) → Ascending (x ∷ xs) → Ascending xs
+up_after x xs up i j e f at is low = up (suc i) (suc j) e f at is (omega arith)
 
 -- nothing in the log starts before its first entry
 first_of_log : (x : Batch) (xs : List Batch) → Ascending (x ∷ xs) → (i : ℕ) (y : Batch) → get_elem? (x ∷ xs) i ≡ some y → y.start < x.start → ⊥
@@ -70,8 +70,8 @@ module _ (x : Batch) (xs : List Batch) (lists : List (List Batch)) (r : Ready (x
     here : get_elem? others k ≡ some ys
     here = set_here lists k ys (at_below lists k (x ∷ ys) at)
 
-    behind_x : (m : ℕ) (e : Batch) → get_elem? ys m ≡ some e → x.start < e.start
-    behind_x m e is = r.ups k (x ∷ ys) at 0 (suc m) x e refl is (omega arith)
+    after_x : (m : ℕ) (e : Batch) → get_elem? ys m ≡ some e → x.start < e.start
+    after_x m e is = r.ups k (x ∷ ys) at 0 (suc m) x e refl is (omega arith)
 
     -- what is in one of the other lists was in that list before
     old : (j : ℕ) (e : Batch) → Has others j e → Has lists j e
@@ -85,7 +85,7 @@ module _ (x : Batch) (xs : List Batch) (lists : List (List Batch)) (r : Ready (x
     gone j e h same =
         let j_is : j ≡ k = r.apart j k e x (old j e h) (x ∷ ys, 0, at, refl) same in
         let l_is : h.0 ≡ ys = one_at others k h.0 ys (subst (λ (z : ℕ). get_elem? others z ≡ some h.0) j_is h.2) here in
-        let past = behind_x h.1 e (subst (λ (z : List Batch). get_elem? z h.1 ≡ some e) l_is h.3) in
+        let past = after_x h.1 e (subst (λ (z : List Batch). get_elem? z h.1 ≡ some e) l_is h.3) in
         omega arith
 
     in_rest : (j : ℕ) (e : Batch) → Has others j e → (i : ℕ) → get_elem? (x ∷ xs) i ≡ some e → In xs e
@@ -101,8 +101,8 @@ module _ (x : Batch) (xs : List Batch) (lists : List (List Batch)) (r : Ready (x
 
     next : Ready xs others
     next = record {
-      up = up_behind x xs r.up;
-      ups = λ j l h. ⊎_elim (λ t. subst Ascending t.1 (up_behind x ys (r.ups k (x ∷ ys) at))) (λ t. r.ups j l t.1) (at_set lists k j ys l h);
+      up = up_after x xs r.up;
+      ups = λ j l h. ⊎_elim (λ t. subst Ascending t.1 (up_after x ys (r.ups k (x ∷ ys) at))) (λ t. r.ups j l t.1) (at_set lists k j ys l h);
       apart = λ i j e f a b same. r.apart i j e f (old i e a) (old j f b) same;
       listed = λ j e h. let i = r.listed j e (old j e h) in in_rest j e h i.0 i.1;
       stands = λ e i. let s = r.stands e (suc i.0, i.1) in dite (ℕ_discrete s.0 k)

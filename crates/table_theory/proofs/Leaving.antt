@@ -5,7 +5,7 @@ pub fresh_items : (xs : List ℕ) → map item_of (map fresh xs) ≡ xs
 fresh_items [] = refl
 fresh_items (x ∷ xs) = ap (λ (z : List ℕ). x ∷ z) (fresh_items xs)
 
-pub same_items : (l : List Cell) (i n : ℕ) → map item_of (set l i (record { item = (get_or l i blank).item; written = n })) ≡ map item_of l
+pub same_items : (l : List Cell) (i n : ℕ) → map item_of (set l i (record { item = (get_or l i blank).item; stage = n })) ≡ map item_of l
 same_items [] i n = refl
 same_items (x ∷ xs) zero n = refl
 same_items (x ∷ xs) (suc i) n = ap (λ (z : List ℕ). x.item ∷ z) (same_items xs i n)

@@ -1,9 +1,9 @@
 -- Each step keeps what the views list.
-use Rattle.table_theory.proofs.Common.{◌≡◌, ℕ, suc, zero, ◌+◌, ◌<◌, ◌≤◌, ◌≢◌, ⊎_elim, Bool, false, eq-eqb, ne_eqb, List, [], ◌∷◌, ◌++◌, map, length, get_or, set, take, drop, sym, refl, ap, ◌∙◌, subst, arith, length-set, map-set, map-append, length-drop, length-map, if◌then◌else◌, some, some-injective, some-ne-none, dite, dec_lt, get_elem?, Cell, Batch, Positions, QueueView, blank, place_at, item_at, written_at, Lawful, Grows, fresh, with_claim, with_write, with_take, with_shut, head_of, tail_of, Owned, ListedOnce, moved, sole, runs_of, written_to, IsListed, PartsShow, ViewsShow, at_set, set_again, at_map}
+use Rattle.table_theory.proofs.Common.{◌≡◌, ℕ, suc, zero, ◌+◌, ◌<◌, ◌≤◌, ◌≢◌, ⊎_elim, Bool, false, eq-eqb, ne_eqb, List, [], ◌∷◌, ◌++◌, map, length, get_or, set, take, drop, sym, refl, ap, ◌∙◌, subst, arith, length-set, map-set, map-append, length-drop, length-map, if◌then◌else◌, some, some-injective, some-ne-none, dite, dec_lt, get_elem?, Cell, Batch, Positions, QueueView, blank, place_at, item_at, stage_at, Lawful, Grows, fresh, with_claim, with_write, with_take, with_shut, head_of, tail_of, Owned, ListedOnce, moved, sole, runs_of, with_stage, IsListed, PartsShow, ViewsShow, at_set, set_again, at_map}
 use Rattle.std.proofs.lemmas.List.{take-append-le, take-set-le, length-take-le}
 use Rattle.std.proofs.Math.Path.{transport}
 use Rattle.table_theory.specs.Listing.{takes_of, Distinct, number_of}
-use Rattle.table_theory.specs.Seeing.{Stands}
+use Rattle.table_theory.specs.Seeing.{RunIsIn}
 use Rattle.table_theory.proofs.Owned.{all_set, all_push, all_one, at_push, one_at, at_map_back, file_first, file_push, file_set, file_new, file_join, file_sole}
 use Rattle.table_theory.proofs.Positioned.{grows_refl, grows_trans, claim_grows, write_grows, take_grows, shut_grows}
 use Rattle.table_theory.proofs.Logs.{flat_push, adjacent_push, lies, moved_entry, flat_kept, adjacent_kept, one_start}
@@ -90,13 +90,13 @@ listed_look q parts j v w l at runs takes grown = listed_on q q parts j w l (gro
 
 unfoldable pub listed_claim : (q : Positions) (parts : List QueueView) (j : ℕ) (v w : QueueView) (xs : List ℕ) → ViewsShow q parts → get_elem? parts j ≡ some v → q.taken ≤ length q.places → q.shut ≡ false → 0 < length xs
     → w.runs ≡ v.runs ++ record { start = head_of q; places = map fresh xs } ∷ [] → w.takes ≡ v.takes → Grows w.queue (with_claim q xs) → ViewsShow (with_claim q xs) (set parts j w)
-listed_claim q parts j v w xs l at behind is_open some_items runs takes grown = let e : Batch = record { start = head_of q; places = map fresh xs } in let n = length-map xs fresh in
+listed_claim q parts j v w xs l at following is_open some_items runs takes grown = let e : Batch = record { start = head_of q; places = map fresh xs } in let n = length-map xs fresh in
     listed_on q (with_claim q xs) parts j w l (claim_grows q xs is_open) grown (l.lists.runs ++ (j, length v.runs, e) ∷ []) l.lists.takes
     (log_push q.first q.places l.lists.runs (map runs_of parts) l.lists.runs_are j v.runs w.runs e (at_map runs_of parts j v at) runs (omega arith) refl)
-    (same_takes q parts j v w l at (take q.taken (q.places ++ map fresh xs)) (sym (take-append-le q.taken q.places (map fresh xs) behind)) takes)
+    (same_takes q parts j v w l at (take q.taken (q.places ++ map fresh xs)) (sym (take-append-le q.taken q.places (map fresh xs) following)) takes)
 
 -- a run of a view is in the queue
-pub run_stands : (q : Positions) (parts : List QueueView) (j m : ℕ) (v : QueueView) (e : Batch) → PartsShow q parts → get_elem? parts j ≡ some v → get_elem? v.runs m ≡ some e → Stands q e
+pub run_stands : (q : Positions) (parts : List QueueView) (j m : ℕ) (v : QueueView) (e : Batch) → PartsShow q parts → get_elem? parts j ≡ some v → get_elem? v.runs m ≡ some e → RunIsIn q e
 run_stands q parts j m v e l at has = let r = l.runs_are.filed.listed j v.runs m e (at_map runs_of parts j v at) has in let s = lies q.first l.runs r.0 (j, m, e) l.runs_are.adjacent r.1 in record {
   at = s.at;
   start = s.start;
@@ -113,20 +113,20 @@ pub record Own (q : Positions) (e : Batch) (i : ℕ) : Type 0 where
   pub to : at < q.taken + q.room
   pub same : place_at q at ≡ get_or e.places i blank
 
-pub own : (q : Positions) (e : Batch) (i : ℕ) → Lawful q → Stands q e → i < length e.places → (get_or e.places i blank).written < 2 → Own q e i
-own q e i l s below low = let st = s.start in let w = s.within in let same = s.same i below in let n : written_at q (s.at + i) ≡ (get_or e.places i blank).written = ap (λ (z : Cell). z.written) same in let within = l.within in
+pub own : (q : Positions) (e : Batch) (i : ℕ) → Lawful q → RunIsIn q e → i < length e.places → (get_or e.places i blank).stage < 2 → Own q e i
+own q e i l s below low = let st = s.start in let w = s.within in let same = s.same i below in let n : stage_at q (s.at + i) ≡ (get_or e.places i blank).stage = ap (λ (z : Cell). z.stage) same in let within = l.within in
     let from : q.taken ≤ s.at + i = dite (dec_lt (s.at + i) q.taken) (λ y. let r = l.ready (s.at + i) y in absurd (omega arith)) (λ no. omega arith) in
     record { at = s.at + i; start = omega arith; from = from; below = omega arith; to = omega arith; same = same }
 
 unfoldable pub listed_write : (q : Positions) (parts : List QueueView) (j m i n p : ℕ) (v w : QueueView) (e : Batch) → ViewsShow q parts → get_elem? parts j ≡ some v → get_elem? v.runs m ≡ some e → i < length e.places → e.start + i ≡ q.first + p
-    → q.taken ≤ p → written_at q p ≤ n → w.runs ≡ set v.runs m (written_to e i n) → w.takes ≡ v.takes → Grows w.queue (with_write q p n) → ViewsShow (with_write q p n) (set parts j w)
+    → q.taken ≤ p → stage_at q p ≤ n → w.runs ≡ set v.runs m (with_stage e i n) → w.takes ≡ v.takes → Grows w.queue (with_write q p n) → ViewsShow (with_write q p n) (set parts j w)
 listed_write q parts j m i n p v w e l at has below is ahead more runs takes grown =
-    let a = l.lists in let s = run_stands q parts j m v e a at has in let st = s.start in let within = s.within in let here : s.at + i ≡ p = omega arith in let x : Cell = record { item = (get_or e.places i blank).item; written = n } in
-    let item : (get_or e.places i blank).item ≡ item_at q p = ap (λ (z : Cell). z.item) (sym (s.same i below) ∙ ap (place_at q) here) in let log : List (Owned Batch) = set a.runs (a.runs_are.filed.listed j v.runs m e (at_map runs_of parts j v at) has).0 (j, m, written_to e i n) in
+    let a = l.lists in let s = run_stands q parts j m v e a at has in let st = s.start in let within = s.within in let here : s.at + i ≡ p = omega arith in let x : Cell = record { item = (get_or e.places i blank).item; stage = n } in
+    let item : (get_or e.places i blank).item ≡ item_at q p = ap (λ (z : Cell). z.item) (sym (s.same i below) ∙ ap (place_at q) here) in let log : List (Owned Batch) = set a.runs (a.runs_are.filed.listed j v.runs m e (at_map runs_of parts j v at) has).0 (j, m, with_stage e i n) in
     listed_on q (with_write q p n) parts j w l (write_grows q p n (omega arith) more) grown log a.takes
-    (subst (λ (z : ℕ). IsListed q.first (set q.places p (record { item = z; written = n })) log (set (map runs_of parts) j w.runs)) item
+    (subst (λ (z : ℕ). IsListed q.first (set q.places p (record { item = z; stage = n })) log (set (map runs_of parts) j w.runs)) item
     (log_set q.first q.places a.runs (map runs_of parts) a.runs_are j m i p v.runs w.runs e x (at_map runs_of parts j v at) has runs below is))
-    (same_takes q parts j v w l at (take q.taken (with_write q p n).places) (sym (take-set-le q.taken q.places p (record { item = item_at q p; written = n }) ahead)) takes)
+    (same_takes q parts j v w l at (take q.taken (with_write q p n).places) (sym (take-set-le q.taken q.places p (record { item = item_at q p; stage = n }) ahead)) takes)
 
 pub take_on : (n m : ℕ) (l : List Cell) → take (n + m) l ≡ take n l ++ take m (drop n l)
 take_on zero m l = let e : 0 + m ≡ m = omega arith in ap (λ (z : ℕ). take z l) e
@@ -138,7 +138,7 @@ unfoldable pub listed_take : (q : Positions) (parts : List QueueView) (j n : ℕ
     → w.takes ≡ v.takes ++ record { start = tail_of q; places = take n (drop q.taken q.places) } ∷ [] → w.runs ≡ v.runs → Grows w.queue (with_take q n) → ViewsShow (with_take q n) (set parts j w)
 listed_take q parts j n v w l at some_place long takes runs grown =
     let a = l.lists in let e : Batch = record { start = tail_of q; places = take n (drop q.taken q.places) } in let rest = length-drop q.taken q.places in let taken : length (take n (drop q.taken q.places)) ≡ n = length-take-le n (drop q.taken q.places) (omega arith) in
-    let behind = length-take-le q.taken q.places (omega arith) in let log : List (Owned Batch) = a.takes ++ (j, length v.takes, e) ∷ [] in
+    let following = length-take-le q.taken q.places (omega arith) in let log : List (Owned Batch) = a.takes ++ (j, length v.takes, e) ∷ [] in
     listed_on q (with_take q n) parts j w l (take_grows q n) grown a.runs log (same_runs q parts j v w l at runs)
     (subst (λ (z : List Cell). IsListed q.first z log (set (map takes_of parts) j w.takes)) (sym (take_on q.taken n q.places))
     (log_push q.first (take q.taken q.places) a.takes (map takes_of parts) a.takes_are j v.takes w.takes e (at_map takes_of parts j v at) takes (omega arith) (omega arith)))

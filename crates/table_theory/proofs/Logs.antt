@@ -22,9 +22,9 @@ pub record Lies (p : ℕ) (log : Log) (k : ℕ) (o : Owned Batch) : Type 0 where
   pub change : (c m i : ℕ) (x : Cell) → i < length o.2.places → all_places (set log k (c, m, record { start = o.2.start; places = set o.2.places i x })) ≡ set (all_places log) (at + i) x
   pub adjacent : (c m i : ℕ) (x : Cell) → Adjacent p (set log k (c, m, record { start = o.2.start; places = set o.2.places i x }))
 
-set_behind : {A : Type 0} (l r : List A) (i : ℕ) (x : A) → set (l ++ r) (length l + i) x ≡ l ++ set r i x
-set_behind {A} [] r i x = let e : 0 + i ≡ i = omega arith in ap (λ (z : ℕ). set r z x) e
-set_behind {A} (y ∷ ys) r i x = let e : suc (length ys) + i ≡ suc (length ys + i) = omega arith in ap (λ (z : ℕ). set (y ∷ (ys ++ r)) z x) e ∙ ap (λ (z : List A). y ∷ z) (set_behind ys r i x)
+set_after : {A : Type 0} (l r : List A) (i : ℕ) (x : A) → set (l ++ r) (length l + i) x ≡ l ++ set r i x
+set_after {A} [] r i x = let e : 0 + i ≡ i = omega arith in ap (λ (z : ℕ). set r z x) e
+set_after {A} (y ∷ ys) r i x = let e : suc (length ys) + i ≡ suc (length ys + i) = omega arith in ap (λ (z : ℕ). set (y ∷ (ys ++ r)) z x) e ∙ ap (λ (z : List A). y ∷ z) (set_after ys r i x)
 
 pub lies : (p : ℕ) (log : Log) (k : ℕ) (o : Owned Batch) → Adjacent p log → get_elem? log k ≡ some o → Lies p log k o
 lies p [] k o c e = absurd (some-ne-none o (sym e))
@@ -41,7 +41,7 @@ lies p (y ∷ ys) (suc k) o c e = let r = lies (p + length y.2.places) ys k o c.
   start = omega arith;
   within = omega (arith, length-append y.2.places (all_places ys));
   same = λ i h. let z : n + r.at + i ≡ n + (r.at + i) = omega arith in ap (λ (v : ℕ). get_or (y.2.places ++ all_places ys) v blank) z ∙ get_or-append-add y.2.places (all_places ys) (r.at + i) blank ∙ r.same i h;
-  change = λ d m i x h. let z : n + (r.at + i) ≡ n + r.at + i = omega arith in ap (λ (v : List Cell). y.2.places ++ v) (r.change d m i x h) ∙ sym (set_behind y.2.places (all_places ys) (r.at + i) x) ∙ ap (λ (v : ℕ). set (y.2.places ++ all_places ys) v x) z;
+  change = λ d m i x h. let z : n + (r.at + i) ≡ n + r.at + i = omega arith in ap (λ (v : List Cell). y.2.places ++ v) (r.change d m i x h) ∙ sym (set_after y.2.places (all_places ys) (r.at + i) x) ∙ ap (λ (v : ℕ). set (y.2.places ++ all_places ys) v x) z;
   adjacent = λ d m i x. (c.0, r.adjacent d m i x);
 }
 

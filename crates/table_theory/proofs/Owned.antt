@@ -22,9 +22,9 @@ module _ {A : Type 0} where
   at_joined (x ∷ xs) r zero a e = inl e
   at_joined (x ∷ xs) r (suc i) a e = ⊎_elim (λ h. inl h) (λ t. inr (t.0, (let h = t.1 in omega arith), t.2)) (at_joined xs r i a e)
 
-  pub at_behind : (l r : List A) (j : ℕ) (a : A) → get_elem? r j ≡ some a → get_elem? (l ++ r) (length l + j) ≡ some a
-  at_behind [] r j a e = let n : j ≡ 0 + j = omega arith in subst (λ (z : ℕ). get_elem? r z ≡ some a) n e
-  at_behind (x ∷ xs) r j a e = let n : suc (length xs + j) ≡ suc (length xs) + j = omega arith in subst (λ (z : ℕ). get_elem? (x ∷ (xs ++ r)) z ≡ some a) n (at_behind xs r j a e)
+  pub at_after : (l r : List A) (j : ℕ) (a : A) → get_elem? r j ≡ some a → get_elem? (l ++ r) (length l + j) ≡ some a
+  at_after [] r j a e = let n : j ≡ 0 + j = omega arith in subst (λ (z : ℕ). get_elem? r z ≡ some a) n e
+  at_after (x ∷ xs) r j a e = let n : suc (length xs + j) ≡ suc (length xs) + j = omega arith in subst (λ (z : ℕ). get_elem? (x ∷ (xs ++ r)) z ≡ some a) n (at_after xs r j a e)
 
   pub at_map_back : {B : Type 0} (f : A → B) (l : List A) (i : ℕ) (b : B) → get_elem? (map f l) i ≡ some b → (a : A) × (get_elem? l i ≡ some a) × (f a ≡ b)
   at_map_back f [] i b e = absurd (some-ne-none b (sym e))
@@ -163,7 +163,7 @@ module _ {E : Type 0} where
       let num : n + u.1 ≡ v.1 = ap (λ (z : Owned E). z.1) (sym hit) ∙ same1 ∙ ap (λ (z : Owned E). z.1) miss in omega arith) in
       file_by to log lists lists' f
       (λ o s. dite (ℕ_discrete o.0 d)
-      (λ own. subst (Stands lists') (sym (moved_hit c d n o own)) (a ++ b, here, at_behind a b o.1 o.2 (its lists d b at_d o s own)))
+      (λ own. subst (Stands lists') (sym (moved_hit c d n o own)) (a ++ b, here, at_after a b o.1 o.2 (its lists d b at_d o s own)))
       (λ other. subst (Stands lists') (sym (moved_miss c d n o other)) (dite (ℕ_discrete o.0 c)
       (λ own. (a ++ b, subst (λ (z : ℕ). get_elem? lists' z ≡ some (a ++ b)) (sym own) here, at_longer a b o.1 o.2 (its lists c a at_c o s own)))
       (λ ne. (s.0, set_else mid d o.0 [] other ∙ (set_else lists c o.0 (a ++ b) ne ∙ s.1), s.2)))))
@@ -194,10 +194,10 @@ module _ {E : Type 0} where
 
 -- a log of what is reported of each entry
 module _ {E F : Type 0} (f : E → F) where
-  abbrev pub told : Owned E → Owned F
-  told o = (o.0, o.1, f o.2)
+  abbrev pub reported : Owned E → Owned F
+  reported o = (o.0, o.1, f o.2)
 
-  pub file_map : (log : List (Owned E)) (lists : List (List E)) → ListedOnce log lists → ListedOnce (map told log) (map (map f) lists)
-  file_map log lists h = file_by told log lists (map (map f) lists) h (λ o s. (map f s.0, at_map (map f) lists o.0 s.0 s.1, at_map f s.0 o.1 o.2 s.2))
+  pub file_map : (log : List (Owned E)) (lists : List (List E)) → ListedOnce log lists → ListedOnce (map reported log) (map (map f) lists)
+  file_map log lists h = file_by reported log lists (map (map f) lists) h (λ o s. (map f s.0, at_map (map f) lists o.0 s.0 s.1, at_map f s.0 o.1 o.2 s.2))
       (λ o s. let p = at_map_back (map f) lists o.0 s.0 s.1 in let q = at_map_back f p.0 o.1 o.2 (subst (λ (z : List F). get_elem? z o.1 ≡ some o.2) (sym p.2) s.2) in ((o.0, o.1, q.0), (p.0, p.1, q.1), λ i. (o.0, o.1, q.2 i)))
       (λ o p s r own num. (own, num))

@@ -1,5 +1,5 @@
 -- Each event keeps what the words of places have that aren't written yet.
-use Rattle.table_theory.proofs.Common.{◌≡◌, ℕ, ◌+◌, ◌-◌, ◌%◌, ◌<◌, ◌≤◌, ◌≢◌, List, length, sym, ap, ◌∙◌, subst, arith, dite, dec_lt, ℕ_discrete, Cell, Positions, written_at, item_at, Lawful, with_claim, with_write, with_take, with_shut}
+use Rattle.table_theory.proofs.Common.{◌≡◌, ℕ, ◌+◌, ◌-◌, ◌%◌, ◌<◌, ◌≤◌, ◌≢◌, List, length, sym, ap, ◌∙◌, subst, arith, dite, dec_lt, ℕ_discrete, Cell, Positions, stage_at, item_at, Lawful, with_claim, with_write, with_take, with_shut}
 use Rattle.std.proofs.Common.{mod-lt}
 use native.Mathlib.Nat.{add-mod_right}
 use Rattle.table_theory.specs.Rests.{PlaceRests, PlacesRest}
@@ -16,8 +16,8 @@ rests_same q f d f' d' some w sf sd i a b = let p = w i a b in let near : spot q
 }
 
 pub rests_claim : (q : Positions) (xs : List ℕ) (f d : ℕ → ℕ) → Lawful q → PlacesRest q f d → PlacesRest (with_claim q xs) f d
-rests_claim q xs f d l w i a b = let p = w i a b in let behind = l.behind in dite (dec_lt i (length q.places))
-    (λ y. let n : written_at (with_claim q xs) i ≡ written_at q i = ap (λ (z : Cell). z.written) (claim_old q xs i y) in record {
+rests_claim q xs f d l w i a b = let p = w i a b in let following = l.taken_within in dite (dec_lt i (length q.places))
+    (λ y. let n : stage_at (with_claim q xs) i ≡ stage_at q i = ap (λ (z : Cell). z.stage) (claim_old q xs i y) in record {
       first_flag = λ early low. p.first_flag early (omega arith);
       first_item = λ early low. p.first_item early (omega arith);
       later_flag = λ late low. p.later_flag late (omega arith);
@@ -41,19 +41,19 @@ pub rests_write : (q : Positions) (p n : ℕ) (f d f' d' : ℕ → ℕ) → 0 < 
 rests_write q p n f d f' d' some w from to below sf sd mine i a b = dite (ℕ_discrete i p)
     (λ e. subst (PlaceRests (with_write q p n) f' d') (sym e) mine)
     (λ ne. let old = w i a b in let near : spot q i < q.room = mod-lt (q.first + i) some in let other = apart q i p a b from to ne in let ef : f' (spot q i) ≡ f (spot q i) = sf (spot q i) near other in let ed : d' (spot q i) ≡ d (spot q i) = sd (spot q i) near other in
-    let m : written_at (with_write q p n) i ≡ written_at q i = ap (λ (z : Cell). z.written) (write_else q p i n ne) in record {
+    let m : stage_at (with_write q p n) i ≡ stage_at q i = ap (λ (z : Cell). z.stage) (write_else q p i n ne) in record {
       first_flag = λ early low. ef ∙ old.first_flag early (omega arith);
       first_item = λ early low. ed ∙ old.first_item early (omega arith);
       later_flag = λ late low. ef ∙ old.later_flag late (omega arith);
       later_item = λ late low. ed ∙ (old.later_item late (omega arith) ∙ sym (write_item q p n (i - q.room) below));
     })
 
-pub rests_take : (q : Positions) (n : ℕ) (f d : ℕ → ℕ) → PlacesShow q f d → PlacesRest q f d → Lawful q → q.taken + n ≤ length q.places → ((i : ℕ) → i < n → 2 ≤ written_at q (q.taken + i)) → PlacesRest (with_take q n) f d
+pub rests_take : (q : Positions) (n : ℕ) (f d : ℕ → ℕ) → PlacesShow q f d → PlacesRest q f d → Lawful q → q.taken + n ≤ length q.places → ((i : ℕ) → i < n → 2 ≤ stage_at q (q.taken + i)) → PlacesRest (with_take q n) f d
 rests_take q n f d shows w l below up i a b = dite (dec_lt i (q.taken + q.room))
     (λ y. let p = w i (omega arith) y in record { first_flag = p.first_flag; first_item = p.first_item; later_flag = p.later_flag; later_item = p.later_item })
     (λ no. let within = l.within in let j : ℕ = i - q.room in let back : q.first + j + q.room ≡ q.first + i = omega arith in
     let round : spot q i ≡ spot q j = ap (λ (z : ℕ). z % q.room) (sym back) ∙ add-mod_right (q.first + j) q.room in
-    let here : q.taken + (j - q.taken) ≡ j = omega arith in let raised : 2 ≤ written_at q j = subst (λ (z : ℕ). 2 ≤ written_at q z) here (up (j - q.taken) (omega arith)) in
+    let here : q.taken + (j - q.taken) ≡ j = omega arith in let raised : 2 ≤ stage_at q j = subst (λ (z : ℕ). 2 ≤ stage_at q z) here (up (j - q.taken) (omega arith)) in
     let p = shows.each j (omega arith) (omega arith) in record {
       first_flag = λ early low. absurd (omega arith);
       first_item = λ early low. absurd (omega arith);

@@ -52,16 +52,16 @@ pub record ViewsShow (q : Positions) (parts : List QueueView) : Type 0 where
   pub seen : (j : ℕ) (v : QueueView) → get_elem? parts j ≡ some v → Grows v.queue q
 
 -- the stretch, with n steps of writing done at its place i
-abbrev pub written_to : Batch → ℕ → ℕ → Batch
-written_to e i n = record {
+abbrev pub with_stage : Batch → ℕ → ℕ → Batch
+with_stage e i n = record {
   start = e.start;
-  places = slice_set e.places i (record { item = (slice_index_or e.places i blank).item; written = n });
+  places = slice_set e.places i (record { item = (slice_index_or e.places i blank).item; stage = n });
 }
 
 -- all places of the runs are raised
 abbrev pub AllRaised : List Batch → Type 0
 AllRaised l = (m : ℕ) (e : Batch) → get_elem? l m ≡ some e → (i : ℕ) → i < length e.places
-    → 2 ≤ (slice_index_or e.places i blank).written
+    → 2 ≤ (slice_index_or e.places i blank).stage
 
 -- no two runs of a list have the same start
 abbrev pub Distinct : List Batch → Type 0

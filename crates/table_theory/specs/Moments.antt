@@ -1,25 +1,25 @@
 -- What a call did, and how its object was meanwhile, for the call's caller. A call that led an end from one view to
 -- another has a moment for each of the steps that the end made.
 use Rattle.std.specs.Prelude.{◌≡◌, ◌⊎◌, List, [], ◌∷◌, ◌++◌}
-use Rattle.table_theory.specs.declared.views.Ledger.{Ledger}
-use Rattle.table_theory.specs.Ledgers.{Step, Adds}
+use Rattle.table_theory.specs.declared.views.EndState.{EndState}
+use Rattle.table_theory.specs.Ledgers.{Step, ExtendsTrace}
 
 -- Holds was true of the object at a moment of the call
-pub record AtSomeMoment {K O : Type 0} (v w : Ledger K O) (Holds : O → Type 0) : Type 0 where
+pub record AtSomeMoment {K O : Type 0} (v w : EndState K O) (Holds : O → Type 0) : Type 0 where
   pub before : List (Step O)
   pub step : Step O
   pub after : List (Step O)
-  pub adds : Adds v (before ++ step ∷ after) w
+  pub adds : ExtendsTrace v (before ++ step ∷ after) w
   pub holds : Holds step.then.object
 
 -- Holds was true of the object at two moments of the call, the first before the second
-pub record AtTwoMoments {K O : Type 0} (v w : Ledger K O) (Holds : O → O → Type 0) : Type 0 where
+pub record AtTwoMoments {K O : Type 0} (v w : EndState K O) (Holds : O → O → Type 0) : Type 0 where
   pub before : List (Step O)
   pub first : Step O
   pub between : List (Step O)
   pub second : Step O
   pub after : List (Step O)
-  pub adds : Adds v (before ++ first ∷ (between ++ second ∷ after)) w
+  pub adds : ExtendsTrace v (before ++ first ∷ (between ++ second ∷ after)) w
   pub holds : Holds first.then.object second.then.object
 
 -- Each step is the next of these events, or one that no event shows. `Makes` says what an event makes of an object, and
@@ -32,8 +32,8 @@ AreEvents {E} Makes IsHidden (step ∷ steps) events =
     × AreEvents Makes IsHidden steps rest)
 
 -- the end made just these events, in this order, each at one step of the call
-pub record Does {K E O : Type 0} (Makes : E → O → O → Type 0) (IsHidden : O → O → Type 0) (v : Ledger K O)
-    (events : List E) (w : Ledger K O) : Type 0 where
+pub record Does {K E O : Type 0} (Makes : E → O → O → Type 0) (IsHidden : O → O → Type 0) (v : EndState K O)
+    (events : List E) (w : EndState K O) : Type 0 where
   pub steps : List (Step O)
-  pub adds : Adds v steps w
+  pub adds : ExtendsTrace v steps w
   pub are : AreEvents Makes IsHidden steps events

@@ -6,7 +6,7 @@ use Rattle.table_theory.specs.declared.queues.Positions.{Positions}
 
 -- a place with nothing in it
 abbrev pub blank : Cell
-blank = record { item = 0; written = 0 }
+blank = record { item = 0; stage = 0 }
 
 -- the place i positions after the first one
 abbrev pub place_at : Positions → ℕ → Cell
@@ -16,8 +16,8 @@ place_at q i = slice_index_or q.places i blank
 abbrev pub item_at : Positions → ℕ → ℕ
 item_at q i = (place_at q i).item
 
-abbrev pub written_at : Positions → ℕ → ℕ
-written_at q i = (place_at q i).written
+abbrev pub stage_at : Positions → ℕ → ℕ
+stage_at q i = (place_at q i).stage
 
 -- the position after the last place that was claimed, and the first position that is left
 abbrev pub head_of : Positions → ℕ
@@ -28,9 +28,9 @@ tail_of q = q.first + q.taken
 
 -- no more was taken than claimed, what was taken was raised, and what is left is within the room
 pub record Lawful (q : Positions) : Type 0 where
-  pub behind : q.taken ≤ length q.places
+  pub taken_within : q.taken ≤ length q.places
   pub within : length q.places ≤ q.taken + q.room
-  pub ready : (i : ℕ) → i < q.taken → 2 ≤ written_at q i
+  pub ready : (i : ℕ) → i < q.taken → 2 ≤ stage_at q i
 
 -- r can follow q: nothing that was claimed, written or taken is lost, and a shut queue stays shut, with no claim more
 pub record Grows (q r : Positions) : Type 0 where
@@ -39,13 +39,13 @@ pub record Grows (q r : Positions) : Type 0 where
   pub longer : length q.places ≤ length r.places
   pub further : q.taken ≤ r.taken
   pub items : (i : ℕ) → i < length q.places → item_at r i ≡ item_at q i
-  pub more : (i : ℕ) → written_at q i ≤ written_at r i
+  pub more : (i : ℕ) → stage_at q i ≤ stage_at r i
   pub shut : q.shut ≡ true → r.shut ≡ true
   pub still : q.shut ≡ true → length r.places ≡ length q.places
 
 -- a place with this item, as a claim makes it
 abbrev pub fresh : ℕ → Cell
-fresh x = record { item = x; written = 0 }
+fresh x = record { item = x; stage = 0 }
 
 -- the queue after a claim of places for these items
 abbrev pub with_claim : Positions → List ℕ → Positions
@@ -53,7 +53,7 @@ with_claim q xs = record q { places = q.places ++ map fresh xs }
 
 -- the queue with n steps of writing done at the place i
 abbrev pub with_write : Positions → ℕ → ℕ → Positions
-with_write q i n = record q { places = slice_set q.places i (record { item = item_at q i; written = n }) }
+with_write q i n = record q { places = slice_set q.places i (record { item = item_at q i; stage = n }) }
 
 -- the queue with n more places taken
 abbrev pub with_take : Positions → ℕ → Positions
@@ -68,7 +68,7 @@ item_of p = p.item
 
 -- the item of a place that is left, if the item was raised
 abbrev pub shown : Cell → Option ℕ
-shown p = if nat_lt p.written 2 then None else Some p.item
+shown p = if nat_lt p.stage 2 then None else Some p.item
 
 -- the items that are left, in order
 abbrev pub left_of : Positions → List ℕ

@@ -21,17 +21,17 @@ abbrev pub run_in : Owned Batch → Run
 run_in o = record { call = o.0; items = map item_of o.2.places }
 
 -- both stores of a place are done
-abbrev pub is_up : Cell → Bool
-is_up e = nat_le 2 e.written
+abbrev pub is_published : Cell → Bool
+is_published e = nat_le 2 e.stage
 
-abbrev pub up_in : Option (Owned Batch) → ℕ → Bool
-up_in None index = false
-up_in (Some o) index = is_up (slice_index_or o.2.places index blank)
+abbrev pub published_in : Option (Owned Batch) → ℕ → Bool
+published_in None index = false
+published_in (Some o) index = is_published (slice_index_or o.2.places index blank)
 
 abbrev pub queue_of : Positions → List (Owned Batch) → Queue
 queue_of q runs = record {
   history = map run_in runs;
-  raised = λ run index. up_in (slice_get runs run) index;
+  raised = λ run index. published_in (slice_get runs run) index;
   taken = q.taken;
   capacity = q.room;
   shut = q.shut;

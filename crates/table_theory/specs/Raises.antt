@@ -8,7 +8,7 @@ use Rattle.event_theory.specs.Results.{◌>>=◌}
 use Rattle.table_theory.specs.declared.queues.Batch.{Batch}
 use Rattle.table_theory.specs.declared.queues.Positions.{Positions}
 use Rattle.table_theory.specs.Filing.{Owned}
-use Rattle.table_theory.specs.Listing.{written_to}
+use Rattle.table_theory.specs.Listing.{with_stage}
 use Rattle.table_theory.specs.Positioned.{with_write}
 
 -- n items of the run, from this index on, are raised one after the other
@@ -24,7 +24,7 @@ with_raises q at (suc n) = with_raises (with_write q at 2) (suc at) n
 -- n places of the run, from this index on, are raised
 abbrev pub raised_run : Batch → ℕ → ℕ → Batch
 raised_run run index zero = run
-raised_run run index (suc n) = raised_run (written_to run index 2) (suc index) n
+raised_run run index (suc n) = raised_run (with_stage run index 2) (suc index) n
 
 -- a place of a history: the call of its run, the number of the run, and its index there
 pub record Spot : Type 0 where

@@ -5,7 +5,7 @@ use Rattle.table_theory.specs.declared.queues.Positions.{Positions}
 use Rattle.table_theory.specs.Positioned.{blank, place_at}
 
 -- the run of an end is in the queue as the end lists it
-pub record Stands (q : Positions) (e : Batch) : Type 0 where
+pub record RunIsIn (q : Positions) (e : Batch) : Type 0 where
   pub at : ℕ
   pub start : e.start ≡ q.first + at
   pub within : at + length e.places ≤ length q.places

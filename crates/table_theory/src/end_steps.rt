@@ -2,20 +2,20 @@
 ghost use Rattle.std.specs.Prelude.{◌≡◌, ◌+◌, ◌%◌, ◌^◌, ◌-◌, ◌<◌, []};
 ghost use mathlib.Core.Option.{Option, none, some};
 ghost use Rattle.atomic_table.specs.Table.{step, Allows, Splits, Joins};
-ghost use Rattle.table_theory.specs.declared.views.Ledger.{Ledger};
+ghost use Rattle.table_theory.specs.declared.views.EndState.{EndState};
 ghost use Rattle.table_theory.specs.Ledgers.{CountedUp, CountedDown, rest_of, newborn, both, emptied};
 ghost use Rattle.table_theory.specs.Plays.{counts_up, counts_down, the_view};
 ghost use Rattle.table_theory.specs.Seating.{IsSame};
 
-use crate::views::Ledger;
+use crate::views::EndState;
 use atomic_table::{Join, Play, Seat, Shared, Split, TableRule};
 use std::marker::{Brand, PhantomData};
 
 /// The rule of a table whose ends are split and joined. S is what a slot holds, K what an end did, O the object, and
 /// Key what the table is made with.
-pub trait EndsRule<S, K, O, Key>: TableRule<S, Ledger<K, O>, Key> {
+pub trait EndsRule<S, K, O, Key>: TableRule<S, EndState<K, O>, Key> {
     // The condition on an end that has counted one more or one less.
-    ghost suits: { Ledger K O → Type 0 };
+    ghost suits: { EndState K O → Type 0 };
 
     // The record of an end that did nothing.
     ghost nothing: { K };
@@ -24,7 +24,7 @@ pub trait EndsRule<S, K, O, Key>: TableRule<S, Ledger<K, O>, Key> {
     ghost plus: { K → K → K };
 
     // The view of some end.
-    ghost some_view: { Ledger K O };
+    ghost some_view: { EndState K O };
 }
 
 /// One end more is counted.
@@ -33,7 +33,7 @@ struct CountsUp<Key, P> {
     rule: PhantomData<P>,
 }
 
-impl<S, K, O, Key, P: EndsRule<S, K, O, Key>> Play<S, Ledger<K, O>> for CountsUp<Key, P> {
+impl<S, K, O, Key, P: EndsRule<S, K, O, Key>> Play<S, EndState<K, O>> for CountsUp<Key, P> {
     ghost then = { counts_up P.suits };
 }
 
@@ -43,7 +43,7 @@ struct CountsDown<Key, P> {
     rule: PhantomData<P>,
 }
 
-impl<S, K, O, Key, P: EndsRule<S, K, O, Key>> Play<S, Ledger<K, O>> for CountsDown<Key, P> {
+impl<S, K, O, Key, P: EndsRule<S, K, O, Key>> Play<S, EndState<K, O>> for CountsDown<Key, P> {
     ghost then = { counts_down P.suits };
 }
 
@@ -54,7 +54,7 @@ struct Gives<S, Key, P> {
     rule: PhantomData<P>,
 }
 
-impl<S, K, O, Key, P: EndsRule<S, K, O, Key>> Split<Ledger<K, O>> for Gives<S, Key, P> {
+impl<S, K, O, Key, P: EndsRule<S, K, O, Key>> Split<EndState<K, O>> for Gives<S, Key, P> {
     ghost left = { rest_of };
 
     ghost right = { newborn P.nothing };
@@ -77,7 +77,7 @@ struct Joined<S, Key, P, J> {
     spent: PhantomData<J>,
 }
 
-impl<S, K, O, Key, P: EndsRule<S, K, O, Key>, J: Spent<Ledger<K, O>>> Join<Ledger<K, O>>
+impl<S, K, O, Key, P: EndsRule<S, K, O, Key>, J: Spent<EndState<K, O>>> Join<EndState<K, O>>
     for Joined<S, Key, P, J> {
     ghost both = { both P.plus };
 
@@ -86,8 +86,8 @@ impl<S, K, O, Key, P: EndsRule<S, K, O, Key>, J: Spent<Ledger<K, O>>> Join<Ledge
 
 /// Counts one end more, as the rule allows it.
 pub fn count_up<S, K, O, Key, P: EndsRule<S, K, O, Key>>(
-    words: &Shared<S, Ledger<K, O>, Key, P>,
-    seat: &mut Seat<S, Ledger<K, O>>,
+    words: &Shared<S, EndState<K, O>, Key, P>,
+    seat: &mut Seat<S, EndState<K, O>>,
     word: usize,
 ) -> u64
     requires table { (seat.old.table_id ≡ words.now.table_id) × (word < words.now.table_id.words) }
@@ -102,8 +102,8 @@ pub fn count_up<S, K, O, Key, P: EndsRule<S, K, O, Key>>(
 
 /// Counts one end less, as the rule allows it.
 pub fn count_down<S, K, O, Key, P: EndsRule<S, K, O, Key>>(
-    words: &Shared<S, Ledger<K, O>, Key, P>,
-    seat: &mut Seat<S, Ledger<K, O>>,
+    words: &Shared<S, EndState<K, O>, Key, P>,
+    seat: &mut Seat<S, EndState<K, O>>,
     word: usize,
 ) -> u64
     requires table { (seat.old.table_id ≡ words.now.table_id) × (word < words.now.table_id.words) }
@@ -120,9 +120,9 @@ pub fn count_down<S, K, O, Key, P: EndsRule<S, K, O, Key>>(
 /// A new end gets a part of the end's share, and has seen what the end has seen. The first word is loaded once, and the
 /// value found there is not used.
 pub fn split_off<S, K, O, Key, P: EndsRule<S, K, O, Key>>(
-    words: &Shared<S, Ledger<K, O>, Key, P>,
-    seat: &mut Seat<S, Ledger<K, O>>,
-) -> Seat<S, Ledger<K, O>>
+    words: &Shared<S, EndState<K, O>, Key, P>,
+    seat: &mut Seat<S, EndState<K, O>>,
+) -> Seat<S, EndState<K, O>>
     requires table { (seat.old.table_id ≡ words.now.table_id) × (0 < words.now.table_id.words) }
     requires allowed { Splits (P.holds words.now.key) seat.old.id seat.old.me.0 (rest_of seat.old.me.0)
         (newborn P.nothing seat.old.me.0) }
@@ -134,10 +134,10 @@ pub fn split_off<S, K, O, Key, P: EndsRule<S, K, O, Key>>(
 }
 
 /// The end gets all that the other end has. The first word is loaded once, and the value found there is not used.
-pub fn take_in<S, K, O, Key, P: EndsRule<S, K, O, Key>, J: Spent<Ledger<K, O>>>(
-    words: &Shared<S, Ledger<K, O>, Key, P>,
-    seat: &mut Seat<S, Ledger<K, O>>,
-    other: Seat<S, Ledger<K, O>>,
+pub fn take_in<S, K, O, Key, P: EndsRule<S, K, O, Key>, J: Spent<EndState<K, O>>>(
+    words: &Shared<S, EndState<K, O>, Key, P>,
+    seat: &mut Seat<S, EndState<K, O>>,
+    other: Seat<S, EndState<K, O>>,
 )
     requires table { (seat.old.table_id ≡ words.now.table_id) × (other.table_id ≡ words.now.table_id)
         × (other.me.1 ≡ []) × (0 < words.now.table_id.words) }

@@ -11,11 +11,11 @@ ghost use Rattle.table_theory.specs.declared.queues.Batch.{Batch};
 ghost use Rattle.table_theory.specs.declared.queues.Positions.{Positions};
 ghost use Rattle.table_theory.specs.declared.queues.QueueView.{QueueView};
 ghost use Rattle.table_theory.specs.Sharing.{given};
-ghost use Rattle.table_theory.specs.Positioned.{Lawful, head_of, left_of, fresh, written_at, with_claim, with_take};
+ghost use Rattle.table_theory.specs.Positioned.{Lawful, head_of, left_of, fresh, stage_at, with_claim, with_take};
 ghost use Rattle.table_theory.specs.Positioned.{Grows, blank, tail_of, with_shut, with_write};
 ghost use Rattle.table_theory.specs.Filing.{Owned, entry_of, moved, ListedOnce};
 ghost use Rattle.table_theory.specs.Interleaving.{Ascending, joined, Interleaves};
-ghost use Rattle.table_theory.specs.Listing.{Adjacent, ViewsShow, written_to};
+ghost use Rattle.table_theory.specs.Listing.{Adjacent, ViewsShow, with_stage};
 ghost use Rattle.table_theory.specs.QueueOf.{IsHistory, IsEvent, no_event, queue_of};
 
 /// A table's positions are a lawful queue, and each step of a table on its positions is one event of this queue, or
@@ -34,21 +34,21 @@ pub fn positions_are_queues()
     ensures stored { (q : Positions) (views : List QueueView) (seat number index at : ℕ) (v w : QueueView) (run : Batch)
         → ViewsShow q views → get_elem? views seat ≡ some v → get_elem? v.runs number ≡ some run
         → index < length run.places → run.start + index ≡ q.first + at → Lawful q → q.taken ≤ at
-        → (slice_index_or run.places index blank).written < 2 → written_at q at ≤ 1
-        → w.runs ≡ slice_set v.runs number (written_to run index 1) → w.takes ≡ v.takes
+        → (slice_index_or run.places index blank).stage < 2 → stage_at q at ≤ 1
+        → w.runs ≡ slice_set v.runs number (with_stage run index 1) → w.takes ≡ v.takes
         → Grows w.queue (with_write q at 1)
         → IsEvent q (with_write q at 1) seat v w no_event }
     ensures raised { (q : Positions) (views : List QueueView) (seat number index at : ℕ) (v w : QueueView) (run : Batch)
         → ViewsShow q views → get_elem? views seat ≡ some v → get_elem? v.runs number ≡ some run
         → index < length run.places → run.start + index ≡ q.first + at → Lawful q → q.taken ≤ at
-        → (slice_index_or run.places index blank).written < 2 → written_at q at ≤ 2
-        → w.runs ≡ slice_set v.runs number (written_to run index 2) → w.takes ≡ v.takes
+        → (slice_index_or run.places index blank).stage < 2 → stage_at q at ≤ 2
+        → w.runs ≡ slice_set v.runs number (with_stage run index 2) → w.takes ≡ v.takes
         → Grows w.queue (with_write q at 2)
         → (k : ℕ) × (event : IsEvent q (with_write q at 2) seat v w (raise seat k index))
         × (get_elem? event.shown.lists.runs k ≡ some (seat, number, run)) }
     ensures taken { (q : Positions) (views : List QueueView) (seat count : ℕ) (v w : QueueView)
         → ViewsShow q views → get_elem? views seat ≡ some v → Lawful q → 0 < count
-        → q.taken + count ≤ length q.places → ((i : ℕ) → i < count → 2 ≤ written_at q (q.taken + i))
+        → q.taken + count ≤ length q.places → ((i : ℕ) → i < count → 2 ≤ stage_at q (q.taken + i))
         → w.takes ≡ v.takes ++ record { start = tail_of q; places = take count (drop q.taken q.places) } ∷ []
         → w.runs ≡ v.runs → Grows w.queue (with_take q count)
         → IsEvent q (with_take q count) seat v w (take_first q.room count) }

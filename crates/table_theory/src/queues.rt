@@ -8,7 +8,7 @@ use std::collections::LinkedList;
 /// A claimed place: its item, and how many of its two stores are done. After the second it is raised.
 pub struct Cell {
     pub item: u64,
-    pub written: u64,
+    pub stage: u64,
 }
 
 /// Places side by side, the first of which has the position `start`: a run, or what one step took.

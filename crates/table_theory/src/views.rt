@@ -19,7 +19,7 @@ pub struct OpenEnds {
 }
 
 /// An object at one moment, and how many ends it has then. Only proofs use it.
-pub struct Moment<O> {
+pub struct AbsState<O> {
     pub ends: u64,
     pub object: O,
 }
@@ -39,13 +39,13 @@ pub struct Part {
 /// among the ends, its own steps, and all ends' steps up to its last one. Between taking in another end and the next
 /// step, `joined` has the steps that were seen by the one of both that saw less, and `joined_first` is the object as it
 /// was made, as the other end had it. Only proofs use it.
-pub struct Ledger<K, O> {
+pub struct EndState<K, O> {
     pub first: O,
     pub own: K,
-    pub seen: Moment<O>,
+    pub seen: AbsState<O>,
     pub member: Part,
-    pub steps: LinkedList<Entry<Moment<O>>>,
-    pub course: LinkedList<Entry<Moment<O>>>,
-    pub joined: LinkedList<Entry<Moment<O>>>,
+    pub steps: LinkedList<Entry<AbsState<O>>>,
+    pub course: LinkedList<Entry<AbsState<O>>>,
+    pub joined: LinkedList<Entry<AbsState<O>>>,
     pub joined_first: O,
 }

@@ -15,6 +15,6 @@ pub mod Saying
 pub mod SingleRuns
 pub mod StatesSeen
 pub mod Takes
-pub mod Tells
+pub mod StepShows
 pub mod Threads
 pub mod Waking

@@ -3,7 +3,7 @@ pub mod AfterSplits
 pub mod CountSteps
 pub mod HeldLists
 pub mod JoinSteps
-pub mod Looks
+pub mod OnlyLoads
 pub mod Making
 pub mod Releases
 pub mod Renaming

@@ -25,7 +25,7 @@ use Rattle.thread_table.specs.Makers.{made_in}
 use Rattle.thread_table.specs.Views.{quiet, with_held, with_start, with_on, with_off, count_of, having_found}
 use Rattle.thread_table.specs.Rules.{running}
 use Rattle.table_theory.specs.Ledgers.{load}
-use Rattle.thread_table.specs.Entries.{Step, change, Acts, with_event, steps_in, HoldsMore, HoldsLess}
+use Rattle.thread_table.specs.Entries.{Step, change, PerformsEvents, with_event, steps_in, HoldsMore, HoldsLess}
 use Rattle.thread_table.specs.Entries.{take_event, claim_event}
 
 -- The result of a taking that is made after these entries: the tail is loaded, then the place at it. Ok: the place was
@@ -34,16 +34,16 @@ use Rattle.thread_table.specs.Entries.{take_event, claim_event}
 abbrev pub TakesAfter : List Step → ℕ → View → ℕ → Result ℕ NextRefusal → View → Type 0
 TakesAfter before call v ring (Ok element) w = (tail place : ℕ) × (r s t : Past)
     × (place / 256 ≡ tail + 1) × (element ≡ place % 256) × HoldsMore element v w
-    × Acts v (before ++ load (tail_word ring) tail r ∷ load (place_word ring tail) place s
+    × PerformsEvents v (before ++ load (tail_word ring) tail r ∷ load (place_word ring tail) place s
     ∷ change (tail_word ring) tail t (take_event call ring) ∷ [])
     (with_event (with_held v element true) (take_event call ring)) w
 TakesAfter before call v ring (Err nexts.NoneReady) w = (tail place : ℕ) × (r s t : Past)
     × (place / 256 ≢ tail + 1)
-    × Acts v (before ++ load (tail_word ring) tail r ∷ load (place_word ring tail) place s
+    × PerformsEvents v (before ++ load (tail_word ring) tail r ∷ load (place_word ring tail) place s
     ∷ load (tail_word ring) tail t ∷ []) (quiet v) w
 TakesAfter before call v ring (Err (nexts.Lost seen)) w = (tail place : ℕ) × (r s t : Past)
     × (tail < seen)
-    × Acts v (before ++ load (tail_word ring) tail r ∷ load (place_word ring tail) place s
+    × PerformsEvents v (before ++ load (tail_word ring) tail r ∷ load (place_word ring tail) place s
     ∷ load (tail_word ring) seen t ∷ []) (quiet v) w
 
 -- the result of a taking
@@ -79,19 +79,19 @@ with_move v element claim past raise = record v {
 abbrev pub MovedBy : ℕ → View → ℕ → ℕ → Event → ℕ → View → Type 0
 MovedBy call v ring element event word w = (place : ℕ) × (r s t : Past)
     × (head_in word < last_head) × (steps_in element s.object ≡ steps_in element v.seen.object) × HoldsLess element v w
-    × Acts v (load (head_word ring) word r ∷ change (head_word ring) word s event
+    × PerformsEvents v (load (head_word ring) word r ∷ change (head_word ring) word s event
     ∷ change (place_word ring (head_in word)) place t (raise_event call v ring (head_in word)) ∷ [])
     (with_move v element event s (raise_event call v ring (head_in word))) w
 
 -- the head word was loaded, and its head is the last position
 abbrev pub WasSpent : View → ℕ → View → Type 0
 WasSpent v ring w = (word : ℕ) × (r : Past) × (head_in word ≡ last_head)
-    × Acts v (load (head_word ring) word r ∷ []) (quiet v) w
+    × PerformsEvents v (load (head_word ring) word r ∷ []) (quiet v) w
 
 -- the head word was loaded, with a position left, but the exchange found another word
 abbrev pub Overtaken : View → ℕ → ℕ → ℕ → View → Type 0
 Overtaken v ring word seen w = (r s : Past) × (head_in word < last_head) × (seen ≢ word)
-    × Acts v (load (head_word ring) word r ∷ load (head_word ring) seen s ∷ []) (quiet v) w
+    × PerformsEvents v (load (head_word ring) word r ∷ load (head_word ring) seen s ∷ []) (quiet v) w
 
 -- the result of a move without a ticket: the element is in the queue; or no position was left (Spent); or another hand
 -- changed the head word first (Lost); never Moved
@@ -105,15 +105,15 @@ MoveAnswer call v ring element (Err (moves.Moved mark)) w = ⊥
 -- the ticket is the number of notifies in the head word, which was loaded
 abbrev pub IsTicket : View → ℕ → ℕ → View → Type 0
 IsTicket v wait ticket w = (word : ℕ) × (r : Past) × (ticket ≡ mark_in word)
-    × Acts v (load (head_word (wait_ring wait)) word r ∷ []) (quiet v) w
+    × PerformsEvents v (load (head_word (wait_ring wait)) word r ∷ []) (quiet v) w
 
 -- A number of notifies other than the ticket was found. It was in the head word that was loaded, with a position left.
 -- Or it was in the word that the exchange found, and the loaded word had the ticket.
 abbrev pub HasMoved : View → ℕ → ℕ → ℕ → View → Type 0
 HasMoved v wait ticket mark w = (word : ℕ) × (r : Past) × (head_in word < last_head) × (mark ≢ ticket)
-    × (((mark ≡ mark_in word) × Acts v (load (head_word (wait_ring wait)) word r ∷ []) (quiet v) w)
+    × (((mark ≡ mark_in word) × PerformsEvents v (load (head_word (wait_ring wait)) word r ∷ []) (quiet v) w)
     ⊎ ((mark_in word ≡ ticket) × (seen : ℕ) × (s : Past) × (mark ≡ mark_in seen)
-    × Acts v (load (head_word (wait_ring wait)) word r ∷ load (head_word (wait_ring wait)) seen s ∷ []) (quiet v) w))
+    × PerformsEvents v (load (head_word (wait_ring wait)) word r ∷ load (head_word (wait_ring wait)) seen s ∷ []) (quiet v) w))
 
 -- the result of a wait with a ticket: the element is in the wait queue; or no position was left; or another hand moved
 -- first, and the ticket is still good; or the number of notifies is no longer the ticket
@@ -131,13 +131,13 @@ is_in mask number = bit_at mask number == 1
 -- the stop bit was set by one step, and the result is whether it was clear before
 abbrev pub StoppedNow : ℕ → View → ℕ → Bool → View → Type 0
 StoppedNow call v element was_clear w = (word : ℕ) × (r : Past) × (was_clear ≡ not (is_in word stop_bit))
-    × Acts v (change (state_word element) word r (events.Stop call element) ∷ [])
+    × PerformsEvents v (change (state_word element) word r (events.Stop call element) ∷ [])
     (with_event (quiet v) (events.Stop call element)) w
 
 -- the signal was made pending by one step, and `was_pending` is whether it was pending before
 abbrev pub SignalledNow : ℕ → View → ℕ → ℕ → Bool → View → Type 0
 SignalledNow call v element number was_pending w = (word : ℕ) × (r : Past) × (is_in word number ≡ was_pending)
-    × Acts v (change (state_word element) word r (events.Signal call element number) ∷ [])
+    × PerformsEvents v (change (state_word element) word r (events.Signal call element number) ∷ [])
     (with_event (quiet v) (events.Signal call element number)) w
 
 -- the result of a signal: Merged if the signal was pending before, else Raised
@@ -148,17 +148,17 @@ SignalAnswer call v element number signalled.Merged w = SignalledNow call v elem
 -- the state word was loaded and satisfies `Is`, the exchange found the same word, and the event was made
 abbrev pub Exchanged : (ℕ → Type 0) → View → ℕ → Event → View → View → Type 0
 Exchanged Is v element event now w = (word : ℕ) × (r s : Past) × Is word
-    × Acts v (load (state_word element) word r ∷ change (state_word element) word s event ∷ []) now w
+    × PerformsEvents v (load (state_word element) word r ∷ change (state_word element) word s event ∷ []) now w
 
 -- the state word was loaded and satisfies `Is`, but the exchange found another word
 abbrev pub WasChanged : (ℕ → Type 0) → View → ℕ → ℕ → View → Type 0
 WasChanged Is v element seen w = (word : ℕ) × (r s : Past) × Is word × (seen ≢ word)
-    × Acts v (load (state_word element) word r ∷ load (state_word element) seen s ∷ []) (quiet v) w
+    × PerformsEvents v (load (state_word element) word r ∷ load (state_word element) seen s ∷ []) (quiet v) w
 
 -- the state word was loaded and satisfies `Is`
 abbrev pub FoundState : (ℕ → Type 0) → View → ℕ → View → Type 0
 FoundState Is v element w = (word : ℕ) × (r : Past) × Is word
-    × Acts v (load (state_word element) word r ∷ []) (quiet v) w
+    × PerformsEvents v (load (state_word element) word r ∷ []) (quiet v) w
 
 -- the state word was loaded, and the mask is the signals that were pending in it
 abbrev pub IsPending : View → ℕ → ℕ → View → Type 0
@@ -226,7 +226,7 @@ DeliverAnswer call v element (Err lost) w = WasChanged HasSignals v element lost
 -- the number of steps done of the element was found: all those that were counted up to the load
 abbrev pub ReadPc : ℕ → View → ℕ → View → Type 0
 ReadPc element v found w = (r : Past) × (found ≡ steps_in element r.object)
-    × Acts v (load (done_word element) found r ∷ []) (having_found v (count_of element found)) w
+    × PerformsEvents v (load (done_word element) found r ∷ []) (having_found v (count_of element found)) w
 
 -- the hand counts one step of an element, which had done `number` steps
 abbrev pub with_step : View → Event → ℕ → View
@@ -242,18 +242,18 @@ with_step v event number = record v {
 abbrev pub DoneAnswer : ℕ → View → ℕ → Result ℕ Spent → View → Type 0
 DoneAnswer call v element (Ok number) w = (count : ℕ) × (r s : Past) × (number ≡ count + 1)
     × (count ≡ steps_in element r.object) × (count ≡ steps_in element s.object)
-    × Acts v (load (done_word element) count r ∷ change (done_word element) count s (events.Done call element) ∷ [])
+    × PerformsEvents v (load (done_word element) count r ∷ change (done_word element) count s (events.Done call element) ∷ [])
     (with_step v (events.Done call element) count) w
 DoneAnswer call v element (Err spent) w = ReadPc element v most_done w
 
 -- an element that the hand held was put on a processor, whose word was 0
 abbrev pub PutsOn : ℕ → ℕ → ℕ → View → View → Type 0
 PutsOn call p element v w = (r : Past) × (running w p ≡ Some element) × HoldsLess element v w
-    × Acts v (change (processor_word p) 0 r (events.On call p element) ∷ [])
+    × PerformsEvents v (change (processor_word p) 0 r (events.On call p element) ∷ [])
     (with_event (with_on v p element) (events.On call p element)) w
 
 -- the element was taken off the processor, whose word was one more than the element's number
 abbrev pub TakesOff : ℕ → ℕ → ℕ → View → View → Type 0
 TakesOff call p element v w = (r : Past) × (running w p ≡ None) × HoldsMore element v w
-    × Acts v (change (processor_word p) (element + 1) r (events.Off call p) ∷ [])
+    × PerformsEvents v (change (processor_word p) (element + 1) r (events.Off call p) ∷ [])
     (with_event (with_off v p element) (events.Off call p)) w

@@ -22,7 +22,7 @@ use Rattle.thread_table.specs.Rules.{HandIs, done_at}
 use Rattle.thread_table.specs.Views.{quiet}
 use Rattle.thread_table.specs.Makers.{AreMade, StepsOnce}
 use Rattle.thread_table.specs.Retiring.{AreRetired}
-use Rattle.thread_table.specs.Entries.{Acts}
+use Rattle.thread_table.specs.Entries.{PerformsEvents}
 use Rattle.thread_table.specs.Answers.{is_in}
 
 abbrev pub word_at : List ℕ → ℕ → ℕ
@@ -100,6 +100,6 @@ pub record WereOpen (v : View) (others : ℕ) (w : View) : Type 0 where
   pub some_other : 0 < others
   pub not_whole : IsWhole v.member.share → ⊥
   pub past : Past
-  pub acts : Acts v (load ends_word (others + 1) past ∷ []) (quiet v) w
+  pub acts : PerformsEvents v (load ends_word (others + 1) past ∷ []) (quiet v) w
   pub number : others + 1 ≡ past.ends
   pub count : IsCount v.member.share (others + 1)

@@ -9,7 +9,7 @@ use Rattle.thread_table.specs.Layout.{ends_word}
 use Rattle.thread_table.specs.Schedules.{Past}
 use Rattle.thread_table.specs.Rules.{has, serves, serving}
 use Rattle.thread_table.specs.Steps.{both}
-use Rattle.thread_table.specs.Entries.{Acts}
+use Rattle.thread_table.specs.Entries.{PerformsEvents}
 use Rattle.thread_table.specs.Answers.{is_in}
 
 -- the hand serves what w serves, has one more split and one more load that no list has, and keeps its part of the share
@@ -25,15 +25,15 @@ with_split v w = record v {
 
 -- The number of hands was found and made one more. The hand gave away a part of its share and the processors of the
 -- mask. Nothing else changed except the counts in `with_split`.
-pub record Divided (mask : ℕ) (v w : View) : Type 0 where
+pub record SplitBy (mask : ℕ) (v w : View) : Type 0 where
   pub serves : (p : ℕ) → p < PROCESSORS → serves w p ≡ (serves v p && not (is_in mask p))
   pub found : Past
-  pub acts : Acts v (ends.count_up ends_word found ∷ []) (with_split v w) w
+  pub acts : PerformsEvents v (ends.count_up ends_word found ∷ []) (with_split v w) w
 
 -- the new hand has only the processors of the mask and its part of the share, and has seen what the other hand had seen
-pub record IsNewborn (mask : ℕ) (old new born : View) : Type 0 where
+pub record IsNewEnd (mask : ℕ) (old new born : View) : Type 0 where
   pub serves : (p : ℕ) → p < PROCESSORS → serves born p ≡ is_in mask p
-  pub same : ends.IsNewborn (serving new.own.first born.own.serves) old new born
+  pub same : ends.IsNewEnd (serving new.own.first born.own.serves) old new born
 
 -- the view of what both hands have, before one of them has the share of both: the step of the join, which is on no
 -- word, comes between this and the hand's next step
@@ -48,13 +48,13 @@ with_join v u = record (both v u) {
 
 -- Both hands were of one table, and had no element and no processor in common. The hand has what both had, and has seen
 -- what both had seen. Then the number of hands was found and made one less.
-pub record TookIn (v u w : View) : Type 0 where
+pub record JoinedBy (v u w : View) : Type 0 where
   pub apart : (e : ℕ) → (has v e && has u e) ≡ false
   pub alone : (p : ℕ) → (serves v p && serves u p) ≡ false
   pub held : (e : ℕ) → has w e ≡ (has v e || has u e)
   pub serves : (p : ℕ) → serves w p ≡ (serves v p || serves u p)
   pub found : Past
-  pub acts : Acts (together v u) (ends.count_down ends_word found ∷ []) (with_join v u) w
+  pub acts : PerformsEvents (together v u) (ends.count_down ends_word found ∷ []) (with_join v u) w
   pub one : Begins v.course w.course
   pub other : Begins u.course w.course
   pub one_object : u.first ≡ v.first

@@ -5,9 +5,9 @@ use Rattle.event_theory.specs.declared.event.Event.{Event}
 use Rattle.event_theory.specs.declared.event.Event.TheVariants as events
 use Rattle.table_theory.specs.Ends.{Begins}
 use Rattle.table_theory.specs.Ledgers as ends
-use Rattle.table_theory.specs.Ledgers.{Adds}
+use Rattle.table_theory.specs.Ledgers.{ExtendsTrace}
 use Rattle.thread_table.specs.declared.layout.TheConstants.{ELEMENTS}
-use Rattle.thread_table.specs.declared.rule.Made.{Made}
+use Rattle.thread_table.specs.declared.rule.MadeEvent.{MadeEvent}
 use Rattle.thread_table.specs.Own.{View}
 use Rattle.thread_table.specs.Rules.{MayStep, has}
 use Rattle.thread_table.specs.Schedules.{Past, elements_after, Grows, ring_name}
@@ -35,7 +35,7 @@ AreInOrder past (e ∷ es) = Begins past.object e.then.object
 abbrev pub steps_in : ℕ → List Event → ℕ
 steps_in element events = count_by (is_done element) events
 
-abbrev pub steps_by : ℕ → List Made → ℕ
+abbrev pub steps_by : ℕ → List MadeEvent → ℕ
 steps_by element made = count_by (λ m. is_done element m.event) made
 
 -- if the hand had counted its joins, only this hand counted steps of what it may step before and after
@@ -50,8 +50,8 @@ seen_as now w = record w { own = record now.own { fresh = true }; member = now.m
 
 -- These entries were added, and then the hand has what the view `now` has. The hand has seen what the last entry left,
 -- which is no earlier than what it had seen before.
-pub record Acts (v : View) (entries : List Step) (now w : View) : Type 0 where
-  pub adds : Adds v entries w
+pub record PerformsEvents (v : View) (entries : List Step) (now w : View) : Type 0 where
+  pub adds : ExtendsTrace v entries w
   pub has : w ≡ seen_as now w
   pub seen : w.seen ≡ left_by v.seen entries
   pub later : Begins v.seen.object w.seen.object

@@ -7,7 +7,7 @@ use Rattle.event_theory.specs.declared.event.Event.TheVariants as events
 use Rattle.event_theory.specs.declared.names.QueueName.TheVariants as names
 use Rattle.thread_table.specs.declared.layout.TheConstants.{ELEMENTS}
 use Rattle.thread_table.specs.Layout.{free_ring}
-use Rattle.thread_table.specs.declared.rule.Made.{Made}
+use Rattle.thread_table.specs.declared.rule.MadeEvent.{MadeEvent}
 use Rattle.thread_table.specs.Schedules.{elements_after, ring_at}
 
 abbrev pub items_of : Run → List ℕ
@@ -32,8 +32,8 @@ taking_by (events.Take call names.Free count) = count ∷ []
 taking_by event = []
 
 -- the takings of free elements in a hand's list
-abbrev pub free_takings : List Made → List ℕ
-free_takings made = flat_map (λ (m : Made). taking_by m.event) made
+abbrev pub free_takings : List MadeEvent → List ℕ
+free_takings made = flat_map (λ (m : MadeEvent). taking_by m.event) made
 
 -- the event puts this element after the free elements, which are put there one by one
 abbrev pub frees : ℕ → Event → Bool
@@ -41,5 +41,5 @@ frees element (events.Claim call names.Free items) = slice_index_or items 0 0 ==
 frees element event = false
 
 -- an event of the list put this element after the free elements
-abbrev pub was_freed : ℕ → List Made → Bool
-was_freed element made = list_any (λ (m : Made). frees element m.event) made
+abbrev pub was_freed : ℕ → List MadeEvent → Bool
+was_freed element made = list_any (λ (m : MadeEvent). frees element m.event) made

@@ -16,7 +16,7 @@ use Rattle.thread_table.specs.declared.rule.Shape.{Shape}
 use Rattle.thread_table.specs.Own.{View}
 use Rattle.thread_table.specs.declared.rule.Claimed.{Claimed}
 use Rattle.thread_table.specs.declared.rule.Counted.{Counted}
-use Rattle.thread_table.specs.declared.rule.Having.{Having}
+use Rattle.thread_table.specs.declared.rule.HandState.{HandState}
 use Rattle.thread_table.specs.Schedules.{Past, Course, elements_after, IsAllowed, Grows, ring_at, thread_at, element_at}
 use Rattle.thread_table.specs.Views.{claim_of}
 use Rattle.thread_table.specs.Joins.{AreJoins, AreJoined}
@@ -37,7 +37,7 @@ abbrev pub nothing_on : List (Option ℕ)
 nothing_on = repeat PROCESSORS (None ∷ [])
 
 -- the contents of a hand that has nothing, in a table with this first position
-abbrev pub nothing_of : ℕ → Having
+abbrev pub nothing_of : ℕ → HandState
 nothing_of first = record {
   first = first;
   held = nothing_held;
@@ -51,7 +51,7 @@ nothing_of first = record {
 }
 
 -- the contents of a new hand, which serves the processors of the mask
-abbrev pub serving : ℕ → List Bool → Having
+abbrev pub serving : ℕ → List Bool → HandState
 serving first mask = record (nothing_of first) { serves = mask; fresh = true }
 
 -- the hand holds the element

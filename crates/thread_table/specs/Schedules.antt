@@ -11,12 +11,12 @@ use Rattle.event_theory.specs.States.{State, first_state, step}
 use Rattle.event_theory.specs.declared.event.Event.{Event}
 use Rattle.event_theory.specs.declared.names.QueueName.{QueueName}
 use Rattle.event_theory.specs.declared.names.QueueName.TheVariants as names
-use Rattle.table_theory.specs.declared.views.Moment.{Moment}
+use Rattle.table_theory.specs.declared.views.AbsState.{AbsState}
 use Rattle.table_theory.specs.Ledgers.{Step}
 
 -- the state that a step found: a schedule, and how many hands there are
 abbrev pub Past : Type 0
-Past = Moment (List Event)
+Past = AbsState (List Event)
 
 -- the steps and the joins of all hands, in their order
 abbrev pub Course : Type 0

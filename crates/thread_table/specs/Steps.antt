@@ -11,7 +11,7 @@ use Rattle.table_theory.specs.Sharing.{IsWhole, IsCount}
 use Rattle.event_theory.specs.Lawful.{IsLawfulElements}
 use Rattle.event_theory.specs.declared.event.Event.{Event}
 use Rattle.thread_table.specs.Own.{View}
-use Rattle.thread_table.specs.declared.rule.Having.{Having}
+use Rattle.thread_table.specs.declared.rule.HandState.{HandState}
 use Rattle.thread_table.specs.Schedules.{Past, Course, elements_after, IsAllowed}
 use Rattle.std.specs.Int.{bit_at}
 use Rattle.std.specs.Int.Bits.{bit_or, bit_and}
@@ -20,8 +20,8 @@ use Rattle.thread_table.specs.declared.layout.TheConstants.{CELL, SIGNAL_BITS, S
 use Rattle.thread_table.specs.Layout.{ends_word, done_word, stop_bit}
 use Rattle.thread_table.specs.Shown.{WordsShow}
 use Rattle.thread_table.specs.Rules.{HandIs, Seen, IsSteady, done_at, has, nothing_of, serving}
-use Rattle.thread_table.specs.Entries.{Acts, change}
-use Rattle.thread_table.specs.Telling.{IsHonest}
+use Rattle.thread_table.specs.Entries.{PerformsEvents, change}
+use Rattle.thread_table.specs.Telling.{IsValidHandView}
 use Rattle.thread_table.specs.Views.{quiet, having_found, count_of, after_event}
 
 -- The schedule that a step of the hand found: allowed, no earlier than what the hand had seen, with no step undone, and
@@ -42,8 +42,8 @@ pub record Sees (v : View) (schedule : List Event) : Type 0 where
 pub record Stepped (v : View) (e : ends.Step (List Event)) (now w : View) : Type 0 where
   pub sees : Sees v e.then.object
   pub is : e.found ≡ slice_index_or sees.words e.word 0
-  pub acts : Acts v (e ∷ []) now w
-  pub told : IsHonest w
+  pub acts : PerformsEvents v (e ∷ []) now w
+  pub valid : IsValidHandView w
 
 -- the hand found a number in a word, and nothing else changed for the hand
 abbrev pub Found : View → ℕ → ℕ → View → Type 0
@@ -55,33 +55,33 @@ ReadPc element v found w =
     Stepped v (load (done_word element) found w.seen) (having_found v (count_of element found)) w
 
 -- the hand made this event: the schedule is the one before it, with the event at its end
-pub record Did (call : ℕ) (v : View) (word found : ℕ) (event : Event) (w : View) : Type 0 where
+pub record HandDid (call : ℕ) (v : View) (word found : ℕ) (event : Event) (w : View) : Type 0 where
   pub before : Past
   pub hand : HandIs call v (elements_after before.object)
   pub step : Stepped v (change word found before event) (after_event event before.object v) w
 
 -- the view of the hand agrees with the elements as the hand has seen them
-abbrev pub Stands : ℕ → View → Type 0
-Stands call v = HandIs call v (elements_after v.seen.object)
+abbrev pub HandStands : ℕ → View → Type 0
+HandStands call v = HandIs call v (elements_after v.seen.object)
 
 -- the result of each step: `Does` holds, what the hand carries stays, and its view agrees with what it has seen
-abbrev pub Tells : ℕ → Type 0 → Me Unit View → Me Unit View → Type 0
-Tells call Does m m' = (m'.1 ≡ m.1) × Does × Stands call m'.0
+abbrev pub StepShows : ℕ → Type 0 → Me Unit View → Me Unit View → Type 0
+StepShows call Does m m' = (m'.1 ≡ m.1) × Does × HandStands call m'.0
 
 abbrev pub finds : ℕ → Step Unit → Me Unit View → ℕ → Me Unit View → Type 0
-finds call st m r m' = Tells call (Found m.0 st.word r m'.0) m m'
+finds call st m r m' = StepShows call (Found m.0 st.word r m'.0) m m'
 
 -- a step that is the event, whatever number it found
 abbrev pub makes : ℕ → Event → Step Unit → Me Unit View → ℕ → Me Unit View → Type 0
-makes call event st m r m' = Tells call (Did call m.0 st.word r event m'.0) m m'
+makes call event st m r m' = StepShows call (HandDid call m.0 st.word r event m'.0) m m'
 
 -- a store that is the event; the number that it found is not known
 abbrev pub stores : ℕ → Event → Step Unit → Me Unit View → ℕ → Me Unit View → Type 0
-stores call event st m r m' = Tells call ((found : ℕ) × Did call m.0 st.word found event m'.0) m m'
+stores call event st m r m' = StepShows call ((found : ℕ) × HandDid call m.0 st.word found event m'.0) m m'
 
 -- a step that is the event if it found the number that was expected, and else only finds another number
 abbrev pub tries : ℕ → Event → Step Unit → Me Unit View → ℕ → Me Unit View → Type 0
-tries call event st m r m' = Tells call ((r ≡ st.first → Did call m.0 st.word st.first event m'.0)
+tries call event st m r m' = StepShows call ((r ≡ st.first → HandDid call m.0 st.word st.first event m'.0)
     × (r ≢ st.first → Found m.0 st.word r m'.0)) m m'
 
 -- a compare-and-swap of an element's state word to `new` is one of these: the park of an element that the hand holds,
@@ -93,7 +93,7 @@ IsTurn event call element v old new =
     ⊎ ((event ≡ events.Deliver call element) × (has v element ≡ true) × (new ≡ bit_and old STOP_BITS))
 
 abbrev pub reads_pc : ℕ → ℕ → Step Unit → Me Unit View → ℕ → Me Unit View → Type 0
-reads_pc call element st m r m' = Tells call (ReadPc element m.0 r m'.0) m m'
+reads_pc call element st m r m' = StepShows call (ReadPc element m.0 r m'.0) m m'
 
 -- the counts of a hand after one more split, and after one more join
 abbrev pub with_split : Part → Part
@@ -121,7 +121,7 @@ pub record CountedUp (v : View) (found : ℕ) (w : View) : Type 0 where
   pub before : Past
   pub same : w ≡ after (record v { member = with_split v.member }) past (ends.count_up ends_word before)
   pub sees : Sees v before.object
-  pub told : IsHonest w
+  pub valid : IsValidHandView w
 
 -- the number of hands was found and made one less
 pub record CountedDown (v : View) (found : ℕ) (w : View) : Type 0 where
@@ -132,7 +132,7 @@ pub record CountedDown (v : View) (found : ℕ) (w : View) : Type 0 where
   pub before : Past
   pub same : w ≡ after (record v { member = with_join v.member }) past (ends.count_down ends_word before)
   pub sees : Sees v before.object
-  pub told : IsHonest w
+  pub valid : IsValidHandView w
 
 -- the number of hands was found; it is 1 exactly if this hand has the whole
 pub record Tallied (v : View) (found : ℕ) (w : View) : Type 0 where
@@ -141,14 +141,14 @@ pub record Tallied (v : View) (found : ℕ) (w : View) : Type 0 where
   pub count : IsCount v.member.share found
 
 abbrev pub counts_up : ℕ → Step Unit → Me Unit View → ℕ → Me Unit View → Type 0
-counts_up call st m r m' = Tells call (CountedUp m.0 r m'.0) m m'
+counts_up call st m r m' = StepShows call (CountedUp m.0 r m'.0) m m'
 
 abbrev pub counts_down : ℕ → Step Unit → Me Unit View → ℕ → Me Unit View → Type 0
-counts_down call st m r m' = Tells call (CountedDown m.0 r m'.0) m m'
+counts_down call st m r m' = StepShows call (CountedDown m.0 r m'.0) m m'
 
 -- the result of finding the number of hands, for the hand of this call
 abbrev pub HasTallied : ℕ → View → ℕ → View → Type 0
-HasTallied call v found w = Tallied v found w × Stands call w
+HasTallied call v found w = Tallied v found w × HandStands call w
 
 -- the marks of the first list without those of the second
 abbrev pub parted : List Bool → List Bool → List Bool
@@ -185,7 +185,7 @@ abbrev pub newborn : List Bool → View → View
 newborn mask v = ends.newborn (serving v.own.first mask) v
 
 -- the contents of a hand after it took in another, which had `e`
-abbrev pub had_by_both : Having → Having → Having
+abbrev pub had_by_both : HandState → HandState → HandState
 had_by_both d e = record {
   first = d.first;
   held = either d.held e.held;

@@ -14,7 +14,7 @@ Happens past next = (event : Event) × (next ≡ past ++ event ∷ []) × IsAllo
     × Grows (elements_after past) (elements_after next)
 
 -- the parameters that the theory of tables takes from this table, with this first position of each element queue
-abbrev pub of_hands : ℕ → ends.Subject (List Event)
+abbrev pub of_hands : ℕ → ends.ObjectModel (List Event)
 of_hands first = record {
   ends_word = ends_word;
   Shows = λ events words. WordsShow first (elements_after events) words;
@@ -23,13 +23,13 @@ of_hands first = record {
 }
 
 -- the step found its schedule, with words that show it, and made one event of it, or none
-abbrev pub IsReal : ℕ → ends.Step (List Event) → Type 0
-IsReal first e = ends.IsReal (of_hands first) e
+abbrev pub IsValidHandStep : ℕ → ends.Step (List Event) → Type 0
+IsValidHandStep first e = ends.IsValidStep (of_hands first) e
 
 -- The hand's list is true, of a table that began with no event. Each event that the hand has seen was allowed in its
 -- turn. The hand took in no other with which it shared an element or a processor.
-pub record IsHonest (v : View) : Type 0 where
-  pub list : ends.IsHonest (of_hands v.own.first) v
+pub record IsValidHandView (v : View) : Type 0 where
+  pub list : ends.IsValidView (of_hands v.own.first) v
   pub first : v.first ≡ []
   pub allowed : IsAllowed v.seen.object
   pub undoubled : v.own.doubled ≡ false

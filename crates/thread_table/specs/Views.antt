@@ -10,12 +10,12 @@ use Rattle.thread_table.specs.Own.{View}
 use Rattle.thread_table.specs.Layout.{free_ring, ready_ring, wait_ring}
 use Rattle.thread_table.specs.Makers.{made_in}
 use Rattle.thread_table.specs.Schedules.{state_after, elements_after, ring_at, thread_at, element_at}
-use Rattle.thread_table.specs.declared.rule.Having.{Having}
+use Rattle.thread_table.specs.declared.rule.HandState.{HandState}
 use Rattle.thread_table.specs.declared.rule.Claimed.{Claimed}
 use Rattle.thread_table.specs.declared.rule.Counted.{Counted}
 
 -- the hand has `own` then, and no number of steps that it has just found
-abbrev pub having : View → Having → View
+abbrev pub having : View → HandState → View
 having v own = record v { own = record own { counted = None } }
 
 -- the view after a step that changed nothing else for the hand
@@ -75,7 +75,7 @@ with_taken_off None held = held
 with_taken_off (Some element) held = slice_set held element true
 
 -- the elements that the hand of an event holds after it, if the event found these elements
-abbrev pub held_after : Event → Having → Elements → List Bool
+abbrev pub held_after : Event → HandState → Elements → List Bool
 held_after (events.Claim call queue items) own e = slice_set own.held (slice_index_or items 0 0) false
 held_after (events.WaitAt call wait element ticket) own e = slice_set own.held element false
 held_after (events.Take call queue count) own e =
@@ -88,13 +88,13 @@ held_after (events.Start call element) own e =
 held_after event own e = own.held
 
 -- the elements that the hand of an event has on its processors after it
-abbrev pub on_after : Event → Having → List (Option ℕ)
+abbrev pub on_after : Event → HandState → List (Option ℕ)
 on_after (events.On call p element) own = slice_set own.on p (Some element)
 on_after (events.Off call p) own = slice_set own.on p None
 on_after event own = own.on
 
 -- the run that the hand of an event has claimed and not raised after it
-abbrev pub claimed_after : Event → Having → Elements → Option Claimed
+abbrev pub claimed_after : Event → HandState → Elements → Option Claimed
 claimed_after (events.Claim call queue items) own e = next_claim e (ring_of queue) (slice_index_or items 0 0)
 claimed_after (events.WaitAt call wait element ticket) own e = next_claim e (wait_ring wait) element
 claimed_after (events.Raise call queue run index) own e = None

@@ -3,7 +3,7 @@ use Rattle.std.specs.Prelude.{◌≡◌, ◌≢◌, ◌⊎◌, ◌+◌, ◌/◌,
 use Rattle.std.specs.Prelude.{◌++◌, flat_map, Result, Ok, Err, Option, Some, None}
 use Rattle.std.specs.List.{AllByRecursion}
 use Rattle.event_theory.specs.declared.event.Event.TheVariants as events
-use Rattle.thread_table.specs.declared.rule.Made.{Made}
+use Rattle.thread_table.specs.declared.rule.MadeEvent.{MadeEvent}
 use Rattle.thread_table.specs.Own.{View}
 use Rattle.thread_table.specs.declared.takings.NextRefusal.{NextRefusal}
 use Rattle.thread_table.specs.declared.layout.TheConstants.{ELEMENTS}
@@ -12,7 +12,7 @@ use Rattle.thread_table.specs.Schedules.{Past}
 use Rattle.thread_table.specs.Rules.{has}
 use Rattle.thread_table.specs.Views.{quiet}
 use Rattle.table_theory.specs.Ledgers.{load}
-use Rattle.thread_table.specs.Entries.{Step, change, Acts, with_event, take_event, steps_in}
+use Rattle.thread_table.specs.Entries.{Step, change, PerformsEvents, with_event, take_event, steps_in}
 use Rattle.thread_table.specs.Answers.{TakesAfter, is_in, head_in}
 
 -- One try to take, after the tail was found. Took: the tail and the place there were loaded, and the tail was
@@ -36,7 +36,7 @@ IsTry head (missed before tail place seen q r s t) = (before < head)
     × (((seen ≡ tail) × (place / 256 ≢ tail + 1)) ⊎ (tail < seen))
 
 -- the event that a try made, as the hand lists it
-abbrev pub made_by_try : ℕ → ℕ → Try → List Made
+abbrev pub made_by_try : ℕ → ℕ → Try → List MadeEvent
 made_by_try call ring (took before tail place q r s t) =
     record { event = take_event call ring; number = 0; signals = [] } ∷ []
 made_by_try call ring (missed before tail place seen q r s t) = []
@@ -90,21 +90,21 @@ pub record WokeAll (call : ℕ) (v : View) (wait mask : ℕ) (w : View) : Type 0
   pub each : AllByRecursion (IsTry (head_in word)) tries
   pub still : AllByRecursion (IsStill w) tries
   pub reached : head_in word ≤ tail
-  pub acts : Acts v (change (head_word (wait_ring wait)) word first (events.NotifyWait call wait)
+  pub acts : PerformsEvents v (change (head_word (wait_ring wait)) word first (events.NotifyWait call wait)
       ∷ flat_map (entries_of call (wait_ring wait)) tries ++ load (tail_word (wait_ring wait)) tail last ∷ [])
       (with_wakes v call wait tries w) w
 
 -- one notify was made, and `head` is the head that it found
 abbrev pub NotifiedNow : ℕ → View → ℕ → ℕ → View → Type 0
 NotifiedNow call v wait head w = (word : ℕ) × (r : Past) × (head ≡ head_in word)
-    × Acts v (change (head_word (wait_ring wait)) word r (events.NotifyWait call wait) ∷ [])
+    × PerformsEvents v (change (head_word (wait_ring wait)) word r (events.NotifyWait call wait) ∷ [])
     (with_event (quiet v) (events.NotifyWait call wait)) w
 
 -- the result of a try to take before a position: the tail was found at or past the position (None); or the tail was
 -- found below it, and a taking followed, which had this result
 abbrev pub BeforeAnswer : ℕ → View → ℕ → ℕ → Result (Option ℕ) NextRefusal → View → Type 0
 BeforeAnswer call v ring head (Ok None) w = (tail : ℕ) × (q : Past) × (head ≤ tail)
-    × Acts v (load (tail_word ring) tail q ∷ []) (quiet v) w
+    × PerformsEvents v (load (tail_word ring) tail q ∷ []) (quiet v) w
 BeforeAnswer call v ring head (Ok (Some element)) w = (tail : ℕ) × (q : Past) × (tail < head)
     × TakesAfter (load (tail_word ring) tail q ∷ []) call v ring (Ok element) w
 BeforeAnswer call v ring head (Err refusal) w = (tail : ℕ) × (q : Past) × (tail < head)

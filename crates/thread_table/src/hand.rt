@@ -4,10 +4,10 @@ ghost use Rattle.std.specs.Prelude.{◌==◌, slice_set};
 ghost use Rattle.thread_table.specs.declared.layout.TheConstants.{WORDS, PROCESSORS, ELEMENTS};
 ghost use Rattle.thread_table.specs.Layout.{last_first};
 ghost use Rattle.thread_table.specs.Rules.{newcomer, HasStood, has, serves, running};
-ghost use Rattle.thread_table.specs.Endings.{Divided, IsNewborn, TookIn};
+ghost use Rattle.thread_table.specs.Endings.{SplitBy, IsNewEnd, JoinedBy};
 ghost use Rattle.thread_table.specs.Answers.{is_in};
 ghost use Rattle.thread_table.specs.Steps.{parted, either, either_on};
-ghost use Rattle.thread_table.specs.Telling.{IsHonest};
+ghost use Rattle.thread_table.specs.Telling.{IsValidHandView};
 
 use crate::first_words::{lay_free, lay_rings};
 use crate::layout::WORDS;
@@ -49,7 +49,7 @@ pub struct Hand {
     ghost holding: { held ≡ seat.me.0.own.held },
     ghost serving: { served ≡ seat.me.0.own.serves },
     ghost putting: { running ≡ seat.me.0.own.on },
-    ghost told: { ∥ IsHonest seat.me.0 ∥₁ },
+    ghost valid: { ∥ IsValidHandView seat.me.0 ∥₁ },
     ghost stands: { ∥ HasStood seat.id seat.me.0 ∥₁ },
 }
 
@@ -125,8 +125,8 @@ impl ThreadTable {
         requires parts { IsDivisible hand.old }
         requires empty { (p : ℕ) → p < PROCESSORS → is_in processors p ≡ true
             → (serves (view_of hand.old) p ≡ true) × (running (view_of hand.old) p ≡ None) }
-        ensures born { IsNewborn processors (view_of hand.old) (view_of hand.new) (view_of result) }
-        ensures steps { Divided processors (view_of hand.old) (view_of hand.new) }
+        ensures born { IsNewEnd processors (view_of hand.old) (view_of hand.new) (view_of result) }
+        ensures steps { SplitBy processors (view_of hand.old) (view_of hand.new) }
         ensures same { IsSameHand hand.old hand.new × AreOfOneTable hand.old result }
     {
         let mask = marks_of(processors);
@@ -148,7 +148,7 @@ impl ThreadTable {
     /// that they made, and their parts of the table. No element was held, and no processor served, by both.
     pub fn join(&self, hand: &mut Hand, other: Hand)
         requires { IsHandOf self.now hand.old × IsHandOf self.now other }
-        ensures steps { TookIn (view_of hand.old) (view_of other) (view_of hand.new) }
+        ensures steps { JoinedBy (view_of hand.old) (view_of other) (view_of hand.new) }
         ensures same { IsSameHand hand.old hand.new }
     {
         let Hand {

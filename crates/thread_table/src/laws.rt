@@ -19,7 +19,7 @@ ghost use Rattle.thread_table.specs.Layout.{place_word, stop_bit, cell_bit, read
 ghost use Rattle.thread_table.specs.Shown.{StateShows, PlaceShows, processor_shown, tail_shown, mark_of};
 ghost use Rattle.thread_table.specs.Rules.{HandIs, done_at};
 ghost use Rattle.thread_table.specs.Handles.{view_of, call_of, IsOnlyHand};
-ghost use Rattle.thread_table.specs.Telling.{of_hands, IsReal, IsHonest};
+ghost use Rattle.thread_table.specs.Telling.{of_hands, IsValidHandStep, IsValidHandView};
 ghost use Rattle.thread_table.specs.Own.{View};
 ghost use Rattle.thread_table.specs.declared.takings.NextRefusal.{NextRefusal};
 ghost use Rattle.thread_table.specs.declared.takings.NextRefusal.TheVariants as nexts;
@@ -36,9 +36,9 @@ ghost use Rattle.thread_table.specs.Closings.{ClosedNow};
 ghost use Rattle.thread_table.specs.Retiring.{free_takings, was_freed};
 ghost use Rattle.thread_table.specs.Views.{quiet};
 ghost use Rattle.table_theory.specs.Courses.{Continues};
-ghost use Rattle.table_theory.specs.Ledgers.{load, count_down, Adds, Reaches, Passes};
-ghost use Rattle.thread_table.specs.Entries.{Step, change, Acts, AreInOrder, steps_in};
-ghost use Rattle.thread_table.specs.Endings.{TookIn};
+ghost use Rattle.table_theory.specs.Ledgers.{load, count_down, ExtendsTrace, Reaches, Passes};
+ghost use Rattle.thread_table.specs.Entries.{Step, change, PerformsEvents, AreInOrder, steps_in};
+ghost use Rattle.thread_table.specs.Endings.{JoinedBy};
 ghost use Rattle.thread_table.specs.Answers.{TakeAnswer, MoveAnswer, WaitAnswer, IsTicket, StoppedNow, StartAnswer};
 ghost use Rattle.thread_table.specs.Answers.{ParkAnswer, SignalAnswer, DeliverAnswer, ReadPc, DoneAnswer, is_in};
 ghost use Rattle.thread_table.specs.Answers.{head_in, mark_in, IsPending};
@@ -53,23 +53,23 @@ ghost use Rattle.thread_table.specs.Keeping.{Keeps, Stays};
 /// those that are seen, and the elements have grown since. A hand has seen as many steps of an element as done events
 /// of it.
 pub fn lists_are_true()
-    ensures hand { (hand : Hand) → ∥ IsHonest (view_of hand) ∥₁ }
-    ensures entries { (old : View) (new : Hand) (entries : List Step) → Adds old entries (view_of new)
-        → ∥ AllByRecursion (IsReal (view_of new).own.first) entries ∥₁ }
-    ensures passes { (old new : Hand) (entries : List Step) → Adds (view_of old) entries (view_of new)
+    ensures hand { (hand : Hand) → ∥ IsValidHandView (view_of hand) ∥₁ }
+    ensures entries { (old : View) (new : Hand) (entries : List Step) → ExtendsTrace old entries (view_of new)
+        → ∥ AllByRecursion (IsValidHandStep (view_of new).own.first) entries ∥₁ }
+    ensures passes { (old new : Hand) (entries : List Step) → ExtendsTrace (view_of old) entries (view_of new)
         → ∥ Passes (of_hands (view_of new).own.first) (view_of old).seen entries (view_of new).seen ∥₁ }
     ensures leads { (first : ℕ) (m n : Past) → Reaches (of_hands first) m n
         → Begins m.object n.object × Grows (elements_after m.object) (elements_after n.object) }
     ensures alone { (old new : Hand) (entries : List Step) → IsOnlyHand old
-        → Adds (view_of old) entries (view_of new)
+        → ExtendsTrace (view_of old) entries (view_of new)
         → ∥ Continues (view_of old).seen entries (view_of new).seen ∥₁ }
-    ensures order { (old new : Hand) (entries : List Step) → Adds (view_of old) entries (view_of new)
+    ensures order { (old new : Hand) (entries : List Step) → ExtendsTrace (view_of old) entries (view_of new)
         → ∥ AreInOrder (view_of old).seen entries ∥₁ }
-    ensures among { (old : View) (new : Hand) (entries : List Step) → Adds old entries (view_of new)
+    ensures among { (old : View) (new : Hand) (entries : List Step) → ExtendsTrace old entries (view_of new)
         → ∥ ((past : Past) × AreInOrder past entries) ∥₁ }
     ensures grows { (hand : Hand) (past : List Event) → Begins past (view_of hand).seen.object
         → ∥ Grows (elements_after past) (elements_after (view_of hand).seen.object) ∥₁ }
-    ensures allowed { (first : ℕ) (e : Step) → IsReal first e → IsAllowed e.next.object }
+    ensures allowed { (first : ℕ) (e : Step) → IsValidHandStep first e → IsAllowed e.next.object }
     ensures counted { (past : List Event) (element : ℕ) → IsAllowed past
         → done_at past element ≡ steps_in element past }
 {}
@@ -84,11 +84,11 @@ pub fn hands_stand()
 /// A join: real steps lead from what either hand had seen to what the one hand sees then. The entry of the step that
 /// counts one hand less is real.
 pub fn joins_are_true()
-    ensures since { (old other new : Hand) → TookIn (view_of old) (view_of other) (view_of new)
+    ensures since { (old other new : Hand) → JoinedBy (view_of old) (view_of other) (view_of new)
         → ∥ Reaches (of_hands (view_of new).own.first) (view_of old).seen (view_of new).seen ∥₁
         × ∥ Reaches (of_hands (view_of new).own.first) (view_of other).seen (view_of new).seen ∥₁ }
-    ensures entry { (old other new : Hand) (t : TookIn (view_of old) (view_of other) (view_of new))
-        → ∥ IsReal (view_of new).own.first (count_down ends_word t.found) ∥₁ }
+    ensures entry { (old other new : Hand) (t : JoinedBy (view_of old) (view_of other) (view_of new))
+        → ∥ IsValidHandStep (view_of new).own.first (count_down ends_word t.found) ∥₁ }
 {}
 
 /// A hand that has the whole is never refused with Lost: no other hand makes a step between its steps.
@@ -113,25 +113,25 @@ pub fn only_hands_are_never_lost()
 /// queue, its tail, one of its places, a state word by its bits, the steps done of an element, or the element on a
 /// processor.
 pub fn numbers_say()
-    ensures ends { (first found : ℕ) (m : Past) → IsReal first (load ends_word found m) → found ≡ m.ends }
-    ensures head { (first : ℕ) (e : Step) (ring : ℕ) → ring < RINGS → e.word ≡ head_word ring → IsReal first e
+    ensures ends { (first found : ℕ) (m : Past) → IsValidHandStep first (load ends_word found m) → found ≡ m.ends }
+    ensures head { (first : ℕ) (e : Step) (ring : ℕ) → ring < RINGS → e.word ≡ head_word ring → IsValidHandStep first e
         → (head_in e.found ≡ first + length (ring_at (elements_after e.then.object) ring).history)
         × (mark_in e.found ≡ mark_of (elements_after e.then.object) ring) }
-    ensures tail { (first : ℕ) (e : Step) (ring : ℕ) → ring < RINGS → e.word ≡ tail_word ring → IsReal first e
+    ensures tail { (first : ℕ) (e : Step) (ring : ℕ) → ring < RINGS → e.word ≡ tail_word ring → IsValidHandStep first e
         → e.found ≡ tail_shown first (elements_after e.then.object) ring }
     ensures place { (first : ℕ) (e : Step) (ring run : ℕ) → ring < RINGS
         → (ring_at (elements_after e.then.object) ring).taken ≤ run
         → run < (ring_at (elements_after e.then.object) ring).taken + PLACES → e.word ≡ place_word ring (first + run)
-        → IsReal first e → PlaceShows first (ring_at (elements_after e.then.object) ring) run e.found }
+        → IsValidHandStep first e → PlaceShows first (ring_at (elements_after e.then.object) ring) run e.found }
     ensures state { (first : ℕ) (e : Step) (element : ℕ) → element < ELEMENTS → e.word ≡ state_word element
-        → IsReal first e → StateShows (thread_at (elements_after e.then.object) element) e.found }
+        → IsValidHandStep first e → StateShows (thread_at (elements_after e.then.object) element) e.found }
     ensures bits { (thread : Thread) (word : ℕ) → StateShows thread word
         → (is_in word stop_bit ≡ thread.stop) × (is_in word cell_bit ≡ thread.parked)
         × ((signal : ℕ) → signal < 16 → is_in word signal ≡ thread.pending signal)
         × ((signal : ℕ) → signal < 16 → is_in (word % STOP) signal ≡ thread.pending signal) }
     ensures done { (first : ℕ) (e : Step) (element : ℕ) → element < ELEMENTS → e.word ≡ done_word element
-        → IsReal first e → e.found ≡ done_at e.then.object element }
-    ensures processor { (first : ℕ) (e : Step) (p : ℕ) → p < PROCESSORS → e.word ≡ processor_word p → IsReal first e
+        → IsValidHandStep first e → e.found ≡ done_at e.then.object element }
+    ensures processor { (first : ℕ) (e : Step) (p : ℕ) → p < PROCESSORS → e.word ≡ processor_word p → IsValidHandStep first e
         → e.found ≡ processor_shown (slice_index_or (elements_after e.then.object).processors p None) }
 {}
 
@@ -140,19 +140,19 @@ pub fn numbers_say()
 /// was not raised. An entry that made an event found its number as a load finds it.
 pub fn takings_say()
     ensures oldest { (first ring tail place : ℕ) (p q r : Past) → ring < RINGS
-        → IsReal first (load (tail_word ring) tail p) → IsReal first (load (place_word ring tail) place q)
+        → IsValidHandStep first (load (tail_word ring) tail p) → IsValidHandStep first (load (place_word ring tail) place q)
         → Grows (elements_after p.object) (elements_after q.object)
         → Grows (elements_after q.object) (elements_after r.object)
-        → IsReal first (load (tail_word ring) tail r) → place / 256 ≡ tail + 1
+        → IsValidHandStep first (load (tail_word ring) tail r) → place / 256 ≡ tail + 1
         → take 1 (left (ring_at (elements_after r.object) ring)) ≡ place % 256 ∷ [] }
     ensures unraised { (first ring tail place : ℕ) (p q r : Past) → ring < RINGS
-        → IsReal first (load (tail_word ring) tail p) → IsReal first (load (place_word ring tail) place q)
+        → IsValidHandStep first (load (tail_word ring) tail p) → IsValidHandStep first (load (place_word ring tail) place q)
         → Grows (elements_after p.object) (elements_after q.object)
         → Grows (elements_after q.object) (elements_after r.object)
-        → IsReal first (load (tail_word ring) tail r) → place / 256 ≢ tail + 1
+        → IsValidHandStep first (load (tail_word ring) tail r) → place / 256 ≢ tail + 1
         → (ring_at (elements_after q.object) ring).raised (ring_at (elements_after q.object) ring).taken 0 ≡ false }
     ensures found { (first word found : ℕ) (past : Past) (event : Event)
-        → IsReal first (change word found past event) → IsReal first (load word found past) }
+        → IsValidHandStep first (change word found past event) → IsValidHandStep first (load word found past) }
 {}
 
 /// The places of waits with a ticket, and the heads that notifies of their queue find, whichever hands make them. A
@@ -161,17 +161,17 @@ pub fn takings_say()
 /// between them, there was none between them.
 pub fn waits_stand_by_notifies()
     ensures before { (first wait element ticket call other word found : ℕ) (p q : Past) → wait < WAITS
-        → IsReal first (change (head_word (wait_ring wait)) word p (events.WaitAt call wait element ticket))
-        → IsReal first (change (head_word (wait_ring wait)) found q (events.NotifyWait other wait))
+        → IsValidHandStep first (change (head_word (wait_ring wait)) word p (events.WaitAt call wait element ticket))
+        → IsValidHandStep first (change (head_word (wait_ring wait)) found q (events.NotifyWait other wait))
         → Begins (p.object ++ events.WaitAt call wait element ticket ∷ []) q.object
         → head_in word < head_in found }
     ensures after { (first wait element ticket call other word found : ℕ) (p q : Past) → wait < WAITS
-        → IsReal first (change (head_word (wait_ring wait)) word p (events.WaitAt call wait element ticket))
-        → IsReal first (change (head_word (wait_ring wait)) found q (events.NotifyWait other wait))
+        → IsValidHandStep first (change (head_word (wait_ring wait)) word p (events.WaitAt call wait element ticket))
+        → IsValidHandStep first (change (head_word (wait_ring wait)) found q (events.NotifyWait other wait))
         → Begins (q.object ++ events.NotifyWait other wait ∷ []) p.object
         → head_in found ≤ head_in word }
     ensures none_between { (first wait : ℕ) (e f : Step) (rest : List Event) → wait < WAITS
-        → e.word ≡ head_word (wait_ring wait) → f.word ≡ head_word (wait_ring wait) → IsReal first e → IsReal first f
+        → e.word ≡ head_word (wait_ring wait) → f.word ≡ head_word (wait_ring wait) → IsValidHandStep first e → IsValidHandStep first f
         → e.then.object ++ rest ≡ f.then.object → mark_in e.found ≡ mark_in f.found
         → notifies_in wait rest < NOTIFY → notifies_in wait rest ≡ 0 }
 {}
@@ -181,24 +181,24 @@ pub fn waits_stand_by_notifies()
 /// the same word, and at most what the hand sees then.
 pub fn never_below()
     ensures head { (old new : Hand) (before rest : List Step) (e : Step) (ring : ℕ) → ring < RINGS
-        → Adds (view_of old) (before ++ e ∷ rest) (view_of new) → e.word ≡ head_word ring
+        → ExtendsTrace (view_of old) (before ++ e ∷ rest) (view_of new) → e.word ≡ head_word ring
         → (head_seen (view_of new).own.first (view_of old) ring ≤ head_in e.found)
         × (head_in e.found ≤ head_seen (view_of new).own.first (view_of new) ring) }
     ensures heads { (old new : Hand) (before between rest : List Step) (e f : Step) (ring : ℕ) → ring < RINGS
-        → Adds (view_of old) (before ++ e ∷ (between ++ f ∷ rest)) (view_of new) → e.word ≡ head_word ring
+        → ExtendsTrace (view_of old) (before ++ e ∷ (between ++ f ∷ rest)) (view_of new) → e.word ≡ head_word ring
         → f.word ≡ head_word ring → head_in e.found ≤ head_in f.found }
     ensures tail { (old new : Hand) (before rest : List Step) (e : Step) (ring : ℕ) → ring < RINGS
-        → Adds (view_of old) (before ++ e ∷ rest) (view_of new) → e.word ≡ tail_word ring
+        → ExtendsTrace (view_of old) (before ++ e ∷ rest) (view_of new) → e.word ≡ tail_word ring
         → (tail_seen (view_of new).own.first (view_of old) ring ≤ e.found)
         × (e.found ≤ tail_seen (view_of new).own.first (view_of new) ring) }
     ensures tails { (old new : Hand) (before between rest : List Step) (e f : Step) (ring : ℕ) → ring < RINGS
-        → Adds (view_of old) (before ++ e ∷ (between ++ f ∷ rest)) (view_of new) → e.word ≡ tail_word ring
+        → ExtendsTrace (view_of old) (before ++ e ∷ (between ++ f ∷ rest)) (view_of new) → e.word ≡ tail_word ring
         → f.word ≡ tail_word ring → e.found ≤ f.found }
 {}
 
 /// Each change that a result lists is the event of the core that it names, which was allowed there.
 pub fn changes_are_events()
-    ensures { (first word found : ℕ) (past : Past) (event : Event) → IsReal first (change word found past event)
+    ensures { (first word found : ℕ) (past : Past) (event : Event) → IsValidHandStep first (change word found past event)
         → IsAllowed (past.object ++ event ∷ [])
         × (step event (state_after past.object) ≡ Ok (state_after (past.object ++ event ∷ []))) }
 {}
@@ -209,7 +209,7 @@ pub fn changes_are_events()
 /// without an event: a ticket, the pending signals, the steps done, a start, a park or a delivery with nothing to do,
 /// and a try to take before a position that the tail has reached.
 pub fn refusals_stay()
-    ensures looks { (v w : View) (entries : List Step) → Acts v entries (quiet v) w → Stays v w }
+    ensures looks { (v w : View) (entries : List Step) → PerformsEvents v entries (quiet v) w → Stays v w }
     ensures takes { (call ring : ℕ) (v w : View) (r : NextRefusal) → TakeAnswer call v ring (Err r) w → Stays v w }
     ensures befores { (call ring head : ℕ) (v w : View) (r : NextRefusal) → BeforeAnswer call v ring head (Err r) w
         → Stays v w }

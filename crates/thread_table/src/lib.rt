@@ -38,7 +38,7 @@
 //! place was claimed before the notify. So a waiter is either ahead of the notify and is woken, or has to check again.
 //! This is the event count of Reed and Kanodia (1979).
 //!
-//! `Claimed`, `Counted`, `Having`, `Made`, `Shape`, `ThreadRule` and `View` are for proofs alone: only the table itself
+//! `Claimed`, `Counted`, `HandState`, `Performed`, `Shape`, `ThreadRule` and `View` are for proofs alone: only the table itself
 //! makes values of them.
 #![tactic(auto)]
 
@@ -72,7 +72,7 @@ pub use moves::MoveRefusal;
 pub use places::Place;
 pub use processors::{ProcessorBusy, ProcessorEmpty};
 pub use programs::Spent;
-pub use rule::{Claimed, Counted, Having, Made, Shape, ThreadRule, View};
+pub use rule::{Claimed, Counted, HandState, Performed, Shape, ThreadRule, View};
 pub use states::{Lost, Signalled, Started};
 pub use table_theory::OpenEnds;
 pub use takings::NextRefusal;

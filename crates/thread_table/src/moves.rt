@@ -6,12 +6,12 @@ ghost use Rattle.thread_table.specs.Layout.{ready_ring, free_ring, wait_ring, pl
 ghost use Rattle.thread_table.specs.Handles.{view_of, call_of, IsHandOf, IsSameHand};
 ghost use Rattle.thread_table.specs.Answers.{MoveAnswer, WaitAnswer, IsTicket, raise_event};
 ghost use Rattle.thread_table.specs.Rules.{HasStood, IsActive, has};
-ghost use Rattle.thread_table.specs.Steps.{Did};
+ghost use Rattle.thread_table.specs.Steps.{HandDid};
 ghost use Rattle.thread_table.specs.Views.{HasClaimed};
 
 use crate::hand::{Hand, ThreadTable, set_held};
 use crate::layout::{FREE, READY, wait_ring};
-use crate::plays::Deed;
+use crate::plays::EventOf;
 use crate::rule::View;
 use crate::steps::{Words, exchange_head, exchange_head_at, load_head, store_place};
 use crate::words::{HeadWord, PlaceWord};
@@ -37,7 +37,7 @@ pub enum MoveRefusal {
 }
 
 // Raises the place that the hand has claimed for the element, which the hand then no longer holds.
-fn raise<J: Deed>(
+fn raise<J: EventOf>(
     words: &Words,
     seat: &mut Seat<(), View>,
     held: &mut [bool; 64],
@@ -47,11 +47,11 @@ fn raise<J: Deed>(
 )
     requires queue { (seat.old.table_id ≡ words.now.table_id) × (words.now.table_id.words ≡ WORDS) × (ring < RINGS) }
     requires mine { IsActive seat.old.me.0 }
-    requires deed { (J.call ≡ seat.old.id) × (J.event ≡ raise_event seat.old.id seat.old.me.0 ring head) }
+    requires step_outcome { (J.call ≡ seat.old.id) × (J.event ≡ raise_event seat.old.id seat.old.me.0 ring head) }
     requires claimed { HasClaimed seat.old.me.0 ring head element × (element < ELEMENTS) × (head < last_head) }
     ensures queue { IsSame seat.old seat.new × (seat.new.me.1 ≡ seat.old.me.1) }
     ensures stands { ∥ HasStood seat.new.id seat.new.me.0 ∥₁ }
-    ensures did { (found : ℕ) × Did J.call seat.old.me.0 (place_word ring head) found J.event seat.new.me.0 }
+    ensures did { (found : ℕ) × HandDid J.call seat.old.me.0 (place_word ring head) found J.event seat.new.me.0 }
     ensures held { held.new ≡ slice_set held.old element false }
 {
     let place = PlaceWord {

@@ -25,13 +25,13 @@ impl Caller for Brand {
 }
 
 /// The event that a step is, and its call.
-pub trait Deed {
+pub trait EventOf {
     ghost call: { ℕ };
 
     ghost event: { Event };
 }
 
-impl Deed for Brand {
+impl EventOf for Brand {
     ghost call = { 0 };
 
     ghost event = { events.Chain };
@@ -49,7 +49,7 @@ pub struct Makes<J> {
     marker: PhantomData<J>,
 }
 
-impl<J: Deed> Play<(), View> for Makes<J> {
+impl<J: EventOf> Play<(), View> for Makes<J> {
     ghost then = { makes J.call J.event };
 }
 
@@ -57,7 +57,7 @@ pub struct Stores<J> {
     marker: PhantomData<J>,
 }
 
-impl<J: Deed> Play<(), View> for Stores<J> {
+impl<J: EventOf> Play<(), View> for Stores<J> {
     ghost then = { stores J.call J.event };
 }
 
@@ -65,7 +65,7 @@ pub struct Tries<J> {
     marker: PhantomData<J>,
 }
 
-impl<J: Deed> Play<(), View> for Tries<J> {
+impl<J: EventOf> Play<(), View> for Tries<J> {
     ghost then = { tries J.call J.event };
 }
 

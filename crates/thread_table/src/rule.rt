@@ -2,7 +2,7 @@
 use atomic_table::TableRule;
 use event_theory::Event;
 use std::collections::LinkedList;
-use table_theory::views::Ledger;
+use table_theory::views::EndState;
 
 /// The parameter of the rule, set when the table is made: the first position of each element queue.
 #[derive(Drop)]
@@ -25,7 +25,7 @@ pub struct Counted {
 
 /// An event that a hand made, the number of the step that it counted (how many its element had done before), and the
 /// signals that it delivered.
-pub struct Made {
+pub struct MadeEvent {
     pub event: Event,
     pub number: u64,
     pub signals: LinkedList<u64>,
@@ -35,21 +35,21 @@ pub struct Made {
 /// and the elements on them; the run that it has claimed and not raised; the number of steps that it has just found;
 /// the events that it made; whether it has made a step since it took in a hand; whether it shared an element or a
 /// processor with a hand that it took in. Only proofs speak of it.
-pub struct Having {
+pub struct HandState {
     pub first: u64,
     pub held: LinkedList<bool>,
     pub serves: LinkedList<bool>,
     pub on: LinkedList<Option<u64>>,
     pub claimed: Option<Claimed>,
     pub counted: Option<Counted>,
-    pub made: LinkedList<Made>,
+    pub made: LinkedList<MadeEvent>,
     pub fresh: bool,
     pub doubled: bool,
 }
 
 /// A hand's knowledge: what it has, its steps, and all hands' steps up to its own last one, with every join. The object
 /// is the schedule: the events of all hands.
-pub type View = Ledger<Having, LinkedList<Event>>;
+pub type View = EndState<HandState, LinkedList<Event>>;
 
 pub struct ThreadRule;
 

@@ -16,7 +16,7 @@ ghost use Rattle.thread_table.specs.Rules.{HasStood, IsActive, MayStep, has, ser
 ghost use Rattle.thread_table.specs.Views.{count_of, HasClaimed};
 ghost use Rattle.thread_table.specs.Entries.{claim_event, take_event};
 ghost use Rattle.thread_table.specs.Answers.{raise_event};
-ghost use Rattle.thread_table.specs.Steps.{Found, Did, IsTurn, ReadPc, CountedUp, CountedDown};
+ghost use Rattle.thread_table.specs.Steps.{Found, HandDid, IsTurn, ReadPc, CountedUp, CountedDown};
 ghost use Rattle.thread_table.specs.Steps.{rest_of, newborn, both, emptied};
 ghost use Rattle.event_theory.specs.declared.event.Event.TheVariants as events;
 ghost use Rattle.thread_table.specs.Reads.{Peeked, StateIs};
@@ -26,7 +26,7 @@ use crate::layout::{
     wait_ring,
 };
 use crate::plays::{
-    Caller, CountDown, CountUp, Deed, Halves, Joins, LoadDone, Look, Makes, Mask, Spent, Stores,
+    Caller, CountDown, CountUp, EventOf, Halves, Joins, LoadDone, Look, Makes, Mask, Spent, Stores,
     Tries,
 };
 use crate::rule::{Shape, ThreadRule, View};
@@ -38,7 +38,7 @@ pub(crate) type Words = Shared<(), View, Shape, ThreadRule>;
 fn load<J: Caller>(words: &Words, seat: &mut Seat<(), View>, word: usize) -> u64
     requires queue { (seat.old.table_id ≡ words.now.table_id) × (word < words.now.table_id.words) }
     requires live { IsActive seat.old.me.0 }
-    requires deed { J.call ≡ seat.old.id }
+    requires step_outcome { J.call ≡ seat.old.id }
     ensures { IsSame seat.old seat.new × (seat.new.me.1 ≡ seat.old.me.1)
         × Found seat.old.me.0 word result seat.new.me.0 × ∥ HasStood seat.new.id seat.new.me.0 ∥₁ }
 {
@@ -86,7 +86,7 @@ pub(crate) fn load_place(
     load::<Brand>(words, seat, place_word(ring, position))
 }
 
-pub(crate) fn exchange_head<J: Deed>(
+pub(crate) fn exchange_head<J: EventOf>(
     words: &Words,
     seat: &mut Seat<(), View>,
     ring: usize,
@@ -95,12 +95,12 @@ pub(crate) fn exchange_head<J: Deed>(
 ) -> u64
     requires queue { (seat.old.table_id ≡ words.now.table_id) × (words.now.table_id.words ≡ WORDS) × (ring < RINGS) }
     requires mine { IsActive seat.old.me.0 × (seat.old.me.0.own.claimed ≡ None) }
-    requires deed { (J.call ≡ seat.old.id) × (J.event ≡ claim_event seat.old.id ring element) }
+    requires step_outcome { (J.call ≡ seat.old.id) × (J.event ≡ claim_event seat.old.id ring element) }
     requires held { (element < ELEMENTS) × (has seat.old.me.0 element ≡ true) }
     requires room { head % NOTIFY + 1 < POSITIONS }
     ensures queue { IsSame seat.old seat.new × (seat.new.me.1 ≡ seat.old.me.1) }
     ensures stands { ∥ HasStood seat.new.id seat.new.me.0 ∥₁ }
-    ensures hit { result ≡ head → Did J.call seat.old.me.0 (head_word ring) head J.event seat.new.me.0 }
+    ensures hit { result ≡ head → HandDid J.call seat.old.me.0 (head_word ring) head J.event seat.new.me.0 }
     ensures miss { result ≢ head → Found seat.old.me.0 (head_word ring) result seat.new.me.0
         × (result ≡ head_shown seat.old.me.0.own.first (elements_after seat.new.me.0.seen.object) ring) }
 {
@@ -109,7 +109,7 @@ pub(crate) fn exchange_head<J: Deed>(
     words.compare_exchange::<Tries<J>>(seat, head_word(ring), head, head + 1)
 }
 
-pub(crate) fn exchange_head_at<J: Deed>(
+pub(crate) fn exchange_head_at<J: EventOf>(
     words: &Words,
     seat: &mut Seat<(), View>,
     wait: u8,
@@ -119,13 +119,13 @@ pub(crate) fn exchange_head_at<J: Deed>(
 ) -> u64
     requires queue { (seat.old.table_id ≡ words.now.table_id) × (words.now.table_id.words ≡ WORDS) × (wait < WAITS) }
     requires mine { IsActive seat.old.me.0 × (seat.old.me.0.own.claimed ≡ None) }
-    requires deed { (J.call ≡ seat.old.id) × (J.event ≡ events.WaitAt seat.old.id wait element ticket) }
+    requires step_outcome { (J.call ≡ seat.old.id) × (J.event ≡ events.WaitAt seat.old.id wait element ticket) }
     requires held { (element < ELEMENTS) × (has seat.old.me.0 element ≡ true) }
     requires room { head % NOTIFY + 1 < POSITIONS }
     requires ticket { head / NOTIFY ≡ ticket }
     ensures queue { IsSame seat.old seat.new × (seat.new.me.1 ≡ seat.old.me.1) }
     ensures stands { ∥ HasStood seat.new.id seat.new.me.0 ∥₁ }
-    ensures hit { result ≡ head → Did J.call seat.old.me.0 (head_word (wait_ring wait)) head J.event seat.new.me.0 }
+    ensures hit { result ≡ head → HandDid J.call seat.old.me.0 (head_word (wait_ring wait)) head J.event seat.new.me.0 }
     ensures miss { result ≢ head → Found seat.old.me.0 (head_word (wait_ring wait)) result seat.new.me.0
         × (result ≡ head_shown seat.old.me.0.own.first (elements_after seat.new.me.0.seen.object) (wait_ring wait)) }
 {
@@ -135,7 +135,7 @@ pub(crate) fn exchange_head_at<J: Deed>(
 }
 
 // Raises the place that the hand has claimed.
-pub(crate) fn store_place<J: Deed>(
+pub(crate) fn store_place<J: EventOf>(
     words: &Words,
     seat: &mut Seat<(), View>,
     ring: usize,
@@ -145,11 +145,11 @@ pub(crate) fn store_place<J: Deed>(
 )
     requires queue { (seat.old.table_id ≡ words.now.table_id) × (words.now.table_id.words ≡ WORDS) × (ring < RINGS) }
     requires mine { IsActive seat.old.me.0 }
-    requires deed { (J.call ≡ seat.old.id) × (J.event ≡ raise_event seat.old.id seat.old.me.0 ring position) }
+    requires step_outcome { (J.call ≡ seat.old.id) × (J.event ≡ raise_event seat.old.id seat.old.me.0 ring position) }
     requires claimed { HasClaimed seat.old.me.0 ring position element × (new ≡ element + 256 * (position + 1)) }
     ensures queue { IsSame seat.old seat.new × (seat.new.me.1 ≡ seat.old.me.1) }
     ensures stands { ∥ HasStood seat.new.id seat.new.me.0 ∥₁ }
-    ensures did { (found : ℕ) × Did J.call seat.old.me.0 (place_word ring position) found J.event seat.new.me.0 }
+    ensures did { (found : ℕ) × HandDid J.call seat.old.me.0 (place_word ring position) found J.event seat.new.me.0 }
 {
     let _ = element;
     // a store suffices: no other hand writes a place between its claim and its raise
@@ -157,7 +157,7 @@ pub(crate) fn store_place<J: Deed>(
 }
 
 // Takes the place at this tail, which was raised when the hand last looked.
-pub(crate) fn exchange_tail<J: Deed>(
+pub(crate) fn exchange_tail<J: EventOf>(
     words: &Words,
     seat: &mut Seat<(), View>,
     ring: usize,
@@ -165,47 +165,32 @@ pub(crate) fn exchange_tail<J: Deed>(
 ) -> u64
     requires queue { (seat.old.table_id ≡ words.now.table_id) × (words.now.table_id.words ≡ WORDS) × (ring < RINGS) }
     requires mine { IsActive seat.old.me.0 × (seat.old.me.0.own.claimed ≡ None) }
-    requires deed { (J.call ≡ seat.old.id) × (J.event ≡ take_event seat.old.id ring) }
+    requires step_outcome { (J.call ≡ seat.old.id) × (J.event ≡ take_event seat.old.id ring) }
     requires raised { (run : ℕ) × (tail ≡ seat.old.me.0.own.first + run)
         × ((ring_at (elements_after seat.old.me.0.seen.object) ring).raised run 0 ≡ true) }
     requires bounded { tail < POSITIONS }
     ensures queue { IsSame seat.old seat.new × (seat.new.me.1 ≡ seat.old.me.1) }
     ensures stands { ∥ HasStood seat.new.id seat.new.me.0 ∥₁ }
-    ensures hit { result ≡ tail → Did J.call seat.old.me.0 (tail_word ring) tail J.event seat.new.me.0 }
+    ensures hit { result ≡ tail → HandDid J.call seat.old.me.0 (tail_word ring) tail J.event seat.new.me.0 }
     ensures miss { result ≢ tail → Found seat.old.me.0 (tail_word ring) result seat.new.me.0
         × (result ≡ tail_shown seat.old.me.0.own.first (elements_after seat.new.me.0.seen.object) ring) }
 {
     words.compare_exchange::<Tries<J>>(seat, tail_word(ring), tail, tail + 1)
 }
 
-pub(crate) fn add_notify<J: Deed>(words: &Words, seat: &mut Seat<(), View>, wait: u8) -> u64
+pub(crate) fn add_notify<J: EventOf>(words: &Words, seat: &mut Seat<(), View>, wait: u8) -> u64
     requires queue { (seat.old.table_id ≡ words.now.table_id) × (words.now.table_id.words ≡ WORDS) × (wait < WAITS) }
     requires mine { IsActive seat.old.me.0 × (seat.old.me.0.own.claimed ≡ None) }
-    requires deed { (J.call ≡ seat.old.id) × (J.event ≡ events.NotifyWait seat.old.id wait) }
+    requires step_outcome { (J.call ≡ seat.old.id) × (J.event ≡ events.NotifyWait seat.old.id wait) }
     ensures queue { IsSame seat.old seat.new × (seat.new.me.1 ≡ seat.old.me.1) }
     ensures stands { ∥ HasStood seat.new.id seat.new.me.0 ∥₁ }
-    ensures did { Did J.call seat.old.me.0 (head_word (wait_ring wait)) result J.event seat.new.me.0 }
+    ensures did { HandDid J.call seat.old.me.0 (head_word (wait_ring wait)) result J.event seat.new.me.0 }
 {
     // the addition changes only the upper half of the word, which wraps at 2^32, and leaves the head
     words.fetch_add::<Makes<J>>(seat, head_word(wait_ring(wait)), NOTIFY)
 }
 
-pub(crate) fn swap_on<J: Deed>(words: &Words, seat: &mut Seat<(), View>, processor: u8, element: u8)
-    requires queue { (seat.old.table_id ≡ words.now.table_id) × (words.now.table_id.words ≡ WORDS) }
-    requires mine { IsActive seat.old.me.0 × (seat.old.me.0.own.claimed ≡ None) }
-    requires deed { (J.call ≡ seat.old.id) × (J.event ≡ events.On seat.old.id processor element) }
-    requires held { (element < ELEMENTS) × (has seat.old.me.0 element ≡ true) }
-    requires empty { (processor < PROCESSORS) × (serves seat.old.me.0 processor ≡ true)
-        × (running seat.old.me.0 processor ≡ None) }
-    ensures queue { IsSame seat.old seat.new × (seat.new.me.1 ≡ seat.old.me.1) }
-    ensures stands { ∥ HasStood seat.new.id seat.new.me.0 ∥₁ }
-    ensures did { (found : ℕ) × Did J.call seat.old.me.0 (processor_word processor) found J.event seat.new.me.0 }
-{
-    // no comparison is needed: only the hand that serves the processor writes its word, which is 0
-    words.swap::<Makes<J>>(seat, processor_word(processor), element as u64 + 1);
-}
-
-pub(crate) fn swap_off<J: Deed>(
+pub(crate) fn swap_on<J: EventOf>(
     words: &Words,
     seat: &mut Seat<(), View>,
     processor: u8,
@@ -213,12 +198,32 @@ pub(crate) fn swap_off<J: Deed>(
 )
     requires queue { (seat.old.table_id ≡ words.now.table_id) × (words.now.table_id.words ≡ WORDS) }
     requires mine { IsActive seat.old.me.0 × (seat.old.me.0.own.claimed ≡ None) }
-    requires deed { (J.call ≡ seat.old.id) × (J.event ≡ events.Off seat.old.id processor) }
+    requires step_outcome { (J.call ≡ seat.old.id) × (J.event ≡ events.On seat.old.id processor element) }
+    requires held { (element < ELEMENTS) × (has seat.old.me.0 element ≡ true) }
+    requires empty { (processor < PROCESSORS) × (serves seat.old.me.0 processor ≡ true)
+        × (running seat.old.me.0 processor ≡ None) }
+    ensures queue { IsSame seat.old seat.new × (seat.new.me.1 ≡ seat.old.me.1) }
+    ensures stands { ∥ HasStood seat.new.id seat.new.me.0 ∥₁ }
+    ensures did { (found : ℕ) × HandDid J.call seat.old.me.0 (processor_word processor) found J.event seat.new.me.0 }
+{
+    // no comparison is needed: only the hand that serves the processor writes its word, which is 0
+    words.swap::<Makes<J>>(seat, processor_word(processor), element as u64 + 1);
+}
+
+pub(crate) fn swap_off<J: EventOf>(
+    words: &Words,
+    seat: &mut Seat<(), View>,
+    processor: u8,
+    element: u8,
+)
+    requires queue { (seat.old.table_id ≡ words.now.table_id) × (words.now.table_id.words ≡ WORDS) }
+    requires mine { IsActive seat.old.me.0 × (seat.old.me.0.own.claimed ≡ None) }
+    requires step_outcome { (J.call ≡ seat.old.id) × (J.event ≡ events.Off seat.old.id processor) }
     requires there { (processor < PROCESSORS) × (serves seat.old.me.0 processor ≡ true)
         × (running seat.old.me.0 processor ≡ Some element) }
     ensures queue { IsSame seat.old seat.new × (seat.new.me.1 ≡ seat.old.me.1) }
     ensures stands { ∥ HasStood seat.new.id seat.new.me.0 ∥₁ }
-    ensures did { (found : ℕ) × Did J.call seat.old.me.0 (processor_word processor) found J.event seat.new.me.0 }
+    ensures did { (found : ℕ) × HandDid J.call seat.old.me.0 (processor_word processor) found J.event seat.new.me.0 }
 {
     let _ = element;
     // no comparison is needed: only the hand that serves the processor writes its word
@@ -237,19 +242,19 @@ pub(crate) fn load_state(words: &Words, seat: &mut Seat<(), View>, element: u8) 
     load::<Brand>(words, seat, state_word(element))
 }
 
-pub(crate) fn or_stop<J: Deed>(words: &Words, seat: &mut Seat<(), View>, element: u8) -> u64
+pub(crate) fn or_stop<J: EventOf>(words: &Words, seat: &mut Seat<(), View>, element: u8) -> u64
     requires queue { (seat.old.table_id ≡ words.now.table_id) × (words.now.table_id.words ≡ WORDS)
         × (element < ELEMENTS) }
     requires mine { IsActive seat.old.me.0 × (seat.old.me.0.own.claimed ≡ None) }
-    requires deed { (J.call ≡ seat.old.id) × (J.event ≡ events.Stop seat.old.id element) }
+    requires step_outcome { (J.call ≡ seat.old.id) × (J.event ≡ events.Stop seat.old.id element) }
     ensures queue { IsSame seat.old seat.new × (seat.new.me.1 ≡ seat.old.me.1) }
     ensures stands { ∥ HasStood seat.new.id seat.new.me.0 ∥₁ }
-    ensures did { Did J.call seat.old.me.0 (state_word element) result J.event seat.new.me.0 }
+    ensures did { HandDid J.call seat.old.me.0 (state_word element) result J.event seat.new.me.0 }
 {
     words.fetch_or::<Makes<J>>(seat, state_word(element), STOP)
 }
 
-pub(crate) fn or_signal<J: Deed>(
+pub(crate) fn or_signal<J: EventOf>(
     words: &Words,
     seat: &mut Seat<(), View>,
     element: u8,
@@ -258,16 +263,16 @@ pub(crate) fn or_signal<J: Deed>(
     requires queue { (seat.old.table_id ≡ words.now.table_id) × (words.now.table_id.words ≡ WORDS)
         × (element < ELEMENTS) }
     requires mine { IsActive seat.old.me.0 × (seat.old.me.0.own.claimed ≡ None) }
-    requires deed { (J.call ≡ seat.old.id) × (J.event ≡ events.Signal seat.old.id element signal) × (signal < 16) }
+    requires step_outcome { (J.call ≡ seat.old.id) × (J.event ≡ events.Signal seat.old.id element signal) × (signal < 16) }
     ensures queue { IsSame seat.old seat.new × (seat.new.me.1 ≡ seat.old.me.1) }
     ensures stands { ∥ HasStood seat.new.id seat.new.me.0 ∥₁ }
-    ensures did { Did J.call seat.old.me.0 (state_word element) result J.event seat.new.me.0 }
+    ensures did { HandDid J.call seat.old.me.0 (state_word element) result J.event seat.new.me.0 }
 {
     words.fetch_or::<Makes<J>>(seat, state_word(element), 1 << signal)
 }
 
 // A park, a start or a delivery, if the state word is still the one that was loaded.
-pub(crate) fn exchange_state<J: Deed>(
+pub(crate) fn exchange_state<J: EventOf>(
     words: &Words,
     seat: &mut Seat<(), View>,
     element: u8,
@@ -281,7 +286,7 @@ pub(crate) fn exchange_state<J: Deed>(
     requires turn { IsTurn J.event seat.old.id element seat.old.me.0 old new }
     ensures queue { IsSame seat.old seat.new × (seat.new.me.1 ≡ seat.old.me.1) }
     ensures stands { ∥ HasStood seat.new.id seat.new.me.0 ∥₁ }
-    ensures hit { result ≡ old → Did J.call seat.old.me.0 (state_word element) old J.event seat.new.me.0 }
+    ensures hit { result ≡ old → HandDid J.call seat.old.me.0 (state_word element) old J.event seat.new.me.0 }
     ensures miss { result ≢ old → Found seat.old.me.0 (state_word element) result seat.new.me.0
         × StateIs element result seat.new.me.0 }
 {
@@ -293,7 +298,7 @@ pub(crate) fn load_done<J: Caller>(words: &Words, seat: &mut Seat<(), View>, ele
     requires queue { (seat.old.table_id ≡ words.now.table_id) × (words.now.table_id.words ≡ WORDS)
         × (element < ELEMENTS) }
     requires mine { IsActive seat.old.me.0 × MayStep seat.old.me.0 element × (J.element ≡ element) }
-    requires deed { J.call ≡ seat.old.id }
+    requires step_outcome { J.call ≡ seat.old.id }
     ensures queue { IsSame seat.old seat.new × (seat.new.me.1 ≡ seat.old.me.1) }
     ensures stands { ∥ HasStood seat.new.id seat.new.me.0 ∥₁ }
     ensures counted { ReadPc J.element seat.old.me.0 result seat.new.me.0 }
@@ -302,15 +307,20 @@ pub(crate) fn load_done<J: Caller>(words: &Words, seat: &mut Seat<(), View>, ele
     words.load::<LoadDone<J>>(seat, done_word(element))
 }
 
-pub(crate) fn store_done<J: Deed>(words: &Words, seat: &mut Seat<(), View>, element: u8, done: u64)
+pub(crate) fn store_done<J: EventOf>(
+    words: &Words,
+    seat: &mut Seat<(), View>,
+    element: u8,
+    done: u64,
+)
     requires queue { (seat.old.table_id ≡ words.now.table_id) × (words.now.table_id.words ≡ WORDS)
         × (element < ELEMENTS) }
     requires mine { IsActive seat.old.me.0 × (seat.old.me.0.own.claimed ≡ None) }
-    requires deed { (J.call ≡ seat.old.id) × (J.event ≡ events.Done seat.old.id element) }
+    requires step_outcome { (J.call ≡ seat.old.id) × (J.event ≡ events.Done seat.old.id element) }
     requires counted { (seat.old.me.0.own.counted ≡ Some (count_of element done)) × (done < most_done) }
     ensures queue { IsSame seat.old seat.new × (seat.new.me.1 ≡ seat.old.me.1) }
     ensures stands { ∥ HasStood seat.new.id seat.new.me.0 ∥₁ }
-    ensures did { (found : ℕ) × Did J.call seat.old.me.0 (done_word element) found J.event seat.new.me.0 }
+    ensures did { (found : ℕ) × HandDid J.call seat.old.me.0 (done_word element) found J.event seat.new.me.0 }
 {
     // a store suffices: no other hand may count a step of this element
     words.store::<Stores<J>>(seat, done_word(element), done + 1);
@@ -318,7 +328,7 @@ pub(crate) fn store_done<J: Deed>(words: &Words, seat: &mut Seat<(), View>, elem
 
 pub(crate) fn count_up<J: Caller>(words: &Words, seat: &mut Seat<(), View>) -> u64
     requires queue { (seat.old.table_id ≡ words.now.table_id) × (words.now.table_id.words ≡ WORDS) }
-    requires deed { J.call ≡ seat.old.id }
+    requires step_outcome { J.call ≡ seat.old.id }
     requires live { IsActive seat.old.me.0 }
     requires parts { seat.old.me.0.member.ends + 1 ≤ seat.old.me.0.member.share }
     ensures queue { IsSame seat.old seat.new × (seat.new.me.1 ≡ seat.old.me.1) }
@@ -330,7 +340,7 @@ pub(crate) fn count_up<J: Caller>(words: &Words, seat: &mut Seat<(), View>) -> u
 
 pub(crate) fn count_down<J: Caller>(words: &Words, seat: &mut Seat<(), View>) -> u64
     requires queue { (seat.old.table_id ≡ words.now.table_id) × (words.now.table_id.words ≡ WORDS) }
-    requires deed { J.call ≡ seat.old.id }
+    requires step_outcome { J.call ≡ seat.old.id }
     requires live { (2 ≤ seat.old.me.0.member.ends) × (seat.old.me.0.own.fresh ≡ false) }
     ensures queue { IsSame seat.old seat.new × (seat.new.me.1 ≡ seat.old.me.1) }
     ensures stands { ∥ HasStood seat.new.id seat.new.me.0 ∥₁ }

@@ -8,7 +8,7 @@ use Rattle.turn_dispatch.specs.declared.dispatch.Idle.{Idle}
 use Rattle.turn_dispatch.specs.declared.dispatch.Idle.TheVariants as idle
 use Rattle.turn_dispatch.specs.Dispatches.{Awake, WasIdle, IdleHolds}
 use Rattle.turn_dispatch.proofs.Calm.{Goes, Bridges, goes_after, goes_before, right}
-use Rattle.turn_dispatch.proofs.Looks.{take_looks, took_goes, took_holds, parked_goes, park_looks, runs_looks, deliver_goes, counts_looks}
+use Rattle.turn_dispatch.proofs.OnlyLoads.{take_looks, took_goes, took_holds, parked_goes, park_looks, runs_looks, deliver_goes, counts_looks}
 use Rattle.turn_dispatch.proofs.Sends.{sent_goes, sent_holds}
 
 -- the hand holds the element that it holds more than before

@@ -1,11 +1,11 @@
 -- The parts that a hand keeps over several steps, what the steps add, and that none of its elements is counted a step.
-use Rattle.turn_dispatch.proofs.Common.{inl, inr, ∥∥₁_elim, ℕ_set, append-nil, Made, View, steps_in, MayStep, done_at, has, IsHonest, quiet, counted_done, IsFree, OnlyAdds, Steady, Tally, tally, behind, no_events, Adds}
+use Rattle.turn_dispatch.proofs.Common.{inl, inr, ∥∥₁_elim, ℕ_set, append-nil, MadeEvent, View, steps_in, MayStep, done_at, has, IsValidHandView, quiet, counted_done, IsFree, OnlyAdds, Steady, Tally, tally, followed_by, no_events, AddsToTally}
 use Rattle.std.proofs.Common.{◌≡◌, ℕ, ◌+◌, ◌<◌, true, false, List, [], ◌++◌, get_or, Some, None, refl, sym, ap, ◌∙◌, arith}
-use Rattle.thread_table.specs.Entries.{Step, Acts, IsCalm}
+use Rattle.thread_table.specs.Entries.{Step, PerformsEvents, IsCalm}
 use Rattle.thread_table.specs.Keeping.{Keeps}
 use Rattle.thread_table.specs.Rules.{serves, running}
 use Rattle.turn_dispatch.specs.Holdings.{IsOn}
-use Rattle.turn_dispatch.proofs.Tallies.{adds_on, adds_before, adds_more, told_steps, told_more}
+use Rattle.turn_dispatch.proofs.Tallies.{adds_on, adds_before, adds_more, reported_steps, reported_more}
 
 -- the hand has made a step, and only the hand counted steps of what it has before and after
 pub record Calm (v w : View) : Type 0 where
@@ -15,7 +15,7 @@ pub record Calm (v w : View) : Type 0 where
 -- its processors are unchanged, and its events add this
 pub record Goes (more : Tally) (v w : View) : Type 0 where
   pub keeps : Keeps v w
-  pub adds : Adds more v w
+  pub adds : AddsToTally more v w
   pub calm : Calm v w
 
 -- the hand holds in between each element that it holds before and after
@@ -40,7 +40,7 @@ calm_on u v w a b new x y bridge up e low may after =
     let q = y new e low mid after in
     omega arith
 
-pub goes_on : (s t : Tally) (u v w : View) → Goes s u v → Goes t v w → Bridges u v w → Goes (behind s t) u w
+pub goes_on : (s t : Tally) (u v w : View) → Goes s u v → Goes t v w → Bridges u v w → Goes (followed_by s t) u w
 goes_on s t u v w a b bridge = record {
   keeps = keeps_on u v w a.keeps b.keeps;
   adds = adds_on s t u v w a.adds b.adds;
@@ -62,10 +62,10 @@ pub right : (u v w : View) → w.own.held ≡ v.own.held → Bridges u v w
 right u v w same e low held still = ap (λ xs. get_or xs e false) (sym same) ∙ still
 
 -- only that, and nothing was added
-abbrev pub Looks : View → View → Type 0
-Looks v w = Goes no_events v w × (w.own.held ≡ v.own.held)
+abbrev pub OnlyLoads : View → View → Type 0
+OnlyLoads v w = Goes no_events v w × (w.own.held ≡ v.own.held)
 
-pub looks_none : (v : View) → v.own.fresh ≡ true → Looks v v
+pub looks_none : (v : View) → v.own.fresh ≡ true → OnlyLoads v v
 looks_none v up = (
   record {
     keeps = record { first = refl; serves = refl; on = refl; share = refl };
@@ -75,11 +75,11 @@ looks_none v up = (
   refl,
 )
 
-pub looks_on : (u v w : View) → Looks u v → Looks v w → Looks u w
+pub looks_on : (u v w : View) → OnlyLoads u v → OnlyLoads v w → OnlyLoads u w
 looks_on u v w a b = (goes_before no_events u v w a.0 b.0 (left u v w a.1), b.1 ∙ a.1)
 
 -- the hand after entries
-pub acts_goes : (more : Tally) (v w now : View) (entries : List Step) (l : List Made) → Keeps v now → now.own.made ≡ v.own.made ++ l → tally l ≡ more → Acts v entries now w → Goes more v w
+pub acts_goes : (more : Tally) (v w now : View) (entries : List Step) (l : List MadeEvent) → Keeps v now → now.own.made ≡ v.own.made ++ l → tally l ≡ more → PerformsEvents v entries now w → Goes more v w
 acts_goes more v w now entries l k grew is a = record {
   keeps = record {
     first = ap (λ (z : View). z.own.first) a.has ∙ k.first;
@@ -91,42 +91,42 @@ acts_goes more v w now entries l k grew is a = record {
   calm = record { fresh = ap (λ (z : View). z.own.fresh) a.has; calm = a.calm };
 }
 
-pub acts_held : (v w now : View) (entries : List Step) → Acts v entries now w → w.own.held ≡ now.own.held
+pub acts_held : (v w now : View) (entries : List Step) → PerformsEvents v entries now w → w.own.held ≡ now.own.held
 acts_held v w now entries a = ap (λ (z : View). z.own.held) a.has
 
 -- loads alone
-pub acts_look : (v w : View) (entries : List Step) → Acts v entries (quiet v) w → Looks v w
+pub acts_look : (v w : View) (entries : List Step) → PerformsEvents v entries (quiet v) w → OnlyLoads v w
 acts_look v w entries a = (
   acts_goes no_events v w (quiet v) entries [] record { first = refl; serves = refl; on = refl; share = refl } (sym (append-nil v.own.made)) refl a,
   acts_held v w (quiet v) entries a,
 )
 
 -- how many steps of what a hand has were counted
-pub steps_more : (more : Tally) (v w : View) (e : ℕ) → v.own.fresh ≡ true → Adds more v w → IsCalm v w → e < 64 → MayStep v e → MayStep w e → steps_in e w.seen.object ≡ steps_in e v.seen.object + told_steps e more
+pub steps_more : (more : Tally) (v w : View) (e : ℕ) → v.own.fresh ≡ true → AddsToTally more v w → IsCalm v w → e < 64 → MayStep v e → MayStep w e → steps_in e w.seen.object ≡ steps_in e v.seen.object + reported_steps e more
 steps_more more v w e up adds calm low may after =
     let c = calm up e low may after in
-    let m = told_more e more v w adds in
+    let m = reported_more e more v w adds in
     omega arith
 
 -- the events that a hand has seen count the steps that an element has done
-pub done_is : (v : View) (e : ℕ) → ∥ IsHonest v ∥₁ → done_at v.seen.object e ≡ steps_in e v.seen.object
-done_is v e told = ∥∥₁_elim told (ℕ_set (done_at v.seen.object e) (steps_in e v.seen.object)) (λ (h : IsHonest v). counted_done v.seen.object h.allowed e)
+pub done_is : (v : View) (e : ℕ) → ∥ IsValidHandView v ∥₁ → done_at v.seen.object e ≡ steps_in e v.seen.object
+done_is v e reported = ∥∥₁_elim reported (ℕ_set (done_at v.seen.object e) (steps_in e v.seen.object)) (λ (h : IsValidHandView v). counted_done v.seen.object h.allowed e)
 
 -- if no step was counted
-pub steady_by : (more : Tally) (v w : View) → ((e : ℕ) → told_steps e more ≡ 0) → v.own.fresh ≡ true → ∥ IsHonest v ∥₁ → ∥ IsHonest w ∥₁ → Adds more v w → IsCalm v w → Steady v w
-steady_by more v w none up before behind adds calm e low may after =
+pub steady_by : (more : Tally) (v w : View) → ((e : ℕ) → reported_steps e more ≡ 0) → v.own.fresh ≡ true → ∥ IsValidHandView v ∥₁ → ∥ IsValidHandView w ∥₁ → AddsToTally more v w → IsCalm v w → Steady v w
+steady_by more v w none up before followed_by adds calm e low may after =
     let s = steps_more more v w e up adds calm low may after in
     let n = none e in
     let x = done_is v e before in
-    let y = done_is w e behind in
+    let y = done_is w e followed_by in
     omega arith
 
-pub steady : (more : Tally) (v w : View) → ((e : ℕ) → told_steps e more ≡ 0) → v.own.fresh ≡ true → ∥ IsHonest v ∥₁ → ∥ IsHonest w ∥₁ → Goes more v w → Steady v w
-steady more v w none up before behind g = steady_by more v w none up before behind g.adds g.calm.calm
+pub steady : (more : Tally) (v w : View) → ((e : ℕ) → reported_steps e more ≡ 0) → v.own.fresh ≡ true → ∥ IsValidHandView v ∥₁ → ∥ IsValidHandView w ∥₁ → Goes more v w → Steady v w
+steady more v w none up before followed_by g = steady_by more v w none up before followed_by g.adds g.calm.calm
 
 -- the hand keeps all that it had, and its events add this
-pub only : (more : Tally) (v w : View) → ((e : ℕ) → told_steps e more ≡ 0) → v.own.fresh ≡ true → ∥ IsHonest v ∥₁ → ∥ IsHonest w ∥₁ → Goes more v w → w.own.held ≡ v.own.held → OnlyAdds more v w
-only more v w none up before behind g same = record { keeps = g.keeps; holds = λ e. ap (λ xs. get_or xs e false) same; adds = g.adds; steady = steady more v w none up before behind g }
+pub only : (more : Tally) (v w : View) → ((e : ℕ) → reported_steps e more ≡ 0) → v.own.fresh ≡ true → ∥ IsValidHandView v ∥₁ → ∥ IsValidHandView w ∥₁ → Goes more v w → w.own.held ≡ v.own.held → OnlyAdds more v w
+only more v w none up before followed_by g same = record { keeps = g.keeps; holds = λ e. ap (λ xs. get_or xs e false) same; adds = g.adds; steady = steady more v w none up before followed_by g }
 
 -- a free processor stays free, and an element on a processor stays there
 pub still_free : (p : ℕ) (v w : View) → Keeps v w → IsFree p v → IsFree p w

@@ -28,18 +28,18 @@ pub use Rattle.thread_table.specs.Own.{View}
 pub use Rattle.thread_table.specs.Retiring.{taking_by}
 pub use Rattle.thread_table.specs.Rules.{MayStep, done_at, has}
 pub use Rattle.thread_table.specs.Schedules.{elements_after, ring_at, thread_at}
-pub use Rattle.thread_table.specs.Telling.{IsHonest}
+pub use Rattle.thread_table.specs.Telling.{IsValidHandView}
 pub use Rattle.thread_table.specs.Views.{quiet}
 pub use Rattle.thread_table.specs.declared.layout.TheConstants.{ELEMENTS}
 pub use Rattle.thread_table.specs.declared.places.Place.{Place}
-pub use Rattle.thread_table.specs.declared.rule.Made.{Made}
+pub use Rattle.thread_table.specs.declared.rule.MadeEvent.{MadeEvent}
 pub use Rattle.thread_table.specs.declared.states.Lost.{Lost}
 pub use Rattle.thread_table.specs.declared.states.Signalled.{Signalled}
 pub use Rattle.turn_dispatch.specs.Dispatches.{Began, mask_of}
 pub use Rattle.turn_dispatch.specs.Holdings.{HoldsSame, IsFree, OnlyAdds, Shows, Steady}
 pub use Rattle.turn_dispatch.specs.Sendings.{HoldsUnless, LostTries, LostWaits, Sent, retired, ring_of}
 pub use Rattle.turn_dispatch.specs.Settlings.{IsOnceWhere, has_done, is_free, place_of, same_pair}
-pub use Rattle.turn_dispatch.specs.Tallies.{Adds, Tally, behind, delivery, is_delivered, no_events, one_delivery, one_signal, step_by, tally}
+pub use Rattle.turn_dispatch.specs.Tallies.{AddsToTally, Tally, followed_by, delivery, is_delivered, no_events, one_delivery, one_signal, step_by, tally}
 pub use Rattle.turn_dispatch.specs.Tendings.{RaisedAll}
 pub use Rattle.turn_dispatch.specs.declared.dispatch.Begun.{Begun}
 pub use Rattle.turn_dispatch.specs.declared.waking.Woken.{Woken}

@@ -2,7 +2,7 @@ pub mod Common
 pub mod MadeBy
 pub mod Tallies
 pub mod Calm
-pub mod Looks
+pub mod OnlyLoads
 pub mod Sends
 pub mod Stepped
 pub mod Beginnings

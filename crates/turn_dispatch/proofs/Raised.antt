@@ -1,5 +1,5 @@
 -- Tending the alarms.
-use Rattle.turn_dispatch.proofs.Common.{take, append-nil, View, Signalled, SignalAnswer, IsHonest, OnlyAdds, one_signal, RaisedAll}
+use Rattle.turn_dispatch.proofs.Common.{take, append-nil, View, Signalled, SignalAnswer, IsValidHandView, OnlyAdds, one_signal, RaisedAll}
 use Rattle.std.proofs.Common.{◌≡◌, ℕ, suc, ◌+◌, ◌<◌, true, List, [], ◌∷◌, ◌++◌, length, get_or, Result, Ok, Err, refl, sym, ap, ◌∙◌, subst, arith}
 use Rattle.std.specs.Prelude.{MatchResult}
 use Rattle.std.proofs.Math.Seq.{take-suc}
@@ -8,8 +8,8 @@ use Rattle.meters.specs.declared.gauges.AdvanceRefusal.{AdvanceRefusal}
 use Rattle.meters.specs.Own.{SeatView, own_of, Own, DidNothing, DidAdvance, DidFire}
 use Rattle.turn_dispatch.specs.Tallies.{signals_for}
 use Rattle.turn_dispatch.specs.Tendings.{DidTend}
-use Rattle.turn_dispatch.proofs.Calm.{Goes, Looks, goes_on, left, looks_none, only}
-use Rattle.turn_dispatch.proofs.Looks.{signal_goes}
+use Rattle.turn_dispatch.proofs.Calm.{Goes, OnlyLoads, goes_on, left, looks_none, only}
+use Rattle.turn_dispatch.proofs.OnlyLoads.{signal_goes}
 
 -- one more signal was raised
 raised_more : (call : ℕ) (alarms : List Alarm) (a : Alarm) (r : Signalled) (v u w : View) → RaisedAll call alarms v u → SignalAnswer call u a.element a.signal r w → RaisedAll call (alarms ++ a ∷ []) v w
@@ -20,15 +20,15 @@ pub raised_again : (call call' : ℕ) (alarms more : List Alarm) (a : Alarm) (r 
 raised_again call call' alarms more a r v u w same is all s = subst (λ (xs : List Alarm). RaisedAll call xs v w) (sym is) (raised_more call alarms a r v u w all (subst (λ (c : ℕ). SignalAnswer c u a.element a.signal r w) same s))
 
 raised_goes : (call : ℕ) (alarms : List Alarm) (v w : View) → v.own.fresh ≡ true → RaisedAll call alarms v w → Goes (signals_for alarms) v w × (w.own.held ≡ v.own.held)
-raised_goes call [] v w up same = subst (Looks v) (sym same) (looks_none v up)
+raised_goes call [] v w up same = subst (OnlyLoads v) (sym same) (looks_none v up)
 raised_goes call (a ∷ rest) v w up all =
     let u : View = all.0 in
     let first = signal_goes call a.element a.signal all.1 v u all.2 in
     let more = raised_goes call rest u w first.0.calm.fresh all.3 in
     (goes_on (one_signal a.element a.signal) (signals_for rest) v u w first.0 more.0 (left v u w first.1), more.1 ∙ first.1)
 
-pub raised_only : (call : ℕ) (alarms : List Alarm) (v w : View) → v.own.fresh ≡ true → ∥ IsHonest v ∥₁ → ∥ IsHonest w ∥₁ → RaisedAll call alarms v w → OnlyAdds (signals_for alarms) v w
-raised_only call alarms v w up before behind all = let g = raised_goes call alarms v w up all in only (signals_for alarms) v w (λ e. refl) up before behind g.0 g.1
+pub raised_only : (call : ℕ) (alarms : List Alarm) (v w : View) → v.own.fresh ≡ true → ∥ IsValidHandView v ∥₁ → ∥ IsValidHandView w ∥₁ → RaisedAll call alarms v w → OnlyAdds (signals_for alarms) v w
+raised_only call alarms v w up before following all = let g = raised_goes call alarms v w up all in only (signals_for alarms) v w (λ e. refl) up before following g.0 g.1
 
 -- the seat's own lists
 pub tended_own : (advanced : Result ℕ AdvanceRefusal) (fired : List Alarm) (v u w : SeatView) → MatchResult advanced (λ clock. DidAdvance clock v u) (λ refusal. DidNothing v u) → DidFire fired u w → DidTend advanced fired v w

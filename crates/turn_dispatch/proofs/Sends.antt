@@ -1,5 +1,5 @@
 -- Moves, retried when lost.
-use Rattle.turn_dispatch.proofs.Common.{inl, ∥∥₁_elim, ℕ_set, ◌==◌, View, MoveAnswer, WaitAnswer, steps_in, made_in, done_at, has, thread_at, IsHonest, counted_done, elements_of, LostTries, Sent, HoldsUnless, LostWaits, retired, Tally, tally, no_events}
+use Rattle.turn_dispatch.proofs.Common.{inl, ∥∥₁_elim, ℕ_set, ◌==◌, View, MoveAnswer, WaitAnswer, steps_in, made_in, done_at, has, thread_at, IsValidHandView, counted_done, elements_of, LostTries, Sent, HoldsUnless, LostWaits, retired, Tally, tally, no_events}
 use Rattle.std.proofs.Common.{◌≡◌, ◌≢◌, ℕ, zero, suc, ◌+◌, ◌<◌, Bool, true, false, List, [], ◌∷◌, get_or, Ok, Err, refl, sym, ap, ◌∙◌, subst, arith}
 use Rattle.std.specs.Prelude.{if◌then◌else◌}
 use Rattle.event_theory.specs.Elements.{Elements}
@@ -15,9 +15,9 @@ use Rattle.turn_dispatch.specs.declared.moving.Waited.{Waited}
 use Rattle.turn_dispatch.specs.declared.moving.Waited.TheVariants as waited
 use Rattle.turn_dispatch.specs.Sendings.{LastTry, LastWait, WaitedAt, has_gone}
 use Rattle.turn_dispatch.specs.Tallies.{one_retired}
-use Rattle.turn_dispatch.proofs.Calm.{Goes, Looks, goes_after, left, looks_none, looks_on, acts_goes, steps_more, done_is}
-use Rattle.turn_dispatch.proofs.Looks.{move_looks, wait_looks}
-use Rattle.turn_dispatch.proofs.Tallies.{told_steps}
+use Rattle.turn_dispatch.proofs.Calm.{Goes, OnlyLoads, goes_after, left, looks_none, looks_on, acts_goes, steps_more, done_is}
+use Rattle.turn_dispatch.proofs.OnlyLoads.{move_looks, wait_looks}
+use Rattle.turn_dispatch.proofs.Tallies.{reported_steps}
 
 -- a move
 moved_goes : (call ring element : ℕ) (event : Event) (word : ℕ) (more : Tally) (v w : View) → (m : MovedBy call v ring element event word w)
@@ -35,8 +35,8 @@ last_goes : (call ring element : ℕ) (moved : Bool) (v w : View) → ring ≢ 1
 last_goes call ring element true v w other m = moved_goes call ring element (claim_event call ring element) m.0 no_events v w m.1 (none_freed call ring element (head_in m.0) v (state_after m.1.2.object) other)
 last_goes call ring element false v w other m = (move_looks call ring element v w moves.Spent m).0
 
-tries_look : (call ring element n : ℕ) (v w : View) → v.own.fresh ≡ true → LostTries call ring element v w n → Looks v w
-tries_look call ring element zero v w up same = subst (Looks v) (sym same) (looks_none v up)
+tries_look : (call ring element n : ℕ) (v w : View) → v.own.fresh ≡ true → LostTries call ring element v w n → OnlyLoads v w
+tries_look call ring element zero v w up same = subst (OnlyLoads v) (sym same) (looks_none v up)
 tries_look call ring element (suc n) v w up tries = looks_on v tries.0 w (tries_look call ring element n v tries.0 up tries.1) (move_looks call ring element tries.0 w (moves.Lost tries.2) tries.3)
 
 pub sent_goes : (call ring element : ℕ) (moved : Bool) (v w : View) → ring ≢ 1 → v.own.fresh ≡ true → Sent call ring element moved v w → Goes no_events v w
@@ -44,27 +44,27 @@ sent_goes call ring element moved v w other up s = let t = tries_look call ring 
     goes_after no_events v s.before w t.0 (last_goes call ring element moved s.before w other s.last) (left v s.before w t.1)
 
 -- the events after which an element was moved were allowed
-claim_allowed : (call ring element : ℕ) (event : Event) (word : ℕ) (v w : View) → IsHonest w → (m : MovedBy call v ring element event word w) → IsAllowed m.2.object
+claim_allowed : (call ring element : ℕ) (event : Event) (word : ℕ) (v w : View) → IsValidHandView w → (m : MovedBy call v ring element event word w) → IsAllowed m.2.object
 claim_allowed call ring element event word v w h m = let all = adds_real v w _ h m.7.adds in all.1.0.lawful
 
 -- a retired element had done as many steps as the hand had seen
-retired_number : (call element : ℕ) (v w : View) → ∥ IsHonest w ∥₁ → (m : MoveAnswer call v 1 element (Ok tt) w) → (thread_at (state_after m.1.2.object).elements element).done ≡ steps_in element v.seen.object
-retired_number call element v w told m = ∥∥₁_elim told (ℕ_set _ _) (λ (h : IsHonest w).
+retired_number : (call element : ℕ) (v w : View) → ∥ IsValidHandView w ∥₁ → (m : MoveAnswer call v 1 element (Ok tt) w) → (thread_at (state_after m.1.2.object).elements element).done ≡ steps_in element v.seen.object
+retired_number call element v w reported m = ∥∥₁_elim reported (ℕ_set _ _) (λ (h : IsValidHandView w).
     ap (λ (z : Elements). (thread_at z element).done) (sym (elements_of m.1.2.object))
     ∙ (counted_done m.1.2.object (claim_allowed call 1 element (claim_event call 1 element) m.0 v w h m.1) element ∙ m.1.5))
 
-retired_last : (call element : ℕ) (moved : Bool) (v w : View) → ∥ IsHonest w ∥₁ → LastTry call v 1 element moved w → Goes (retired moved element (steps_in element v.seen.object)) v w
-retired_last call element true v w told m = moved_goes call 1 element (claim_event call 1 element) m.0 (one_retired element (steps_in element v.seen.object)) v w m.1 (ap (one_retired element) (retired_number call element v w told m))
-retired_last call element false v w told m = (move_looks call 1 element v w moves.Spent m).0
+retired_last : (call element : ℕ) (moved : Bool) (v w : View) → ∥ IsValidHandView w ∥₁ → LastTry call v 1 element moved w → Goes (retired moved element (steps_in element v.seen.object)) v w
+retired_last call element true v w reported m = moved_goes call 1 element (claim_event call 1 element) m.0 (one_retired element (steps_in element v.seen.object)) v w m.1 (ap (one_retired element) (retired_number call element v w reported m))
+retired_last call element false v w reported m = (move_looks call 1 element v w moves.Spent m).0
 
 -- a retirement counts no step
-pub retires_none : (moved : Bool) (element number e : ℕ) → told_steps e (retired moved element number) ≡ 0
+pub retires_none : (moved : Bool) (element number e : ℕ) → reported_steps e (retired moved element number) ≡ 0
 retires_none true element number e = refl
 retires_none false element number e = refl
 
-pub retired_goes : (call element : ℕ) (moved : Bool) (v w : View) → element < 64 → v.own.fresh ≡ true → has v element ≡ true → ∥ IsHonest v ∥₁ → ∥ IsHonest w ∥₁ → Sent call 1 element moved v w
+pub retired_goes : (call element : ℕ) (moved : Bool) (v w : View) → element < 64 → v.own.fresh ≡ true → has v element ≡ true → ∥ IsValidHandView v ∥₁ → ∥ IsValidHandView w ∥₁ → Sent call 1 element moved v w
     → Goes (retired moved element (done_at v.seen.object element)) v w
-retired_goes call element moved v w low up held before behind s =
+retired_goes call element moved v w low up held before following s =
     let u : View = s.before in
     let t = tries_look call 1 element s.lost v u up s.tries in
     let mine : has u element ≡ true = ap (λ xs. get_or xs element false) t.1 ∙ held in
@@ -72,7 +72,7 @@ retired_goes call element moved v w low up held before behind s =
     let d = done_is v element before in
     let same : steps_in element u.seen.object ≡ done_at v.seen.object element = omega arith in
     goes_after (retired moved element (done_at v.seen.object element)) v u w t.0
-    (subst (λ (z : Tally). Goes z u w) (ap (retired moved element) same) (retired_last call element moved u w behind s.last))
+    (subst (λ (z : Tally). Goes z u w) (ap (retired moved element) same) (retired_last call element moved u w following s.last))
     (left v u w t.1)
 
 last_holds : (call ring element : ℕ) (moved : Bool) (v w : View) → LastTry call v ring element moved w → HoldsUnless moved element v w
@@ -95,8 +95,8 @@ lost_again call call' ring element v u w seen same h tries m = (
 )
 
 -- waits with a ticket
-waits_look : (call wait element ticket n : ℕ) (v w : View) → v.own.fresh ≡ true → LostWaits call wait element ticket v w n → Looks v w
-waits_look call wait element ticket zero v w up same = subst (Looks v) (sym same) (looks_none v up)
+waits_look : (call wait element ticket n : ℕ) (v w : View) → v.own.fresh ≡ true → LostWaits call wait element ticket v w n → OnlyLoads v w
+waits_look call wait element ticket zero v w up same = subst (OnlyLoads v) (sym same) (looks_none v up)
 waits_look call wait element ticket (suc n) v w up tries =
     looks_on v tries.0 w (waits_look call wait element ticket n v tries.0 up tries.1) (wait_looks call wait element ticket tries.0 w (moves.Lost tries.2) tries.3)
 

@@ -13,7 +13,7 @@ use Rattle.turn_dispatch.specs.Wakings.{CanWake, OneReady, AllReady, Woke, Holds
 use Rattle.turn_dispatch.proofs.Beginnings.{back, more_grows}
 use Rattle.turn_dispatch.proofs.Calm.{Goes, goes_after, goes_before, looks_none, acts_goes}
 use Rattle.turn_dispatch.proofs.Delivered.{none_in}
-use Rattle.turn_dispatch.proofs.Looks.{start_looks, goes_looks, started_goes, cleared_held}
+use Rattle.turn_dispatch.proofs.OnlyLoads.{start_looks, goes_looks, started_goes, cleared_held}
 use Rattle.turn_dispatch.proofs.Sends.{sent_goes, sent_holds}
 
 -- the takings of those that wait come to nothing

@@ -5,7 +5,7 @@ use Rattle.thread_table.specs.Own.{View}
 use Rattle.thread_table.specs.Answers.{is_in}
 use Rattle.thread_table.specs.Keeping.{Keeps}
 use Rattle.thread_table.specs.Rules.{MayStep, done_at, has, serves, running}
-use Rattle.turn_dispatch.specs.Tallies.{Tally, Adds, is_delivered}
+use Rattle.turn_dispatch.specs.Tallies.{Tally, AddsToTally, is_delivered}
 
 -- the hand serves the processor, and no element is on it
 abbrev pub IsFree : ℕ → View → Type 0
@@ -35,7 +35,7 @@ pub record KeepsBut (on : List (Option ℕ)) (v w : View) : Type 0 where
 pub record OnlyAdds (more : Tally) (v w : View) : Type 0 where
   pub keeps : Keeps v w
   pub holds : HoldsSame v w
-  pub adds : Adds more v w
+  pub adds : AddsToTally more v w
   pub steady : Steady v w
 
 -- the masks of the elements have the signals that they had, and these deliveries

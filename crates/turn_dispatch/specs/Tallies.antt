@@ -7,7 +7,7 @@ use Rattle.event_theory.specs.declared.alarm.Alarm.{Alarm}
 use Rattle.event_theory.specs.declared.event.Event.{Event}
 use Rattle.event_theory.specs.declared.event.Event.TheVariants as events
 use Rattle.event_theory.specs.declared.names.QueueName.TheVariants as names
-use Rattle.thread_table.specs.declared.rule.Made.{Made}
+use Rattle.thread_table.specs.declared.rule.MadeEvent.{MadeEvent}
 use Rattle.thread_table.specs.Own.{View}
 use Rattle.thread_table.specs.Answers.{signals_in}
 use Rattle.thread_table.specs.Retiring.{taking_by}
@@ -42,13 +42,13 @@ pub record Tally : Type 0 where
   pub taken : List ℕ
 
 -- the tally of a list of events
-abbrev pub tally : List Made → Tally
+abbrev pub tally : List MadeEvent → Tally
 tally made = record {
-  done = flat_map (λ (m : Made). step_by m.event m.number) made;
-  signalled = flat_map (λ (m : Made). signal_by m.event) made;
-  delivered = flat_map (λ (m : Made). delivery_by m.event m.signals) made;
-  retired = flat_map (λ (m : Made). retiring_by m.event m.number) made;
-  taken = flat_map (λ (m : Made). taking_by m.event) made;
+  done = flat_map (λ (m : MadeEvent). step_by m.event m.number) made;
+  signalled = flat_map (λ (m : MadeEvent). signal_by m.event) made;
+  delivered = flat_map (λ (m : MadeEvent). delivery_by m.event m.signals) made;
+  retired = flat_map (λ (m : MadeEvent). retiring_by m.event m.number) made;
+  taken = flat_map (λ (m : MadeEvent). taking_by m.event) made;
 }
 
 -- the tally of no events
@@ -56,8 +56,8 @@ abbrev pub no_events : Tally
 no_events = record { done = []; signalled = []; delivered = []; retired = []; taken = [] }
 
 -- one tally followed by another
-abbrev pub behind : Tally → Tally → Tally
-behind t more = record {
+abbrev pub followed_by : Tally → Tally → Tally
+followed_by t more = record {
   done = t.done ++ more.done;
   signalled = t.signalled ++ more.signalled;
   delivered = t.delivered ++ more.delivered;
@@ -87,8 +87,8 @@ abbrev pub signals_for : List Alarm → Tally
 signals_for alarms = record no_events { signalled = map (λ (alarm : Alarm). (alarm.element, alarm.signal)) alarms }
 
 -- the tally of the hand's list grew by this tally
-abbrev pub Adds : Tally → View → View → Type 0
-Adds more v w = tally w.own.made ≡ behind (tally v.own.made) more
+abbrev pub AddsToTally : Tally → View → View → Type 0
+AddsToTally more v w = tally w.own.made ≡ followed_by (tally v.own.made) more
 
 -- whether a signal of an element is among those delivered
 abbrev pub is_delivered : List (ℕ × List ℕ) → ℕ → ℕ → Bool

@@ -5,7 +5,7 @@ ghost use Rattle.thread_table.specs.Keeping.{Keeps};
 ghost use Rattle.thread_table.specs.Rules.{MayStep, done_at};
 ghost use Rattle.turn_dispatch.specs.Countings.{CountAnswer, IsNumber, SteadyBut, counted_step};
 ghost use Rattle.turn_dispatch.specs.Holdings.{HoldsSame};
-ghost use Rattle.turn_dispatch.specs.Tallies.{Adds};
+ghost use Rattle.turn_dispatch.specs.Tallies.{AddsToTally};
 
 use event_theory::Element;
 use thread_table::{Hand, Spent, ThreadTable};
@@ -27,7 +27,7 @@ pub fn count(threads: &ThreadTable, hand: &mut Hand, element: Element, done: boo
     requires mine { MayStep (view_of hand.old) element }
     ensures keeps { Keeps (view_of hand.old) (view_of hand.new) }
     ensures holds { HoldsSame (view_of hand.old) (view_of hand.new) }
-    ensures adds { Adds (counted_step result element (done_at (view_of hand.old).seen.object element))
+    ensures adds { AddsToTally (counted_step result element (done_at (view_of hand.old).seen.object element))
         (view_of hand.old) (view_of hand.new) }
     ensures number { IsNumber result element (view_of hand.old) (view_of hand.new) }
     ensures steady { SteadyBut element (view_of hand.old) (view_of hand.new) }

@@ -7,7 +7,7 @@ ghost use Rattle.thread_table.specs.Keeping.{Keeps};
 ghost use Rattle.thread_table.specs.Rules.{done_at, has};
 ghost use Rattle.turn_dispatch.specs.Dispatches.{Awake, Began, WasIdle, IdleHolds, mask_of};
 ghost use Rattle.turn_dispatch.specs.Holdings.{Shows, Steady};
-ghost use Rattle.turn_dispatch.specs.Tallies.{Adds, no_events, one_delivery, delivery};
+ghost use Rattle.turn_dispatch.specs.Tallies.{AddsToTally, no_events, one_delivery, delivery};
 
 use crate::moving::make_ready;
 use event_theory::Element;
@@ -106,8 +106,8 @@ pub fn begin<R: Wait>(
         (λ idle. IdleHolds idle (view_of hand.old) (view_of hand.new)) }
     ensures held { IfOk result (λ begun. has (view_of hand.new) begun.element ≡ true) }
     ensures adds { MatchResult result
-        (λ begun. Adds (one_delivery begun.element (mask_of begun.delivered)) (view_of hand.old) (view_of hand.new))
-        (λ idle. Adds no_events (view_of hand.old) (view_of hand.new)) }
+        (λ begun. AddsToTally (one_delivery begun.element (mask_of begun.delivered)) (view_of hand.old) (view_of hand.new))
+        (λ idle. AddsToTally no_events (view_of hand.old) (view_of hand.new)) }
     ensures number { IfOk result (λ begun. begun.number ≡ done_at (view_of hand.new).seen.object begun.element) }
     ensures steady { Steady (view_of hand.old) (view_of hand.new) }
     ensures signals { MatchResult result

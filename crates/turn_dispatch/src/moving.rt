@@ -7,7 +7,7 @@ ghost use Rattle.thread_table.specs.Keeping.{Keeps};
 ghost use Rattle.thread_table.specs.Rules.{done_at, has};
 ghost use Rattle.turn_dispatch.specs.Holdings.{Steady};
 ghost use Rattle.turn_dispatch.specs.Sendings.{Sent, WaitedAt, HoldsUnless, ring_of, retired, has_gone};
-ghost use Rattle.turn_dispatch.specs.Tallies.{Adds, no_events};
+ghost use Rattle.turn_dispatch.specs.Tallies.{AddsToTally, no_events};
 
 use event_theory::{Element, WaitNumber};
 use std::sync::Wait;
@@ -86,7 +86,7 @@ pub fn make_ready<R: Wait>(rt: &R, threads: &ThreadTable, hand: &mut Hand, eleme
     requires held { has (view_of hand.old) element ≡ true }
     ensures keeps { Keeps (view_of hand.old) (view_of hand.new) }
     ensures holds { HoldsUnless result element (view_of hand.old) (view_of hand.new) }
-    ensures adds { Adds no_events (view_of hand.old) (view_of hand.new) }
+    ensures adds { AddsToTally no_events (view_of hand.old) (view_of hand.new) }
     ensures steady { Steady (view_of hand.old) (view_of hand.new) }
     ensures sent { Sent (call_of hand.old) ready_ring element result (view_of hand.old) (view_of hand.new) }
     ensures same { IsSameHand hand.old hand.new }
@@ -100,7 +100,7 @@ pub fn retire<R: Wait>(rt: &R, threads: &ThreadTable, hand: &mut Hand, element: 
     requires held { has (view_of hand.old) element ≡ true }
     ensures keeps { Keeps (view_of hand.old) (view_of hand.new) }
     ensures holds { HoldsUnless result element (view_of hand.old) (view_of hand.new) }
-    ensures adds { Adds (retired result element (done_at (view_of hand.old).seen.object element)) (view_of hand.old)
+    ensures adds { AddsToTally (retired result element (done_at (view_of hand.old).seen.object element)) (view_of hand.old)
         (view_of hand.new) }
     ensures steady { Steady (view_of hand.old) (view_of hand.new) }
     ensures sent { Sent (call_of hand.old) free_ring element result (view_of hand.old) (view_of hand.new) }
@@ -121,7 +121,7 @@ pub fn wait_in<R: Wait>(
     requires held { has (view_of hand.old) element ≡ true }
     ensures keeps { Keeps (view_of hand.old) (view_of hand.new) }
     ensures holds { HoldsUnless result element (view_of hand.old) (view_of hand.new) }
-    ensures adds { Adds no_events (view_of hand.old) (view_of hand.new) }
+    ensures adds { AddsToTally no_events (view_of hand.old) (view_of hand.new) }
     ensures steady { Steady (view_of hand.old) (view_of hand.new) }
     ensures sent { Sent (call_of hand.old) (wait_ring wait) element result (view_of hand.old) (view_of hand.new) }
     ensures same { IsSameHand hand.old hand.new }
@@ -171,7 +171,7 @@ pub fn wait_at<R: Wait>(
     requires held { has (view_of hand.old) element ≡ true }
     ensures keeps { Keeps (view_of hand.old) (view_of hand.new) }
     ensures holds { HoldsUnless (has_gone result) element (view_of hand.old) (view_of hand.new) }
-    ensures adds { Adds no_events (view_of hand.old) (view_of hand.new) }
+    ensures adds { AddsToTally no_events (view_of hand.old) (view_of hand.new) }
     ensures steady { Steady (view_of hand.old) (view_of hand.new) }
     ensures waited { WaitedAt (call_of hand.old) wait element ticket result (view_of hand.old) (view_of hand.new) }
     ensures same { IsSameHand hand.old hand.new }

@@ -5,7 +5,7 @@ ghost use Rattle.thread_table.specs.Rules.{has, serves, running};
 ghost use Rattle.thread_table.specs.Answers.{PutsOn, TakesOff};
 ghost use Rattle.thread_table.specs.Entries.{HoldsMore, HoldsLess};
 ghost use Rattle.turn_dispatch.specs.Holdings.{IsFree, IsOn, KeepsBut, Steady};
-ghost use Rattle.turn_dispatch.specs.Tallies.{Adds, no_events};
+ghost use Rattle.turn_dispatch.specs.Tallies.{AddsToTally, no_events};
 
 use event_theory::{Element, Processor};
 use thread_table::{Hand, ThreadTable};
@@ -19,7 +19,7 @@ pub fn put_on(threads: &ThreadTable, hand: &mut Hand, processor: Processor, elem
     ensures keeps { KeepsBut (slice_set (view_of hand.old).own.on processor (Some element)) (view_of hand.old)
         (view_of hand.new) }
     ensures holds { HoldsLess element (view_of hand.old) (view_of hand.new) }
-    ensures adds { Adds no_events (view_of hand.old) (view_of hand.new) }
+    ensures adds { AddsToTally no_events (view_of hand.old) (view_of hand.new) }
     ensures steady { Steady (view_of hand.old) (view_of hand.new) }
     ensures put { PutsOn (call_of hand.old) processor element (view_of hand.old) (view_of hand.new) }
     ensures same { IsSameHand hand.old hand.new }
@@ -39,7 +39,7 @@ pub fn take_off(threads: &ThreadTable, hand: &mut Hand, processor: Processor) ->
     ensures keeps { KeepsBut (slice_set (view_of hand.old).own.on processor None) (view_of hand.old)
         (view_of hand.new) }
     ensures holds { HoldsMore result (view_of hand.old) (view_of hand.new) }
-    ensures adds { Adds no_events (view_of hand.old) (view_of hand.new) }
+    ensures adds { AddsToTally no_events (view_of hand.old) (view_of hand.new) }
     ensures steady { Steady (view_of hand.old) (view_of hand.new) }
     ensures taken { TakesOff (call_of hand.old) processor result (view_of hand.old) (view_of hand.new) }
     ensures same { IsSameHand hand.old hand.new }

@@ -4,7 +4,7 @@ ghost use Rattle.thread_table.specs.declared.layout.TheConstants.{ELEMENTS};
 ghost use Rattle.thread_table.specs.Handles.{view_of, call_of, IsHandOf, IsSameHand};
 ghost use Rattle.thread_table.specs.Keeping.{Keeps};
 ghost use Rattle.turn_dispatch.specs.Holdings.{Steady};
-ghost use Rattle.turn_dispatch.specs.Tallies.{Adds, no_events};
+ghost use Rattle.turn_dispatch.specs.Tallies.{AddsToTally, no_events};
 ghost use Rattle.turn_dispatch.specs.Wakings.{Woke, HoldsWoken, AllReady, CanWake, IsMember, ResumeAnswer, ResumeHolds};
 
 use crate::moving::make_ready;
@@ -63,7 +63,7 @@ pub fn wake<R: Wait>(rt: &R, threads: &ThreadTable, hand: &mut Hand, wait: WaitN
     requires table { IsHandOf threads.now hand.old }
     ensures keeps { Keeps (view_of hand.old) (view_of hand.new) }
     ensures holds { HoldsWoken result (view_of hand.old) (view_of hand.new) }
-    ensures adds { Adds no_events (view_of hand.old) (view_of hand.new) }
+    ensures adds { AddsToTally no_events (view_of hand.old) (view_of hand.new) }
     ensures steady { Steady (view_of hand.old) (view_of hand.new) }
     ensures woken { Woke (call_of hand.old) wait result (view_of hand.old) (view_of hand.new) }
     ensures same { IsSameHand hand.old hand.new }
@@ -109,7 +109,7 @@ pub fn start<R: Wait>(
     requires table { IsHandOf threads.now hand.old }
     ensures keeps { Keeps (view_of hand.old) (view_of hand.new) }
     ensures holds { ResumeHolds element result (view_of hand.old) (view_of hand.new) }
-    ensures adds { Adds no_events (view_of hand.old) (view_of hand.new) }
+    ensures adds { AddsToTally no_events (view_of hand.old) (view_of hand.new) }
     ensures steady { Steady (view_of hand.old) (view_of hand.new) }
     ensures started { ResumeAnswer (call_of hand.old) element result (view_of hand.old) (view_of hand.new) }
     ensures same { IsSameHand hand.old hand.new }

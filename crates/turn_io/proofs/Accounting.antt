@@ -1,7 +1,7 @@
 -- The effect of the calls on ends at the account.
 use Rattle.turn_io.proofs.Common.{◌≡◌, ℕ, zero, suc, ◌+◌, ◌<◌, List, [], ◌∷◌, ◌++◌, map, length, get_or, set, refl, sym, ap, ◌∙◌, fun_ext, map-set_same, length-append, map-append, QueueEnd, nothing_did, did_both, ChainEnd, Ghosts, notes_taken, EndWorked, ChainEndWorked, idle_queue, both_queue, idle_chain, both_chain, no_stake, both_stakes, lines_of, at_each, HasRaised, end_knows_shut, AllThree, IsSplit, IsJoined, IsChainSplit, IsChainJoined}
-use Rattle.claim_queue.specs.declared.rule.Did as queues
-use Rattle.proc_chain.specs.declared.rule.Did.{Did}
+use Rattle.claim_queue.specs.declared.rule.QueueOps as queues
+use Rattle.proc_chain.specs.declared.rule.ChainOps.{ChainOps}
 use Rattle.proc_chain.specs.Handles.{view_of}
 use Rattle.proc_chain.specs.Notes.{line_of, notes_put}
 use Rattle.proc_chain.specs.Own as own
@@ -16,7 +16,7 @@ module _ {n : ℕ} where
   -- one end of the list did this
   pub did_at : (ends : List (QueueEnd n)) (q : ℕ) (end after : QueueEnd n) (more : AtQueue) → q < length ends → end ≡ get_or ends q end → EndWorked more end after
       → queue_account (set ends q after) ≡ at_each both_queue (queue_account ends) (at_one idle_queue q more)
-  did_at ends q end after more below is w = fun_ext (grown_at stake (no_stake nothing_did) (λ (s : Stake queues.Did). lines_of s.did) both_queue idle_queue queues_add.none_last ends q end after more below is w.did)
+  did_at ends q end after more below is w = fun_ext (grown_at stake (no_stake nothing_did) (λ (s : Stake queues.QueueOps). lines_of s.did) both_queue idle_queue queues_add.none_last ends q end after more below is w.did)
 
   share_of : (ends : List (QueueEnd n)) (q : ℕ) → queue_shares ends q ≡ get_or (map end_share ends) q 0
   share_of [] q = refl
@@ -47,10 +47,10 @@ both_notes : (v u w : View) → w.own ≡ own.did_both v.own u.own → notes_of 
 both_notes v u w e = λ i. record { notes = put i; ran = taken i }
   where
     put : notes_put w ≡ notes_put v ++ notes_put u
-    put = ap (λ (d : Did). map line_of d.runs) e ∙ map-append line_of v.own.runs u.own.runs
+    put = ap (λ (d : ChainOps). map line_of d.runs) e ∙ map-append line_of v.own.runs u.own.runs
 
     taken : length (notes_taken w) ≡ length (notes_taken v) + length (notes_taken u)
-    taken = ap (λ (d : Did). length (map line_of d.takes)) e ∙ (ap length (map-append line_of v.own.takes u.own.takes) ∙ length-append (notes_taken v) (notes_taken u))
+    taken = ap (λ (d : ChainOps). length (map line_of d.takes)) e ∙ (ap length (map-append line_of v.own.takes u.own.takes) ∙ length-append (notes_taken v) (notes_taken u))
 
 module _ {Q W : Type 0} {g : Ghosts Q W} where
   pub chain_did_at : (ends : List (ChainEnd Q W g)) (q : ℕ) (end after : ChainEnd Q W g) (more : AtChain) → q < length ends → end ≡ get_or ends q end → ChainEndWorked more end after

@@ -4,7 +4,7 @@ use Rattle.std.proofs.Math.Nat.{add_assoc, add-zero, zero-add}
 use Rattle.std.proofs.lemmas.List.{append_assoc, append-nil}
 use Rattle.boot_data.specs.declared.plan.QueueIndex.{QueueIndex}
 use Rattle.boot_data.specs.declared.plan.QueueIndex.TheVariants.{Small, Large}
-use Rattle.claim_queue.specs.declared.rule.Did.{Did}
+use Rattle.claim_queue.specs.declared.rule.QueueOps.{QueueOps}
 use Rattle.claim_queue.specs.Lines.{line_of}
 use Rattle.turn_io.specs.Accounts.{AddsUp}
 
@@ -51,7 +51,7 @@ each_adds h = record {
 }
 
 -- the lines of two ends are the lines of both
-pub lines_add : (a b : Did) → lines_of (did_both a b) ≡ both_queue (lines_of a) (lines_of b)
+pub lines_add : (a b : QueueOps) → lines_of (did_both a b) ≡ both_queue (lines_of a) (lines_of b)
 lines_add a b = λ i. record { put = map-append line_of a.runs b.runs i; taken = map-append line_of a.takes b.takes i; shuts = a.shuts + b.shuts }
 
 -- two functions that agree at the small queues and at the large ones are equal

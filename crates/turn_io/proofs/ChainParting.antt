@@ -1,7 +1,7 @@
 -- Ends of chains without a Turn.
 use Rattle.turn_io.proofs.Common.{◌≡◌, Bool, false, subst, ◌∙◌, ChainEnd, ProcChain, Ghosts, me_of, IsIdle}
 use Rattle.std.proofs.Common.{◌||◌}
-use Rattle.proc_chain.specs.Endings.{TookIn, Joined}
+use Rattle.proc_chain.specs.Endings.{JoinedBy, Joined}
 use Rattle.proc_chain.specs.Handles.{view_of, turn_of, IsEndOf}
 
 module _ {Q W : Type 0} {g : Ghosts Q W} where
@@ -10,7 +10,7 @@ module _ {Q W : Type 0} {g : Ghosts Q W} where
   rests chain end its turn = (turn, its.1.1 (end.turned ∙ turn))
 
   -- an end that took in one without a Turn
-  pub took_in : (end other after : ChainEnd Q W g) → IsIdle other → Joined (turn_of other) (me_of end) (me_of other) (me_of after) → TookIn (view_of end) (view_of other) (view_of after) × ((me_of after).1 ≡ (me_of end).1)
+  pub took_in : (end other after : ChainEnd Q W g) → IsIdle other → Joined (turn_of other) (me_of end) (me_of other) (me_of after) → JoinedBy (view_of end) (view_of other) (view_of after) × ((me_of after).1 ≡ (me_of end).1)
   took_in end other after idle j = subst (λ (z : Bool). Joined z (me_of end) (me_of other) (me_of after)) idle.0 j
 
   pub still_idle : (end other after : ChainEnd Q W g) → IsIdle end → IsIdle other → turn_of after ≡ (turn_of other || turn_of end) → (me_of after).1 ≡ (me_of end).1 → IsIdle after

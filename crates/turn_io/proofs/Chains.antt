@@ -3,7 +3,7 @@ use Rattle.turn_io.proofs.Common.{◌≡◌, ℕ, ◌<◌, List, length, get_or,
 use Rattle.std.proofs.Common.{true≢false}
 use Rattle.proc_chain.specs.Handles.{world_of, IsEndOf, IsSameEnd}
 use Rattle.turn_io.specs.declared.poking.Poked.{Poked}
-use Rattle.turn_io.specs.Deeds.{HasPoked, PokedAt}
+use Rattle.turn_io.specs.Outcomes.{HasPoked, PokedAt}
 use Rattle.turn_io.specs.EndLists.{AreChainsOver}
 use Rattle.turn_io.proofs.Places.{same_at, as_long, same_ends, on_end, all_still}
 

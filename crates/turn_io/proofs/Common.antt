@@ -7,7 +7,7 @@ pub use Rattle.std.proofs.lemmas.Option.{slice_get-get_or}
 pub use Rattle.std.specs.List.{All}
 pub use Rattle.std.specs.Vec.Iter.{into_iter_items, into_iter_len}
 pub use Rattle.atomic_table.specs.Seated.{TableId}
-pub use Rattle.claim_queue.proofs.Certain.{honest_end, still_shut}
+pub use Rattle.claim_queue.proofs.Certain.{valid_end, still_shut}
 pub use Rattle.claim_queue.specs.Claims.{Owns}
 pub use Rattle.claim_queue.specs.Own.{did_both, nothing_did}
 pub use Rattle.claim_queue.specs.Puts.{RaisedFrom}
@@ -22,6 +22,6 @@ pub use Rattle.table_theory.specs.Listing.{AllRaised}
 pub use Rattle.table_theory.specs.declared.queues.Batch.{Batch}
 pub use Rattle.table_theory.specs.declared.views.Part.{Part}
 pub use Rattle.turn_io.specs.Accounts.{ChainEndWorked, EndWorked, at_each, both_chain, both_queue, both_stakes, idle_chain, idle_queue, lines_of, no_stake}
-pub use Rattle.turn_io.specs.Deeds.{Heard}
+pub use Rattle.turn_io.specs.Outcomes.{Heard}
 pub use Rattle.turn_io.specs.EndLists.{AreChainEndsOf, AreSame, AreSameChainEnds, AreSameEnds, HasRaised, IsIdle, OnEnd, chain_end_call, chain_end_table, chain_table, end_call, end_knows_shut, end_table, queue_table}
 pub use Rattle.turn_io.specs.Splits.{AllThree, AreJoined, IsChainJoined, IsChainSplit, IsJoined, IsSplit}

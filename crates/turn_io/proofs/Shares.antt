@@ -1,5 +1,5 @@
 -- The answers of a queue, in terms of the lines, the share and the shuts of an end.
-use Rattle.turn_io.proofs.Common.{◌≡◌, ◌<◌, ◌≤◌, ℕ, zero, suc, ◌+◌, take, Bool, true, false, refl, List, [], ◌∷◌, map, length, sym, ap, subst, ◌∙◌, arith, Result, length-map, QueueEnd, Owns, RaisedFrom, Batch, Part, AllRaised, honest_end, still_shut, Heard, EndWorked, idle_queue}
+use Rattle.turn_io.proofs.Common.{◌≡◌, ◌<◌, ◌≤◌, ℕ, zero, suc, ◌+◌, take, Bool, true, false, refl, List, [], ◌∷◌, map, length, sym, ap, subst, ◌∙◌, arith, Result, length-map, QueueEnd, Owns, RaisedFrom, Batch, Part, AllRaised, valid_end, still_shut, Heard, EndWorked, idle_queue}
 use Rattle.std.proofs.Common.{Ok}
 use Rattle.std.specs.Prelude.{Err, IfOk, MatchBool, drop}
 use Rattle.std.proofs.lemmas.List.{append-nil, length-drop}
@@ -18,7 +18,7 @@ use Rattle.claim_queue.specs.Takings.{TookItems, RefusedTake, scanned}
 use Rattle.table_theory.specs.declared.queues.Cell.{Cell}
 use Rattle.table_theory.specs.declared.queues.Positions.{Positions}
 use Rattle.table_theory.specs.Interleaving.{InOrder}
-use Rattle.table_theory.specs.Ledgers.{IsHonest, load, change}
+use Rattle.table_theory.specs.Ledgers.{IsValidView, load, change}
 use Rattle.table_theory.specs.Listing.{Distinct}
 use Rattle.table_theory.specs.Positioned.{item_of, with_take}
 use Rattle.claim_queue.proofs.Answered.{Does, does, refused_own, put_own, took_own, refused_take_own}
@@ -57,8 +57,8 @@ short_take (suc k) [] = omega arith
 short_take (suc k) (x ∷ l) = let h = short_take k l in omega arith
 
 module _ {n : ℕ} (old new : QueueEnd n) where
-  takes_by : (IsHonest of_queues (view_of old) → IsHonest of_queues (view_of new) → TakesInOrder (view_of new)) → TakesInOrder (view_of new)
-  takes_by f = order_of (view_of old) (view_of new) (honest_end old) (honest_end new) f
+  takes_by : (IsValidView of_queues (view_of old) → IsValidView of_queues (view_of new) → TakesInOrder (view_of new)) → TakesInOrder (view_of new)
+  takes_by f = order_of (view_of old) (view_of new) (valid_end old) (valid_end new) f
 
   -- no line was put and none taken, and the queue was shut this often
   same_worked : (shuts : ℕ) → (d : Does (view_of old) (record (view_of old).own { shuts = (view_of old).own.shuts + shuts }) (view_of new)) → (TakesInOrder (view_of old) → TakesInOrder (view_of new)) → EndWorked (record idle_queue { shuts = shuts }) old new

@@ -1,7 +1,7 @@
 -- The meaning of the answer to a poke.
 use Rattle.turn_io.proofs.Common.{◌≡◌, ℕ, ◌+◌, List, [], ◌∷◌, ◌++◌, map, length, sym, ap, ◌∙◌, arith, length-append, length-map, map-append, Part, ChainRefusal, ChainEnd, Ghosts, me_of, notes_taken, ChainEndWorked, idle_chain}
 use Rattle.std.proofs.lemmas.List.{append-nil}
-use Rattle.proc_chain.specs.declared.rule.Did.{Did}
+use Rattle.proc_chain.specs.declared.rule.ChainOps.{ChainOps}
 use Rattle.proc_chain.specs.declared.chaining.ChainRefusal.TheVariants.{Spent, Full, Lost}
 use Rattle.proc_chain.specs.Answers.{NotChained, with_run}
 use Rattle.proc_chain.specs.Handles.{view_of}
@@ -14,7 +14,7 @@ none_more : (a b : ℕ) → a ≡ b → a ≡ b + 0
 none_more a b e = omega arith
 
 -- one more note was put
-one_more : (d : Did) (position note : ℕ) → map line_of (with_run d position note).runs ≡ map line_of d.runs ++ alone note ∷ []
+one_more : (d : ChainOps) (position note : ℕ) → map line_of (with_run d position note).runs ≡ map line_of d.runs ++ alone note ∷ []
 one_more d position note = map-append line_of d.runs _
 
 -- a note that was refused: the end did nothing, and keeps its place among the ends
@@ -41,8 +41,8 @@ module _ {Q W : Type 0} {g : Ghosts Q W} (old new : ChainEnd Q W g) where
     share = ap (λ (z : Part). z.share) i.3.member;
   }
 
-  pub refused_told : (r : ChainRefusal) → NotChained (view_of old) r (view_of new) → ChainEndWorked idle_chain old new
-  refused_told r h = let d = refused_did (view_of old) (view_of new) r h in record {
-    did = λ k. record { notes = (ap (λ (z : Did). map line_of z.runs) d.0 ∙ sym (append-nil _)) k; ran = none_more _ _ (ap (λ (z : Did). length (map line_of z.takes)) d.0) k };
+  pub refused_reported : (r : ChainRefusal) → NotChained (view_of old) r (view_of new) → ChainEndWorked idle_chain old new
+  refused_reported r h = let d = refused_did (view_of old) (view_of new) r h in record {
+    did = λ k. record { notes = (ap (λ (z : ChainOps). map line_of z.runs) d.0 ∙ sym (append-nil _)) k; ran = none_more _ _ (ap (λ (z : ChainOps). length (map line_of z.takes)) d.0) k };
     share = ap (λ (z : Part). z.share) d.1;
   }

@@ -7,7 +7,7 @@ use Rattle.boot_data.specs.declared.plan.QueueIndex.{QueueIndex}
 use Rattle.boot_data.specs.declared.plan.QueueIndex.TheVariants.{Small, Large}
 use Rattle.table_theory.specs.Sharing.{given, kept}
 use Rattle.claim_queue.specs.declared.ends.QueueEnd.{QueueEnd}
-use Rattle.claim_queue.specs.declared.rule.Did.{Did}
+use Rattle.claim_queue.specs.declared.rule.QueueOps.{QueueOps}
 use Rattle.claim_queue.specs.Handles.{view_of}
 use Rattle.claim_queue.specs.Lines.{line_of}
 use Rattle.claim_queue.specs.Own.{nothing_did}
@@ -71,7 +71,7 @@ abbrev pub give : {D : Type 0} → D → Stake D → Stake D
 give none stake = record { did = none; share = given stake.share }
 
 -- the work of an end of a queue, with its runs and takings as lines
-abbrev pub lines_of : Did → AtQueue
+abbrev pub lines_of : QueueOps → AtQueue
 lines_of did = record { put = map line_of did.runs; taken = map line_of did.takes; shuts = did.shuts }
 
 -- the notes that an end of a chain put, and how many it took
@@ -79,11 +79,11 @@ abbrev pub notes_of : View → AtChain
 notes_of v = record { notes = notes_put v; ran = length (notes_taken v) }
 
 -- the stake of an end of a queue
-abbrev pub stake : {n : ℕ} → QueueEnd n → Stake Did
+abbrev pub stake : {n : ℕ} → QueueEnd n → Stake QueueOps
 stake end = record { did = (view_of end).own; share = (view_of end).member.share }
 
 -- the stake of the end of the queue q
-abbrev pub stakes : {n : ℕ} → List (QueueEnd n) → ℕ → Stake Did
+abbrev pub stakes : {n : ℕ} → List (QueueEnd n) → ℕ → Stake QueueOps
 stakes ends q = slice_index_or (map stake ends) q (no_stake nothing_did)
 
 -- the share that the end of the queue q has

@@ -1,5 +1,5 @@
 pub mod EndLists
-pub mod Deeds
+pub mod Outcomes
 pub mod Accounts
 pub mod Splits
 pub mod Gates

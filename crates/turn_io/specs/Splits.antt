@@ -20,11 +20,11 @@ module _ {n : ℕ} where
   -- the end gave a part of its share to a new end, which has nothing else
   abbrev pub IsSplit : QueueEnd n → QueueEnd n → QueueEnd n → Type 0
   IsSplit old new born =
-      queues.Divided (view_of old) (view_of new) × queues.IsNewborn (view_of old) (view_of new) (view_of born)
+      queues.SplitBy (view_of old) (view_of new) × queues.IsNewEnd (view_of old) (view_of new) (view_of born)
 
   -- the end took in the other, and has what both had
   abbrev pub IsJoined : QueueEnd n → QueueEnd n → QueueEnd n → Type 0
-  IsJoined old new other = queues.TookIn (view_of old) (view_of other) (view_of new)
+  IsJoined old new other = queues.JoinedBy (view_of old) (view_of other) (view_of new)
 
   -- Each end was split. If the old ends had raised all that they claimed, they still have, and they still know which
   -- queues are shut. The new ends have raised all, because they put nothing
@@ -45,13 +45,13 @@ module _ {n : ℕ} where
 module _ {Q W : Type 0} {g : Ghosts Q W} where
   -- the end gave a part of its share to a new end, which has nothing else
   abbrev pub IsChainSplit : ChainEnd Q W g → ChainEnd Q W g → ChainEnd Q W g → Type 0
-  IsChainSplit old new born = chains.Divided (chain_ends.view_of old) (chain_ends.view_of new)
-      × chains.IsNewborn (chain_ends.view_of old) (chain_ends.view_of new) (chain_ends.view_of born)
+  IsChainSplit old new born = chains.SplitBy (chain_ends.view_of old) (chain_ends.view_of new)
+      × chains.IsNewEnd (chain_ends.view_of old) (chain_ends.view_of new) (chain_ends.view_of born)
 
   -- the end took in the other, and has what both had
   abbrev pub IsChainJoined : ChainEnd Q W g → ChainEnd Q W g → ChainEnd Q W g → Type 0
   IsChainJoined old new other =
-      chains.TookIn (chain_ends.view_of old) (chain_ends.view_of other) (chain_ends.view_of new)
+      chains.JoinedBy (chain_ends.view_of old) (chain_ends.view_of other) (chain_ends.view_of new)
 
   -- each end was split
   abbrev pub AreChainsSplit : List (ChainEnd Q W g) → List (ChainEnd Q W g) → List (ChainEnd Q W g) → Type 0

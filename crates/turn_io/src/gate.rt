@@ -20,10 +20,10 @@ pub enum Point {
 /// A gate is called between the parts of a turn, with the number of the processor.
 pub trait Gate {
     // The first gate was called at this point of this processor, and became the second.
-    ghost told: { Self → ℕ → Point → Self → Type 0 };
+    ghost observes: { Self → ℕ → Point → Self → Type 0 };
 
     fn between(&mut self, p: u8, point: Point)
-        ensures { told self.old p point self.new };
+        ensures { observes self.old p point self.new };
 }
 
 /// The gate that does nothing.
@@ -31,7 +31,7 @@ pub trait Gate {
 pub struct NoGate;
 
 impl Gate for NoGate {
-    ghost told = { λ old p point new. Unit {0} };
+    ghost observes = { λ old p point new. Unit {0} };
 
     fn between(&mut self, _p: u8, _point: Point) {}
 }

@@ -4,7 +4,7 @@ ghost use Rattle.claim_queue.specs.Handles.{IsEndOf, IsSameEnd};
 ghost use Rattle.turn_io.specs.declared.gate.Point.TheVariants.{TakeAnswered};
 ghost use Rattle.turn_io.specs.Accounts.{EndWorked, StaySound, at_each, at_one, both_queue, idle_queue};
 ghost use Rattle.turn_io.specs.Accounts.{queue_account, shut_if, taken_if};
-ghost use Rattle.turn_io.specs.Deeds.{Heard, HasShut};
+ghost use Rattle.turn_io.specs.Outcomes.{Heard, HasShut};
 ghost use Rattle.turn_io.specs.EndLists.{AreEndsOf, AreSameEnds, OnEnd};
 
 use crate::gate::{Gate, Point};
@@ -25,7 +25,7 @@ fn hear_line<const N: usize, G: Gate>(
     ensures same { IsSameEnd end.old end.new }
     ensures heard { Heard line.new.items result end.old end.new }
     ensures worked { EndWorked (taken_if result line.new.items) end.old end.new }
-    ensures gate { G.told gate.old p TakeAnswered gate.new }
+    ensures gate { G.observes gate.old p TakeAnswered gate.new }
 {
     let answer = queue.try_take_line(end, line);
     gate.between(p, Point::TakeAnswered);
@@ -55,7 +55,7 @@ pub fn hear<const N: usize, G: Gate>(
         ≡ at_each both_queue (queue_account ends.old) (at_one idle_queue index (taken_if result line.new.items)) }
     ensures sound { StaySound ends.old ends.new }
     ensures long { IfOk result (λ done. (0 < length line.new.items) × (length line.new.items ≤ N)) }
-    ensures gate { G.told gate.old p TakeAnswered gate.new }
+    ensures gate { G.observes gate.old p TakeAnswered gate.new }
     ensures heard { OnEnd index (Heard line.new.items result) ends.old ends.new }
     ensures ends { AreEndsOf queues.now ends.new }
     ensures same { AreSameEnds ends.old ends.new }

@@ -4,7 +4,7 @@ ghost use Rattle.proc_chain.specs.Handles.{turn_of, world_of, me_of, IsEndOf, Is
 ghost use Rattle.turn_io.specs.declared.gate.Point.TheVariants as points;
 ghost use Rattle.turn_io.specs.Accounts.{ChainEndWorked, at_each, at_one, both_chain, chain_account, chain_shares};
 ghost use Rattle.turn_io.specs.Accounts.{chained_if, idle_chain};
-ghost use Rattle.turn_io.specs.Deeds.{HasPoked, PokedAt};
+ghost use Rattle.turn_io.specs.Outcomes.{HasPoked, PokedAt};
 ghost use Rattle.turn_io.specs.EndLists.{AreChainsOver, AreChainEndsOf, AreSameChainEnds, IsIdle};
 
 use crate::gate::{Gate, Point};
@@ -41,7 +41,7 @@ fn poke_end<R: Wait, G: Gate>(
     ensures idle { IsIdle end.new }
     ensures poked { HasPoked chain.now 0 result end.old end.new }
     ensures worked { ChainEndWorked (chained_if result 0) end.old end.new }
-    ensures gate { G.told gate.old p points.Chained gate.new }
+    ensures gate { G.observes gate.old p points.Chained gate.new }
 {
     let answer = chain.try_chain(end, POKED);
     gate.between(p, Point::Chained);
@@ -78,7 +78,7 @@ pub fn poke<R: Wait, G: Gate>(
     ensures did { chain_account ends.new
         ≡ at_each both_chain (chain_account ends.old) (at_one idle_chain index (chained_if result 0)) }
     ensures shares { chain_shares ends.new ≡ chain_shares ends.old }
-    ensures gate { G.told gate.old p points.Chained gate.new }
+    ensures gate { G.observes gate.old p points.Chained gate.new }
     ensures poked { PokedAt chains.now index 0 result ends.old ends.new }
     ensures ends { AreChainEndsOf chains.now ends.new }
     ensures same { AreSameChainEnds ends.old ends.new }

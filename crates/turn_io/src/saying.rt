@@ -5,9 +5,9 @@ ghost use Rattle.claim_queue.specs.Handles.{view_of, IsEndOf, IsSameEnd};
 ghost use Rattle.claim_queue.specs.Puts.{RaisedFrom};
 ghost use Rattle.turn_io.specs.Accounts.{EndWorked, StaySound, at_each, at_one, both_queue, idle_queue, put_if};
 ghost use Rattle.turn_io.specs.Accounts.{queue_account};
-ghost use Rattle.turn_io.specs.Deeds.{Said};
+ghost use Rattle.turn_io.specs.Outcomes.{Said};
 ghost use Rattle.turn_io.specs.EndLists.{AreEndsOf, AreSameEnds, OnEnd};
-ghost use Rattle.turn_io.specs.Gates.{ToldOfSay};
+ghost use Rattle.turn_io.specs.Gates.{HookSawSay};
 
 use crate::gate::{Gate, Point};
 use crate::items::item_at;
@@ -39,7 +39,7 @@ fn say_line<const N: usize, G: Gate>(
     ensures same { IsSameEnd end.old end.new }
     ensures said { Said line.now result end.old end.new }
     ensures worked { EndWorked (put_if result line.now) end.old end.new }
-    ensures gate { ToldOfSay G.told p result gate.old gate.new }
+    ensures gate { HookSawSay G.observes p result gate.old gate.new }
 {
     match queue.try_claim(end, line) {
         Ok(mut claim) => {
@@ -70,7 +70,7 @@ pub fn say<const N: usize, G: Gate>(
     ensures did { queue_account ends.new
         ≡ at_each both_queue (queue_account ends.old) (at_one idle_queue index (put_if result line.now)) }
     ensures sound { StaySound ends.old ends.new }
-    ensures gate { ToldOfSay G.told p result gate.old gate.new }
+    ensures gate { HookSawSay G.observes p result gate.old gate.new }
     ensures said { OnEnd index (Said line.now result) ends.old ends.new }
     ensures ends { AreEndsOf queues.now ends.new }
     ensures same { AreSameEnds ends.old ends.new }

@@ -95,7 +95,7 @@ fn freed<R: Abort>(rt: &R, station: Station, p: Processor) -> Station
 }
 
 /// How many lines the station heard, and the mask of the signals that it delivered to this element.
-fn told(station: Station, element: usize) -> (Station, usize, u16)
+fn reported(station: Station, element: usize) -> (Station, usize, u16)
     ensures { result.0.parts ≡ station.parts }
 {
     let parts = station.into_parts();

@@ -102,7 +102,7 @@ impl HeldBatch {
 }
 
 impl End for HeldBatch {
-    ghost use Rattle.bindings.specs.BatchHeld.{Divided, Joined, AreOfOneQueue};
+    ghost use Rattle.bindings.specs.BatchHeld.{SplitBy, Joined, AreOfOneQueue};
     ghost use Rattle.bindings.specs.Shares.{HasTwo, HasNoTwo, IsOneMark};
 
     type Wish = ();
@@ -113,7 +113,7 @@ impl End for HeldBatch {
 
     ghost MayNotSplit = { λ _ x. HasNoTwo x.share };
 
-    ghost Divided = { λ _. Divided };
+    ghost SplitBy = { λ _. SplitBy };
 
     ghost HaveOneMark = { λ x z. IsOneMark x.share z.share };
 

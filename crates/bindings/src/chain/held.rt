@@ -95,7 +95,7 @@ impl HeldChain {
 }
 
 impl End for HeldChain {
-    ghost use Rattle.bindings.specs.ChainHeld.{Divided, Joined, AreOfOneChain};
+    ghost use Rattle.bindings.specs.ChainHeld.{SplitBy, Joined, AreOfOneChain};
     ghost use Rattle.bindings.specs.Shares.{HasTwo, HasNoTwo, IsOneMark};
 
     type Wish = ();
@@ -106,7 +106,7 @@ impl End for HeldChain {
 
     ghost MayNotSplit = { λ _ x. HasNoTwo x.share };
 
-    ghost Divided = { λ _. Divided };
+    ghost SplitBy = { λ _. SplitBy };
 
     ghost HaveOneMark = { λ x z. IsOneMark x.share z.share };
 

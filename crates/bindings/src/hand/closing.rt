@@ -2,11 +2,11 @@
 ghost use Rattle.std.specs.Prelude.{◌≡◌};
 ghost use Rattle.bindings.specs.Codes.{EmptyHandle};
 ghost use Rattle.bindings.specs.Handles.{held_by, hand_of, NoneIn, HoldsThen, WasEnded};
-ghost use Rattle.bindings.specs.HandClosing.{Ended, IsToldPlaces};
+ghost use Rattle.bindings.specs.HandClosing.{Ended, ReportsPlaces};
 ghost use Rattle.bindings.specs.declared.payload.Payload.TheVariants.{Hand};
 
 use super::held::HeldHand;
-use super::places::{SynthPlaces, told_of_places};
+use super::places::{SynthPlaces, answer_of_places};
 use crate::answer::{DONE, EMPTY_HANDLE, OPEN};
 use crate::handle::Handle;
 use crate::kind::Kind;
@@ -47,7 +47,7 @@ pub extern "C" fn synth_raw_hand_close(
 ) -> i32
     ensures empty { NoneIn hand_of hand.old hand.new ((result ≡ EmptyHandle) × (places.new ≡ places.old)) }
     ensures closed { HoldsThen (hand_of hand.old)
-        (λ x. WasEnded Hand (λ outcome. Ended outcome x) IsToldPlaces (held_by hand.new) places.old places.new result) }
+        (λ x. WasEnded Hand (λ outcome. Ended outcome x) ReportsPlaces (held_by hand.new) places.old places.new result) }
 {
     let Some(_held) = hand.find::<HeldHand>() else {
         return EMPTY_HANDLE;
@@ -56,7 +56,7 @@ pub extern "C" fn synth_raw_hand_close(
     match HeldHand::unwrap(payload).close() {
         Ok(ended) => {
             let _alloc = room.free();
-            *places = told_of_places(&ended);
+            *places = answer_of_places(&ended);
             DONE
         }
         Err(held) => {

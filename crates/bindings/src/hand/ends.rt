@@ -1,7 +1,7 @@
 //! Making, freeing, splitting and joining hands.
 ghost use Rattle.std.specs.Prelude.{◌≤◌};
 ghost use Rattle.bindings.specs.Handles.{hand_of, MadeHandle, FreedHandle, SplitHandle, JoinedHandle, MarksTell};
-ghost use Rattle.bindings.specs.HandHeld.{IsNewHand, MaySplit, MayNotSplit, Divided, Joined, AreOfOneTable};
+ghost use Rattle.bindings.specs.HandHeld.{IsNewHand, MaySplit, MayNotSplit, SplitBy, Joined, AreOfOneTable};
 ghost use Rattle.bindings.specs.Shares.{IsOneMark};
 ghost use Rattle.bindings.specs.declared.payload.Payload.TheVariants.{Hand};
 
@@ -47,7 +47,7 @@ pub extern "C" fn synth_raw_hand_split(
     processors: u32,
     other: &mut Handle,
 ) -> i32
-    ensures { SplitHandle hand_of (MaySplit processors) (MayNotSplit processors) (Divided processors)
+    ensures { SplitHandle hand_of (MaySplit processors) (MayNotSplit processors) (SplitBy processors)
         hand.old hand.new other.old other.new result }
 {
     split::<HeldHand>(alloc, hand, processors, other)

@@ -104,7 +104,7 @@ impl HeldHand {
 }
 
 impl End for HeldHand {
-    ghost use Rattle.bindings.specs.HandHeld.{Divided, Joined, AreOfOneTable, MaySplit, MayNotSplit};
+    ghost use Rattle.bindings.specs.HandHeld.{SplitBy, Joined, AreOfOneTable, MaySplit, MayNotSplit};
     ghost use Rattle.bindings.specs.Shares.{IsOneMark};
 
     type Wish = u32;
@@ -115,7 +115,7 @@ impl End for HeldHand {
 
     ghost MayNotSplit = { MayNotSplit };
 
-    ghost Divided = { Divided };
+    ghost SplitBy = { SplitBy };
 
     ghost HaveOneMark = { λ x z. IsOneMark x.share z.share };
 

@@ -5,8 +5,8 @@ ghost use Rattle.thread_table.specs.Handles.{view_of};
 ghost use Rattle.thread_table.specs.Rules.{has};
 ghost use Rattle.bindings.specs.Codes.{EmptyHandle};
 ghost use Rattle.bindings.specs.Handles.{hand_of, NoneIn, HoldsThen};
-ghost use Rattle.bindings.specs.HandMoves.{WasMoved, WasWaited, WasTicket, IsToldMove, IsMoveCode, MovingTold};
-ghost use Rattle.bindings.specs.HandMoves.{WaitingTold, TicketTold, WaitingAtTold};
+ghost use Rattle.bindings.specs.HandMoves.{WasMoved, WasWaited, WasTicket, ReportsMove, IsMoveCode, IsMovingCall};
+ghost use Rattle.bindings.specs.HandMoves.{IsWaitingCall, IsTicketCall, IsWaitingAtCall};
 
 use super::held::HeldHand;
 use super::numbers::{element_of, wait_of};
@@ -84,8 +84,8 @@ fn code_alone(code: i32) -> SynthMoved
 }
 
 // The code of the answer, and the numbers in it.
-fn told_of_move(answer: Result<(), MoveRefusal>) -> SynthMoved
-    ensures { IsToldMove answer result }
+fn answer_of_move(answer: Result<(), MoveRefusal>) -> SynthMoved
+    ensures { ReportsMove answer result }
 {
     match answer {
         Ok(()) => code_alone(DONE),
@@ -107,7 +107,7 @@ fn told_of_move(answer: Result<(), MoveRefusal>) -> SynthMoved
 #[unsafe(no_mangle)]
 pub extern "C" fn synth_raw_hand_try_ready(hand: &mut Handle, element: u32) -> SynthMoved
     ensures empty { NoneIn hand_of hand.old hand.new (IsMoveCode EmptyHandle result) }
-    ensures moved { HoldsThen (hand_of hand.old) (λ x. MovingTold 0 element x (hand_of hand.new) result) }
+    ensures moved { HoldsThen (hand_of hand.old) (λ x. IsMovingCall 0 element x (hand_of hand.new) result) }
 {
     let Some(held) = hand.find::<HeldHand>() else {
         return code_alone(EMPTY_HANDLE);
@@ -119,14 +119,14 @@ pub extern "C" fn synth_raw_hand_try_ready(hand: &mut Handle, element: u32) -> S
         return code_alone(NOT_HELD);
     }
     let answer = held.try_ready(element);
-    told_of_move(answer)
+    answer_of_move(answer)
 }
 
 /// `ThreadTable::try_retire`. The elements are 0 to 63.
 #[unsafe(no_mangle)]
 pub extern "C" fn synth_raw_hand_try_retire(hand: &mut Handle, element: u32) -> SynthMoved
     ensures empty { NoneIn hand_of hand.old hand.new (IsMoveCode EmptyHandle result) }
-    ensures moved { HoldsThen (hand_of hand.old) (λ x. MovingTold 1 element x (hand_of hand.new) result) }
+    ensures moved { HoldsThen (hand_of hand.old) (λ x. IsMovingCall 1 element x (hand_of hand.new) result) }
 {
     let Some(held) = hand.find::<HeldHand>() else {
         return code_alone(EMPTY_HANDLE);
@@ -138,14 +138,14 @@ pub extern "C" fn synth_raw_hand_try_retire(hand: &mut Handle, element: u32) -> 
         return code_alone(NOT_HELD);
     }
     let answer = held.try_retire(element);
-    told_of_move(answer)
+    answer_of_move(answer)
 }
 
 /// `ThreadTable::try_wait`. The elements are 0 to 63, and the wait queues 0 to 15.
 #[unsafe(no_mangle)]
 pub extern "C" fn synth_raw_hand_try_wait(hand: &mut Handle, element: u32, wait: u32) -> SynthMoved
     ensures empty { NoneIn hand_of hand.old hand.new (IsMoveCode EmptyHandle result) }
-    ensures moved { HoldsThen (hand_of hand.old) (λ x. WaitingTold element wait x (hand_of hand.new) result) }
+    ensures moved { HoldsThen (hand_of hand.old) (λ x. IsWaitingCall element wait x (hand_of hand.new) result) }
 {
     let Some(held) = hand.find::<HeldHand>() else {
         return code_alone(EMPTY_HANDLE);
@@ -160,7 +160,7 @@ pub extern "C" fn synth_raw_hand_try_wait(hand: &mut Handle, element: u32, wait:
         return code_alone(NOT_HELD);
     }
     let answer = held.try_wait(element, wait);
-    told_of_move(answer)
+    answer_of_move(answer)
 }
 
 /// `ThreadTable::ticket`. The wait queues are 0 to 15.
@@ -168,7 +168,7 @@ pub extern "C" fn synth_raw_hand_try_wait(hand: &mut Handle, element: u32, wait:
 pub extern "C" fn synth_raw_hand_ticket(hand: &mut Handle, wait: u32, ticket: &mut u32) -> i32
     ensures empty { NoneIn hand_of hand.old hand.new ((result ≡ EmptyHandle) × (ticket.new ≡ ticket.old)) }
     ensures loaded { HoldsThen (hand_of hand.old)
-        (λ x. TicketTold wait x ticket.old ticket.new (hand_of hand.new) result) }
+        (λ x. IsTicketCall wait x ticket.old ticket.new (hand_of hand.new) result) }
 {
     let Some(held) = hand.find::<HeldHand>() else {
         return EMPTY_HANDLE;
@@ -190,7 +190,7 @@ pub extern "C" fn synth_raw_hand_try_wait_at(
 ) -> SynthMoved
     ensures empty { NoneIn hand_of hand.old hand.new (IsMoveCode EmptyHandle result) }
     ensures moved { HoldsThen (hand_of hand.old)
-        (λ x. WaitingAtTold element wait ticket x (hand_of hand.new) result) }
+        (λ x. IsWaitingAtCall element wait ticket x (hand_of hand.new) result) }
 {
     let Some(held) = hand.find::<HeldHand>() else {
         return code_alone(EMPTY_HANDLE);
@@ -205,5 +205,5 @@ pub extern "C" fn synth_raw_hand_try_wait_at(
         return code_alone(NOT_HELD);
     }
     let answer = held.try_wait_at(element, wait, ticket);
-    told_of_move(answer)
+    answer_of_move(answer)
 }

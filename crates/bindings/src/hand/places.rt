@@ -1,6 +1,6 @@
 //! The state of a table when it was closed, as C has it.
 ghost use Rattle.std.specs.Prelude.{◌≡◌, map};
-ghost use Rattle.bindings.specs.HandClosing.{place_told, IsToldPlaces};
+ghost use Rattle.bindings.specs.HandClosing.{c_place, ReportsPlaces};
 
 use thread_table::{Place, Places};
 
@@ -24,8 +24,8 @@ pub struct SynthPlaces {
     pub stops: u64,
 }
 
-fn told_of_place(place: Place) -> SynthPlace
-    ensures { result ≡ place_told place }
+fn place_for_c(place: Place) -> SynthPlace
+    ensures { result ≡ c_place place }
 {
     let (kind, number) = match place {
         Place::Processor(p) => (0, p),
@@ -41,22 +41,22 @@ fn told_of_place(place: Place) -> SynthPlace
     }
 }
 
-fn told_of_all(places: &[Place; 64]) -> [SynthPlace; 64]
-    ensures { result ≡ map place_told places.now }
+fn places_for_c(places: &[Place; 64]) -> [SynthPlace; 64]
+    ensures { result ≡ map c_place places.now }
 {
-    let mut told = [SynthPlace { kind: 0, number: 0 }; 64];
+    let mut reported = [SynthPlace { kind: 0, number: 0 }; 64];
     for i in 0..64 {
-        told[i] = told_of_place(places[i]);
+        reported[i] = place_for_c(places[i]);
     }
-    told
+    reported
 }
 
 /// The report of the library's `close`.
-pub fn told_of_places(places: &Places) -> SynthPlaces
-    ensures { IsToldPlaces places.now result }
+pub fn answer_of_places(places: &Places) -> SynthPlaces
+    ensures { ReportsPlaces places.now result }
 {
     SynthPlaces {
-        place: told_of_all(&places.places),
+        place: places_for_c(&places.places),
         pc: places.pcs,
         pending: places.pending,
         stops: places.stops,

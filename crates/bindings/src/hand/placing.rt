@@ -2,7 +2,7 @@
 ghost use Rattle.std.specs.Prelude.{◌≡◌};
 ghost use Rattle.bindings.specs.Codes.{EmptyHandle};
 ghost use Rattle.bindings.specs.Handles.{hand_of, NoneIn, HoldsThen, TurnsThen};
-ghost use Rattle.bindings.specs.HandCalls.{HoldsTold, ServesTold, OnProcessorTold, OnTold, OffTold, PcTold, StepTold};
+ghost use Rattle.bindings.specs.HandCalls.{IsHoldsCall, IsServesCall, IsOnProcessorCall, IsOnCall, IsOffCall, IsPcCall, IsStepCall};
 
 use super::held::HeldHand;
 use super::numbers::element_of;
@@ -11,7 +11,7 @@ use crate::answer::{BAD_NUMBER, BUSY, DONE, EMPTY_HANDLE, NOT_HELD, NOT_SERVED, 
 use crate::handle::Handle;
 
 fn tell_holds(held: &HeldHand, element: u32, holds: &mut bool) -> i32
-    ensures { HoldsTold element held.now holds.old holds.new result }
+    ensures { IsHoldsCall element held.now holds.old holds.new result }
 {
     let Some(element) = element_of(element) else {
         return BAD_NUMBER;
@@ -24,8 +24,8 @@ fn tell_holds(held: &HeldHand, element: u32, holds: &mut bool) -> i32
 #[unsafe(no_mangle)]
 pub extern "C" fn synth_raw_hand_holds(hand: &mut Handle, element: u32, holds: &mut bool) -> i32
     ensures empty { NoneIn hand_of hand.old hand.new ((result ≡ EmptyHandle) × (holds.new ≡ holds.old)) }
-    ensures told { HoldsThen (hand_of hand.old)
-        (λ x. ((hand_of hand.new) ≡ (hand_of hand.old)) × HoldsTold element x holds.old holds.new result) }
+    ensures effect { HoldsThen (hand_of hand.old)
+        (λ x. ((hand_of hand.new) ≡ (hand_of hand.old)) × IsHoldsCall element x holds.old holds.new result) }
 {
     let Some(held) = hand.find::<HeldHand>() else {
         return EMPTY_HANDLE;
@@ -35,7 +35,7 @@ pub extern "C" fn synth_raw_hand_holds(hand: &mut Handle, element: u32, holds: &
 }
 
 fn tell_serves(held: &HeldHand, processor: u32, serves: &mut bool) -> i32
-    ensures { ServesTold processor held.now serves.old serves.new result }
+    ensures { IsServesCall processor held.now serves.old serves.new result }
 {
     let Some(processor) = processor_of(processor) else {
         return BAD_NUMBER;
@@ -48,9 +48,9 @@ fn tell_serves(held: &HeldHand, processor: u32, serves: &mut bool) -> i32
 #[unsafe(no_mangle)]
 pub extern "C" fn synth_raw_hand_serves(hand: &mut Handle, processor: u32, serves: &mut bool) -> i32
     ensures empty { NoneIn hand_of hand.old hand.new ((result ≡ EmptyHandle) × (serves.new ≡ serves.old)) }
-    ensures told { HoldsThen (hand_of hand.old)
+    ensures effect { HoldsThen (hand_of hand.old)
         (λ x. ((hand_of hand.new) ≡ (hand_of hand.old))
-        × ServesTold processor x serves.old serves.new result) }
+        × IsServesCall processor x serves.old serves.new result) }
 {
     let Some(held) = hand.find::<HeldHand>() else {
         return EMPTY_HANDLE;
@@ -60,7 +60,7 @@ pub extern "C" fn synth_raw_hand_serves(hand: &mut Handle, processor: u32, serve
 }
 
 fn tell_on_processor(held: &HeldHand, processor: u32, element: &mut u32) -> i32
-    ensures { OnProcessorTold processor held.now element.old element.new result }
+    ensures { IsOnProcessorCall processor held.now element.old element.new result }
 {
     let Some(processor) = processor_of(processor) else {
         return BAD_NUMBER;
@@ -80,9 +80,9 @@ pub extern "C" fn synth_raw_hand_on_processor(
     element: &mut u32,
 ) -> i32
     ensures empty { NoneIn hand_of hand.old hand.new ((result ≡ EmptyHandle) × (element.new ≡ element.old)) }
-    ensures told { HoldsThen (hand_of hand.old)
+    ensures effect { HoldsThen (hand_of hand.old)
         (λ x. ((hand_of hand.new) ≡ (hand_of hand.old))
-        × OnProcessorTold processor x element.old element.new result) }
+        × IsOnProcessorCall processor x element.old element.new result) }
 {
     let Some(held) = hand.find::<HeldHand>() else {
         return EMPTY_HANDLE;
@@ -92,7 +92,7 @@ pub extern "C" fn synth_raw_hand_on_processor(
 }
 
 fn put_on(held: &mut HeldHand, processor: u32, element: u32) -> i32
-    ensures { OnTold processor element held.old held.new result }
+    ensures { IsOnCall processor element held.old held.new result }
 {
     let Some(processor) = processor_of(processor) else {
         return BAD_NUMBER;
@@ -118,7 +118,7 @@ fn put_on(held: &mut HeldHand, processor: u32, element: u32) -> i32
 pub extern "C" fn synth_raw_hand_on(hand: &mut Handle, processor: u32, element: u32) -> i32
     ensures empty { NoneIn hand_of hand.old hand.new (result ≡ EmptyHandle) }
     ensures on { TurnsThen (hand_of hand.old) (hand_of hand.new)
-        (λ x y. OnTold processor element x y result) }
+        (λ x y. IsOnCall processor element x y result) }
 {
     let Some(held) = hand.find::<HeldHand>() else {
         return EMPTY_HANDLE;
@@ -128,7 +128,7 @@ pub extern "C" fn synth_raw_hand_on(hand: &mut Handle, processor: u32, element: 
 }
 
 fn take_off(held: &mut HeldHand, processor: u32, element: &mut u32) -> i32
-    ensures { OffTold processor held.old held.new element.old element.new result }
+    ensures { IsOffCall processor held.old held.new element.old element.new result }
 {
     let Some(processor) = processor_of(processor) else {
         return BAD_NUMBER;
@@ -148,7 +148,7 @@ fn take_off(held: &mut HeldHand, processor: u32, element: &mut u32) -> i32
 pub extern "C" fn synth_raw_hand_off(hand: &mut Handle, processor: u32, element: &mut u32) -> i32
     ensures empty { NoneIn hand_of hand.old hand.new ((result ≡ EmptyHandle) × (element.new ≡ element.old)) }
     ensures off { TurnsThen (hand_of hand.old) (hand_of hand.new)
-        (λ x y. OffTold processor x y element.old element.new result) }
+        (λ x y. IsOffCall processor x y element.old element.new result) }
 {
     let Some(held) = hand.find::<HeldHand>() else {
         return EMPTY_HANDLE;
@@ -158,7 +158,7 @@ pub extern "C" fn synth_raw_hand_off(hand: &mut Handle, processor: u32, element:
 }
 
 fn tell_pc(held: &mut HeldHand, element: u32, steps: &mut u64) -> i32
-    ensures { PcTold element held.old held.new steps.old steps.new result }
+    ensures { IsPcCall element held.old held.new steps.old steps.new result }
 {
     let Some(element) = element_of(element) else {
         return BAD_NUMBER;
@@ -174,8 +174,8 @@ fn tell_pc(held: &mut HeldHand, element: u32, steps: &mut u64) -> i32
 #[unsafe(no_mangle)]
 pub extern "C" fn synth_raw_hand_pc(hand: &mut Handle, element: u32, steps: &mut u64) -> i32
     ensures empty { NoneIn hand_of hand.old hand.new ((result ≡ EmptyHandle) × (steps.new ≡ steps.old)) }
-    ensures told { TurnsThen (hand_of hand.old) (hand_of hand.new)
-        (λ x y. PcTold element x y steps.old steps.new result) }
+    ensures effect { TurnsThen (hand_of hand.old) (hand_of hand.new)
+        (λ x y. IsPcCall element x y steps.old steps.new result) }
 {
     let Some(held) = hand.find::<HeldHand>() else {
         return EMPTY_HANDLE;
@@ -185,7 +185,7 @@ pub extern "C" fn synth_raw_hand_pc(hand: &mut Handle, element: u32, steps: &mut
 }
 
 fn count_step(held: &mut HeldHand, element: u32, steps: &mut u64) -> i32
-    ensures { StepTold element held.old held.new steps.old steps.new result }
+    ensures { IsStepCall element held.old held.new steps.old steps.new result }
 {
     let Some(element) = element_of(element) else {
         return BAD_NUMBER;
@@ -207,7 +207,7 @@ fn count_step(held: &mut HeldHand, element: u32, steps: &mut u64) -> i32
 pub extern "C" fn synth_raw_hand_step_done(hand: &mut Handle, element: u32, steps: &mut u64) -> i32
     ensures empty { NoneIn hand_of hand.old hand.new ((result ≡ EmptyHandle) × (steps.new ≡ steps.old)) }
     ensures done { TurnsThen (hand_of hand.old) (hand_of hand.new)
-        (λ x y. StepTold element x y steps.old steps.new result) }
+        (λ x y. IsStepCall element x y steps.old steps.new result) }
 {
     let Some(held) = hand.find::<HeldHand>() else {
         return EMPTY_HANDLE;

@@ -6,9 +6,9 @@ ghost use Rattle.thread_table.specs.Rules.{has};
 ghost use Rattle.bindings.specs.Codes.{EmptyHandle};
 ghost use Rattle.bindings.specs.Handles.{hand_of, NoneIn, HoldsThen};
 ghost use Rattle.bindings.specs.HandStates.{WasStopped, WasStarted, WasParked, WasSignalled, WereDelivered};
-ghost use Rattle.bindings.specs.HandStates.{number_of_start, is_raised, IsStateCode, IsToldLost, IsFitState};
-ghost use Rattle.bindings.specs.HandStates.{IsToldStart, IsToldPark, IsToldDelivery};
-ghost use Rattle.bindings.specs.HandStates.{StopTold, StartTold, ParkTold, SignalTold, DeliverTold};
+ghost use Rattle.bindings.specs.HandStates.{number_of_start, is_raised, IsStateCode, ReportsLost, IsFitState};
+ghost use Rattle.bindings.specs.HandStates.{ReportsStart, ReportsPark, ReportsDelivery};
+ghost use Rattle.bindings.specs.HandStates.{IsStopCall, IsStartCall, IsParkCall, IsSignalCall, IsDeliverCall};
 
 use super::held::HeldHand;
 use super::numbers::{element_of, signal_of};
@@ -73,9 +73,9 @@ fn code_alone(code: i32) -> SynthState
 }
 
 // The state word in the refusal.
-fn told_of_lost(lost: Lost) -> SynthState
+fn answer_of_lost(lost: Lost) -> SynthState
     requires { lost.seen < u32_values }
-    ensures { IsToldLost lost result }
+    ensures { ReportsLost lost result }
 {
     SynthState {
         code: LOST,
@@ -107,42 +107,42 @@ fn was_raised(signalled: Signalled) -> bool
 // Reports the effect of a start, or the state word that was found.
 fn tell_start(answer: Result<Started, Lost>, started: &mut u32) -> SynthState
     requires { IsFitState answer }
-    ensures { IsToldStart answer started.old started.new result }
+    ensures { ReportsStart answer started.old started.new result }
 {
     match answer {
         Ok(done) => {
             *started = number_of(done);
             code_alone(DONE)
         }
-        Err(lost) => told_of_lost(lost),
+        Err(lost) => answer_of_lost(lost),
     }
 }
 
 // Reports whether the element is parked, or the state word that was found.
 fn tell_park(answer: Result<bool, Lost>, parked: &mut bool) -> SynthState
     requires { IsFitState answer }
-    ensures { IsToldPark answer parked.old parked.new result }
+    ensures { ReportsPark answer parked.old parked.new result }
 {
     match answer {
         Ok(stands) => {
             *parked = stands;
             code_alone(DONE)
         }
-        Err(lost) => told_of_lost(lost),
+        Err(lost) => answer_of_lost(lost),
     }
 }
 
 // Reports the signals that were delivered, or the state word that was found.
 fn tell_delivery(answer: Result<u16, Lost>, signals: &mut u32) -> SynthState
     requires { IsFitState answer }
-    ensures { IsToldDelivery answer signals.old signals.new result }
+    ensures { ReportsDelivery answer signals.old signals.new result }
 {
     match answer {
         Ok(pending) => {
             *signals = u32::from(pending);
             code_alone(DONE)
         }
-        Err(lost) => told_of_lost(lost),
+        Err(lost) => answer_of_lost(lost),
     }
 }
 
@@ -151,7 +151,7 @@ fn tell_delivery(answer: Result<u16, Lost>, signals: &mut u32) -> SynthState
 pub extern "C" fn synth_raw_hand_stop(hand: &mut Handle, element: u32, was_clear: &mut bool) -> i32
     ensures empty { NoneIn hand_of hand.old hand.new ((result ≡ EmptyHandle) × (was_clear.new ≡ was_clear.old)) }
     ensures stopped { HoldsThen (hand_of hand.old)
-        (λ x. StopTold element x was_clear.old was_clear.new (hand_of hand.new) result) }
+        (λ x. IsStopCall element x was_clear.old was_clear.new (hand_of hand.new) result) }
 {
     let Some(held) = hand.find::<HeldHand>() else {
         return EMPTY_HANDLE;
@@ -173,7 +173,7 @@ pub extern "C" fn synth_raw_hand_try_start(
 ) -> SynthState
     ensures empty { NoneIn hand_of hand.old hand.new (IsStateCode EmptyHandle result × (started.new ≡ started.old)) }
     ensures started { HoldsThen (hand_of hand.old)
-        (λ x. StartTold element x started.old started.new (hand_of hand.new) result) }
+        (λ x. IsStartCall element x started.old started.new (hand_of hand.new) result) }
 {
     let Some(held) = hand.find::<HeldHand>() else {
         return code_alone(EMPTY_HANDLE);
@@ -194,7 +194,7 @@ pub extern "C" fn synth_raw_hand_try_park(
 ) -> SynthState
     ensures empty { NoneIn hand_of hand.old hand.new (IsStateCode EmptyHandle result × (parked.new ≡ parked.old)) }
     ensures parked { HoldsThen (hand_of hand.old)
-        (λ x. ParkTold element x parked.old parked.new (hand_of hand.new) result) }
+        (λ x. IsParkCall element x parked.old parked.new (hand_of hand.new) result) }
 {
     let Some(held) = hand.find::<HeldHand>() else {
         return code_alone(EMPTY_HANDLE);
@@ -219,7 +219,7 @@ pub extern "C" fn synth_raw_hand_signal(
 ) -> i32
     ensures empty { NoneIn hand_of hand.old hand.new ((result ≡ EmptyHandle) × (raised.new ≡ raised.old)) }
     ensures signalled { HoldsThen (hand_of hand.old)
-        (λ x. SignalTold element signal x raised.old raised.new (hand_of hand.new) result) }
+        (λ x. IsSignalCall element signal x raised.old raised.new (hand_of hand.new) result) }
 {
     let Some(held) = hand.find::<HeldHand>() else {
         return EMPTY_HANDLE;
@@ -243,7 +243,7 @@ pub extern "C" fn synth_raw_hand_try_deliver(
 ) -> SynthState
     ensures empty { NoneIn hand_of hand.old hand.new (IsStateCode EmptyHandle result × (signals.new ≡ signals.old)) }
     ensures delivered { HoldsThen (hand_of hand.old)
-        (λ x. DeliverTold element x signals.old signals.new (hand_of hand.new) result) }
+        (λ x. IsDeliverCall element x signals.old signals.new (hand_of hand.new) result) }
 {
     let Some(held) = hand.find::<HeldHand>() else {
         return code_alone(EMPTY_HANDLE);

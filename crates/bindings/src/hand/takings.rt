@@ -4,13 +4,13 @@ ghost use Rattle.event_theory.specs.Numbers.{u32_values};
 ghost use Rattle.event_theory.specs.Marks.{wait_ring};
 ghost use Rattle.bindings.specs.Codes.{EmptyHandle};
 ghost use Rattle.bindings.specs.Handles.{hand_of, NoneIn, HoldsThen};
-ghost use Rattle.bindings.specs.HandTakings.{WasTaken, IsFit, code_of_next, tail_of_next, IsToldTaking};
-ghost use Rattle.bindings.specs.HandTakings.{TakingTold, WakingTold};
+ghost use Rattle.bindings.specs.HandTakings.{WasTaken, IsFit, code_of_next, tail_of_next, ReportsTaking};
+ghost use Rattle.bindings.specs.HandTakings.{IsTakingCall, IsWakingCall};
 ghost use Rattle.bindings.specs.Told.{IsCodeAlone};
 
 use super::held::HeldHand;
 use super::numbers::wait_of;
-use crate::answer::{BAD_NUMBER, DONE, EMPTY, EMPTY_HANDLE, LOST, SynthAnswer, told};
+use crate::answer::{BAD_NUMBER, DONE, EMPTY, EMPTY_HANDLE, LOST, SynthAnswer, answer_of};
 use crate::handle::Handle;
 use event_theory::{Element, WaitNumber};
 use thread_table::NextRefusal;
@@ -39,12 +39,12 @@ impl HeldHand {
 }
 
 /// The code of the refusal, and the tail in it.
-pub(super) fn told_of_next(refusal: NextRefusal) -> SynthAnswer
+pub(super) fn answer_of_next(refusal: NextRefusal) -> SynthAnswer
     requires { tail_of_next refusal < u32_values }
     ensures { (result.code ≡ code_of_next refusal) × (result.head ≡ 0) × (result.tail ≡ tail_of_next refusal) }
 {
     match refusal {
-        NextRefusal::NoneReady => told(EMPTY),
+        NextRefusal::NoneReady => answer_of(EMPTY),
         NextRefusal::Lost { seen } => SynthAnswer {
             code: LOST,
             head: 0,
@@ -56,14 +56,14 @@ pub(super) fn told_of_next(refusal: NextRefusal) -> SynthAnswer
 // Reports the element that was taken, or the reason why none was.
 fn tell_taking(answer: Result<Element, NextRefusal>, element: &mut u32) -> SynthAnswer
     requires { IsFit answer }
-    ensures { IsToldTaking answer element.old element.new result }
+    ensures { ReportsTaking answer element.old element.new result }
 {
     match answer {
         Ok(taken) => {
             *element = u32::from(taken.number());
-            told(DONE)
+            answer_of(DONE)
         }
-        Err(refusal) => told_of_next(refusal),
+        Err(refusal) => answer_of_next(refusal),
     }
 }
 
@@ -72,10 +72,10 @@ fn tell_taking(answer: Result<Element, NextRefusal>, element: &mut u32) -> Synth
 pub extern "C" fn synth_raw_hand_try_next(hand: &mut Handle, element: &mut u32) -> SynthAnswer
     ensures empty { NoneIn hand_of hand.old hand.new (IsCodeAlone EmptyHandle result × (element.new ≡ element.old)) }
     ensures taken { HoldsThen (hand_of hand.old)
-        (λ x. TakingTold 0 x element.old element.new (hand_of hand.new) result) }
+        (λ x. IsTakingCall 0 x element.old element.new (hand_of hand.new) result) }
 {
     let Some(held) = hand.find::<HeldHand>() else {
-        return told(EMPTY_HANDLE);
+        return answer_of(EMPTY_HANDLE);
     };
     let answer = held.try_next();
     tell_taking(answer, element)
@@ -86,10 +86,10 @@ pub extern "C" fn synth_raw_hand_try_next(hand: &mut Handle, element: &mut u32) 
 pub extern "C" fn synth_raw_hand_try_free(hand: &mut Handle, element: &mut u32) -> SynthAnswer
     ensures empty { NoneIn hand_of hand.old hand.new (IsCodeAlone EmptyHandle result × (element.new ≡ element.old)) }
     ensures taken { HoldsThen (hand_of hand.old)
-        (λ x. TakingTold 1 x element.old element.new (hand_of hand.new) result) }
+        (λ x. IsTakingCall 1 x element.old element.new (hand_of hand.new) result) }
 {
     let Some(held) = hand.find::<HeldHand>() else {
-        return told(EMPTY_HANDLE);
+        return answer_of(EMPTY_HANDLE);
     };
     let answer = held.try_free();
     tell_taking(answer, element)
@@ -104,13 +104,13 @@ pub extern "C" fn synth_raw_hand_try_wake(
 ) -> SynthAnswer
     ensures empty { NoneIn hand_of hand.old hand.new (IsCodeAlone EmptyHandle result × (element.new ≡ element.old)) }
     ensures taken { HoldsThen (hand_of hand.old)
-        (λ x. WakingTold wait x element.old element.new (hand_of hand.new) result) }
+        (λ x. IsWakingCall wait x element.old element.new (hand_of hand.new) result) }
 {
     let Some(held) = hand.find::<HeldHand>() else {
-        return told(EMPTY_HANDLE);
+        return answer_of(EMPTY_HANDLE);
     };
     let Some(wait) = wait_of(wait) else {
-        return told(BAD_NUMBER);
+        return answer_of(BAD_NUMBER);
     };
     let answer = held.try_wake(wait);
     tell_taking(answer, element)

@@ -2,14 +2,14 @@
 ghost use Rattle.std.specs.Prelude.{◌≡◌};
 ghost use Rattle.bindings.specs.Codes.{EmptyHandle};
 ghost use Rattle.bindings.specs.Handles.{hand_of, NoneIn, HoldsThen};
-ghost use Rattle.bindings.specs.HandWakes.{WasNotified, WasTriedBefore, IsFitBefore, IsToldBefore};
-ghost use Rattle.bindings.specs.HandWakes.{NotifyTold, BeforeTold};
+ghost use Rattle.bindings.specs.HandWakes.{WasNotified, WasTriedBefore, IsFitBefore, ReportsBefore};
+ghost use Rattle.bindings.specs.HandWakes.{IsNotifyCall, IsBeforeCall};
 ghost use Rattle.bindings.specs.Told.{IsCodeAlone};
 
 use super::held::HeldHand;
 use super::numbers::wait_of;
-use super::takings::told_of_next;
-use crate::answer::{ALL_WOKEN, BAD_NUMBER, DONE, EMPTY_HANDLE, SynthAnswer, told};
+use super::takings::answer_of_next;
+use crate::answer::{ALL_WOKEN, BAD_NUMBER, DONE, EMPTY_HANDLE, SynthAnswer, answer_of};
 use crate::handle::Handle;
 use event_theory::{Element, WaitNumber};
 use thread_table::NextRefusal;
@@ -37,15 +37,15 @@ impl HeldHand {
 // Reports the element that was taken, that none is left before the position, or the reason why none was taken.
 fn tell_before(answer: Result<Option<Element>, NextRefusal>, element: &mut u32) -> SynthAnswer
     requires { IsFitBefore answer }
-    ensures { IsToldBefore answer element.old element.new result }
+    ensures { ReportsBefore answer element.old element.new result }
 {
     match answer {
         Ok(Some(taken)) => {
             *element = u32::from(taken.number());
-            told(DONE)
+            answer_of(DONE)
         }
-        Ok(None) => told(ALL_WOKEN),
-        Err(refusal) => told_of_next(refusal),
+        Ok(None) => answer_of(ALL_WOKEN),
+        Err(refusal) => answer_of_next(refusal),
     }
 }
 
@@ -54,7 +54,7 @@ fn tell_before(answer: Result<Option<Element>, NextRefusal>, element: &mut u32) 
 pub extern "C" fn synth_raw_hand_notify(hand: &mut Handle, wait: u32, head: &mut u32) -> i32
     ensures empty { NoneIn hand_of hand.old hand.new ((result ≡ EmptyHandle) × (head.new ≡ head.old)) }
     ensures notified { HoldsThen (hand_of hand.old)
-        (λ x. NotifyTold wait x head.old head.new (hand_of hand.new) result) }
+        (λ x. IsNotifyCall wait x head.old head.new (hand_of hand.new) result) }
 {
     let Some(held) = hand.find::<HeldHand>() else {
         return EMPTY_HANDLE;
@@ -76,13 +76,13 @@ pub extern "C" fn synth_raw_hand_try_wake_before(
 ) -> SynthAnswer
     ensures empty { NoneIn hand_of hand.old hand.new (IsCodeAlone EmptyHandle result × (element.new ≡ element.old)) }
     ensures taken { HoldsThen (hand_of hand.old)
-        (λ x. BeforeTold wait head x element.old element.new (hand_of hand.new) result) }
+        (λ x. IsBeforeCall wait head x element.old element.new (hand_of hand.new) result) }
 {
     let Some(held) = hand.find::<HeldHand>() else {
-        return told(EMPTY_HANDLE);
+        return answer_of(EMPTY_HANDLE);
     };
     let Some(wait) = wait_of(wait) else {
-        return told(BAD_NUMBER);
+        return answer_of(BAD_NUMBER);
     };
     let answer = held.try_wake_before(wait, head);
     tell_before(answer, element)

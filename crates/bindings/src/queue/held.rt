@@ -109,7 +109,7 @@ impl End for HeldQueue {
 
     ghost MayNotSplit = { λ _ x. HasNoTwo (share_of x) };
 
-    ghost Divided = { λ _. AtSizes DividedPart };
+    ghost SplitBy = { λ _. AtSizes DividedPart };
 
     ghost HaveOneMark = { HaveOneMark };
 

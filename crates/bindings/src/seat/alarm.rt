@@ -1,7 +1,7 @@
 //! Alarms as C has them.
 ghost use Rattle.std.specs.Prelude.{◌≡◌, ◌≤◌, length, take, map};
 ghost use Rattle.std.specs.Option.{MatchOption};
-ghost use Rattle.bindings.specs.SeatAlarms.{alarm_told, IsAlarm, IsNoAlarm, IsRestKept};
+ghost use Rattle.bindings.specs.SeatAlarms.{c_alarm, IsAlarm, IsNoAlarm, IsRestKept};
 
 use event_theory::{Alarm, Element, Signal};
 
@@ -15,22 +15,22 @@ pub struct SynthAlarm {
 }
 
 /// The alarm that C gave, or None if its element or its signal is out of range.
-pub fn alarm_of(told: &SynthAlarm) -> Option<Alarm>
-    ensures { MatchOption result (IsNoAlarm told.now) (λ alarm. IsAlarm told.now × (alarm_told alarm ≡ told.now)) }
+pub fn alarm_of(reported: &SynthAlarm) -> Option<Alarm>
+    ensures { MatchOption result (IsNoAlarm reported.now) (λ alarm. IsAlarm reported.now × (c_alarm alarm ≡ reported.now)) }
 {
-    if told.element >= 64 || told.signal >= 16 {
+    if reported.element >= 64 || reported.signal >= 16 {
         return None;
     }
     Some(Alarm {
-        due: told.due,
-        element: Element::new(told.element as u8)?,
-        signal: Signal::new(told.signal as u8)?,
+        due: reported.due,
+        element: Element::new(reported.element as u8)?,
+        signal: Signal::new(reported.signal as u8)?,
     })
 }
 
 /// An alarm as it is reported to C.
 pub fn told_of(alarm: &Alarm) -> SynthAlarm
-    ensures { result ≡ alarm_told alarm.now }
+    ensures { result ≡ c_alarm alarm.now }
 {
     SynthAlarm {
         due: alarm.due,
@@ -43,7 +43,7 @@ pub fn told_of(alarm: &Alarm) -> SynthAlarm
 pub fn tell_alarms(alarms: &[Alarm], out: &mut [SynthAlarm]) -> usize
     requires { length alarms.now ≤ length out.old }
     ensures number { result ≡ length alarms.now }
-    ensures told { take result out.new ≡ map alarm_told alarms.now }
+    ensures effect { take result out.new ≡ map c_alarm alarms.now }
     ensures rest { IsRestKept result out.old out.new }
 {
     for i in 0..alarms.len() {

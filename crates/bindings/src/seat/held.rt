@@ -77,7 +77,7 @@ impl HeldSeat {
 }
 
 impl End for HeldSeat {
-    ghost use Rattle.bindings.specs.SeatHeld.{Divided, Joined, AreOfOneTable};
+    ghost use Rattle.bindings.specs.SeatHeld.{SplitBy, Joined, AreOfOneTable};
     ghost use Rattle.bindings.specs.Shares.{HasTwo, HasNoTwo, IsOneMark};
 
     type Wish = ();
@@ -88,7 +88,7 @@ impl End for HeldSeat {
 
     ghost MayNotSplit = { λ _ x. HasNoTwo x.share };
 
-    ghost Divided = { λ _. Divided };
+    ghost SplitBy = { λ _. SplitBy };
 
     ghost HaveOneMark = { λ x z. IsOneMark x.share z.share };
 

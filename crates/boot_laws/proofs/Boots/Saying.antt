@@ -1,5 +1,5 @@
 -- If all steps were done, the lines said are those of the plan.
-use Rattle.boot_laws.proofs.Common.{◌≡◌, ◌≢◌, ⊎_elim, ℕ, zero, suc, ◌+◌, ◌<◌, Bool, true, false, eqb, eq-eqb, ne_eqb, List, [], ◌∷◌, ◌++◌, map, length, refl, sym, ap, ◌∙◌, subst, arith, Option, Some, None, append_assoc, append-nil, flat_map, count_by, IsPermutation, if◌then◌else◌, ◌&&◌, ◌||◌, ◌==◌, nat_lt, not, range_with_len, AllByRecursion, list_any-append, leb_tells, flat_map-append, dite, dec_lt, BootPlan, PlannedThread, QueueIndex, Small, Step, Report, Place, AtQueue, idle_queue, only, put_if, shut_if, taken_if, Deed, SayAnswer, Paid, is_done, IsDeedOf, queues_by, told_shut, LogEntry, FollowsPlan, entry_account, turn_told_shut, sum_of, was_shut, Key, same_key, program, step_of, said_line, Line, said, heard, PlaceAgrees, ClosedTables, IsReport, IsNeverShut, total_of, by_bool, plus, many_cons, many_more}
+use Rattle.boot_laws.proofs.Common.{◌≡◌, ◌≢◌, ⊎_elim, ℕ, zero, suc, ◌+◌, ◌<◌, Bool, true, false, eqb, eq-eqb, ne_eqb, List, [], ◌∷◌, ◌++◌, map, length, refl, sym, ap, ◌∙◌, subst, arith, Option, Some, None, append_assoc, append-nil, flat_map, count_by, IsPermutation, if◌then◌else◌, ◌&&◌, ◌||◌, ◌==◌, nat_lt, not, range_with_len, AllByRecursion, list_any-append, leb_tells, flat_map-append, dite, dec_lt, BootPlan, PlannedThread, QueueIndex, Small, Step, Report, Place, AtQueue, idle_queue, only, put_if, shut_if, taken_if, StepOutcome, SayAnswer, WakeDone, is_done, IsOutcomeOf, queues_by, saw_shut, LogEntry, FollowsPlan, entry_account, turn_saw_shut, sum_of, was_shut, Key, same_key, program, step_of, said_line, Line, said, heard, PlaceAgrees, ClosedTables, IsReport, IsNeverShut, total_of, by_bool, plus, many_cons, many_more}
 use Rattle.std.proofs.Common.{slice_get}
 use Rattle.std.proofs.lemmas.List.Sorted.{IsPermutation-refl, IsPermutation-trans, IsPermutation-append_comm, IsPermutation-append_left, IsPermutation-append_right}
 use Rattle.std.proofs.lemmas.Bool.{eqb-true as eqb_is, and_parts as both, or_parts as or_false}
@@ -9,7 +9,7 @@ use Rattle.boot_data.specs.declared.report.ThreadState.{ThreadState}
 use Rattle.boot_data.specs.declared.report.ThreadState.TheVariants as states
 use Rattle.boot_data.specs.Plans.{steps_in}
 use Rattle.thread_table.specs.declared.places.Place.TheVariants as places
-use Rattle.processor.specs.declared.deed.Deed.TheVariants as deeds
+use Rattle.processor.specs.declared.step_outcome.StepOutcome.TheVariants as step_outcomes
 use Rattle.processor.specs.declared.tries.SayAnswer.TheVariants as says
 use Rattle.processor.proofs.Rooms.{same_refl as key_itself}
 use Rattle.event_theory.proofs.Lists.Placed.{there as there_is}
@@ -34,24 +34,24 @@ module _ {A B : Type 0} (f : A → List B) where
   -- lists in which each entry is equally often give the same
   same_gives : (same : A → A → Bool) → ((a b : A) → same a b ≡ true → a ≡ b) → ((a : A) → same a a ≡ true)
       → (xs ys : List A) → ((x : A) → count_by (same x) xs ≡ count_by (same x) ys) → IsPermutation (flat_map f ys) (flat_map f xs)
-  same_gives same tells itself [] [] h = IsPermutation-refl []
-  same_gives same tells itself [] (y ∷ ys) h =
+  same_gives same reports itself [] [] h = IsPermutation-refl []
+  same_gives same reports itself [] (y ∷ ys) h =
       let c = many_cons (same y) y ys in let a : plus (same y y) ≡ 1 = ap plus (itself y) in let e = h y in absurd (omega arith)
-  same_gives same tells itself (x ∷ xs) ys h =
+  same_gives same reports itself (x ∷ xs) ys h =
       let c = many_cons (same x) x xs in let a : plus (same x x) ≡ 1 = ap plus (itself x) in let e = h x in
       let g = find_it (same x) ys (omega arith) in
-      let it : x ≡ g.it = tells x g.it g.passes in
+      let it : x ≡ g.it = reports x g.it g.passes in
       let is : ys ≡ g.front ++ x ∷ g.back = g.is ∙ ap (λ z. g.front ++ z ∷ g.back) (sym it) in
       let rest : (z : A) → count_by (same z) xs ≡ count_by (same z) (g.front ++ g.back) = λ z.
       let p = many_cons (same z) x xs in let q = many_more (same z) g.front (x ∷ g.back) in let r = many_cons (same z) x g.back in
       let s = many_more (same z) g.front g.back in let t = h z in let u : count_by (same z) ys ≡ count_by (same z) (g.front ++ x ∷ g.back) = ap (count_by (same z)) is in omega arith in
-      let ih = same_gives same tells itself xs (g.front ++ g.back) rest in
+      let ih = same_gives same reports itself xs (g.front ++ g.back) rest in
       subst (λ z. IsPermutation (flat_map f z) (f x ++ flat_map f xs)) (sym is)
       (IsPermutation-trans (flat_map f (g.front ++ x ∷ g.back)) (f x ++ flat_map f (g.front ++ g.back)) (f x ++ flat_map f xs)
       (to_front g.front x g.back) (IsPermutation-append_right (f x) (flat_map f (g.front ++ g.back)) (flat_map f xs) ih))
 
-key_tells : (k p : Key) → same_key k p ≡ true → k ≡ p
-key_tells k p e = let t = both (k.0 == p.0) (k.1 == p.1) e in λ i. (eqb_is k.0 p.0 t.0 i, eqb_is k.1 p.1 t.1 i)
+key_reports : (k p : Key) → same_key k p ≡ true → k ≡ p
+key_reports k p e = let t = both (k.0 == p.0) (k.1 == p.1) e in λ i. (eqb_is k.0 p.0 t.0 i, eqb_is k.1 p.1 t.1 i)
 
 -- THE STEPS OF A PLAN
 
@@ -133,15 +133,15 @@ module _ (says : Step → List (List ℕ)) (plan : BootPlan) where
   pub all_done : (done : List Key) → ((x n : ℕ) → count_by (same_key (x, n)) done ≡ (if nat_lt n (length (program plan x)) then 1 else 0))
       → IsPermutation (flat_map line_at done) (flat_map (λ (t : PlannedThread). flat_map says t.steps) plan.threads)
   all_done done once = subst (IsPermutation (flat_map line_at done)) (lines_of_keys 0 plan.threads (λ i. let e : i ≡ 0 + i = omega arith in ap (program plan) e))
-      (same_gives line_at same_key key_tells key_itself (keys_from 0 plan.threads) done
+      (same_gives line_at same_key key_reports key_itself (keys_from 0 plan.threads) done
       (λ k. let e : 0 + k.0 ≡ k.0 = omega arith in
       subst (λ z. count_by (same_key (z, k.1)) (keys_from 0 plan.threads) ≡ (if nat_lt k.1 (length (program plan k.0)) then 1 else 0)) e (keys_are 0 plan.threads k.0 k.1) ∙ sym (once k.0 k.1)))
 
 -- WHAT A DONE STEP SAYS
 
-abbrev is_say : Deed → Bool
-is_say (deeds.Say queue answer) = true
-is_say deed = false
+abbrev is_say : StepOutcome → Bool
+is_say (step_outcomes.Say queue answer) = true
+is_say step_outcome = false
 
 nothing_if : (b : Bool) → ◌≡◌ {A = List (List ℕ)} [] (if b then [] else [])
 nothing_if true = refl
@@ -151,26 +151,26 @@ module _ (plan : BootPlan) (index : QueueIndex) where
   abbrev PutsNone : AtQueue → Type 0
   PutsNone a = a.put ≡ []
 
-  says_none : (step : Step) (deed : Deed) (line : List ℕ) → IsDeedOf step deed line → is_say deed ≡ false → says_to index step ≡ []
-  says_none (steps.Say queue text) (deeds.Say at answer) line d e = absurd (cc)
-  says_none (steps.Say queue text) deed line d e = absurd d
-  says_none step deed line d e = refl
+  says_none : (step : Step) (step_outcome : StepOutcome) (line : List ℕ) → IsOutcomeOf step step_outcome line → is_say step_outcome ≡ false → says_to index step ≡ []
+  says_none (steps.Say queue text) (step_outcomes.Say at answer) line d e = absurd (cc)
+  says_none (steps.Say queue text) step_outcome line d e = absurd d
+  says_none step step_outcome line d e = refl
 
-  none_said : (step : Step) (deed : Deed) (line : List ℕ) → IsDeedOf step deed line → is_say deed ≡ false → [] ≡ (if is_done deed then says_to index step else [])
-  none_said step deed line d e = nothing_if (is_done deed) ∙ ap (λ z. if is_done deed then z else []) (sym (says_none step deed line d e))
+  none_said : (step : Step) (step_outcome : StepOutcome) (line : List ℕ) → IsOutcomeOf step step_outcome line → is_say step_outcome ≡ false → [] ≡ (if is_done step_outcome then says_to index step else [])
+  none_said step step_outcome line d e = nothing_if (is_done step_outcome) ∙ ap (λ z. if is_done step_outcome then z else []) (sym (says_none step step_outcome line d e))
 
-  by_answer : (queue : QueueIndex) (answer : SayAnswer Paid) (text line : List ℕ) → line ≡ said_line text → told_shut (deeds.Say queue answer) index ≡ false
-      → (queues_by (deeds.Say queue answer) line index).put ≡ (if is_done (deeds.Say queue answer) then says_to index (steps.Say queue text) else [])
+  by_answer : (queue : QueueIndex) (answer : SayAnswer WakeDone) (text line : List ℕ) → line ≡ said_line text → saw_shut (step_outcomes.Say queue answer) index ≡ false
+      → (queues_by (step_outcomes.Say queue answer) line index).put ≡ (if is_done (step_outcomes.Say queue answer) then says_to index (steps.Say queue text) else [])
   by_answer queue (says.Put paid) text line l t = only_map (λ (a : AtQueue). a.put) idle_queue (put_if (said (says.Put paid)) line) queue index ∙ ap (λ z. only [] queue (z ∷ []) index) l
-  by_answer queue says.Over text line l t = only_all PutsNone idle_queue (put_if (said {W = Paid} says.Over) line) refl refl queue index ∙ sym (only_off [] (said_line text ∷ []) queue index t)
-  by_answer queue (says.Refused unsaid) text line l t = only_all PutsNone idle_queue (put_if (said {W = Paid} (says.Refused unsaid)) line) refl refl queue index
+  by_answer queue says.Over text line l t = only_all PutsNone idle_queue (put_if (said {W = WakeDone} says.Over) line) refl refl queue index ∙ sym (only_off [] (said_line text ∷ []) queue index t)
+  by_answer queue (says.Refused unsaid) text line l t = only_all PutsNone idle_queue (put_if (said {W = WakeDone} (says.Refused unsaid)) line) refl refl queue index
 
-  by_step : (step : Step) (deed : Deed) (line : List ℕ) → IsDeedOf step deed line → told_shut deed index ≡ false → (queues_by deed line index).put ≡ (if is_done deed then says_to index step else [])
-  by_step step (deeds.Say queue answer) line d t = let s = say_is step queue answer line d in
-      by_answer queue answer s.0 line s.2 t ∙ ap (λ z. if is_done (deeds.Say queue answer) then says_to index z else []) (sym s.1)
-  by_step step (deeds.Hear queue answer) line d t = only_all PutsNone idle_queue (taken_if (heard answer) line) refl refl queue index ∙ none_said step (deeds.Hear queue answer) line d refl
-  by_step step (deeds.Close queue was_open readers writers) line d t = only_all PutsNone idle_queue (shut_if was_open) refl refl (Small queue) index ∙ none_said step (deeds.Close queue was_open readers writers) line d refl
-  by_step step deed line d t = none_said step deed line d refl
+  by_step : (step : Step) (step_outcome : StepOutcome) (line : List ℕ) → IsOutcomeOf step step_outcome line → saw_shut step_outcome index ≡ false → (queues_by step_outcome line index).put ≡ (if is_done step_outcome then says_to index step else [])
+  by_step step (step_outcomes.Say queue answer) line d t = let s = say_is step queue answer line d in
+      by_answer queue answer s.0 line s.2 t ∙ ap (λ z. if is_done (step_outcomes.Say queue answer) then says_to index z else []) (sym s.1)
+  by_step step (step_outcomes.Hear queue answer) line d t = only_all PutsNone idle_queue (taken_if (heard answer) line) refl refl queue index ∙ none_said step (step_outcomes.Hear queue answer) line d refl
+  by_step step (step_outcomes.Close queue was_open readers writers) line d t = only_all PutsNone idle_queue (shut_if was_open) refl refl (Small queue) index ∙ none_said step (step_outcomes.Close queue was_open readers writers) line d refl
+  by_step step step_outcome line d t = none_said step step_outcome line d refl
 
   abbrev its_line : Key → List (List ℕ)
   its_line = line_at (says_to index) plan
@@ -179,19 +179,19 @@ module _ (plan : BootPlan) (index : QueueIndex) where
   by_key true element number step is = sym (append-nil (says_to index step)) ∙ ap (λ z. lines_at (says_to index) plan z ++ []) (sym is)
   by_key false element number step is = refl
 
-  by_entry : (entry : LogEntry) → FollowsPlan plan entry → turn_told_shut index entry ≡ false → ((entry_account entry).queues index).put ≡ flat_map its_line (entry_account entry).hand.done
+  by_entry : (entry : LogEntry) → FollowsPlan plan entry → turn_saw_shut index entry ≡ false → ((entry_account entry).queues index).put ≡ flat_map its_line (entry_account entry).hand.done
   by_entry entry p t = ⊎_elim (λ r. ap (λ (f : QueueIndex → AtQueue). (f index).put) r.queues ∙ ap (flat_map its_line) (sym r.done))
-      (λ s. ap (λ (f : QueueIndex → AtQueue). (f index).put) s.queues ∙ (by_step s.step s.deed s.line s.deed_is (ap (λ (f : QueueIndex → Bool). f index) (sym s.told_is) ∙ t)
-      ∙ (by_key (is_done s.deed) s.element s.number s.step s.is ∙ ap (flat_map its_line) (sym s.done)))) (turn_is plan entry p)
+      (λ s. ap (λ (f : QueueIndex → AtQueue). (f index).put) s.queues ∙ (by_step s.step s.step_outcome s.line s.outcome_is (ap (λ (f : QueueIndex → Bool). f index) (sym s.told_is) ∙ t)
+      ∙ (by_key (is_done s.step_outcome) s.element s.number s.step s.is ∙ ap (flat_map its_line) (sym s.done)))) (turn_is plan entry p)
 
   by_log : (log : List LogEntry) → AllByRecursion (FollowsPlan plan) log → was_shut log index ≡ false → ((sum_of log).queues index).put ≡ flat_map its_line (sum_of log).hand.done
   by_log [] p t = refl
-  by_log (entry ∷ log) p t = let s = or_false (turn_told_shut index entry) (was_shut log index) t in
+  by_log (entry ∷ log) p t = let s = or_false (turn_saw_shut index entry) (was_shut log index) t in
       (λ k. by_entry entry p.0 s.0 k ++ by_log log p.1 s.1 k) ∙ sym (flat_map-append its_line (entry_account entry).hand.done (sum_of log).hand.done)
 
   none_told : (logs : List (List LogEntry)) → IsNeverShut index logs → was_shut (all_of logs) index ≡ false
   none_told [] t = refl
-  none_told (log ∷ logs) t = list_any-append (turn_told_shut index) log (all_of logs) ∙ (λ k. t.0 k || none_told logs t.1 k)
+  none_told (log ∷ logs) t = list_any-append (turn_saw_shut index) log (all_of logs) ∙ (λ k. t.0 k || none_told logs t.1 k)
 
 -- ALL ENDED
 

@@ -3,9 +3,9 @@ use Rattle.boot_laws.proofs.Common.{◌<◌, true, concat, AllZip, AllByRecursio
 use Rattle.std.proofs.Common.{slice_get}
 use Rattle.std.proofs.lemmas.List.{take-append-drop}
 use Rattle.std.proofs.lemmas.Option.{get_or_from_slice_get, slice_get_past, slice_get_within as within}
-use Rattle.claim_queue.specs.declared.rule.Did.{Did}
+use Rattle.claim_queue.specs.declared.rule.QueueOps.{QueueOps}
 use Rattle.claim_queue.specs.Handles.{view_of}
-use Rattle.boot_objects.specs.declared.closing.all.Unmade.{Unmade}
+use Rattle.boot_objects.specs.declared.closing.all.TornDown.{TornDown}
 use Rattle.boot_objects.specs.Endings.{AllClosed}
 use Rattle.boot_objects.specs.Objects.{AreQuajectsOf}
 use Rattle.boot_objects.specs.Shares.{quajects_of}
@@ -142,7 +142,7 @@ raws_unshut raw (tty ∷ ttys) h q = λ i. unshut_if (q == raw) (end_of tty) (h 
 
 ports_unshut : {n : ℕ} (ports : Home → List (Option (Port n))) (homes : List Home) (q : ℕ) → All (λ home. (port_stakes (ports home) q).did.shuts ≡ 0) homes → (port_stakes (flat_map ports homes) q).did.shuts ≡ 0
 ports_unshut ports [] q all = refl
-ports_unshut ports (home ∷ homes) q all = ap (λ (f : ℕ → Stake Did). (f q).did.shuts) (stakes_append (ports home) (flat_map ports homes))
+ports_unshut ports (home ∷ homes) q all = ap (λ (f : ℕ → Stake QueueOps). (f q).did.shuts) (stakes_append (ports home) (flat_map ports homes))
     ∙ (λ i. all 0 home (omega arith) i + ports_unshut ports homes q (λ k d l. all (suc k) d (omega arith)) i)
 
 -- A BOOT THAT WAS SHUT DOWN
@@ -159,7 +159,7 @@ pub record Shutdown : Type 0 where
   pub ttys : List RawTty
   pub devices : List closed.Device
   pub parts : Parts
-  pub ended : Unmade
+  pub ended : TornDown
 
 -- The stations were joined, and the first had freed the other elements; no element is on a processor then. The raw ttys
 -- of the devices were joined to the last station, and all was closed. The chains were given the quajects of the plan,
@@ -226,7 +226,7 @@ module _ (shut : Shutdown) (s : IsShutDown shut) where
   all_unshut = homes_unshut list shut.parts.chains.items homes s.closed.homes (λ k d l. (s.quajects.ready k d l).none_shut)
 
   small_unshut : (q : ℕ) → (port_stakes small_others q).did.shuts ≡ 0
-  small_unshut q = ap (λ (f : ℕ → Stake Did). (f q).did.shuts) (stakes_append (raw_ports (length plan.queues) shut.ttys) (small_ports homes))
+  small_unshut q = ap (λ (f : ℕ → Stake QueueOps). (f q).did.shuts) (stakes_append (raw_ports (length plan.queues) shut.ttys) (small_ports homes))
       ∙ (λ i. raws_unshut (length plan.queues) shut.ttys tty_shut_none q i + ports_unshut (λ (home : Home). home.small) homes q (λ k d l. (all_unshut k d l q).0) i)
 
   abbrev Known : (index : QueueIndex) → closed.Queue → Type 0
@@ -255,7 +255,7 @@ module _ (shut : Shutdown) (s : IsShutDown shut) where
 
   pub threads_ended : ThreadsEnded did c
   threads_ended = record {
-    told = shut.ended.threads;
+    reported = shut.ended.threads;
     signals = shut.ended.signals;
     settles = closed_settles (threads.call_of shut.last.hand) (threads.view_of shut.last.hand) shut.ended.threads.places shut.ended.threads.pcs shut.ended.threads.pending shut.ended.threads.stops threads_closed;
     none_on = none_on (threads.call_of shut.last.hand) (threads.view_of shut.last.hand) shut.ended.threads.places shut.ended.threads.pcs shut.ended.threads.pending shut.ended.threads.stops threads_closed s.free;

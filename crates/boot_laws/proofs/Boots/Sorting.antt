@@ -1,7 +1,7 @@
 -- No step is heard twice, so heard lines that ascend by thread and step do so strictly.
-use Rattle.boot_laws.proofs.Common.{Done, ◌≡◌, ⊎_elim, inl, inr, ℕ, zero, suc, ◌<◌, ◌≤◌, Bool, true, false, eq-eqb, List, [], ◌∷◌, length, refl, ap, ◌∙◌, arith, Some, count_by, IsPermutation, if◌then◌else◌, ◌&&◌, nat_lt, slice_index_or, AllByRecursion, le_prop, ∥∥₁_elim, dite, dec_lt, BootPlan, Step, plan_of, IsPlan, Deed, is_done, heard_by, LogEntry, FollowsPlan, entry_account, sum_of, Key, same_key, Line, ClosedTables, WorkedTogether, ThreadsEnded, Ascend, total_of, plus, many_cons, many_more}
+use Rattle.boot_laws.proofs.Common.{Done, ◌≡◌, ⊎_elim, inl, inr, ℕ, zero, suc, ◌<◌, ◌≤◌, Bool, true, false, eq-eqb, List, [], ◌∷◌, length, refl, ap, ◌∙◌, arith, Some, count_by, IsPermutation, if◌then◌else◌, ◌&&◌, nat_lt, slice_index_or, AllByRecursion, le_prop, ∥∥₁_elim, dite, dec_lt, BootPlan, Step, plan_of, IsPlan, StepOutcome, is_done, heard_by, LogEntry, FollowsPlan, entry_account, sum_of, Key, same_key, Line, ClosedTables, WorkedTogether, ThreadsEnded, Ascend, total_of, plus, many_cons, many_more}
 use Rattle.std.proofs.Common.{slice_get}
-use Rattle.processor.specs.declared.deed.Deed.TheVariants as deeds
+use Rattle.processor.specs.declared.step_outcome.StepOutcome.TheVariants as step_outcomes
 use Rattle.processor.specs.declared.tries.HearAnswer.TheVariants as hears
 use Rattle.boot_laws.specs.Reports.{AreSorted}
 use Rattle.thread_table.proofs.Lists.Counts.{many_shuffled}
@@ -28,15 +28,15 @@ module _ (k : Key) where
   abbrev is_of : Line → Bool
   is_of line = same_key k line.0
 
-  by_deed : (deed : Deed) (element number : ℕ) (line : List ℕ) → count_by is_of (heard_by deed element number line) ≤ count_by (same_key k) (if is_done deed then (element, number) ∷ [] else [])
-  by_deed (deeds.Hear queue (hears.Taken paid)) element number line =
+  by_step_outcome : (step_outcome : StepOutcome) (element number : ℕ) (line : List ℕ) → count_by is_of (heard_by step_outcome element number line) ≤ count_by (same_key k) (if is_done step_outcome then (element, number) ∷ [] else [])
+  by_step_outcome (step_outcomes.Hear queue (hears.Taken paid)) element number line =
       let a = many_cons is_of ((element, number), line) [] in let b = many_cons (same_key k) (element, number) [] in omega arith
-  by_deed (deeds.Hear queue answer) element number line = omega arith
-  by_deed deed element number line = omega arith
+  by_step_outcome (step_outcomes.Hear queue answer) element number line = omega arith
+  by_step_outcome step_outcome element number line = omega arith
 
   by_entry : (plan : BootPlan) (entry : LogEntry) → FollowsPlan plan entry → count_by is_of (entry_account entry).heard ≤ count_by (same_key k) (entry_account entry).hand.done
   by_entry plan entry p = ⊎_elim (λ r. let a = ap (count_by is_of) r.heard in omega arith)
-      (λ t. let a = ap (count_by is_of) t.heard in let b = ap (count_by (same_key k)) t.done in let c = by_deed t.deed t.element t.number t.line in omega arith) (turn_is plan entry p)
+      (λ t. let a = ap (count_by is_of) t.heard in let b = ap (count_by (same_key k)) t.done in let c = by_step_outcome t.step_outcome t.element t.number t.line in omega arith) (turn_is plan entry p)
 
   pub heard_few : (plan : BootPlan) (log : List LogEntry) → AllByRecursion (FollowsPlan plan) log → count_by is_of (sum_of log).heard ≤ count_by (same_key k) (sum_of log).hand.done
   heard_few plan [] p = omega arith
@@ -53,7 +53,7 @@ module _ (plan : BootPlan) (logs : List (List LogEntry)) (done : Done) (w : Work
 
   pub once_most : (x n : ℕ) → count_by (same_key (x, n)) (total_of logs).hand.done ≤ 1
   once_most x n = dite (dec_lt x 64)
-      (λ low. let h = once plan logs done w c e x n low in let m = one_most (nat_lt n (slice_index_or e.told.pcs x 0)) in omega arith)
+      (λ low. let h = once plan logs done w c e x n low in let m = one_most (nat_lt n (slice_index_or e.reported.pcs x 0)) in omega arith)
       (λ high. let few : length plan.threads ≤ 64 = ∥∥₁_elim plan.within le_prop (λ (h : IsPlan (plan_of plan)). h.threads) in
       let z = none_in plan x n (ap (λ (l : List Step). slice_get l n) (no_program plan.threads x (omega (arith, high)))) (all_of logs) planned in omega arith)
 

@@ -1,7 +1,7 @@
 -- What a station's end of a queue did, by the queue's index: its runs and its takings with their positions.
 use Rattle.boot_laws.proofs.Common.{Option, ◌≡◌, ℕ, zero, suc, List, [], ◌∷◌, refl, sym, ap, ◌∙◌, arith, Some, All, BootPlan, QueueIndex, Small, Large, QueueEnd, AtQueue, Stake, lines_of, room_of, stakes, no_stake, stake, Ascending, Parts, Account, account, AreJoined}
 use Rattle.std.specs.List.{slice_get}
-use Rattle.claim_queue.specs.declared.rule.Did.{Did}
+use Rattle.claim_queue.specs.declared.rule.QueueOps.{QueueOps}
 use Rattle.claim_queue.specs.Handles.{view_of}
 use Rattle.claim_queue.specs.Own.{nothing_did, did_both}
 use Rattle.turn_io.specs.EndLists.{ClaimedInOrder, TookInOrder}
@@ -17,7 +17,7 @@ end_at (Small q) parts = slice_get parts.small.items q
 end_at (Large q) parts = slice_get parts.large.items q
 
 -- what the station's end of the queue did
-abbrev pub did_at : QueueIndex → Parts → Did
+abbrev pub did_at : QueueIndex → Parts → QueueOps
 did_at (Small q) parts = (stakes parts.small.items q).did
 did_at (Large q) parts = (stakes parts.large.items q).did
 
@@ -27,19 +27,19 @@ lines_are (Large q) parts = refl
 
 -- a join appends the work of the other to its own
 pub did_joined : (index : QueueIndex) (a b c : Parts) → AreJoined a b c → did_at index c ≡ did_both (did_at index a) (did_at index b)
-did_joined (Small q) a b c j = ap (λ (f : ℕ → Stake Did). (f q).did) (joined_at a.small.items c.small.items b.small.items j.small.each)
-did_joined (Large q) a b c j = ap (λ (f : ℕ → Stake Did). (f q).did) (joined_at a.large.items c.large.items b.large.items j.large.each)
+did_joined (Small q) a b c j = ap (λ (f : ℕ → Stake QueueOps). (f q).did) (joined_at a.small.items c.small.items b.small.items j.small.each)
+did_joined (Large q) a b c j = ap (λ (f : ℕ → Stake QueueOps). (f q).did) (joined_at a.large.items c.large.items b.large.items j.large.each)
 
 -- what is so of what each end did, and of nothing, is so of what is done at each queue
-stake_has : {n : ℕ} (P : Did → Type 0) (Q : QueueEnd n → Type 0) → P nothing_did → ((end : QueueEnd n) → Q end → P (view_of end).own) → (ends : List (QueueEnd n)) (q : ℕ) → All Q ends → P (stakes ends q).did
+stake_has : {n : ℕ} (P : QueueOps → Type 0) (Q : QueueEnd n → Type 0) → P nothing_did → ((end : QueueEnd n) → Q end → P (view_of end).own) → (ends : List (QueueEnd n)) (q : ℕ) → All Q ends → P (stakes ends q).did
 stake_has P Q none one [] q h = none
 stake_has P Q none one (x ∷ ends) zero h = one x (h 0 x (omega arith))
 stake_has P Q none one (x ∷ ends) (suc q) h = stake_has P Q none one ends q (λ k d low. h (suc k) d (omega arith))
 
 -- what the end did that the station has of the queue
 pub its_did : (index : QueueIndex) (parts : Parts) (end : QueueEnd (room_of index)) → end_at index parts ≡ Some end → did_at index parts ≡ (view_of end).own
-its_did (Small q) parts end e = ap (λ (s : Stake Did). s.did) (at_its stake parts.small.items q end (no_stake nothing_did) e)
-its_did (Large q) parts end e = ap (λ (s : Stake Did). s.did) (at_its stake parts.large.items q end (no_stake nothing_did) e)
+its_did (Small q) parts end e = ap (λ (s : Stake QueueOps). s.did) (at_its stake parts.small.items q end (no_stake nothing_did) e)
+its_did (Large q) parts end e = ap (λ (s : Stake QueueOps). s.did) (at_its stake parts.large.items q end (no_stake nothing_did) e)
 
 pub runs_up : (index : QueueIndex) (parts : Parts) → All ClaimedInOrder parts.small.items → All ClaimedInOrder parts.large.items → Ascending (did_at index parts).runs
 runs_up (Small q) parts small large = stake_has (λ d. Ascending d.runs) ClaimedInOrder order_none.0 (λ end h. h.0) parts.small.items q small

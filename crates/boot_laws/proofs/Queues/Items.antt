@@ -18,14 +18,14 @@ lies_there : (p : ℕ) (run : Batch) → run.start ≤ p → p < run.start + len
 lies_there p run low high = grind (arith, nat_tests, low, high)
 
 -- the first run in which the position lies gives the position's item, as any such run does
-told : (p x : ℕ) (l : List Batch) → ((m : ℕ) (e : Batch) → get_elem? l m ≡ some e → lies_in p e ≡ true → in_run p e ≡ x)
+reported : (p x : ℕ) (l : List Batch) → ((m : ℕ) (e : Batch) → get_elem? l m ≡ some e → lies_in p e ≡ true → in_run p e ≡ x)
     → (m : ℕ) (e : Batch) → get_elem? l m ≡ some e → lies_in p e ≡ true → item_at l p ≡ x
-told p x [] all m e at it = absurd (some-ne-none e (sym at))
-told p x (run ∷ runs) all zero e at it = let is : lies_in p run ≡ true = ap (lies_in p) (some-injective run e at) ∙ it in
+reported p x [] all m e at it = absurd (some-ne-none e (sym at))
+reported p x (run ∷ runs) all zero e at it = let is : lies_in p run ≡ true = ap (lies_in p) (some-injective run e at) ∙ it in
     ap (λ (b : Bool). if b then in_run p run else item_at runs p) is ∙ all 0 run refl is
-told p x (run ∷ runs) all (suc m) e at it = by_bool (lies_in p run)
+reported p x (run ∷ runs) all (suc m) e at it = by_bool (lies_in p run)
     (λ is. ap (λ (b : Bool). if b then in_run p run else item_at runs p) is ∙ all 0 run refl is)
-    (λ isnt. ap (λ (b : Bool). if b then in_run p run else item_at runs p) isnt ∙ told p x runs (λ m e at. all (suc m) e at) m e at it)
+    (λ isnt. ap (λ (b : Bool). if b then in_run p run else item_at runs p) isnt ∙ reported p x runs (λ m e at. all (suc m) e at) m e at it)
 
 -- in a chained log each run has its places
 in_log : (q p : ℕ) (log : List (Owned Batch)) → Adjacent q log → (k : ℕ) (o : Owned Batch) → get_elem? log k ≡ some o → lies_in p o.2 ≡ true
@@ -62,7 +62,7 @@ one_item : (q i : ℕ) (log : List (Owned Batch)) (l : List Batch) → ListedOnc
     → item_at l (q + i) ≡ (get_or (all_places log) i blank).item
 one_item q i log l f c low =
     let r = some_run q i log c low in let s = f.stands r.0 r.1 r.2 in
-    told (q + i) (get_or (all_places log) i blank).item l
+    reported (q + i) (get_or (all_places log) i blank).item l
     (λ m e at it. let b = f.listed 0 l m e refl at in let h = in_log q (q + i) log c b.0 (0, m, e) b.1 it in
     h.1 ∙ ap (λ (z : ℕ). (get_or (all_places log) z blank).item) (let z : q + i - q ≡ i = omega arith in z))
     r.1.1 r.1.2 (of_first l s.0 r.1.0 r.1.1 r.1.2 s.1 s.2) r.3

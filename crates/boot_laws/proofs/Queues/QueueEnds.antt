@@ -4,7 +4,7 @@ use Rattle.std.proofs.Common.{slice_get}
 use Rattle.std.proofs.lemmas.Option.{slice_get_within as within}
 use Rattle.claim_queue.specs.declared.close.Closed.{Closed as Shut}
 use Rattle.claim_queue.specs.declared.ends.ClaimQueue.{ClaimQueue}
-use Rattle.claim_queue.specs.declared.rule.Did.{Did}
+use Rattle.claim_queue.specs.declared.rule.QueueOps.{QueueOps}
 use Rattle.claim_queue.specs.Own.{did_both, nothing_did}
 use Rattle.claim_queue.specs.Handles.{view_of}
 use Rattle.claim_queue.proofs.Certain.{seen_room}
@@ -26,7 +26,7 @@ use Rattle.boot_laws.proofs.Queues.Stations.{of_each, all_in_order, lines_all, a
 
 module _ {n : ℕ} where
   -- what closed the queue at a place, by an end that gained what the others had
-  pub record ShutAt (make : ℕ → QueueEnd n → Shut n → closed.Queue) (olds : List (QueueEnd n)) (gained : Stake Did) (k : ℕ) (q : closed.Queue) : Type 0 where
+  pub record ShutAt (make : ℕ → QueueEnd n → Shut n → closed.Queue) (olds : List (QueueEnd n)) (gained : Stake QueueOps) (k : ℕ) (q : closed.Queue) : Type 0 where
     pub queue : ClaimQueue n
     pub was : QueueEnd n
     pub end : QueueEnd n
@@ -80,7 +80,7 @@ module _ {n : ℕ} where
           its = was.1;
           closes = s.closes;
           is = s.is ∙ ap (λ (m : ℕ). make m s.end s.shut) (let m : 0 + k ≡ k = omega arith in m);
-          has = sym (at_its stake lasts k s.end (no_stake nothing_did) s.its) ∙ (ap (λ (f : ℕ → Stake Did). f k) g.stakes_are ∙ ap (λ (z : Stake Did). both_stakes did_both z (port_stakes ports k)) (at_its stake olds k was.0 (no_stake nothing_did) was.1));
+          has = sym (at_its stake lasts k s.end (no_stake nothing_did) s.its) ∙ (ap (λ (f : ℕ → Stake QueueOps). f k) g.stakes_are ∙ ap (λ (z : Stake QueueOps). both_stakes did_both z (port_stakes ports k)) (at_its stake olds k was.0 (no_stake nothing_did) was.1));
           known = λ shut. sym (at_its end_knows_shut lasts k s.end false s.its) ∙ g.known k (at_its end_knows_shut olds k was.0 false was.1 ∙ shut);
         }
 
@@ -106,13 +106,13 @@ module _ (plan : BootPlan) (logs : List (List LogEntry)) (first : Parts) (statio
   others = others_at plan boot index
 
   runs : (view_of end).own.runs ≡ joined (of_each index (λ d. d.runs) stations) ++ flat_map runs_of (map view_of others)
-  runs = all_of_them index (λ d. d.runs) stations last was (flat_map runs_of (map view_of others)) (view_of end).own.runs its (ap (λ (s : Stake Did). s.did.runs) has ∙ ap (λ z. (view_of was).own.runs ++ z) (ports_list (λ d. d.runs) refl (λ a b. refl) ports number ∙ ap (of_ends runs_of) same))
-      (joined_lists (λ s. (did_at index s).runs) (λ a b c j. ap (λ (d : Did). d.runs) (did_joined index a b c j)) first stations last w.joined
+  runs = all_of_them index (λ d. d.runs) stations last was (flat_map runs_of (map view_of others)) (view_of end).own.runs its (ap (λ (s : Stake QueueOps). s.did.runs) has ∙ ap (λ z. (view_of was).own.runs ++ z) (ports_list (λ d. d.runs) refl (λ a b. refl) ports number ∙ ap (of_ends runs_of) same))
+      (joined_lists (λ s. (did_at index s).runs) (λ a b c j. ap (λ (d : QueueOps). d.runs) (did_joined index a b c j)) first stations last w.joined
       ∙ ap (λ z. z ++ flat_map (λ s. (did_at index s).runs) stations) (none_first index plan first w.prepared).0)
 
   takes : (view_of end).own.takes ≡ joined (of_each index (λ d. d.takes) stations) ++ flat_map takings_of (map view_of others)
-  takes = all_of_them index (λ d. d.takes) stations last was (flat_map takings_of (map view_of others)) (view_of end).own.takes its (ap (λ (s : Stake Did). s.did.takes) has ∙ ap (λ z. (view_of was).own.takes ++ z) (ports_list (λ d. d.takes) refl (λ a b. refl) ports number ∙ ap (of_ends takings_of) same))
-      (joined_lists (λ s. (did_at index s).takes) (λ a b c j. ap (λ (d : Did). d.takes) (did_joined index a b c j)) first stations last w.joined
+  takes = all_of_them index (λ d. d.takes) stations last was (flat_map takings_of (map view_of others)) (view_of end).own.takes its (ap (λ (s : Stake QueueOps). s.did.takes) has ∙ ap (λ z. (view_of was).own.takes ++ z) (ports_list (λ d. d.takes) refl (λ a b. refl) ports number ∙ ap (of_ends takings_of) same))
+      (joined_lists (λ s. (did_at index s).takes) (λ a b c j. ap (λ (d : QueueOps). d.takes) (did_joined index a b c j)) first stations last w.joined
       ∙ ap (λ z. z ++ flat_map (λ s. (did_at index s).takes) stations) (none_first index plan first w.prepared).1)
 
   ended : QueueEnded index (map account stations) others (queue_of plan boot index end shut)
@@ -121,7 +121,7 @@ module _ (plan : BootPlan) (logs : List (List LogEntry)) (first : Parts) (statio
         first = v.seen.object.first;
         places = v.seen.object.places;
         items = items;
-        behind = subst (λ (z : List ℕ). shut.taken ≤ length z) (sym items) c.settled.behind;
+        taken_within = subst (λ (z : List ℕ). shut.taken ≤ length z) (sym items) c.settled.taken_within;
         within = few_left end shut c;
         claims = record {
           own = of_each index (λ d. d.runs) stations;
@@ -151,7 +151,7 @@ module _ (plan : BootPlan) (logs : List (List LogEntry)) (first : Parts) (statio
     ended,
     all_told index plan (0 < ((account last).queues index).shuts) logs first stations last w.left w.joined (λ knows.
         let one : (view_of end).own.shuts ≡ 1 = closes.now.shut_once ∙ ap (λ (b : Bool). if b then 1 else 0) (known (sym (its_knowing index last was its) ∙ knows)) in
-        let all : (view_of end).own.shuts ≡ (view_of was).own.shuts + (port_stakes ports number).did.shuts = ap (λ (s : Stake Did). s.did.shuts) has in
-        let own : ((account last).queues index).shuts ≡ (view_of was).own.shuts = ap (λ (a : AtQueue). a.shuts) (lines_are index last) ∙ ap (λ (d : Did). d.shuts) (its_did index last was its) in
+        let all : (view_of end).own.shuts ≡ (view_of was).own.shuts + (port_stakes ports number).did.shuts = ap (λ (s : Stake QueueOps). s.did.shuts) has in
+        let own : ((account last).queues index).shuts ≡ (view_of was).own.shuts = ap (λ (a : AtQueue). a.shuts) (lines_are index last) ∙ ap (λ (d : QueueOps). d.shuts) (its_did index last was its) in
         omega arith),
   )

@@ -1,5 +1,5 @@
 -- No processor, pump or switch puts in a tty's raw queue.
-use Rattle.boot_laws.proofs.Common.{◌≡◌, ⊎_elim, ℕ, zero, suc, ◌+◌, ◌<◌, ◌≤◌, Bool, List, [], ◌∷◌, ◌++◌, map, length, refl, sym, ap, ◌∙◌, subst, arith, append-nil, Some, eq-eqb, ne_eqb, le_prop, ∥∥₁_elim, if◌then◌else◌, AllByRecursion, BootPlan, Mover, PlannedThread, QueueIndex, Small, Large, Step, plan_of, steps_at, IsPlan, IsMoverOf, many_of, QueueEnd, AtQueue, idle_queue, put_if, shut_if, taken_if, Deed, IsDeedOf, queues_by, LogEntry, FollowsPlan, entry_account, sum_of, program, step_of, said, heard, AnyQuaject, runs_of, Batch, all_at, IsMover, device_at}
+use Rattle.boot_laws.proofs.Common.{◌≡◌, ⊎_elim, ℕ, zero, suc, ◌+◌, ◌<◌, ◌≤◌, Bool, List, [], ◌∷◌, ◌++◌, map, length, refl, sym, ap, ◌∙◌, subst, arith, append-nil, Some, eq-eqb, ne_eqb, le_prop, ∥∥₁_elim, if◌then◌else◌, AllByRecursion, BootPlan, Mover, PlannedThread, QueueIndex, Small, Large, Step, plan_of, steps_at, IsPlan, IsMoverOf, many_of, QueueEnd, AtQueue, idle_queue, put_if, shut_if, taken_if, StepOutcome, IsOutcomeOf, queues_by, LogEntry, FollowsPlan, entry_account, sum_of, program, step_of, said, heard, AnyQuaject, runs_of, Batch, all_at, IsMover, device_at}
 use Rattle.std.proofs.Common.{slice_get}
 use Rattle.boot_data.specs.declared.plan.Mover.TheVariants as movers
 use Rattle.boot_data.specs.declared.plan.Step.TheVariants as steps
@@ -8,7 +8,7 @@ use Rattle.boot_data.specs.Plans.{Plan}
 use Rattle.boot_data.specs.PlanLimits.{IsProgramOf, IsStepOf, IsWayOf}
 use Rattle.claim_queue.specs.Handles.{view_of}
 use Rattle.claim_queue.specs.Lines.{line_of}
-use Rattle.processor.specs.declared.deed.Deed.TheVariants as deeds
+use Rattle.processor.specs.declared.step_outcome.StepOutcome.TheVariants as step_outcomes
 use Rattle.quajects.specs.declared.any.AnyQuaject.TheVariants as any
 use Rattle.table_theory.specs.Interleaving.{joined}
 use Rattle.turn_io.proofs.Shares.{none_of as no_lines}
@@ -31,17 +31,17 @@ module _ (plan : BootPlan) (number : ℕ) (far : length plan.queues ≤ number) 
   abbrev PutsNone : AtQueue → Type 0
   PutsNone a = a.put ≡ []
 
-  none_by_step : (e n : ℕ) (step : Step) (deed : Deed) (line : List ℕ) → step_of plan e n ≡ Some step → IsDeedOf step deed line → PutsNone (queues_by deed line (Small number))
-  none_by_step e n step (deeds.Say (Small queue) answer) line is d = let s = say_is step (Small queue) answer line d in let low = said_below plan e n queue s.0 (is ∙ ap Some s.1) in
+  none_by_step : (e n : ℕ) (step : Step) (step_outcome : StepOutcome) (line : List ℕ) → step_of plan e n ≡ Some step → IsOutcomeOf step step_outcome line → PutsNone (queues_by step_outcome line (Small number))
+  none_by_step e n step (step_outcomes.Say (Small queue) answer) line is d = let s = say_is step (Small queue) answer line d in let low = said_below plan e n queue s.0 (is ∙ ap Some s.1) in
       ap (λ (b : Bool). (if b then put_if (said answer) line else idle_queue).put) (ne_eqb number queue (λ z. omega arith))
-  none_by_step e n step (deeds.Say (Large queue) answer) line is d = refl
-  none_by_step e n step (deeds.Hear queue answer) line is d = only_all PutsNone idle_queue (taken_if (heard answer) line) refl refl queue (Small number)
-  none_by_step e n step (deeds.Close queue was_open readers writers) line is d = only_all PutsNone idle_queue (shut_if was_open) refl refl (Small queue) (Small number)
-  none_by_step e n step deed line is d = refl
+  none_by_step e n step (step_outcomes.Say (Large queue) answer) line is d = refl
+  none_by_step e n step (step_outcomes.Hear queue answer) line is d = only_all PutsNone idle_queue (taken_if (heard answer) line) refl refl queue (Small number)
+  none_by_step e n step (step_outcomes.Close queue was_open readers writers) line is d = only_all PutsNone idle_queue (shut_if was_open) refl refl (Small queue) (Small number)
+  none_by_step e n step step_outcome line is d = refl
 
   none_by_entry : (entry : LogEntry) → FollowsPlan plan entry → PutsNone ((entry_account entry).queues (Small number))
   none_by_entry entry p = ⊎_elim (λ r. ap (λ (f : QueueIndex → AtQueue). (f (Small number)).put) r.queues)
-      (λ t. ap (λ (f : QueueIndex → AtQueue). (f (Small number)).put) t.queues ∙ none_by_step t.element t.number t.step t.deed t.line t.is t.deed_is) (turn_is plan entry p)
+      (λ t. ap (λ (f : QueueIndex → AtQueue). (f (Small number)).put) t.queues ∙ none_by_step t.element t.number t.step t.step_outcome t.line t.is t.outcome_is) (turn_is plan entry p)
 
   none_put : (log : List LogEntry) → AllByRecursion (FollowsPlan plan) log → PutsNone ((sum_of log).queues (Small number))
   none_put [] p = refl

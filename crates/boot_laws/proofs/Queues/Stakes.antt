@@ -1,6 +1,6 @@
 -- What the ends at ports have of a queue together, end by end.
 use Rattle.boot_laws.proofs.Common.{◌≡◌, ℕ, Bool, true, false, List, [], ◌∷◌, ◌++◌, append_assoc, map, refl, sym, ap, ◌∙◌, Option, Some, None, flat_map, if◌then◌else◌, ◌==◌, map-append, QueueEnd, no_stake, stake, at_one, Port, Batch, ends_at}
-use Rattle.claim_queue.specs.declared.rule.Did.{Did}
+use Rattle.claim_queue.specs.declared.rule.QueueOps.{QueueOps}
 use Rattle.claim_queue.specs.Own.{View, nothing_did, did_both}
 use Rattle.claim_queue.specs.Handles.{view_of}
 use Rattle.claim_queue.specs.Lines.{line_of}
@@ -17,7 +17,7 @@ module _ {n : ℕ} where
   ends_more q (None ∷ a) b = ends_more q a b
   ends_more q (Some p ∷ a) b = ap (λ z. at_one [] p.index (p.end ∷ []) q ++ z) (ends_more q a b) ∙ sym (append_assoc (at_one [] p.index (p.end ∷ []) q) (ends_at q a) (ends_at q b))
 
-  module _ (f : Did → List Batch) (none : f nothing_did ≡ []) (both : (a b : Did) → f (did_both a b) ≡ f a ++ f b) where
+  module _ (f : QueueOps → List Batch) (none : f nothing_did ≡ []) (both : (a b : QueueOps) → f (did_both a b) ≡ f a ++ f b) where
     one_list : (end : QueueEnd n) (b : Bool) → f (if b then stake end else no_stake nothing_did).did ≡ (if b then f (view_of end).own else [])
     one_list end true = refl
     one_list end false = none

@@ -1,6 +1,6 @@
 -- The stretches of stations that were joined: their runs, or their takings, and the lines of those; and what they know.
 use Rattle.boot_laws.proofs.Common.{◌≡◌, ℕ, true, false, List, [], ◌∷◌, ◌++◌, map, refl, sym, ap, ◌∙◌, flat_map, Some, AllZip, AllByRecursion, BootPlan, QueueIndex, Small, Large, QueueEnd, Batch, Ascending, AtQueue, lines_of, room_of, end_knows_shut, Parts, account, Account, LogEntry, Leaves, was_shut, AreJoined, AllJoined}
-use Rattle.claim_queue.specs.declared.rule.Did.{Did}
+use Rattle.claim_queue.specs.declared.rule.QueueOps.{QueueOps}
 use Rattle.claim_queue.specs.Handles.{view_of}
 use Rattle.claim_queue.specs.Lines.{line_of}
 use Rattle.processor.specs.Logs.{knows_shut}
@@ -12,7 +12,7 @@ joined_map : {A : Type 0} (f : A → List Batch) (xs : List A) → joined (map f
 joined_map f [] = refl
 joined_map f (x ∷ xs) = ap (λ z. f x ++ z) (joined_map f xs)
 
-module _ (index : QueueIndex) (f : Did → List Batch) where
+module _ (index : QueueIndex) (f : QueueOps → List Batch) where
   -- those of each of the stations
   abbrev pub of_each : List Parts → List (List Batch)
   of_each stations = map (λ s. f (did_at index s)) stations
@@ -23,7 +23,7 @@ module _ (index : QueueIndex) (f : Did → List Batch) where
   all_in_order plan h [] (s ∷ ss) z = absurd z
   all_in_order plan h (l ∷ ls) (s ∷ ss) z = (h l s z.0, all_in_order plan h ls ss z.1)
 
-  pub lines_all : (lines : AtQueue → List (List ℕ)) → ((d : Did) → map line_of (f d) ≡ lines (lines_of d)) → (stations : List Parts)
+  pub lines_all : (lines : AtQueue → List (List ℕ)) → ((d : QueueOps) → map line_of (f d) ≡ lines (lines_of d)) → (stations : List Parts)
       → map (map line_of) (of_each stations) ≡ map (λ (did : Account). lines (did.queues index)) (map account stations)
   lines_all lines is [] = refl
   lines_all lines is (s ∷ ss) = λ k. (is (did_at index s) ∙ ap lines (sym (lines_are index s))) k ∷ lines_all lines is ss k
@@ -54,7 +54,7 @@ module _ (index : QueueIndex) where
   all_told plan P [] first stations last z j h = tt
   all_told plan P (l ∷ ls) first [] last z j h = absurd z
   all_told plan P (l ∷ ls) first (s ∷ ss) last z j h =
-      (λ is. h (stays (KnowsShut index) (knows_still index) j.0 ss last j.2 (knows_too index first s j.0 j.1 (z.0.told index is))), all_told plan P ls j.0 ss last z.1 j.2 h)
+      (λ is. h (stays (KnowsShut index) (knows_still index) j.0 ss last j.2 (knows_too index first s j.0 j.1 (z.0.reported index is))), all_told plan P ls j.0 ss last z.1 j.2 h)
 
 pub its_knowing : (index : QueueIndex) (parts : Parts) (end : QueueEnd (room_of index)) → end_at index parts ≡ Some end → knows_shut parts index ≡ end_knows_shut end
 its_knowing (Small q) parts end e = at_its end_knows_shut parts.small.items q end false e

@@ -96,7 +96,7 @@ module _ (plan : BootPlan) (logs : List (List LogEntry)) (done : Done) (w : Work
   -- the closed queue has the lines that the logs say
   pub queue_agrees : QueueAgrees index q logs
   queue_agrees = record {
-    behind = e.behind;
+    taken_within = e.taken_within;
     within = e.within;
     said = e.put_by ∙ by_logs (λ did. (did.queues index).put);
     heard = e.taken_by ∙ by_logs (λ did. (did.queues index).taken);

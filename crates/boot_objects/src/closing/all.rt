@@ -52,7 +52,7 @@ impl Answers {
 /// fields are for the contract alone: the ends that closed all, as they came, and the last end of each queue. Only
 /// `close_all` makes one, and nobody changes it: a report is made from what was closed.
 #[derive(Drop)]
-pub struct Unmade {
+pub struct TornDown {
     counts: Vec<Came>,
     small: Vec<Closed<64>>,
     large: Vec<Closed<256>>,
@@ -66,7 +66,7 @@ pub struct Unmade {
     large_ends: Snapshot<Vec<QueueEnd<256>>>,
 }
 
-impl Unmade {
+impl TornDown {
     /// The plan of all that was closed.
     pub fn plan(&self) -> &BootPlan
         ensures { result.now ≡ self.now.plan }
@@ -136,7 +136,7 @@ impl Unmade {
 ///
 /// Conditions: the parts are those of the shared objects. No end of a chain has a Turn. No other end exists except
 /// those of the quajects.
-pub fn close_all(shared: Shared, parts: Parts, answers: Answers) -> Unmade
+pub fn close_all(shared: Shared, parts: Parts, answers: Answers) -> TornDown
     requires parts { ArePartsOf shared parts }
     requires wholes { HasWholes shared parts }
     requires room { HaveRoom shared answers }
@@ -171,7 +171,7 @@ pub fn close_all(shared: Shared, parts: Parts, answers: Answers) -> Unmade
     let small_ends = Snapshot::of(&small_list);
     let large_ends = Snapshot::of(&large_list);
     let Queues { small, large } = queues;
-    Unmade {
+    TornDown {
         counts,
         small: close_queues(small, small_list, answers.small),
         large: close_queues(large, large_list, answers.large),

@@ -12,7 +12,7 @@ mod queues;
 mod raws;
 mod tables;
 
-pub use all::{Answers, Unmade, close_all};
+pub use all::{Answers, TornDown, close_all};
 pub use chains::retire_all;
 pub use homing::{bring_all_home, bring_home, close_chains};
 pub use joining::{join_at, join_chain_at, join_port_at};

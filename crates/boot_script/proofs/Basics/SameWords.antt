@@ -20,8 +20,8 @@ same_none xs ys e = drop_all (length xs) xs (omega arith) ∙ sym (drop_all (len
 pub same_from : (xs ys : List ℕ) (left i : ℕ) → left ≡ i + 1 → left ≤ length xs → left ≤ length ys → get_or xs i 0 ≡ get_or ys i 0 → drop left xs ≡ drop left ys → drop i xs ≡ drop i ys
 same_from xs ys left i e within within' byte rest =
     let next : left ≡ suc i = e ∙ add-one i in
-    let behind : drop (suc i) xs ≡ drop (suc i) ys = sym (ap (λ n. drop n xs) next) ∙ (rest ∙ ap (λ n. drop n ys) next) in
-    drop-cons xs i 0 (omega (arith, within, e)) ∙ (ap (λ b. b ∷ drop (suc i) xs) byte ∙ (ap (λ bytes. get_or ys i 0 ∷ bytes) behind ∙ sym (drop-cons ys i 0 (omega (arith, within', e)))))
+    let following : drop (suc i) xs ≡ drop (suc i) ys = sym (ap (λ n. drop n xs) next) ∙ (rest ∙ ap (λ n. drop n ys) next) in
+    drop-cons xs i 0 (omega (arith, within, e)) ∙ (ap (λ b. b ∷ drop (suc i) xs) byte ∙ (ap (λ bytes. get_or ys i 0 ∷ bytes) following ∙ sym (drop-cons ys i 0 (omega (arith, within', e)))))
 
 pub same_whole : (xs ys : List ℕ) (left : ℕ) → left ≤ 0 → drop left xs ≡ drop left ys → bytes_eq xs ys ≡ true
 same_whole xs ys zero none same = (bytes_eq-Decides xs ys).1 same

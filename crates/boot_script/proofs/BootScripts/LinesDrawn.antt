@@ -22,14 +22,14 @@ unfolding plan_from
 silent_line version number line lines d said silent all = rw (← silent) at all
 
 -- a line that says something, and the lines after it, say what they say one after the other
-pub from_line : (version : Version) (number : ℕ) (line : List ℕ) (lines : List (List ℕ)) (d : plans.Draft) (told : Result plans.Draft ScriptRefusal) → false ≡ says_nothing line → line_added version line d ≡ told
-    → plan_from version number (line ∷ lines) d ≡ (at_line number told >>= λ next. plan_from version (number + 1) lines next)
+pub from_line : (version : Version) (number : ℕ) (line : List ℕ) (lines : List (List ℕ)) (d : plans.Draft) (reported : Result plans.Draft ScriptRefusal) → false ≡ says_nothing line → line_added version line d ≡ reported
+    → plan_from version number (line ∷ lines) d ≡ (at_line number reported >>= λ next. plan_from version (number + 1) lines next)
 unfolding plan_from
-from_line version number line lines d told loud e = rw (← loud, e) refl
+from_line version number line lines d reported loud e = rw (← loud, e) refl
 
-pub line_told : (version : Version) (number : ℕ) (line : List ℕ) (lines : List (List ℕ)) (d next : plans.Draft) (said : Result plans.Draft ScriptFault) → false ≡ says_nothing line → line_added version line d ≡ Ok next
+pub line_reported : (version : Version) (number : ℕ) (line : List ℕ) (lines : List (List ℕ)) (d next : plans.Draft) (said : Result plans.Draft ScriptFault) → false ≡ says_nothing line → line_added version line d ≡ Ok next
     → plan_from version number (line ∷ lines) d ≡ said → plan_from version (number + 1) lines next ≡ said
-line_told version number line lines d next said loud e all = sym (from_line version number line lines d (Ok next) loud e) ∙ all
+line_reported version number line lines d next said loud e all = sym (from_line version number line lines d (Ok next) loud e) ∙ all
 
 pub line_fault : (version : Version) (number : ℕ) (line : List ℕ) (lines : List (List ℕ)) (d : plans.Draft) (refusal : ScriptRefusal) (said : Result plans.Draft ScriptFault) → false ≡ says_nothing line → line_added version line d ≡ Err refusal
     → plan_from version number (line ∷ lines) d ≡ said → said ≡ Err (record { line = number; refusal = refusal })

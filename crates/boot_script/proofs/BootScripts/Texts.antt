@@ -86,8 +86,8 @@ read_from version number [] d last order h = ap Ok h
 read_from version number (bytes ∷ lines) d last order (inl p) = rw p.0 (read_from version (number + 1) lines d last order p.1)
 read_from version number (bytes ∷ lines) d last order (inr p) =
     let said = boot_line_again version d.names (goes_on d.going) bytes p.0 order p.2 p.3 in
-    let tells : says_nothing bytes ≡ false = sym (loud d.names p.0 bytes p.3) in
-    rw (tells, said, p.4) (read_from version (number + 1) lines p.1 last (added_in_order version (goes_on d.going) p.0 d p.1 order p.2 p.4) p.5)
+    let reports : says_nothing bytes ≡ false = sym (loud d.names p.0 bytes p.3) in
+    rw (reports, said, p.4) (read_from version (number + 1) lines p.1 last (added_in_order version (goes_on d.going) p.0 d p.1 order p.2 p.4) p.5)
 
 -- a text that says a plan spells it
 pub plan_ok : (text : List ℕ) (plan : Plan) → text_plan text ≡ Ok plan → SpellsPlan text plan

@@ -110,5 +110,5 @@ fewer_words [] some = absurd (some refl)
 fewer_words (key ∷ []) some = omega arith
 fewer_words (key ∷ to ∷ words) some = omega arith
 
-pub told : (done : Bool) (words : List (List ℕ)) → done ≡ false → (words ≡ [] → done ≡ true) → words ≡ [] → ⊥
-told done words no_end end none = absurd (cc (no_end, end none))
+pub reported : (done : Bool) (words : List (List ℕ)) → done ≡ false → (words ≡ [] → done ≡ true) → words ≡ [] → ⊥
+reported done words no_end end none = absurd (cc (no_end, end none))

@@ -11,8 +11,8 @@ use Rattle.boot_script.specs.Words.{◌>>=◌}
 use Rattle.boot_script.specs.Texts.{escape_of, before, bytes_of, within_of}
 
 -- all bytes after a place
-pub behind : (n : ℕ) (text : List ℕ) → take (length text - n) (drop n text) ≡ drop n text
-behind n text = take_all (length text - n) (drop n text) (omega (arith, length-drop n text))
+pub following : (n : ℕ) (text : List ℕ) → take (length text - n) (drop n text) ≡ drop n text
+following n text = take_all (length text - n) (drop n text) (omega (arith, length-drop n text))
 
 -- a byte that isn't `\` is itself
 pub plain_byte : (byte : ℕ) (text : List ℕ) → eqb byte 92 ≡ false → bytes_of (byte ∷ text) ≡ before byte (bytes_of text)
@@ -38,9 +38,9 @@ pub first_plain : (text : List ℕ) → 0 < length text → eqb (slice_index_or 
 first_plain [] some h = absurd (omega (arith, some))
 first_plain (byte ∷ text) some h = plain_byte byte text h
 
-pub first_wanting : (text : List ℕ) → 0 < length text → eqb (slice_index_or text 0 0) 92 ≡ true → length (drop 1 text) < 2 → bytes_of text ≡ Err BadNumber
-first_wanting [] some h few = absurd (omega (arith, some))
-first_wanting (byte ∷ text) some h few = wanting byte text h few
+pub first_short : (text : List ℕ) → 0 < length text → eqb (slice_index_or text 0 0) 92 ≡ true → length (drop 1 text) < 2 → bytes_of text ≡ Err BadNumber
+first_short [] some h few = absurd (omega (arith, some))
+first_short (byte ∷ text) some h few = wanting byte text h few
 
 pub first_escaped : (text : List ℕ) → 0 < length text → eqb (slice_index_or text 0 0) 92 ≡ true → 2 ≤ length (drop 1 text)
     → bytes_of text ≡ (escape_of (slice_index_or (drop 1 text) 0 0) (slice_index_or (drop 1 text) 1 0) >>= λ escaped. before escaped (bytes_of (drop 2 (drop 1 text))))

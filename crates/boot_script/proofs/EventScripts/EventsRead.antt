@@ -17,14 +17,14 @@ unfolding events_from
 silent_more version number front line lines said silent so_far = rw (← silent) at so_far
 
 -- the events of a line that says something and of the lines after it
-pub from_line : (version : Version) (number : ℕ) (line : List ℕ) (lines : List (List ℕ)) (told : Result Event ScriptRefusal) → false ≡ says_nothing line → line_event version line ≡ told
-    → events_from version number (line ∷ lines) ≡ (at_line number told >>= λ event. events_from version (number + 1) lines >>= λ events. Ok ((number, event) ∷ events))
+pub from_line : (version : Version) (number : ℕ) (line : List ℕ) (lines : List (List ℕ)) (reported : Result Event ScriptRefusal) → false ≡ says_nothing line → line_event version line ≡ reported
+    → events_from version number (line ∷ lines) ≡ (at_line number reported >>= λ event. events_from version (number + 1) lines >>= λ events. Ok ((number, event) ∷ events))
 unfolding events_from
-from_line version number line lines told loud e = rw (← loud, e) refl
+from_line version number line lines reported loud e = rw (← loud, e) refl
 
-pub told_more : (version : Version) (number : ℕ) (front : List (ℕ × Event)) (line : List ℕ) (lines : List (List ℕ)) (said : Result (List (ℕ × Event)) ScriptFault) (event : Event) → false ≡ says_nothing line → line_event version line ≡ Ok event
+pub reported_more : (version : Version) (number : ℕ) (front : List (ℕ × Event)) (line : List ℕ) (lines : List (List ℕ)) (said : Result (List (ℕ × Event)) ScriptFault) (event : Event) → false ≡ says_nothing line → line_event version line ≡ Ok event
     → with_front front (events_from version number (line ∷ lines)) ≡ said → with_front (front ++ (number, event) ∷ []) (events_from version (number + 1) lines) ≡ said
-told_more version number front line lines said event loud e so_far = sym (regroup front (number, event) (events_from version (number + 1) lines)) ∙ (ap (with_front front) (sym (from_line version number line lines (Ok event) loud e)) ∙ so_far)
+reported_more version number front line lines said event loud e so_far = sym (regroup front (number, event) (events_from version (number + 1) lines)) ∙ (ap (with_front front) (sym (from_line version number line lines (Ok event) loud e)) ∙ so_far)
 
 -- a refusal other than out of memory is the refusal of the words
 known : {Y : Type 0} (e : ScriptRefusal) (said : Result Y ScriptRefusal) → (e ≡ refusals.OutOfMemory → ⊥) → Fails e said → said ≡ Err e
@@ -39,10 +39,10 @@ known refusals.TextTooLong said other h = h
 known refusals.NotAscii said other h = h
 known refusals.OutOfMemory said other h = absurd (other refl)
 
-pub told_fault : (version : Version) (number : ℕ) (front : List (ℕ × Event)) (line : List ℕ) (lines : List (List ℕ)) (said : Result (List (ℕ × Event)) ScriptFault) (refusal : ScriptRefusal)
+pub reported_fault : (version : Version) (number : ℕ) (front : List (ℕ × Event)) (line : List ℕ) (lines : List (List ℕ)) (said : Result (List (ℕ × Event)) ScriptFault) (refusal : ScriptRefusal)
     → (refusal ≡ refusals.OutOfMemory → ⊥) → false ≡ says_nothing line → Fails refusal (line_event version line) → with_front front (events_from version number (line ∷ lines)) ≡ said
     → said ≡ Err (record { line = number; refusal = refusal })
-told_fault version number front line lines said refusal other loud h so_far = sym so_far ∙ ap (with_front front) (from_line version number line lines (Err refusal) loud (known refusal _ other h))
+reported_fault version number front line lines said refusal other loud h so_far = sym so_far ∙ ap (with_front front) (from_line version number line lines (Err refusal) loud (known refusal _ other h))
 
 pub no_text : (text : List ℕ) → length text ≡ 0 → lines_of text ≡ []
 unfolding lines_of

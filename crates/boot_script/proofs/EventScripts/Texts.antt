@@ -66,9 +66,9 @@ events_again version number [] events h = ap Ok (sym h)
 events_again version number (line ∷ lines) events (inl p) = rw p.0 (events_again version (number + 1) lines events p.1)
 events_again version number (line ∷ lines) events (inr p) =
     let said : line_event version line ≡ Ok p.0 = ap (line_event version) p.4 ∙ line_again version p.0 p.3 in
-    let tells : false ≡ says_nothing line = loud p.0 ∙ ap says_nothing (sym p.4) in
+    let reports : false ≡ says_nothing line = loud p.0 ∙ ap says_nothing (sym p.4) in
     let later = events_again version (number + 1) lines p.1 p.5 in
-    from_line version number line lines (Ok p.0) tells said
+    from_line version number line lines (Ok p.0) reports said
     ∙ (ap (λ r. r >>= λ events. Ok ((number, p.0) ∷ events)) later ∙ ap Ok (sym p.2))
 
 -- what a script says, where it has no fault

@@ -5,7 +5,7 @@ use boot_script::*;
 use std::alloc::Global;
 
 /// The plan that the names of `DECLARED` and these lines say.
-fn plan_behind(alloc: Global, lines: &[u8]) -> Option<BootPlan> {
+fn plan_after(alloc: Global, lines: &[u8]) -> Option<BootPlan> {
     let mut text = Vec::from_slice(alloc, DECLARED).ok()?;
     text.extend_from_slice(lines).ok()?;
     parse_boot(alloc, &text).ok()
@@ -64,7 +64,7 @@ const STEPS: &[(&[u8], &str)] = &[
 
 /// Whether a line is read as this step of the last thread.
 fn is_step(alloc: Global, line: &[u8], step: &str) -> Option<bool> {
-    let plan = plan_behind(alloc, line)?;
+    let plan = plan_after(alloc, line)?;
     let wanted = format!(in alloc;
         "Items {{ items: [PlannedThread {{ name: \"a\", steps: Items {{ items: [] }} }}, PlannedThread {{ name: \"b\", steps: Items {{ items: [{step}] }} }}] }}"
     ).ok()?;
@@ -100,7 +100,7 @@ const THREADS: &str =
 
 #[test]
 fn a_plan_has_all_that_is_declared(rt: HostRuntime) {
-    let Some(plan) = plan_behind(rt.alloc(), MORE) else {
+    let Some(plan) = plan_after(rt.alloc(), MORE) else {
         panic!(rt; "no plan")
     };
     assert!(rt; shows(rt.alloc(), &plan.queues, QUEUES));
@@ -160,7 +160,7 @@ fn changed(alloc: Global, place: usize, byte: u8) -> Option<Vec<u8>> {
 }
 
 #[test]
-fn a_byte_that_is_not_ascii_is_told_in_its_line(rt: HostRuntime) {
+fn a_byte_that_is_not_ascii_is_reported_in_its_line(rt: HostRuntime) {
     for place in 0..SWITCH.len() {
         if SWITCH[place] != b'\n' {
             let line = lines_in(&SWITCH[..place + 1]);
@@ -175,7 +175,7 @@ fn a_byte_that_is_not_ascii_is_told_in_its_line(rt: HostRuntime) {
 /// If an allocation is refused, a valid script is refused only as out of memory, and the fault of an invalid one is
 /// still reported. `tools/refused-memory-tests` refuses an allocation of this test.
 #[test]
-fn boot_memory_may_be_wanting(rt: HostRuntime) {
+fn boot_memory_may_be_short(rt: HostRuntime) {
     let sound = SWITCH;
     let faulty = b"synthesis 1\nqueue q\nthread a\nsay q x\nhear r\n";
     let mut read = false;

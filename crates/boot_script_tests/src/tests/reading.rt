@@ -143,7 +143,7 @@ fn each_word_says_its_event(rt: HostRuntime) {
 /// `tools/refused-memory-tests` refuses an allocation of this test, and `tools/refused-memory` each one of the
 /// built program, in lists with and without a fault.
 #[test]
-fn memory_may_be_wanting(rt: HostRuntime) {
+fn memory_may_run_out(rt: HostRuntime) {
     let faulty = b"events 1\nclaim c1 q0 1 2 3 4 5\nclaim c1 q0 1 2 3\nqueue\n";
     let sound = b"events 1\nclaim c1 q0 1 2 3 4 5\nchain\n";
     let mut read = false;

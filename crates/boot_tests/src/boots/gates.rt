@@ -37,7 +37,7 @@ fn may_go_on(awaited: &AtomicCell<u32>, number: u32) -> bool {
 }
 
 impl Gate for Hold<'_> {
-    ghost told = { λ old p point new. Unit {0} };
+    ghost observes = { λ old p point new. Unit {0} };
 
     fn between(&mut self, p: u8, point: Point) {
         if p == self.p && point == Point::Turn(self.turns) {
@@ -53,7 +53,7 @@ impl Gate for Hold<'_> {
 }
 
 /// Whether these are the gates of so many processors, from 0 on, and each counted so many turns.
-fn were_told(gates: &[Hold<'_>], processors: u8, turns: u32) -> bool {
+fn were_reported(gates: &[Hold<'_>], processors: u8, turns: u32) -> bool {
     let mut p = 0u8;
     for gate in gates {
         if gate.p != p || gate.turns != turns {
@@ -82,7 +82,7 @@ fn boot_held<R: Threads + Wait + Sync + Abort>(
     let (input, printed) = (&mut reader, &mut output);
     match boot_on_with(rt, alloc, input, printed, processors, turns, gates) {
         Ok(booted) => {
-            assert!(rt; were_told(booted.gates(), processors, turns));
+            assert!(rt; were_reported(booted.gates(), processors, turns));
             (Ok(booted.ended()), output)
         }
         Err(fault) => (Err(fault), output),

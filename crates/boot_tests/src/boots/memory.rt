@@ -30,7 +30,7 @@ fn boots<R: Threads + Wait + Sync + Abort>(rt: &R, alloc: Global) -> bool {
 /// If an allocation of one boot is refused, the boot is out of memory, or goes on without the allocation; the other
 /// boot goes on.
 #[test]
-fn memory_may_be_wanting(rt: HostRuntime) {
+fn memory_may_run_out(rt: HostRuntime) {
     let first = boots(&rt, rt.alloc());
     assert!(rt; boots(&rt, rt.alloc()) || first);
 }

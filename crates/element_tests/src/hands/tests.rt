@@ -3,7 +3,7 @@ ghost use Rattle.thread_table.specs.Handles.{view_of, IsHandOf, IsSameHand};
 ghost use Rattle.turn_dispatch.specs.Countings.{counted_step};
 ghost use Rattle.turn_dispatch.specs.Dispatches.{mask_of};
 ghost use Rattle.turn_dispatch.specs.Holdings.{IsFree};
-ghost use Rattle.turn_dispatch.specs.Tallies.{Adds, behind, no_events, one_delivery, one_signal};
+ghost use Rattle.turn_dispatch.specs.Tallies.{AddsToTally, followed_by, no_events, one_delivery, one_signal};
 
 use crate::fixtures::{alarm_at, begins, processor, signal, wait_queue};
 use crate::hands::scripts::{Act, does, plays};
@@ -31,9 +31,9 @@ fn turn<R: Wait>(
     requires free { IsFree p (view_of hand.old) }
     ensures free { IsFree p (view_of hand.new) }
     ensures adds { MatchResult result
-        (λ r. Adds (behind (one_delivery r.0.element (mask_of r.0.delivered)) (behind (one_signal r.0.element signal)
+        (λ r. AddsToTally (followed_by (one_delivery r.0.element (mask_of r.0.delivered)) (followed_by (one_signal r.0.element signal)
         (counted_step r.1 r.0.element r.0.number))) (view_of hand.old) (view_of hand.new))
-        (λ idle. Adds no_events (view_of hand.old) (view_of hand.new)) }
+        (λ idle. AddsToTally no_events (view_of hand.old) (view_of hand.new)) }
     ensures same { IsSameHand hand.old hand.new }
 {
     let begun = match begin(rt, threads, hand, signals) {

@@ -2,7 +2,7 @@ ghost use Rattle.std.specs.Prelude.{◌≡◌, ◌+◌, true, false, Some, IfOk,
 ghost use Rattle.thread_table.specs.Handles.{view_of, IsHandOf, IsSameHand};
 ghost use Rattle.thread_table.specs.Rules.{has, serves, running};
 
-use crate::fixtures::{begins, closes, element, is_told, processor, wait_queue};
+use crate::fixtures::{begins, closes, element, is_reported, processor, wait_queue};
 use crate::tables::scripts::{Act, does, free, plays};
 use event_theory::{Element, OutOfMemory, Processor, WaitNumber};
 use std::alloc::Global;
@@ -466,7 +466,7 @@ fn stopped_at_the_close(rt: HostRuntime) {
 
 /// If an allocation fails there is no table, and a later try makes one.
 #[test]
-fn memory_may_be_wanting(rt: HostRuntime) {
+fn memory_may_run_out(rt: HostRuntime) {
     let mut made = false;
     for _ in 0..3 {
         match ThreadTable::new(rt.alloc()) {
@@ -504,19 +504,19 @@ const MOVES_TOLD: &[(MoveRefusal, &str)] = &[
 
 /// The message of each refusal has its words and its number.
 #[test]
-fn refusals_are_told(rt: HostRuntime) {
+fn refusals_are_reported(rt: HostRuntime) {
     let alloc = rt.alloc();
     for (refusal, words) in TAKINGS_TOLD {
-        assert!(rt; is_told(alloc, *refusal, words));
+        assert!(rt; is_reported(alloc, *refusal, words));
     }
     for (refusal, words) in MOVES_TOLD {
-        assert!(rt; is_told(alloc, *refusal, words));
+        assert!(rt; is_reported(alloc, *refusal, words));
     }
     let lost = Lost { seen: 65_536 };
-    assert!(rt; is_told(alloc, lost, "another hand changed the state word to 65536"));
-    assert!(rt; is_told(alloc, ProcessorBusy, "an element is on the processor"));
-    assert!(rt; is_told(alloc, ProcessorEmpty, "no element is on the processor"));
-    assert!(rt; is_told(alloc, Spent, "the element's steps are spent"));
+    assert!(rt; is_reported(alloc, lost, "another hand changed the state word to 65536"));
+    assert!(rt; is_reported(alloc, ProcessorBusy, "an element is on the processor"));
+    assert!(rt; is_reported(alloc, ProcessorEmpty, "no element is on the processor"));
+    assert!(rt; is_reported(alloc, Spent, "the element's steps are spent"));
     let open = OpenEnds { others: 3 };
-    assert!(rt; is_told(alloc, open, "3 other ends are not joined"));
+    assert!(rt; is_reported(alloc, open, "3 other ends are not joined"));
 }

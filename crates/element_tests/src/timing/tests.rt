@@ -188,7 +188,7 @@ fn words_give_back_their_alarms(rt: HostRuntime) {
 
 /// If an allocation fails there are no meters, and a later try makes them.
 #[test]
-fn memory_may_be_wanting(rt: HostRuntime) {
+fn memory_may_run_out(rt: HostRuntime) {
     let mut made = false;
     for _ in 0..3 {
         match Meters::new(rt.alloc(), 5) {
@@ -200,7 +200,7 @@ fn memory_may_be_wanting(rt: HostRuntime) {
 }
 
 #[test]
-fn refusals_are_told(rt: HostRuntime) -> Result<(), Fail> {
+fn refusals_are_reported(rt: HostRuntime) -> Result<(), Fail> {
     let alloc = rt.alloc();
     let spent = AdvanceRefusal::Spent;
     let lost = AdvanceRefusal::Lost { clock: 9 };

@@ -79,7 +79,7 @@ left_claimed call items q lawful =
     pairs_from-append 0 q.history (run ∷ []) ∙ ap (λ number. pairs q.history ++ pairs_from number (run ∷ [])) first
     ∙ ap (λ xs. pairs q.history ++ xs) (append-nil (pairs_of (length q.history) 0 items)) in
     ap (drop q.taken) joined
-    ∙ drop-append-le q.taken (pairs q.history) (pairs_of (length q.history) 0 items) (omega (arith, lawful.behind, length-pairs_from 0 q.history))
+    ∙ drop-append-le q.taken (pairs q.history) (pairs_of (length q.history) 0 items) (omega (arith, lawful.taken_within, length-pairs_from 0 q.history))
 
 -- a claim that was allowed appended its run
 pub claim_ok : (longest call : ℕ) (items : List ℕ) (q r : Queue) → claim longest call items q ≡ Ok r → r ≡ after_claim call items q

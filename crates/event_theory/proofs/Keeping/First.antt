@@ -12,7 +12,7 @@ pub empty_law : (capacity : ℕ) → IsLawfulQueue (empty_queue capacity)
 empty_law capacity = record {
   solid = λ run below. absurd (omega (arith, below));
   within = λ run index h. absurd (cc);
-  behind = omega arith;
+  taken_within = omega arith;
   ready = refl;
   fits = omega arith;
 }
@@ -43,7 +43,7 @@ full_law count =
           let parts = both (nat_lt run count) (eqb index 0) h in
           let first : index ≡ 0 = eqb-true index 0 parts.1 in
           rw (run_length_singles 0 count run (ltb-true run count parts.0)) (omega (arith, first));
-      behind = omega arith;
+      taken_within = omega arith;
       ready = refl;
       fits = omega (arith, items);
     }

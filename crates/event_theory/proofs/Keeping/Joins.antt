@@ -41,7 +41,7 @@ join_queue_law call other q lawful =
     record {
       solid = λ run below. rw (run_length_joined call other q.history run) (lawful.solid run (omega arith));
       within = λ run index h. rw (run_length_joined call other q.history run) (lawful.within run index h);
-      behind = rw (flat_joined call other q.history) lawful.behind;
+      taken_within = rw (flat_joined call other q.history) lawful.taken_within;
       ready = rw (pairs_from_joined call other 0 q.history) lawful.ready;
       fits = rw (flat_joined call other q.history) lawful.fits;
     }

@@ -81,7 +81,7 @@ claim_left longest call items q r lawful ok =
     let joined : flat (q.history ++ run ∷ []) ≡ flat q.history ++ items =
     flat-append q.history (run ∷ []) ∙ ap (λ xs. flat q.history ++ xs) (append-nil items) in
     ap left (sym (given_ok (after_claim call items q) r d.1))
-    ∙ (ap (drop q.taken) joined ∙ drop-append-le q.taken (flat q.history) items lawful.behind)
+    ∙ (ap (drop q.taken) joined ∙ drop-append-le q.taken (flat q.history) items lawful.taken_within)
 
 raised_left : (call run index : ℕ) (q r : Queue) (claimed : Option Run) → raise_of call run index q claimed ≡ Ok r → left r ≡ left q
 raised_left call run index q r None ok = absurd (cc)

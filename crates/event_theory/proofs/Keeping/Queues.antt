@@ -21,14 +21,14 @@ claim_keeps call items q lawful some room =
     let run : Run = record { call = call; items = items } in
     let longer : length (pairs q.history) ≡ length (flat q.history) = length-pairs_from 0 q.history in
     let joined : flat (q.history ++ run ∷ []) ≡ flat q.history ++ items = flat-append q.history (run ∷ []) ∙ ap (λ xs. flat q.history ++ xs) (append-nil items) in
-    let behind : q.taken ≤ length (flat q.history) = lawful.behind in
+    let following : q.taken ≤ length (flat q.history) = lawful.taken_within in
     let in_pairs : q.taken ≤ length (pairs q.history) = omega arith in
     record {
       solid = solid-append q.history run lawful.solid some;
       within = λ r i h. omega (arith, lawful.within r i h, run_length-append q.history (run ∷ []) r);
-      behind = rw joined (omega (arith, length-append (flat q.history) items));
+      taken_within = rw joined (omega (arith, length-append (flat q.history) items));
       ready = rw (pairs_from-append 0 q.history (run ∷ []), take-append-le q.taken (pairs q.history) (pairs_from (0 + length q.history) (run ∷ [])) in_pairs) lawful.ready;
-      fits = rw (joined, drop-append-le q.taken (flat q.history) items behind) (omega (arith, length-append (left q) items));
+      fits = rw (joined, drop-append-le q.taken (flat q.history) items following) (omega (arith, length-append (left q) items));
     }
 
 pair_cases : (a b : Bool) (r i run index : ℕ) → a ≡ eqb r run → b ≡ eqb i index → (old : Bool) → ((a && b) || old) ≡ true → ((r ≡ run) × (i ≡ index)) ⊎ (old ≡ true)
@@ -50,7 +50,7 @@ pub raise_keeps : (run index : ℕ) (q : Queue) → IsLawfulQueue q → index < 
 raise_keeps run index q lawful here = record {
   solid = lawful.solid;
   within = λ r i h. within_raised q run index lawful here r i (pair_cases (eqb r run) (eqb i index) r i run index refl refl (q.raised r i) h);
-  behind = lawful.behind;
+  taken_within = lawful.taken_within;
   ready = list_all-weaker (is_raised q) (is_raised (after_raise run index q)) (take q.taken (pairs q.history)) (λ p h. or_true _ _ h) lawful.ready;
   fits = lawful.fits;
 }
@@ -59,14 +59,14 @@ pub take_keeps : (count : ℕ) (q : Queue) → IsLawfulQueue q → first_are_rai
 take_keeps count q lawful first =
     let h = both (nat_le count (length (left q))) (list_all (is_raised q) (take count (left_pairs q))) first in
     let enough : count ≤ length (left q) = leb-true count (length (left q)) h.0 in
-    let behind : q.taken ≤ length (flat q.history) = lawful.behind in
+    let following : q.taken ≤ length (flat q.history) = lawful.taken_within in
     let fits : length (left q) ≤ q.capacity = lawful.fits in
     let rest : length (left q) ≡ length (flat q.history) - q.taken = length-drop q.taken (flat q.history) in
     let later : length (drop (q.taken + count) (flat q.history)) ≡ length (flat q.history) - (q.taken + count) = length-drop (q.taken + count) (flat q.history) in
     record {
       solid = lawful.solid;
       within = lawful.within;
-      behind = omega arith;
+      taken_within = omega arith;
       ready = rw (take-add q.taken count (pairs q.history), list_all-append (is_raised q) (take q.taken (pairs q.history)) (take count (left_pairs q))) (both_true lawful.ready h.1);
       fits = omega arith;
     }
@@ -116,4 +116,4 @@ take_law longest count q r lawful ok =
     subst IsLawfulQueue (sym h.0) (take_keeps count q lawful h.3)
 
 pub shut_law : (q : Queue) → IsLawfulQueue q → IsLawfulQueue (shut q)
-shut_law q lawful = record { solid = lawful.solid; within = lawful.within; behind = lawful.behind; ready = lawful.ready; fits = lawful.fits }
+shut_law q lawful = record { solid = lawful.solid; within = lawful.within; taken_within = lawful.taken_within; ready = lawful.ready; fits = lawful.fits }

@@ -295,7 +295,7 @@ count_by-map : {X : Type 0} (p : X → Bool) (xs : List X) → count_by (λ b. b
 count_by-map p xs = sym (length-filter (λ b. b) (map p xs)) ∙ (length-filter-map p xs ∙ length-filter p xs)
 
 pub taken_stored : (stored : StoredQueue) → stored.taken ≤ length stored.places.items
-taken_stored stored = omega (arith, length_stored stored.capacity stored.runs.items stored.places.items stored.taken stored.shut stored.laid_out, stored.lawful.behind)
+taken_stored stored = omega (arith, length_stored stored.capacity stored.runs.items stored.places.items stored.taken stored.shut stored.laid_out, stored.lawful.taken_within)
 
 pub left_stored : (stored : StoredQueue) → length (left (queue stored)) ≡ length stored.places.items - stored.taken
 left_stored stored = omega (arith, length_stored stored.capacity stored.runs.items stored.places.items stored.taken stored.shut stored.laid_out, length-drop stored.taken (flat (queue stored).history))

@@ -161,10 +161,10 @@ impl Recorder {
 }
 
 impl Gate for Recorder {
-    ghost told = { λ old p point new. Unit {0} };
+    ghost observes = { λ old p point new. Unit {0} };
 
     fn between(&mut self, p: u8, point: Point) {
-        let _wanting = self.points.push((p, point));
+        let _short = self.points.push((p, point));
     }
 }
 
@@ -281,7 +281,7 @@ pub(crate) struct Watcher<'a> {
 }
 
 impl<'a> Gate for Watcher<'a> {
-    ghost told = { λ old p point new. Unit {0} };
+    ghost observes = { λ old p point new. Unit {0} };
 
     fn between(&mut self, _p: u8, point: Point) {
         let put = puts(self.queues, &mut self.ends, self.index, SIXTY_FOUR);
@@ -294,7 +294,7 @@ impl<'a> Gate for Watcher<'a> {
             0,
             &mut NoGate,
         );
-        let _wanting = self.seen.push((point, put, taken, line.len()));
+        let _short = self.seen.push((point, put, taken, line.len()));
     }
 }
 
@@ -312,10 +312,10 @@ pub(crate) struct Poker<'a, R: Wait> {
 }
 
 impl<'a, R: Wait> Gate for Poker<'a, R> {
-    ghost told = { λ old p point new. Unit {0} };
+    ghost observes = { λ old p point new. Unit {0} };
 
     fn between(&mut self, _p: u8, _point: Point) {
         let poked = pokes_it(self.rt, self.world, self.chains, &mut self.ends);
-        let _wanting = self.poked.push(poked);
+        let _short = self.poked.push(poked);
     }
 }

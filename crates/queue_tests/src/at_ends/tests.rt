@@ -62,8 +62,8 @@ fn gate_between_the_parts(rt: HostRuntime) {
     assert!(rt; puts(list, &mut ends, 1, &[10]) == Ok(()));
     gate.seen.clear();
     assert!(rt; takes_by(list, &mut ends, 1, &[10], 0, &mut gate) == (Ok(()), true));
-    let behind = [(Point::TakeAnswered, Ok(()), Ok(()), 64)];
-    assert!(rt; gate.seen.as_slice() == behind.as_slice());
+    let following = [(Point::TakeAnswered, Ok(()), Ok(()), 64)];
+    assert!(rt; gate.seen.as_slice() == following.as_slice());
 }
 
 /// As many items as a large queue has places.
@@ -293,7 +293,7 @@ fn split_and_poke<R: Abort + Wait>(rt: &R, alloc: Global, pumped: Pumped) {
 }
 
 #[test]
-fn memory_may_be_wanting(rt: HostRuntime) {
+fn memory_may_run_out(rt: HostRuntime) {
     let mut made = false;
     for _ in 0..12u8 {
         match make_pump(rt.alloc()) {

@@ -123,7 +123,7 @@ fn serve_full<R: Abort + Wait>(
     let mut starter = starter;
     let turn = turn_for(rt, chain, &mut server, 0);
     fill(rt, chain, &mut filler, queue);
-    let _told = start.try_put(&mut starter, &[1]);
+    let _reported = start.try_put(&mut starter, &[1]);
     serve_two_and_all(rt, chain, &mut server, queue, turn);
     (server, filler)
 }
@@ -149,8 +149,8 @@ fn chain_more<R: Wait>(
     wait_for(rt, start, &mut starts);
     chain_one(rt, chain, &mut end, queue, 32);
     let full = is_full(rt, chain, &mut end, queue, 33);
-    let told = queue.try_put(&mut teller, &[1]).is_ok();
-    (end, full && told)
+    let reported = queue.try_put(&mut teller, &[1]).is_ok();
+    (end, full && reported)
 }
 
 fn run_both<R: Threads + Abort + Wait + Sync>(

@@ -1,7 +1,7 @@
 ghost use Rattle.std.specs.Prelude.{◌≡◌, ◌%◌, ◌^◌, true, length};
 ghost use Rattle.proc_chain.specs.Handles.{turn_of, world_of, IsEndOf};
 
-use crate::fixtures::{close_chain, is_told};
+use crate::fixtures::{close_chain, is_reported};
 use event_theory::OutOfMemory;
 use proc_chain::*;
 use std::alloc::Global;
@@ -442,7 +442,7 @@ const ONE_NOTE: [Act; 2] = [Act::Run(1), Act::Done { limit: 2, ran: 1 }];
 
 /// If an allocation is refused, the quaject is returned, and a later try makes a chain of it.
 #[test]
-fn memory_may_be_wanting(rt: HostRuntime) {
+fn memory_may_run_out(rt: HostRuntime) {
     let world = 3u16;
     let mut made = false;
     for _ in 0..4 {
@@ -469,10 +469,10 @@ const TOLD: &[(ChainRefusal, &str)] = &[
 
 /// Each refusal is reported in its words, with its numbers.
 #[test]
-fn refusals_are_told(rt: HostRuntime) {
+fn refusals_are_reported(rt: HostRuntime) {
     for (refusal, words) in TOLD {
-        assert!(rt; is_told(rt.alloc(), *refusal, words));
+        assert!(rt; is_reported(rt.alloc(), *refusal, words));
     }
     let open = OpenEnds { others: 3 };
-    assert!(rt; is_told(rt.alloc(), open, "3 other ends are not joined"));
+    assert!(rt; is_reported(rt.alloc(), open, "3 other ends are not joined"));
 }

@@ -44,7 +44,7 @@ struct Script {
     before: &'static [Act],
     call: Call,
     pause: &'static [Act],
-    behind: &'static [Act],
+    following: &'static [Act],
     other: &'static [Act],
 }
 
@@ -79,7 +79,7 @@ fn plays<R: Abort + Wait>(rt: &R, alloc: Global, script: &Script) {
     };
     assert!(rt; is_answered(&queue, &mut end, &script.call, &mut held));
     assert!(rt; held.done);
-    does(rt, &queue, &mut end, script.behind);
+    does(rt, &queue, &mut end, script.taken_within);
     does(rt, held.queue, &mut held.end, script.other);
 }
 
@@ -113,7 +113,7 @@ const LOST_HEAD: Script = Script {
     before: &[],
     call: Call::Claim(&[1], ClaimRefusal::Lost { head: 2 }),
     pause: &[Act::Put(&[2, 3], Ok(0))],
-    behind: &[
+    following: &[
         Act::Put(&[1], Ok(2)),
         Act::Take(Ok(2)),
         Act::Take(Ok(3)),
@@ -127,7 +127,7 @@ const LOST_TAIL: Script = Script {
     before: &[Act::Put(&[1, 2], Ok(0))],
     call: Call::Take(Err(TakeRefusal::Lost { tail: 1 })),
     pause: &[Act::Take(Ok(1))],
-    behind: &[Act::Take(Ok(2))],
+    following: &[Act::Take(Ok(2))],
     other: &[Act::Take(Err(TakeRefusal::Empty { at: 2 }))],
 };
 
@@ -136,7 +136,7 @@ const SHUT_IN_THE_PAUSE: Script = Script {
     before: &[],
     call: Call::Claim(&[1], ClaimRefusal::Closed),
     pause: &[Act::Shut(true)],
-    behind: &[],
+    following: &[],
     other: &[],
 };
 
@@ -145,7 +145,7 @@ const CLOSED_WHEN_ALL_IS_TAKEN: Script = Script {
     before: &[Act::Put(&[1], Ok(0))],
     call: Call::Take(Ok(1)),
     pause: &[Act::Put(&[2], Ok(1)), Act::Shut(true)],
-    behind: &[
+    following: &[
         Act::Take(Ok(2)),
         Act::Take(Err(TakeRefusal::Closed)),
         Act::Line(Err(TakeRefusal::Closed), &[]),

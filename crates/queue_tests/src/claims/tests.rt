@@ -1,7 +1,7 @@
 ghost use Rattle.claim_queue.specs.Handles.{IsEndOf};
 
 use crate::claims::scripts::{Act, Four, Script, closes, does, new_four, plays};
-use crate::fixtures::is_told;
+use crate::fixtures::is_reported;
 use arrayvec::ArrayVec;
 use claim_queue::*;
 use event_theory::OutOfMemory;
@@ -323,7 +323,7 @@ fn joined_ends_close(rt: HostRuntime) {
 
 /// If an allocation is refused, there is no queue, and a later try makes one.
 #[test]
-fn memory_may_be_wanting(rt: HostRuntime) {
+fn memory_may_run_out(rt: HostRuntime) {
     let mut made = false;
     for _ in 0..3 {
         match Four::new(rt.alloc(), 0) {
@@ -362,13 +362,13 @@ const TAKINGS_TOLD: &[(TakeRefusal, &str)] = &[
 
 /// Each refusal is reported in its words, with its numbers.
 #[test]
-fn refusals_are_told(rt: HostRuntime) {
+fn refusals_are_reported(rt: HostRuntime) {
     for (refusal, words) in CLAIMS_TOLD {
-        assert!(rt; is_told(rt.alloc(), *refusal, words));
+        assert!(rt; is_reported(rt.alloc(), *refusal, words));
     }
     for (refusal, words) in TAKINGS_TOLD {
-        assert!(rt; is_told(rt.alloc(), *refusal, words));
+        assert!(rt; is_reported(rt.alloc(), *refusal, words));
     }
     let open = OpenEnds { others: 3 };
-    assert!(rt; is_told(rt.alloc(), open, "3 other ends are not joined"));
+    assert!(rt; is_reported(rt.alloc(), open, "3 other ends are not joined"));
 }

@@ -160,7 +160,7 @@ fn pipes_are_plain_data(rt: HostRuntime) {
 }
 
 #[test]
-fn memory_may_be_wanting(rt: HostRuntime) {
+fn memory_may_run_out(rt: HostRuntime) {
     let mut made = false;
     for _ in 0..12u8 {
         match Queues::new(rt.alloc(), 2, 1) {

@@ -1,7 +1,7 @@
 -- Elements that were put after the free elements are there at the end, if no more were taken than there were at first.
-use Rattle.thread_table.proofs.Common.{◌≡◌, ◌≢◌, ℕ, zero, suc, ◌+◌, ◌<◌, ◌≤◌, Bool, true, false, List, [], ◌∷◌, ◌++◌, map, length, drop, get_or, refl, sym, ap, ◌∙◌, subst, arith, Option, None, slice_get, or-false, or_left, or_right, flat_map, if◌then◌else◌, list_any, AllByRecursion, result_unwrap_or, map-append, slice_get-get_or, get_or-eq_default, list_any-append, list_any-IsPermutation, sum_by-IsPermutation, sum_by-cons, dite, dec_lt, appearances, is_on, in_list, in_cell, Elements, Thread, new_thread, IsLawfulElements, IsLawfulQueue, Queue, empty_queue, left, Run, flat, run_length, State, step, Event, Hold, every_at, entry_of, ELEMENTS, PLACES, free_ring, wait_ring, Place, Made, View, ClosedNow, StandsAt, is_left, is_join, made_in, numbered, AreMade, items_of, retired_by, retired_in, taking_by, ring_at}
+use Rattle.thread_table.proofs.Common.{◌≡◌, ◌≢◌, ℕ, zero, suc, ◌+◌, ◌<◌, ◌≤◌, Bool, true, false, List, [], ◌∷◌, ◌++◌, map, length, drop, get_or, refl, sym, ap, ◌∙◌, subst, arith, Option, None, slice_get, or-false, or_left, or_right, flat_map, if◌then◌else◌, list_any, AllByRecursion, result_unwrap_or, map-append, slice_get-get_or, get_or-eq_default, list_any-append, list_any-IsPermutation, sum_by-IsPermutation, sum_by-cons, dite, dec_lt, appearances, is_on, in_list, in_cell, Elements, Thread, new_thread, IsLawfulElements, IsLawfulQueue, Queue, empty_queue, left, Run, flat, run_length, State, step, Event, Hold, every_at, entry_of, ELEMENTS, PLACES, free_ring, wait_ring, Place, MadeEvent, View, ClosedNow, StandsAt, is_left, is_join, made_in, numbered, AreMade, items_of, retired_by, retired_in, taking_by, ring_at}
 use Rattle.std.proofs.Common.{sum_by}
-use Rattle.table_theory.proofs.Reaching.{all_behind}
+use Rattle.table_theory.proofs.Reaching.{all_after}
 use Rattle.thread_table.proofs.Lists.Counts.{some_count}
 use Rattle.thread_table.proofs.Hands.Releases.{held_counts}
 use Rattle.std.specs.Prelude.{◌||◌, ◌==◌, slice_index_or}
@@ -15,7 +15,7 @@ use Rattle.thread_table.specs.declared.places.Place.TheVariants as places
 use Rattle.thread_table.specs.Retiring.{free_takings, frees, was_freed}
 use Rattle.thread_table.specs.Schedules.{begun, elements_after, IsAllowed}
 use Rattle.thread_table.proofs.Lists.Counts.{plus, by_bool}
-use Rattle.thread_table.proofs.Closing.Retiring.{first_runs, are_told}
+use Rattle.thread_table.proofs.Closing.Retiring.{first_runs, are_reported}
 use Rattle.thread_table.proofs.Schedule.Schedules.{lawful_after}
 use Rattle.thread_table.proofs.Lists.Shuffles.{filed_shuffle}
 
@@ -53,11 +53,11 @@ two_sum f (x ∷ xs) (suc i) (suc j) d none apart = let c = sum_by-cons f x xs i
 -- SCHEDULES
 
 -- what the events give that is none of the joins', their numbered list gives
-numbered_give : {B : Type 0} (give : Event → List B) → ((e : Event) → is_join e ≡ true → give e ≡ []) → (s : State) (es : List Event) → flat_map (λ (m : Made). give m.event) (numbered s es) ≡ flat_map give es
+numbered_give : {B : Type 0} (give : Event → List B) → ((e : Event) → is_join e ≡ true → give e ≡ []) → (s : State) (es : List Event) → flat_map (λ (m : MadeEvent). give m.event) (numbered s es) ≡ flat_map give es
 numbered_give give none s [] = refl
-numbered_give give none s (e ∷ es) = let rest : List Made = numbered (result_unwrap_or (step e s) s) es in let ih = numbered_give give none (result_unwrap_or (step e s) s) es in by_bool (is_join e)
-    (λ is. ap (λ (b : Bool). flat_map (λ (m : Made). give m.event) (if b then rest else (made_in e s ∷ rest))) is ∙ (ih ∙ ap (λ xs. xs ++ flat_map give es) (sym (none e is))))
-    (λ isnt. ap (λ (b : Bool). flat_map (λ (m : Made). give m.event) (if b then rest else (made_in e s ∷ rest))) isnt ∙ ap (λ xs. give e ++ xs) ih)
+numbered_give give none s (e ∷ es) = let rest : List MadeEvent = numbered (result_unwrap_or (step e s) s) es in let ih = numbered_give give none (result_unwrap_or (step e s) s) es in by_bool (is_join e)
+    (λ is. ap (λ (b : Bool). flat_map (λ (m : MadeEvent). give m.event) (if b then rest else (made_in e s ∷ rest))) is ∙ (ih ∙ ap (λ xs. xs ++ flat_map give es) (sym (none e is))))
+    (λ isnt. ap (λ (b : Bool). flat_map (λ (m : MadeEvent). give m.event) (if b then rest else (made_in e s ∷ rest))) isnt ∙ ap (λ xs. give e ++ xs) ih)
 
 -- a join takes and frees nothing
 join_gives : (e : Event) → is_join e ≡ true → (taking_by e ≡ []) × (retired_by e ≡ [])
@@ -83,9 +83,9 @@ module _ (x : ℕ) where
   frees_is (events.Claim call names.Free items) = sym (or-false (is_it (first_item items)))
   frees_is event = refl
 
-  freed_is : (made : List Made) → was_freed x made ≡ among (flat_map (λ (m : Made). retired_by m.event) made)
+  freed_is : (made : List MadeEvent) → was_freed x made ≡ among (flat_map (λ (m : MadeEvent). retired_by m.event) made)
   freed_is [] = refl
-  freed_is (m ∷ made) = (λ k. frees_is m.event k || freed_is made k) ∙ sym (among_more (retired_by m.event) (flat_map (λ (m : Made). retired_by m.event) made))
+  freed_is (m ∷ made) = (λ k. frees_is m.event k || freed_is made k) ∙ sym (among_more (retired_by m.event) (flat_map (λ (m : MadeEvent). retired_by m.event) made))
 
   -- what was freed is left of a queue of which no more was taken than it had at first
   some_item : (runs : List (List ℕ)) → AllByRecursion HasSome runs → among runs ≡ true → list_any is_it (concat runs) ≡ true
@@ -103,7 +103,7 @@ module _ (x : ℕ) where
       let parts : left q ≡ drop q.taken (concat first_runs) ++ concat retired = ap (drop q.taken) all ∙ drop-append-le q.taken (concat first_runs) (concat retired) (omega arith) in
       ap (list_any is_it) parts
       ∙ (list_any-append is_it (drop q.taken (concat first_runs)) (concat retired)
-      ∙ or_right (list_any is_it (drop q.taken (concat first_runs))) (list_any is_it (concat retired)) (some_item retired (all_behind HasSome first_runs retired (subst (AllByRecursion HasSome) runs solid)) any))
+      ∙ or_right (list_any is_it (drop q.taken (concat first_runs))) (list_any is_it (concat retired)) (some_item retired (all_after HasSome first_runs retired (subst (AllByRecursion HasSome) runs solid)) any))
 
   -- PLACES
 
@@ -152,20 +152,20 @@ free_solid e lawful = dite (dec_lt 1 (length e.rings))
     (λ no. subst Solid (sym (get_or-eq_default e.rings (empty_queue PLACES) (omega (arith, no)))) (λ run low. absurd (omega arith)))
 
 -- as many free elements were taken as the list of the only hand has takings
-taken_are : (past : List Event) (l : List Made) → IsAllowed past → AreMade past (l ∷ []) → (ring_at (elements_after past) 1).taken ≡ length (free_takings l)
-taken_are past l allowed made = let takings : Made → List ℕ = λ m. taking_by m.event in let f : Made → ℕ = λ m. length (taking_by m.event) in
-    (are_told past allowed).1 ∙ (ap length (sym (numbered_give taking_by (λ e is. (join_gives e is).0) begun past)) ∙ (length-flat_map takings (numbered begun past)
+taken_are : (past : List Event) (l : List MadeEvent) → IsAllowed past → AreMade past (l ∷ []) → (ring_at (elements_after past) 1).taken ≡ length (free_takings l)
+taken_are past l allowed made = let takings : MadeEvent → List ℕ = λ m. taking_by m.event in let f : MadeEvent → ℕ = λ m. length (taking_by m.event) in
+    (are_reported past allowed).1 ∙ (ap length (sym (numbered_give taking_by (λ e is. (join_gives e is).0) begun past)) ∙ (length-flat_map takings (numbered begun past)
     ∙ (ap (sum_by f) (sym made.logged) ∙ (sum_by-IsPermutation f l (map entry_of made.log) (filed_shuffle made.log l made.listed) ∙ sym (length-flat_map takings l)))))
 
-freed_is_left : (past : List Event) (l : List Made) (x : ℕ) → IsAllowed past → AreMade past (l ∷ []) → length (free_takings l) ≤ 64 → was_freed x l ≡ true → is_left x (ring_at (elements_after past) 1) ≡ true
+freed_is_left : (past : List Event) (l : List MadeEvent) (x : ℕ) → IsAllowed past → AreMade past (l ∷ []) → length (free_takings l) ≤ 64 → was_freed x l ≡ true → is_left x (ring_at (elements_after past) 1) ≡ true
 freed_is_left past l x allowed made few freed =
     let many = taken_are past l allowed made in
-    let any = list_any-IsPermutation (λ (m : Made). frees x m.event) l (map entry_of made.log) (filed_shuffle made.log l made.listed) in
+    let any = list_any-IsPermutation (λ (m : MadeEvent). frees x m.event) l (map entry_of made.log) (filed_shuffle made.log l made.listed) in
     let all : was_freed x (numbered begun past) ≡ among x (retired_in past) = freed_is x (numbered begun past) ∙ ap (among x) (numbered_give retired_by (λ e is. (join_gives e is).1) begun past ∙ all_retired past) in
-    left_of_freed x (ring_at (elements_after past) 1) (retired_in past) (all_solid (ring_at (elements_after past) 1).history (free_solid (elements_after past) (lawful_after past allowed))) (are_told past allowed).0 (omega arith)
+    left_of_freed x (ring_at (elements_after past) 1) (retired_in past) (all_solid (ring_at (elements_after past) 1).history (free_solid (elements_after past) (lawful_after past allowed))) (are_reported past allowed).0 (omega arith)
     (sym all ∙ (ap (was_freed x) (sym made.logged) ∙ (sym any ∙ freed)))
 
-pub freed_is_told : (call : ℕ) (v : View) (stands : List Place) (pcs pending : List ℕ) (stops x : ℕ) → ClosedNow call v stands pcs pending stops → length (free_takings v.own.made) ≤ 64 → x < ELEMENTS → was_freed x v.own.made ≡ true → slice_index_or stands x places.Held ≡ places.Free
-freed_is_told call v stands pcs pending stops x closed few low freed =
+pub freed_is_reported : (call : ℕ) (v : View) (stands : List Place) (pcs pending : List ℕ) (stops x : ℕ) → ClosedNow call v stands pcs pending stops → length (free_takings v.own.made) ≤ 64 → x < ELEMENTS → was_freed x v.own.made ≡ true → slice_index_or stands x places.Held ≡ places.Free
+freed_is_reported call v stands pcs pending stops x closed few low freed =
     only_free x call (elements_after v.seen.object) (lawful_after v.seen.object closed.allowed)
     (freed_is_left v.seen.object v.own.made x closed.allowed closed.made few freed) (slice_index_or stands x places.Held) (closed.places x low)

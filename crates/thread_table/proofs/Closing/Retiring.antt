@@ -20,12 +20,12 @@ use Rattle.thread_table.specs.Retiring.{AreRetired}
 use Rattle.thread_table.proofs.Schedule.Schedules.{elements_of}
 
 -- the items of a queue's runs, and how many items were taken from the queue
-abbrev pub queue_told : Queue → List (List ℕ) × ℕ
-queue_told q = (map items_of q.history, q.taken)
+abbrev pub queue_reported : Queue → List (List ℕ) × ℕ
+queue_reported q = (map items_of q.history, q.taken)
 
 -- those of the free elements' queue
-abbrev told : List Queue → List (List ℕ) × ℕ
-told rings = queue_told (get_or rings 1 (empty_queue PLACES))
+abbrev valid : List Queue → List (List ℕ) × ℕ
+valid rings = queue_reported (get_or rings 1 (empty_queue PLACES))
 
 abbrev pub with_more : List (List ℕ) → ℕ → List (List ℕ) × ℕ → List (List ℕ) × ℕ
 with_more more n t = (t.0 ++ more, t.1 + n)
@@ -46,11 +46,11 @@ module _ {B : Type 0} (P : B → Type 0) where
 
 -- an event of the elements, if allowed, adds these runs to the free elements' queue, and takes so many items from it
 abbrev Adds : List (List ℕ) → ℕ → (Elements → Result Elements Refusal) → Type 0
-Adds more n event = (s : Elements) → Gives (λ t. told t.rings ≡ with_more more n (told s.rings)) (event s)
+Adds more n event = (s : Elements) → Gives (λ t. valid t.rings ≡ with_more more n (valid s.rings)) (event s)
 
 -- an event of the state, if allowed, adds these runs to the free elements' queue, and takes so many items from it
 abbrev AddsTo : List (List ℕ) → ℕ → (State → Result State Refusal) → Type 0
-AddsTo more n event = (s : State) → Gives (λ t. told t.elements.rings ≡ with_more more n (told s.elements.rings)) (event s)
+AddsTo more n event = (s : State) → Gives (λ t. valid t.elements.rings ≡ with_more more n (valid s.elements.rings)) (event s)
 
 none_more : (old : List (List ℕ) × ℕ) → old ≡ with_more [] 0 old
 none_more old =
@@ -58,24 +58,24 @@ none_more old =
     λ i. (sym (append-nil old.0) i, e i)
 
 abbrev Stays : Elements → Elements → Type 0
-Stays s t = told t.rings ≡ with_more [] 0 (told s.rings)
+Stays s t = valid t.rings ≡ with_more [] 0 (valid s.rings)
 
 -- one queue has these runs more, and so many more of its items are taken
 pub record Changes (more : List (List ℕ)) (n ring : ℕ) (s t : Elements) : Type 0 where
   pub old : Queue
   pub new : Queue
   pub there : slice_get s.rings ring ≡ Some old
-  pub is : queue_told new ≡ with_more more n (queue_told old)
+  pub is : queue_reported new ≡ with_more more n (queue_reported old)
   pub rings : t.rings ≡ set s.rings ring new
   pub notified : t.notified ≡ s.notified
 
 -- a change of the free elements' queue adds to it and takes from it; a change of another queue leaves it
-of_free : {more : List (List ℕ)} {n : ℕ} {s t : Elements} → Changes more n 1 s t → told t.rings ≡ with_more more n (told s.rings)
-of_free {more} {n} {s} {t} c = ap told c.rings ∙ (ap queue_told (get_or-set_same s.rings 1 c.new (empty_queue PLACES) (slice_get_within s.rings 1 c.old c.there))
-    ∙ (c.is ∙ ap (λ (q : Queue). with_more more n (queue_told q)) (sym (get_or_from_slice_get s.rings 1 c.old (empty_queue PLACES) c.there))))
+of_free : {more : List (List ℕ)} {n : ℕ} {s t : Elements} → Changes more n 1 s t → valid t.rings ≡ with_more more n (valid s.rings)
+of_free {more} {n} {s} {t} c = ap valid c.rings ∙ (ap queue_reported (get_or-set_same s.rings 1 c.new (empty_queue PLACES) (slice_get_within s.rings 1 c.old c.there))
+    ∙ (c.is ∙ ap (λ (q : Queue). with_more more n (queue_reported q)) (sym (get_or_from_slice_get s.rings 1 c.old (empty_queue PLACES) c.there))))
 
-of_other : {more : List (List ℕ)} {n ring : ℕ} {s t : Elements} → ring ≢ 1 → Changes more n ring s t → told t.rings ≡ with_more [] 0 (told s.rings)
-of_other {more} {n} {ring} {s} {t} ne c = ap told c.rings ∙ (ap queue_told (get_or-set_other s.rings ring 1 c.new (empty_queue PLACES) (λ z. ne (sym z))) ∙ none_more (told s.rings))
+of_other : {more : List (List ℕ)} {n ring : ℕ} {s t : Elements} → ring ≢ 1 → Changes more n ring s t → valid t.rings ≡ with_more [] 0 (valid s.rings)
+of_other {more} {n} {ring} {s} {t} ne c = ap valid c.rings ∙ (ap queue_reported (get_or-set_other s.rings ring 1 c.new (empty_queue PLACES) (λ z. ne (sym z))) ∙ none_more (valid s.rings))
 
 -- where a run is claimed
 claimed : (ring call : ℕ) (items : List ℕ) (s t : Elements) → change_at ring (claim 1 call items) s.rings ≡ Ok t.rings → t.notified ≡ s.notified → Changes (items ∷ []) 0 ring s t
@@ -83,7 +83,7 @@ claimed ring call items s t ok same = let d = change_ok ring (claim 1 call items
   old = d.0;
   new = d.1;
   there = d.2;
-  is = ap queue_told (claim_ok 1 call items d.0 d.1 d.3) ∙ (λ i. (map-append items_of d.0.history (record { call = call; items = items } ∷ []) i, e i));
+  is = ap queue_reported (claim_ok 1 call items d.0 d.1 d.3) ∙ (λ i. (map-append items_of d.0.history (record { call = call; items = items } ∷ []) i, e i));
   rings = d.4;
   notified = same;
 }
@@ -106,35 +106,35 @@ take_changes ring call count s = let P : Elements → Type 0 = Changes [] 1 ring
 
 pub raise_changes : (ring call run index : ℕ) (s : Elements) → Gives (Changes [] 0 ring s) (raise_element ring call run index s)
 raise_changes ring call run index s = let P : Elements → Type 0 = Changes [] 0 ring s in then_gives P (change_at ring (raise call run index) s.rings) _ (λ rings ok. let d = change_ok ring (raise call run index) s.rings rings ok in
-    ok_gives P _ record { old = d.0; new = d.1; there = d.2; is = ap queue_told (raise_ok call run index d.0 d.1 d.3).is ∙ none_more (queue_told d.0); rings = d.4; notified = refl })
+    ok_gives P _ record { old = d.0; new = d.1; there = d.2; is = ap queue_reported (raise_ok call run index d.0 d.1 d.3).is ∙ none_more (queue_reported d.0); rings = d.4; notified = refl })
 
 -- an event of the elements that leaves the queues adds nothing and takes nothing
 part_adds : {A : Type 0} (said : Elements → Result A Refusal) (f : Elements → A → Elements) → ((s : Elements) (x : A) → (f s x).rings ≡ s.rings) → Adds [] 0 (λ s. said s >>= λ x. Ok (f s x))
-part_adds said f same s = then_gives (Stays s) (said s) _ (λ x _. ok_gives (Stays s) (f s x) (ap told (same s x) ∙ none_more (told s.rings)))
+part_adds said f same s = then_gives (Stays s) (said s) _ (λ x _. ok_gives (Stays s) (f s x) (ap valid (same s x) ∙ none_more (valid s.rings)))
 
-rings_joined : (call other : ℕ) (rings : List Queue) → told (map (join_queue call other) rings) ≡ told rings
+rings_joined : (call other : ℕ) (rings : List Queue) → valid (map (join_queue call other) rings) ≡ valid rings
 rings_joined call other rings = let q : Queue = get_or rings 1 (empty_queue PLACES) in
-    ap queue_told (get_or-map (join_queue call other) rings 1 (empty_queue PLACES)) ∙ (λ i. (map-map items_of (join_run call other) q.history i, q.taken))
+    ap queue_reported (get_or-map (join_queue call other) rings 1 (empty_queue PLACES)) ∙ (λ i. (map-map items_of (join_run call other) q.history i, q.taken))
 
 -- events of the state
 elements_add : (more : List (List ℕ)) (n : ℕ) (event : Elements → Result Elements Refusal) → Adds more n event → AddsTo more n (in_elements event)
-elements_add more n event adds s = let P : State → Type 0 = λ t. told t.elements.rings ≡ with_more more n (told s.elements.rings) in
+elements_add more n event adds s = let P : State → Type 0 = λ t. valid t.elements.rings ≡ with_more more n (valid s.elements.rings) in
     then_gives P (event s.elements) _ (λ e is. ok_gives P _ (adds s.elements e is))
 
 -- an event of the state that leaves the elements adds nothing and takes nothing
 else_adds : {A : Type 0} (said : State → Result A Refusal) (f : State → A → State) → ((s : State) (x : A) → (f s x).elements ≡ s.elements) → AddsTo [] 0 (λ s. said s >>= λ x. Ok (f s x))
 else_adds said f same s = let P : State → Type 0 = λ t. Stays s.elements t.elements in
-    then_gives P (said s) _ (λ x _. ok_gives P (f s x) (ap (λ (e : Elements). told e.rings) (same s x) ∙ none_more (told s.elements.rings)))
+    then_gives P (said s) _ (λ x _. ok_gives P (f s x) (ap (λ (e : Elements). valid e.rings) (same s x) ∙ none_more (valid s.elements.rings)))
 
 join_adds : (call other : ℕ) → AddsTo [] 0 (join call other)
 join_adds call other s = let P : State → Type 0 = λ t. Stays s.elements t.elements in
-    test_gives P _ _ _ (ok_gives P _ (rings_joined call other s.elements.rings ∙ none_more (told s.elements.rings)))
+    test_gives P _ _ _ (ok_gives P _ (rings_joined call other s.elements.rings ∙ none_more (valid s.elements.rings)))
 
 effect_adds : (event : Event) → AddsTo (retired_by event) (length (taking_by event)) (effect event)
 effect_adds (events.Queue capacity) = λ s. let P : State → Type 0 = λ t. Stays s.elements t.elements in
-    test_gives P (capacity == 0 || nat_lt 256 capacity) TooLong _ (test_gives P (nat_le 8 (length s.queues)) Full _ (ok_gives P (record s { queues = s.queues ++ empty_queue capacity ∷ [] }) (none_more (told s.elements.rings))))
+    test_gives P (capacity == 0 || nat_lt 256 capacity) TooLong _ (test_gives P (nat_le 8 (length s.queues)) Full _ (ok_gives P (record s { queues = s.queues ++ empty_queue capacity ∷ [] }) (none_more (valid s.elements.rings))))
 effect_adds events.Chain = λ s. let P : State → Type 0 = λ t. Stays s.elements t.elements in
-    test_gives P (nat_le 8 (length s.chains)) Full _ (ok_gives P (record s { chains = s.chains ++ empty_chain ∷ [] }) (none_more (told s.elements.rings)))
+    test_gives P (nat_le 8 (length s.chains)) Full _ (ok_gives P (record s { chains = s.chains ++ empty_chain ∷ [] }) (none_more (valid s.elements.rings)))
 effect_adds (events.Claim call names.Ready items) = elements_add [] 0 _ (λ s t ok. of_other (λ z. omega arith) (claim_changes 0 call items s t ok))
 effect_adds (events.Claim call names.Free items) = elements_add (items ∷ []) 0 _ (λ s t ok. of_free (claim_changes 1 call items s t ok))
 effect_adds (events.Claim call (names.Wait wait) items) = elements_add [] 0 _ (λ s t ok. of_other (λ z. omega arith) (claim_changes (wait_ring wait) call items s t ok))
@@ -144,11 +144,11 @@ effect_adds (events.Raise call (names.Wait wait) run index) = elements_add [] 0 
 effect_adds (events.Take call names.Ready count) = elements_add [] 0 _ (λ s t ok. of_other (λ z. omega arith) (take_changes 0 call count s t ok))
 effect_adds (events.Take call names.Free count) = elements_add [] 1 _ (λ s t ok. of_free (take_changes 1 call count s t ok))
 effect_adds (events.Take call (names.Wait wait) count) = elements_add [] 0 _ (λ s t ok. of_other (λ z. omega arith) (take_changes (wait_ring wait) call count s t ok))
-effect_adds (events.On call processor element) = elements_add [] 0 _ (λ s. then_gives (Stays s) (at element s.threads) _ (λ thread _. then_gives (Stays s) (at processor s.processors) _ (λ seat _. then_gives (Stays s) (let_go call element s.held) _ (λ held _. test_gives (Stays s) _ _ _ (ok_gives (Stays s) _ (none_more (told s.rings)))))))
+effect_adds (events.On call processor element) = elements_add [] 0 _ (λ s. then_gives (Stays s) (at element s.threads) _ (λ thread _. then_gives (Stays s) (at processor s.processors) _ (λ seat _. then_gives (Stays s) (let_go call element s.held) _ (λ held _. test_gives (Stays s) _ _ _ (ok_gives (Stays s) _ (none_more (valid s.rings)))))))
 effect_adds (events.Off call processor) = elements_add [] 0 _ (part_adds _ _ (λ s x. refl))
 effect_adds (events.Stop call element) = elements_add [] 0 _ (part_adds _ _ (λ s x. refl))
-effect_adds (events.Park call element) = elements_add [] 0 _ (λ s. then_gives (Stays s) (at element s.threads) _ (λ thread _. then_gives (Stays s) (let_go call element s.held) _ (λ held _. test_gives (Stays s) _ _ _ (ok_gives (Stays s) _ (none_more (told s.rings))))))
-effect_adds (events.Start call element) = elements_add [] 0 _ (λ s. then_gives (Stays s) (at element s.threads) _ (λ thread _. test_gives (Stays s) _ _ _ (ok_gives (Stays s) _ (none_more (told s.rings)))))
+effect_adds (events.Park call element) = elements_add [] 0 _ (λ s. then_gives (Stays s) (at element s.threads) _ (λ thread _. then_gives (Stays s) (let_go call element s.held) _ (λ held _. test_gives (Stays s) _ _ _ (ok_gives (Stays s) _ (none_more (valid s.rings))))))
+effect_adds (events.Start call element) = elements_add [] 0 _ (λ s. then_gives (Stays s) (at element s.threads) _ (λ thread _. test_gives (Stays s) _ _ _ (ok_gives (Stays s) _ (none_more (valid s.rings)))))
 effect_adds (events.Signal call element number) = elements_add [] 0 _ (part_adds _ _ (λ s x. refl))
 effect_adds (events.Deliver call element) = elements_add [] 0 (deliver call element) (part_adds _ _ (λ s x. refl))
 effect_adds (events.Done call element) = elements_add [] 0 (done call element) (part_adds _ _ (λ s x. refl))
@@ -159,7 +159,7 @@ effect_adds (events.Join call other) = join_adds call other
 effect_adds event = else_adds _ _ (λ s x. refl)
 
 step_adds : (event : Event) → AddsTo (retired_by event) (length (taking_by event)) (step event)
-step_adds event s t ok = let a = then_ok (effect event s) _ t ok in ap (λ (z : State). told z.elements.rings) (sym (given_ok (counted a.0) t a.2)) ∙ effect_adds event s a.0 a.1
+step_adds event s t ok = let a = then_ok (effect event s) _ t ok in ap (λ (z : State). valid z.elements.rings) (sym (given_ok (counted a.0) t a.2)) ∙ effect_adds event s a.0 a.1
 
 -- an event takes as many of the free elements as its count says
 pub step_takes : (event : Event) (s t : State) → step event s ≡ Ok t
@@ -170,30 +170,30 @@ step_takes event s t ok = ap (λ (p : List (List ℕ) × ℕ). p.1) (step_adds e
 abbrev pub takings_in : List Event → ℕ
 takings_in past = length (flat_map taking_by past)
 
-reached_adds : (s : State) (past : List Event) (t : State) → Reaches s past t → told t.elements.rings ≡ with_more (retired_in past) (takings_in past) (told s.elements.rings)
-reached_adds s [] t there = ap (λ (z : State). told z.elements.rings) there ∙ none_more (told s.elements.rings)
+reached_adds : (s : State) (past : List Event) (t : State) → Reaches s past t → valid t.elements.rings ≡ with_more (retired_in past) (takings_in past) (valid s.elements.rings)
+reached_adds s [] t there = ap (λ (z : State). valid z.elements.rings) there ∙ none_more (valid s.elements.rings)
 reached_adds s (event ∷ past) t there =
-    let e : (told s.elements.rings).1 + length (taking_by event) + takings_in past ≡ (told s.elements.rings).1 + takings_in (event ∷ past) = omega (arith, length-append (taking_by event) (flat_map taking_by past)) in
+    let e : (valid s.elements.rings).1 + length (taking_by event) + takings_in past ≡ (valid s.elements.rings).1 + takings_in (event ∷ past) = omega (arith, length-append (taking_by event) (flat_map taking_by past)) in
     reached_adds there.0 past t there.2
     ∙ (ap (with_more (retired_in past) (takings_in past)) (step_adds event s there.0 there.1)
-    ∙ (λ i. (append_assoc (told s.elements.rings).0 (retired_by event) (retired_in past) i, e i)))
+    ∙ (λ i. (append_assoc (valid s.elements.rings).0 (retired_by event) (retired_in past) i, e i)))
 
 -- the runs of the free elements with which a table begins
 abbrev pub first_runs : List (List ℕ)
 first_runs = map items_of (full_queue 64).history
 
 -- the runs of the queue, and how many items of it were taken
-pub are_told : (past : List Event) → IsAllowed past → (map items_of (ring_at (elements_after past) 1).history ≡ first_runs ++ retired_in past) × ((ring_at (elements_after past) 1).taken ≡ takings_in past)
+pub are_reported : (past : List Event) → IsAllowed past → (map items_of (ring_at (elements_after past) 1).history ≡ first_runs ++ retired_in past) × ((ring_at (elements_after past) 1).taken ≡ takings_in past)
 unfolding IsAllowed begun
-are_told past allowed =
-    let all : queue_told (ring_at (elements_after past) 1) ≡ with_more (retired_in past) (takings_in past) (told (first_state ELEMENTS).elements.rings) =
-    ap (λ (e : Elements). told e.rings) (elements_of past) ∙ reached_adds (first_state ELEMENTS) past (state_after past) allowed in
+are_reported past allowed =
+    let all : queue_reported (ring_at (elements_after past) 1) ≡ with_more (retired_in past) (takings_in past) (valid (first_state ELEMENTS).elements.rings) =
+    ap (λ (e : Elements). valid e.rings) (elements_of past) ∙ reached_adds (first_state ELEMENTS) past (state_after past) allowed in
     let many : (ring_at (elements_after past) 1).taken ≡ 0 + takings_in past = ap (λ (p : List (List ℕ) × ℕ). p.1) all in
     (ap (λ (p : List (List ℕ) × ℕ). p.0) all, omega arith)
 
 -- the runs of the queue, after those with which it began
 pub are_retired : (past : List Event) → IsAllowed past → AreRetired past
-are_retired past allowed = ap (drop 64) (are_told past allowed).0 ∙ drop_all first_runs (retired_in past) 64 refl
+are_retired past allowed = ap (drop 64) (are_reported past allowed).0 ∙ drop_all first_runs (retired_in past) 64 refl
   where
     drop_all : (xs ys : List (List ℕ)) (n : ℕ) → length xs ≡ n → drop n (xs ++ ys) ≡ ys
     drop_all [] ys zero e = refl

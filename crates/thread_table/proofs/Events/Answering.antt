@@ -1,5 +1,5 @@
 -- What the steps of a taking or of a move say together.
-use Rattle.thread_table.proofs.Common.{or-true, or-false, inl, inr, Ok, Err, ◌++◌, ◌≡◌, ◌≢◌, ℕ, ◌+◌, ◌-◌, ◌*◌, ◌/◌, ◌%◌, ◌<◌, ◌≤◌, Bool, true, false, ◌||◌, cond, eqb, eq-eqb, ne_eqb, List, [], ◌∷◌, length, get_or, set, take, Some, refl, sym, ap, subst, ◌∙◌, arith, get_or-set_same, get_or-set_other, slice_get-get_or, append_assoc, made_in, has, dite, ℕ_discrete, Elements, Queue, left, empty_queue, IsLawfulQueue, Event, every_at, View, ring_at, ring_name, element_at, ELEMENTS, RINGS, PLACES, NOTIFY, head_word, tail_word, place_word, wait_ring, tail_shown, mark_of, claim_of, quiet, with_held, left_by_event, HasClaimed, Made, Sees, Found, Did, Peeked, TakeAnswer, WaitAnswer, MovedBy, Overtaken, IsTicket, raise_event, head_in, mark_in, load, Step, Acts, change, seen_as, with_event, take_event, claim_event}
+use Rattle.thread_table.proofs.Common.{or-true, or-false, inl, inr, Ok, Err, ◌++◌, ◌≡◌, ◌≢◌, ℕ, ◌+◌, ◌-◌, ◌*◌, ◌/◌, ◌%◌, ◌<◌, ◌≤◌, Bool, true, false, ◌||◌, cond, eqb, eq-eqb, ne_eqb, List, [], ◌∷◌, length, get_or, set, take, Some, refl, sym, ap, subst, ◌∙◌, arith, get_or-set_same, get_or-set_other, slice_get-get_or, append_assoc, made_in, has, dite, ℕ_discrete, Elements, Queue, left, empty_queue, IsLawfulQueue, Event, every_at, View, ring_at, ring_name, element_at, ELEMENTS, RINGS, PLACES, NOTIFY, head_word, tail_word, place_word, wait_ring, tail_shown, mark_of, claim_of, quiet, with_held, left_by_event, HasClaimed, MadeEvent, Sees, Found, HandDid, Peeked, TakeAnswer, WaitAnswer, MovedBy, Overtaken, IsTicket, raise_event, head_in, mark_in, load, Step, PerformsEvents, change, seen_as, with_event, take_event, claim_event}
 use mathlib.Core.Path.{transport}
 use Rattle.thread_table.proofs.Events.Firsts.{first_unheld}
 use Rattle.event_theory.specs.declared.event.Event.TheVariants as events
@@ -56,7 +56,7 @@ held_less held x e below = dite (ℕ_discrete e x)
 
 -- the tail at the exchange is the one loaded, so the element in the place word is the oldest
 took_oldest : (call : ℕ) (u v f w : View) (ring tail found element mark : ℕ) → ring < RINGS → Found u (tail_word ring) tail v → Found v (place_word ring tail) found f → tail ≡ tail_shown u.own.first (elements_after v.seen.object) ring
-    → Peeked v ring found f → found ≡ element + 256 * mark → element < 256 → mark ≡ tail + 1 → (t : Did call f (tail_word ring) tail (take_event call ring) w)
+    → Peeked v ring found f → found ≡ element + 256 * mark → element < 256 → mark ≡ tail + 1 → (t : HandDid call f (tail_word ring) tail (take_event call ring) w)
     → (element_at (ring_at (elements_after t.before.object) ring) (ring_at (elements_after t.before.object) ring).taken ≡ element) × (take 1 (left (ring_at (elements_after t.before.object) ring)) ≡ element ∷ []) × (element < ELEMENTS)
 took_oldest call u v f w ring tail found element mark below a b tail_is peek parts bounded up t =
     let s : Sees f t.before.object = t.step.sees in
@@ -83,12 +83,12 @@ took_oldest call u v f w ring tail found element mark below a b tail_is peek par
 
 -- after a taking: the element is one of the table's, and the entries are those of the answer
 pub taken_first : (call : ℕ) (u v f w : View) (ring tail found element mark : ℕ) → ring < RINGS → Found u (tail_word ring) tail v → Found v (place_word ring tail) found f → tail ≡ tail_shown u.own.first (elements_after v.seen.object) ring
-    → Peeked v ring found f → found ≡ element + 256 * mark → element < 256 → mark ≡ tail + 1 → Did call f (tail_word ring) tail (take_event call ring) w → (element < ELEMENTS) × TakeAnswer call u ring (Ok element) w
+    → Peeked v ring found f → found ≡ element + 256 * mark → element < 256 → mark ≡ tail + 1 → HandDid call f (tail_word ring) tail (take_event call ring) w → (element < ELEMENTS) × TakeAnswer call u ring (Ok element) w
 taken_first call u v f w ring tail found element mark below a b tail_is peek parts bounded up t =
     let o = took_oldest call u v f w ring tail found element mark below a b tail_is peek parts bounded up t in let looks = acts_two u v f _ _ _ _ a b in
     let ev : Event = take_event call ring in let e : Elements = elements_after t.before.object in
-    let took : Acts f (change (tail_word ring) tail t.before ev ∷ []) (with_event (with_held f element true) ev) w =
-    subst (λ (x : ℕ). Acts f (change (tail_word ring) tail t.before ev ∷ []) (with_event (with_held f x true) ev) w) (ap (λ (r : ℕ). element_at (ring_at e r) (ring_at e r).taken) (ring_is ring) ∙ o.0) t.step.acts in
+    let took : PerformsEvents f (change (tail_word ring) tail t.before ev ∷ []) (with_event (with_held f element true) ev) w =
+    subst (λ (x : ℕ). PerformsEvents f (change (tail_word ring) tail t.before ev ∷ []) (with_event (with_held f x true) ev) w) (ap (λ (r : ℕ). element_at (ring_at e r) (ring_at e r).taken) (ring_is ring) ∙ o.0) t.step.acts in
     let acts = then_acts u f w (λ z. with_event (with_held z element true) ev) (load (tail_word ring) tail v.seen ∷ load (place_word ring tail) found f.seen ∷ []) (change (tail_word ring) tail t.before ev ∷ []) looks took refl in
     let long : length u.own.held ≡ 64 = ap (λ (z : View). length z.own.held) (sym looks.has) ∙ t.hand.held_long in
     let free : has u element ≡ false = ap (λ (z : View). has z element) (sym looks.has) ∙ (sym (t.hand.held element) ∙ first_unheld call element ring e t.step.sees.lawful o.1) in (
@@ -158,7 +158,7 @@ Moves event ring element = (v : View) (e : Elements) → left_by_event event e v
 pub claim_moves : (call ring element : ℕ) → Moves (claim_event call ring element) ring element
 claim_moves call ring element v e = ap (λ (r : ℕ). with_claim v e r element) (ring_is ring)
 
-module _ (call ring element : ℕ) (event : Event) (word head mark : ℕ) (v m : View) (below : ring < RINGS) (moves : Moves event ring element) (c : Did call v (head_word ring) word event m) (parts : word ≡ head + mark * NOTIFY) (bounded : head < 4294967296) where
+module _ (call ring element : ℕ) (event : Event) (word head mark : ℕ) (v m : View) (below : ring < RINGS) (moves : Moves event ring element) (c : HandDid call v (head_word ring) word event m) (parts : word ≡ head + mark * NOTIFY) (bounded : head < 4294967296) where
   -- the run that was claimed, of which the head word has the position
   run_claimed : head ≡ v.own.first + length (ring_at (elements_after c.before.object) ring).history
   run_claimed =
@@ -176,24 +176,24 @@ module _ (call ring element : ℕ) (event : Event) (word head mark : ℕ) (v m :
 
   -- after a move: the entries are those of the answer
   pub moved_to : (u w : View) (found : ℕ) → u.own.fresh ≡ true → has u element ≡ true → element < ELEMENTS → Found u (head_word ring) word v → head ≢ 4294967295
-      → Did call m (place_word ring head) found (raise_event call m ring head) w → MovedBy call u ring element event word w
+      → HandDid call m (place_word ring head) found (raise_event call m ring head) w → MovedBy call u ring element event word w
   moved_to u w found fresh mine known fa more r =
-      let a = fa.acts in let e : Elements = elements_after c.before.object in let made : Made = made_in event (state_after c.before.object) in
+      let a = fa.acts in let e : Elements = elements_after c.before.object in let made : MadeEvent = made_in event (state_after c.before.object) in
       let claim : Step = change (head_word ring) word c.before event in
       let spot : head ≡ head_in word = sym (word_parts word head mark parts bounded).0 in
       let first : m.own.first ≡ u.own.first = first_same ∙ ap (λ (z : View). z.own.first) a.has in
       let raise : Event = raise_event call u ring (head_in word) in let store : Step = change (place_word ring (head_in word)) found r.before raise in
       let mid : View → View = λ z. record (with_claim z e ring element) { own = record (with_claim z e ring element).own { made = z.own.made ++ made ∷ [] } } in
-      let claimed : Acts v (claim ∷ []) (mid v) m = subst (λ (z : View). Acts v (claim ∷ []) (record z { own = record z.own { made = v.own.made ++ made ∷ [] } }) m) (moves v e) c.step.acts in
-      let raised : Acts m (store ∷ []) (with_event (with_raise m) raise) w =
-      transport (λ i. Acts m (change (place_word ring (spot i)) found r.before (events.Raise call (ring_name ring) (spot i - first i) 0) ∷ []) (with_event (with_raise m) (events.Raise call (ring_name ring) (spot i - first i) 0)) w) r.step.acts in
+      let claimed : PerformsEvents v (claim ∷ []) (mid v) m = subst (λ (z : View). PerformsEvents v (claim ∷ []) (record z { own = record z.own { made = v.own.made ++ made ∷ [] } }) m) (moves v e) c.step.acts in
+      let raised : PerformsEvents m (store ∷ []) (with_event (with_raise m) raise) w =
+      transport (λ i. PerformsEvents m (change (place_word ring (spot i)) found r.before (events.Raise call (ring_name ring) (spot i - first i) 0) ∷ []) (with_event (with_raise m) (events.Raise call (ring_name ring) (spot i - first i) 0)) w) r.step.acts in
       let ends : View → View = λ z. with_event (with_raise (mid z)) raise in
-      let two : Acts v (claim ∷ store ∷ []) (ends v) w = acts_on v m w (mid v) (with_event (with_raise m) raise) (ends v) (claim ∷ []) (store ∷ []) (ap (λ (z : View). z.member.share) claimed.has) claimed raised
+      let two : PerformsEvents v (claim ∷ store ∷ []) (ends v) w = acts_on v m w (mid v) (with_event (with_raise m) raise) (ends v) (claim ∷ []) (store ∷ []) (ap (λ (z : View). z.member.share) claimed.has) claimed raised
       (raised.has ∙ ap (λ (z : View). seen_as (with_event (with_raise z) raise) w) claimed.has)
       (λ x low before after. may_as w m (sym (ap (λ (z : View). z.own.held) raised.has)) (sym (ap (λ (z : View). z.own.serves) raised.has)) (sym (ap (λ (z : View). z.own.on) raised.has)) x after) in
-      let lists : List Made → View = λ l. record (ends u) { own = record (ends u).own { made = l } } in
-      let acts : Acts u (load (head_word ring) word v.seen ∷ claim ∷ store ∷ []) (with_move u element event c.before raise) w =
-      subst (λ (l : List Made). Acts u (load (head_word ring) word v.seen ∷ claim ∷ store ∷ []) (lists l) w) (append_assoc u.own.made (made ∷ []) (record { event = raise; number = 0; signals = [] } ∷ []))
+      let lists : List MadeEvent → View = λ l. record (ends u) { own = record (ends u).own { made = l } } in
+      let acts : PerformsEvents u (load (head_word ring) word v.seen ∷ claim ∷ store ∷ []) (with_move u element event c.before raise) w =
+      subst (λ (l : List MadeEvent). PerformsEvents u (load (head_word ring) word v.seen ∷ claim ∷ store ∷ []) (lists l) w) (append_assoc u.own.made (made ∷ []) (record { event = raise; number = 0; signals = [] } ∷ []))
       (then_acts u v w ends (load (head_word ring) word v.seen ∷ []) (claim ∷ store ∷ []) a two refl) in
       let long : length u.own.held ≡ 64 = ap (λ (z : View). length z.own.held) (sym a.has) ∙ c.hand.held_long in (
         found,

@@ -19,11 +19,11 @@ one_more low mark bounded marked = dite (dec_lt (mark + 1) 4294967296)
     ∙ (mod-eq_of_lt {n = low} {m = 18446744073709551616} (omega arith) ∙ omega (arith, a))))
 
 -- the number of notifies, one more
-abbrev told : Elements → ℕ → List ℕ
-told e wait = set e.notified wait ((get_or e.notified wait 0 + 1) % NOTIFY)
+abbrev valid : Elements → ℕ → List ℕ
+valid e wait = set e.notified wait ((get_or e.notified wait 0 + 1) % NOTIFY)
 
 abbrev after : Elements → ℕ → Elements
-after e wait = with_rings e e.rings (told e wait) e.held
+after e wait = with_rings e e.rings (valid e wait) e.held
 
 goes : (e : Elements) (wait : ℕ) → wait < length e.notified → notify_wait wait e ≡ Ok (after e wait)
 goes e wait below = rw (slice_get-get_or e.notified wait 0 below) refl
@@ -74,10 +74,10 @@ module _ (id : ℕ) (v : View) (free : v.own.claimed ≡ None) where
         becomes words _ (ap (λ (z : ℕ). (z + 4294967296) % 18446744073709551616) (sym head)) record {
           f = after e wait;
           goes = goes e wait (omega arith);
-          leaves = rings_leave id v e e.rings (told e wait) e.held (λ l. queue_stays (ring_at e l) (ring_at e l) refl) (λ call element ne. refl)
+          leaves = rings_leave id v e e.rings (valid e wait) e.held (λ l. queue_stays (ring_at e l) (ring_at e l) refl) (λ call element ne. refl)
               (λ call c ne claimed. claim_kept call c e (after e wait) refl refl claimed);
           hand = hand_holds id v e (after e wait) v.own.held v.own.claimed ready.hand refl refl ready.hand.held (λ c at. none_some c v.own.claimed free at);
-          shows = shows_kept first e e.rings (told e wait) e.held (wait_ring wait) (head_word (wait_ring wait)) word words shows refl (length-set e.notified wait _) (omega arith) (omega arith) (omega arith) (by_head (wait_ring wait) (omega arith) refl)
+          shows = shows_kept first e e.rings (valid e wait) e.held (wait_ring wait) (head_word (wait_ring wait)) word words shows refl (length-set e.notified wait _) (omega arith) (omega arith) (omega arith) (by_head (wait_ring wait) (omega arith) refl)
               (λ l ne. refl) (mark_other e wait)
               (ring_after first e words wait word (omega arith) (omega arith) (shows.rings (wait_ring wait) (omega arith)) refl);
           owes = same_owes v (quiet v) e (after e wait) free (λ ring. refl);

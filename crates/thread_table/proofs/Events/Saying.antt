@@ -3,14 +3,14 @@ use Rattle.thread_table.proofs.Common.{◌≡◌, ◌≢◌, ℕ, ◌+◌, ◌/�
 use Rattle.thread_table.specs.declared.layout.TheConstants.{STOP}
 use Rattle.thread_table.specs.Schedules.{after, begun, state_after, elements_after, IsAllowed}
 use Rattle.thread_table.specs.Layout.{stop_bit, cell_bit}
-use Rattle.thread_table.specs.Telling.{IsReal}
+use Rattle.thread_table.specs.Telling.{IsValidHandStep}
 use Rattle.thread_table.proofs.Schedule.Orders.{real_allows}
 use Rattle.thread_table.proofs.Events.Tells.{place_says}
 use Rattle.thread_table.proofs.Events.SingleRuns.{raised_known, first_of_left}
 use Rattle.thread_table.proofs.Events.StatesSeen.{shown_in, pending_are}
 use Rattle.thread_table.proofs.Schedule.Schedules.{lawful_after}
 
-module _ (first : ℕ) (e : Step) (r : IsReal first e) where
+module _ (first : ℕ) (e : Step) (r : IsValidHandStep first e) where
   at_word : (i : ℕ) → e.word ≡ i → e.found ≡ get_or r.words i 0
   at_word i is = r.is ∙ ap (λ (z : ℕ). get_or r.words z 0) is
 
@@ -45,7 +45,7 @@ bits_say thread word s = (
 lawful_at : (past : List Event) (ring : ℕ) → IsAllowed past → ring < length (elements_after past).rings → IsLawfulQueue (ring_at (elements_after past) ring)
 lawful_at past ring allowed many = every_at IsLawfulQueue (elements_after past).rings ring (ring_at (elements_after past) ring) (slice_get-get_or (elements_after past).rings ring (empty_queue PLACES) many) (lawful_after past allowed).rings
 
-module _ (first ring tail place : ℕ) (p q r : Past) (below : ring < RINGS) (loaded : IsReal first (load (tail_word ring) tail p)) (peeked : IsReal first (load (place_word ring tail) place q)) (a : Grows (elements_after p.object) (elements_after q.object)) (b : Grows (elements_after q.object) (elements_after r.object)) where
+module _ (first ring tail place : ℕ) (p q r : Past) (below : ring < RINGS) (loaded : IsValidHandStep first (load (tail_word ring) tail p)) (peeked : IsValidHandStep first (load (place_word ring tail) place q)) (a : Grows (elements_after p.object) (elements_after q.object)) (b : Grows (elements_after q.object) (elements_after r.object)) where
   tail_is : tail ≡ first + (ring_at (elements_after p.object) ring).taken
   tail_is = tail_says first (load (tail_word ring) tail p) loaded ring below refl
 
@@ -58,7 +58,7 @@ module _ (first ring tail place : ℕ) (p q r : Past) (below : ring < RINGS) (lo
   same_taken again = let m = (a ring).further in let n = (b ring).further in let t = tail_is in (omega arith, omega arith)
 
   -- the place at the tail was raised, and then the tail was found again: the place has the oldest element
-  pub oldest_says : (taken : IsReal first (load (tail_word ring) tail r)) → place / 256 ≡ tail + 1 → take 1 (left (ring_at (elements_after r.object) ring)) ≡ place % 256 ∷ []
+  pub oldest_says : (taken : IsValidHandStep first (load (tail_word ring) tail r)) → place / 256 ≡ tail + 1 → take 1 (left (ring_at (elements_after r.object) ring)) ≡ place % 256 ∷ []
   oldest_says taken up =
       let again : tail_shown first (elements_after r.object) ring ≡ tail = sym (tail_says first (load (tail_word ring) tail r) taken ring below refl) in
       let same = same_taken again in let t = tail_is in
@@ -71,14 +71,14 @@ module _ (first ring tail place : ℕ) (p q r : Past) (below : ring < RINGS) (lo
       first_of_left (ring_at (elements_after r.object) ring) (lawful_at r.object ring taken.lawful (let n = taken.shows.queues in omega arith)) (taken.shows.rings ring below).single still ∙ ap (λ (z : ℕ). z ∷ []) is
 
   -- the place at the tail was not raised, and then the tail was found again: the run there was not raised
-  pub unraised_says : (again : IsReal first (load (tail_word ring) tail r)) → place / 256 ≢ tail + 1 → (ring_at (elements_after q.object) ring).raised (ring_at (elements_after q.object) ring).taken 0 ≡ false
+  pub unraised_says : (again : IsValidHandStep first (load (tail_word ring) tail r)) → place / 256 ≢ tail + 1 → (ring_at (elements_after q.object) ring).raised (ring_at (elements_after q.object) ring).taken 0 ≡ false
   unraised_says again low =
       let is : tail_shown first (elements_after r.object) ring ≡ tail = sym (tail_says first (load (tail_word ring) tail r) again ring below refl) in
       let same = same_taken is in let t = tail_is in
       subst (λ (z : ℕ). (ring_at (elements_after q.object) ring).raised z 0 ≡ false) (sym same.0) (says.2 (λ up. low (omega arith)) (omega arith))
 
 -- a step that found a number found it whatever it did
-pub as_load : (first word found : ℕ) (past : Past) (event : Event) → IsReal first (change word found past event) → IsReal first (load word found past)
+pub as_load : (first word found : ℕ) (past : Past) (event : Event) → IsValidHandStep first (change word found past event) → IsValidHandStep first (load word found past)
 as_load first word found past event r = record { lawful = r.lawful; words = r.words; shows = r.shows; ends = r.ends; is = r.is; effect = stays refl }
 
 last_step : (s : State) (past : List Event) (event : Event) (t : State) → Reaches s (past ++ event ∷ []) t → step event (after s past) ≡ Ok t
@@ -92,9 +92,9 @@ unfolding state_after IsAllowed
 allowed_step past event allowed = last_step begun past event (state_after (past ++ event ∷ [])) allowed
 
 -- a change is an event of the core, which allowed it
-pub change_says : (first word found : ℕ) (past : Past) (event : Event) → IsReal first (change word found past event) → IsAllowed (past.object ++ event ∷ []) × (step event (state_after past.object) ≡ Ok (state_after (past.object ++ event ∷ [])))
+pub change_says : (first word found : ℕ) (past : Past) (event : Event) → IsValidHandStep first (change word found past event) → IsAllowed (past.object ++ event ∷ []) × (step event (state_after past.object) ≡ Ok (state_after (past.object ++ event ∷ [])))
 change_says first word found past made r = let allowed = real_allows first (change word found past made) r in (allowed, allowed_step past.object made allowed)
 
 -- the number of hands
-pub ends_say : (first found : ℕ) (m : Past) → IsReal first (load ends_word found m) → found ≡ m.ends
+pub ends_say : (first found : ℕ) (m : Past) → IsValidHandStep first (load ends_word found m) → found ≡ m.ends
 ends_say first found m r = r.is ∙ r.ends

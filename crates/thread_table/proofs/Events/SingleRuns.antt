@@ -73,7 +73,7 @@ first_is_raised q lawful single up =
 -- no more runs are claimed than were taken and there is room for
 pub within_room : (q : Queue) (room : ℕ) → IsLawfulQueue q → Singles q.history → q.capacity ≡ room → (q.taken ≤ length q.history) × (length q.history ≤ q.taken + room)
 within_room q room lawful single is =
-    let behind = lawful.behind in
+    let following = lawful.taken_within in
     let fits = lawful.fits in
     let long : length (left q) ≡ length (flat q.history) - q.taken = length-drop q.taken (flat q.history) in
     let many = flat_long q.history single in
@@ -92,7 +92,7 @@ all_passed p n (suc m) (suc t) (suc i) all near below =
 -- what was taken was raised
 pub taken_raised : (q : Queue) (run : ℕ) → IsLawfulQueue q → Singles q.history → run < q.taken → q.raised run 0 ≡ true
 taken_raised q run lawful single below =
-    let behind = lawful.behind in
+    let following = lawful.taken_within in
     let many = flat_long q.history single in
     let all : list_all (is_raised q) (take q.taken (map first_pair (range_with_len 0 (length q.history)))) ≡ true =
     subst (λ ps. list_all (is_raised q) (take q.taken ps) ≡ true) (pairs_single 0 q.history single) lawful.ready in

@@ -1,5 +1,5 @@
 -- A step's result, by the words that it found.
-use Rattle.thread_table.proofs.Common.{true_from_ne_false, false_from_ne_true, ◌≡◌, ◌≢◌, ℕ, ◌+◌, ◌/◌, ◌%◌, ◌<◌, ◌≤◌, true, false, get_or, sym, ◌∙◌, subst, arith, slice_get-get_or, dite, dec_lt, List, Elements, IsLawfulQueue, IsLawfulElements, Queue, empty_queue, Event, every_at, View, Grows, ring_at, element_at, thread_at, ELEMENTS, RINGS, PLACES, head_word, tail_word, place_word, state_word, WordsShow, RingShows, PlaceShows, StateShows, head_shown, tail_shown, Sees, Found, Did, Peeked}
+use Rattle.thread_table.proofs.Common.{true_from_ne_false, false_from_ne_true, ◌≡◌, ◌≢◌, ℕ, ◌+◌, ◌/◌, ◌%◌, ◌<◌, ◌≤◌, true, false, get_or, sym, ◌∙◌, subst, arith, slice_get-get_or, dite, dec_lt, List, Elements, IsLawfulQueue, IsLawfulElements, Queue, empty_queue, Event, every_at, View, Grows, ring_at, element_at, thread_at, ELEMENTS, RINGS, PLACES, head_word, tail_word, place_word, state_word, WordsShow, RingShows, PlaceShows, StateShows, head_shown, tail_shown, Sees, Found, HandDid, Peeked}
 use Rattle.thread_table.specs.Schedules.{elements_after}
 use Rattle.thread_table.proofs.Events.SingleRuns.{within_room, taken_raised, first_of_left}
 use Rattle.thread_table.proofs.Events.Takes.{first_known}
@@ -8,8 +8,8 @@ use Rattle.thread_table.proofs.Events.Takes.{first_known}
 pub found_at : {v w : View} {i place found : ℕ} → i ≡ place → Found v i found w → Found v place found w
 found_at {v} {w} {i} {place} {found} here f = subst (λ (z : ℕ). Found v z found w) here f
 
-pub did_at : {call : ℕ} {v w : View} {i place found : ℕ} {event : Event} → i ≡ place → Did call v i found event w → Did call v place found event w
-did_at {call} {v} {w} {i} {place} {found} {event} here d = subst (λ (z : ℕ). Did call v z found event w) here d
+pub did_at : {call : ℕ} {v w : View} {i place found : ℕ} {event : Event} → i ≡ place → HandDid call v i found event w → HandDid call v place found event w
+did_at {call} {v} {w} {i} {place} {found} {event} here d = subst (λ (z : ℕ). HandDid call v z found event w) here d
 
 ring_of : (v w : View) (ring : ℕ) (sees : Sees v w.seen.object) → ring < RINGS → RingShows v.own.first (elements_after w.seen.object) ring sees.words
 ring_of v w ring sees below = let shows = sees.shows in shows.rings ring below
@@ -27,7 +27,7 @@ found_tail v w found ring below f = let l = ring_of v w ring f.sees below in f.i
 -- a tail is a position
 pub small_tail : (v w : View) (ring : ℕ) → ring < RINGS → Sees v w.seen.object → tail_shown v.own.first (elements_after w.seen.object) ring < 4294967296
 small_tail v w ring below seen = let l = ring_of v w ring seen below in let bounded = l.bounded in
-    let room = within_room (ring_at (elements_after w.seen.object) ring) 64 (lawful_ring v w ring seen below) l.single l.capacity in let behind = room.0 in omega arith
+    let room = within_room (ring_at (elements_after w.seen.object) ring) 64 (lawful_ring v w ring seen below) l.single l.capacity in let following = room.0 in omega arith
 
 -- what the place says that was the tail's at the elements d, and was found at the elements e
 pub place_says : (first found ring : ℕ) (d e : Elements) (words : List ℕ) → ring < RINGS → WordsShow first e words → IsLawfulElements e → Grows d e → found ≡ get_or words (place_word ring (first + (ring_at d ring).taken)) 0

@@ -1,5 +1,5 @@
 -- Waking all that wait: the elements of the mask were taken since the notify, and weren't held before.
-use Rattle.thread_table.proofs.Common.{or-true, or-false, or_parts, append-nil, ⊎_elim, ◌≡◌, ◌≢◌, ◌⊎◌, inl, inr, ℕ, ◌+◌, ◌*◌, ◌^◌, ◌<◌, ◌≤◌, Bool, true, false, ◌||◌, List, [], ◌∷◌, ◌++◌, ◌∙◌, ◌%◌, get_or, cond, Ok, Err, Some, None, refl, sym, ap, subst, arith, eqb, eq-eqb, ne_eqb, count_by, is_done, pow-lt, eqb_tells, nat_tests, bit_at, bit_or, AllByRecursion, Made, View, NextRefusal, ELEMENTS, NOTIFY, head_word, tail_word, wait_ring, Past, has, serves, running, MayStep, quiet, with_held, load, Step, change, seen_as, Acts, with_event, take_event, steps_in, steps_by, Found, Did, TakeAnswer, is_in, head_in, NotifiedNow, BeforeAnswer}
+use Rattle.thread_table.proofs.Common.{or-true, or-false, or_parts, append-nil, ⊎_elim, ◌≡◌, ◌≢◌, ◌⊎◌, inl, inr, ℕ, ◌+◌, ◌*◌, ◌^◌, ◌<◌, ◌≤◌, Bool, true, false, ◌||◌, List, [], ◌∷◌, ◌++◌, ◌∙◌, ◌%◌, get_or, cond, Ok, Err, Some, None, refl, sym, ap, subst, arith, eqb, eq-eqb, ne_eqb, count_by, is_done, pow-lt, eqb_tells, nat_tests, bit_at, bit_or, AllByRecursion, MadeEvent, View, NextRefusal, ELEMENTS, NOTIFY, head_word, tail_word, wait_ring, Past, has, serves, running, MayStep, quiet, with_held, load, Step, change, seen_as, PerformsEvents, with_event, take_event, steps_in, steps_by, Found, HandDid, TakeAnswer, is_in, head_in, NotifiedNow, BeforeAnswer}
 use Rattle.std.proofs.Math.Bool.{or_assoc}
 use Rattle.std.proofs.Common.{append_assoc, eqb-true}
 use mathlib.Core.Path.{transport}
@@ -28,7 +28,7 @@ all_as P Q f [] all = tt
 all_as P Q f (x ∷ xs) all = (f x all.0, all_as P Q f xs all.1)
 
 -- the hand still holds a taken element after entries that count no step and let nothing go
-held_on : (l w now : View) (es : List Step) → Acts l es now w → l.own.fresh ≡ true → ((x : ℕ) → has l x ≡ true → has w x ≡ true) → ((x : ℕ) → steps_by x w.own.made ≡ steps_by x l.own.made) → (try : Try) → IsHeld l try → IsHeld w try
+held_on : (l w now : View) (es : List Step) → PerformsEvents l es now w → l.own.fresh ≡ true → ((x : ℕ) → has l x ≡ true → has w x ≡ true) → ((x : ℕ) → steps_by x w.own.made ≡ steps_by x l.own.made) → (try : Try) → IsHeld l try → IsHeld w try
 held_on l w now es a up more made (took before tail place q r s t) h = (
   h.0,
   more (place % 256) h.1,
@@ -42,7 +42,7 @@ pub record Rounds (call wait ring word : ℕ) (v : View) (mask : ℕ) (w : View)
   pub tries : List Try
   pub first : Past
   pub each : AllByRecursion (IsTry (head_in word)) tries
-  pub acts : Acts v (change (head_word (wait_ring wait)) word first (events.NotifyWait call wait) ∷ flat_map (entries_of call ring) tries) (with_tries call wait ring v tries w) w
+  pub acts : PerformsEvents v (change (head_word (wait_ring wait)) word first (events.NotifyWait call wait) ∷ flat_map (entries_of call ring) tries) (with_tries call wait ring v tries w) w
   pub mask_is : (e : ℕ) → e < ELEMENTS → is_in mask e ≡ is_among (taken_in tries) e
   pub apart : AreApart (taken_in tries)
   pub holds : (e : ℕ) → e < ELEMENTS → has w e ≡ (has v e || is_in mask e)
@@ -50,8 +50,8 @@ pub record Rounds (call wait ring word : ℕ) (v : View) (mask : ℕ) (w : View)
   pub held : AllByRecursion (IsHeld w) tries
 
 -- the view `now` can name the held elements as those of w
-holding : {v now w : View} {es : List Step} → Acts v es now w → Acts v es (record now { own = record now.own { held = w.own.held } }) w
-holding {v} {now} {w} {es} a = subst (λ (z : List Bool). Acts v es (record now { own = record now.own { held = z } }) w) (sym (ap (λ (z : View). z.own.held) a.has)) a
+holding : {v now w : View} {es : List Step} → PerformsEvents v es now w → PerformsEvents v es (record now { own = record now.own { held = w.own.held } }) w
+holding {v} {now} {w} {es} a = subst (λ (z : List Bool). PerformsEvents v es (record now { own = record now.own { held = z } }) w) (sym (ap (λ (z : View). z.own.held) a.has)) a
 
 -- numbers that differ do so in either order
 apart_of : (y x : ℕ) → eqb x y ≡ false → eqb y x ≡ false
@@ -74,7 +74,7 @@ in_more : (mask n e : ℕ) → is_in (bit_or mask (2 ^ n)) e ≡ (is_in mask e |
 in_more mask n e = in_by mask n e (eqb_tells e n)
 
 -- the hand has taken nothing
-pub rounds_none : (call wait ring word : ℕ) (v u : View) → Did call v (head_word (wait_ring wait)) word (events.NotifyWait call wait) u → Rounds call wait ring word v 0 u
+pub rounds_none : (call wait ring word : ℕ) (v u : View) → HandDid call v (head_word (wait_ring wait)) word (events.NotifyWait call wait) u → Rounds call wait ring word v 0 u
 rounds_none call wait ring word v u d = record {
   tries = [];
   first = d.before;
@@ -109,7 +109,7 @@ apart_more (y ∷ xs) x apart new =
 
 -- one try more, of which this is known
 module _ (call wait ring word : ℕ) (v l w : View) (mask : ℕ) (past : Rounds call wait ring word v mask l) (try : Try) where
-  abbrev made : List Made
+  abbrev made : List MadeEvent
   made = made_by_try call ring try
 
   abbrev adding : View → View
@@ -119,20 +119,20 @@ module _ (call wait ring word : ℕ) (v l w : View) (mask : ℕ) (past : Rounds 
   kept x low (inl h) = inl (past.holds x low ∙ ap (λ b. b || is_in mask x) h)
   kept x low (inr h) = inr (h.0, ap (λ (z : View). serves z h.0) past.acts.has ∙ h.1, ap (λ (z : View). running z h.0) past.acts.has ∙ h.2)
 
-  round_on : Acts l (entries_of call ring try) (adding l) w
-      → Acts v (change (head_word (wait_ring wait)) word past.first (events.NotifyWait call wait) ∷ flat_map (entries_of call ring) (past.tries ++ try ∷ [])) (with_tries call wait ring v (past.tries ++ try ∷ []) w) w
+  round_on : PerformsEvents l (entries_of call ring try) (adding l) w
+      → PerformsEvents v (change (head_word (wait_ring wait)) word past.first (events.NotifyWait call wait) ∷ flat_map (entries_of call ring) (past.tries ++ try ∷ [])) (with_tries call wait ring v (past.tries ++ try ∷ []) w) w
   round_on a =
-      let notify : Step = change (head_word (wait_ring wait)) word past.first (events.NotifyWait call wait) in let told : Made = record { event = events.NotifyWait call wait; number = 0; signals = [] } in
-      let before : View = with_tries call wait ring v past.tries l in let all : List Made = flat_map (made_by_try call ring) past.tries in
+      let notify : Step = change (head_word (wait_ring wait)) word past.first (events.NotifyWait call wait) in let valid : MadeEvent = record { event = events.NotifyWait call wait; number = 0; signals = [] } in
+      let before : View = with_tries call wait ring v past.tries l in let all : List MadeEvent = flat_map (made_by_try call ring) past.tries in
       let lists : flat_map (entries_of call ring) past.tries ++ entries_of call ring try ≡ flat_map (entries_of call ring) (past.tries ++ try ∷ []) = sym (flat_snoc (entries_of call ring) past.tries try) in
-      let events : (v.own.made ++ told ∷ all) ++ made ≡ v.own.made ++ told ∷ flat_map (made_by_try call ring) (past.tries ++ try ∷ []) =
-      append_assoc v.own.made (told ∷ all) made ∙ ap (λ (z : List Made). v.own.made ++ told ∷ z) (sym (flat_snoc (made_by_try call ring) past.tries try)) in
+      let events : (v.own.made ++ valid ∷ all) ++ made ≡ v.own.made ++ valid ∷ flat_map (made_by_try call ring) (past.tries ++ try ∷ []) =
+      append_assoc v.own.made (valid ∷ all) made ∙ ap (λ (z : List MadeEvent). v.own.made ++ valid ∷ z) (sym (flat_snoc (made_by_try call ring) past.tries try)) in
       let two = acts_on v l w before (adding l) (adding before) (notify ∷ flat_map (entries_of call ring) past.tries) (entries_of call ring try) (ap (λ (z : View). z.member.share) past.acts.has) past.acts a
       (a.has ∙ ap (λ (z : View). seen_as (adding z) w) past.acts.has) (λ x low may after. kept x low may) in
-      transport (λ i. Acts v (notify ∷ lists i) (record v { own = record v.own { held = w.own.held; counted = None; made = events i } }) w) two
+      transport (λ i. PerformsEvents v (notify ∷ lists i) (record v { own = record v.own { held = w.own.held; counted = None; made = events i } }) w) two
 
   -- what was taken before is still held
-  held_then : {now : View} → Acts l (entries_of call ring try) now w → ((x : ℕ) → has l x ≡ true → has w x ≡ true) → ((x : ℕ) → steps_by x w.own.made ≡ steps_by x l.own.made) → AllByRecursion (IsHeld w) past.tries
+  held_then : {now : View} → PerformsEvents l (entries_of call ring try) now w → ((x : ℕ) → has l x ≡ true → has w x ≡ true) → ((x : ℕ) → steps_by x w.own.made ≡ steps_by x l.own.made) → AllByRecursion (IsHeld w) past.tries
   held_then {now} a more made = all_as (IsHeld l) (IsHeld w) (held_on l w now _ a (ap (λ (z : View). z.own.fresh) past.acts.has) more made) past.tries past.held
 
 or_itself : (b : Bool) (e : ℕ) → (b || eqb e e) ≡ true
@@ -143,7 +143,7 @@ still_of : (w : View) (try : Try) → IsHeld w try → IsStill w try
 still_of w (took before tail place q r s t) h = h.2
 still_of w (missed before tail place seen q r s t) h = tt
 
-count_snoc_none : (p : Made → Bool) (xs : List Made) (x : Made) → p x ≡ false → count_by p (xs ++ x ∷ []) ≡ count_by p xs
+count_snoc_none : (p : MadeEvent → Bool) (xs : List MadeEvent) (x : MadeEvent) → p x ≡ false → count_by p (xs ++ x ∷ []) ≡ count_by p xs
 count_snoc_none p xs x is = let c = count_snoc p xs x in let n : count_by p (x ∷ []) ≡ 0 = ap (λ (b : Bool). 0 + cond b 1 0) is in omega arith
 
 -- a bit that is shifted to its place is whole
@@ -152,15 +152,15 @@ one_bit n below = let m : 2 ^ n < 18446744073709551616 = pow-lt {i = n} {j = 64}
 
 -- the tail was found below the head, and then the hand took nothing
 missed_more : (call wait ring word : ℕ) (v l w : View) (mask : ℕ) (past : Rounds call wait ring word v mask l) (before tail place seen : ℕ) (q r s t : Past) → IsTry (head_in word) (missed before tail place seen q r s t)
-    → Acts l (entries_of call ring (missed before tail place seen q r s t)) (quiet l) w → Rounds call wait ring word v mask w
+    → PerformsEvents l (entries_of call ring (missed before tail place seen q r s t)) (quiet l) w → Rounds call wait ring word v mask w
 missed_more call wait ring word v l w mask past before tail place seen q r s t is a =
     let try : Try = missed before tail place seen q r s t in let same_held : w.own.held ≡ l.own.held = ap (λ (z : View). z.own.held) a.has in
     let same : taken_in past.tries ≡ taken_in (past.tries ++ try ∷ []) = sym (taken_on past.tries (try ∷ []) ∙ append-nil (taken_in past.tries)) in
-    let lists : List Made → View = λ z. record l { own = record l.own { held = w.own.held; counted = None; made = z } } in record {
+    let lists : List MadeEvent → View = λ z. record l { own = record l.own { held = w.own.held; counted = None; made = z } } in record {
       tries = past.tries ++ try ∷ [];
       first = past.first;
       each = all_on (IsTry (head_in word)) past.tries (try ∷ []) past.each (is, tt);
-      acts = round_on call wait ring word v l w mask past try (subst (λ (z : List Made). Acts l (entries_of call ring try) (lists z) w) (sym (append-nil l.own.made)) (holding a));
+      acts = round_on call wait ring word v l w mask past try (subst (λ (z : List MadeEvent). PerformsEvents l (entries_of call ring try) (lists z) w) (sym (append-nil l.own.made)) (holding a));
       mask_is = λ e known. past.mask_is e known ∙ ap (λ (z : List ℕ). is_among z e) same;
       apart = subst AreApart same past.apart;
       holds = λ e known. ap (λ (k : List Bool). get_or k e false) same_held ∙ past.holds e known;
@@ -180,7 +180,7 @@ pub rounds_took : (call wait ring word tail element : ℕ) (u l v w : View) (mas
 rounds_took call wait ring word tail element u l v w mask bounded past found below a = subst (λ k. Rounds call wait ring word u (bit_or mask k) w) (one_bit element bounded) (
     let look = found.acts in let same : (x : ℕ) → has v x ≡ has l x = λ x. ap (λ (z : View). has z x) look.has in
     let try : Try = took tail a.0 a.1 v.seen a.2 a.3 a.4 in
-    let acts : Acts l (entries_of call ring try) (with_event (with_held l element true) (take_event call ring)) w = then_acts l v w (λ z. with_event (with_held z element true) (take_event call ring)) (load (tail_word ring) tail v.seen ∷ []) _ look a.8 refl in
+    let acts : PerformsEvents l (entries_of call ring try) (with_event (with_held l element true) (take_event call ring)) w = then_acts l v w (λ z. with_event (with_held z element true) (take_event call ring)) (load (tail_word ring) tail v.seen ∷ []) _ look a.8 refl in
     let unheld : has l element ≡ false = sym (same element) ∙ a.7.0 in
     let more : taken_in past.tries ++ element ∷ [] ≡ taken_in (past.tries ++ try ∷ []) = ap (λ (k : ℕ). taken_in past.tries ++ k ∷ []) a.6 ∙ sym (taken_on past.tries (try ∷ [])) in
     let free : has u element ≡ false = (or_parts (has u element) (is_in mask element) (sym (past.holds element bounded) ∙ unheld)).0 in
@@ -195,7 +195,7 @@ rounds_took call wait ring word tail element u l v w mask bounded past found bel
       woken = λ e known up. ⊎_elim (past.woken e known) (λ is. ap (has u) (eqb-true e element is) ∙ free) (either_of (is_in mask e) (eqb e element) (sym (in_more mask element e) ∙ up));
       held = all_on (IsHeld w) past.tries (try ∷ [])
           (held_then call wait ring word u l w mask past try acts (λ x h. a.7.1 x ∙ (ap (λ b. b || eqb x element) (same x ∙ h) ∙ refl))
-          (λ x. ap (λ (z : View). steps_by x z.own.made) acts.has ∙ count_snoc_none (λ (m : Made). is_done x m.event) l.own.made (record { event = take_event call ring; number = 0; signals = [] }) refl)) (
+          (λ x. ap (λ (z : View). steps_by x z.own.made) acts.has ∙ count_snoc_none (λ (m : MadeEvent). is_done x m.event) l.own.made (record { event = take_event call ring; number = 0; signals = [] }) refl)) (
             (
               subst (λ (k : ℕ). k < ELEMENTS) a.6 bounded,
               subst (λ (k : ℕ). has w k ≡ true) a.6 (a.7.1 element ∙ or_itself (has v element) element),
@@ -224,7 +224,7 @@ woke_all call wait word tail mask v l w past found reached = let look = found.ac
 }
 
 -- one notify, and the head that it found
-pub notified_now : (call wait word head mark : ℕ) (v u : View) → (n : Did call v (head_word (wait_ring wait)) word (events.NotifyWait call wait) u) → word ≡ head + mark * NOTIFY → head < 4294967296 → NotifiedNow call v wait head u
+pub notified_now : (call wait word head mark : ℕ) (v u : View) → (n : HandDid call v (head_word (wait_ring wait)) word (events.NotifyWait call wait) u) → word ≡ head + mark * NOTIFY → head < 4294967296 → NotifiedNow call v wait head u
 notified_now call wait word head mark v u n is bounded = (word, n.before, sym (word_parts word head mark is bounded).0, n.step.acts)
 
 -- the tail was found to have reached a position

@@ -1,9 +1,9 @@
 -- What a hand knows after a split, and after a join.
-use Rattle.thread_table.proofs.Common.{◌≡◌, ℕ, zero, suc, ◌+◌, ◌-◌, Bool, false, ◌||◌, ◌&&◌, not, List, [], ◌∷◌, length, get_or, refl, sym, ap, ◌∙◌, subst, arith, and_right, or_parts, nat_lt, Event, Begins, count_up, count_down, begins_trans, ends_word, seen_as, View, is_in, Sees, CountedDown, any_both, rest_of, newborn, both, Divided, IsNewborn, TookIn}
+use Rattle.thread_table.proofs.Common.{◌≡◌, ℕ, zero, suc, ◌+◌, ◌-◌, Bool, false, ◌||◌, ◌&&◌, not, List, [], ◌∷◌, length, get_or, refl, sym, ap, ◌∙◌, subst, arith, and_right, or_parts, nat_lt, Event, Begins, count_up, count_down, begins_trans, ends_word, seen_as, View, is_in, Sees, CountedDown, any_both, rest_of, newborn, both, SplitBy, IsNewEnd, JoinedBy}
 use Rattle.table_theory.specs.Ledgers.{Step}
 use Rattle.table_theory.specs.Sharing.{given}
 use Rattle.table_theory.proofs.Parting.{one_seen}
-use Rattle.thread_table.specs.Steps as told
+use Rattle.thread_table.specs.Steps as valid
 use Rattle.thread_table.specs.Steps.{after, CountedUp}
 use Rattle.thread_table.specs.Endings.{with_split, together, with_join}
 use Rattle.thread_table.proofs.Schedule.Acting.{acts_kept}
@@ -17,9 +17,9 @@ both_low (b ∷ bs) (m ∷ ms) none zero = (or_parts (b && m) (any_both bs ms) n
 both_low (b ∷ bs) (m ∷ ms) none (suc i) = both_low bs ms (or_parts (b && m) (any_both bs ms) none).1 i
 
 -- the first hand, after it counted the new one and gave it the processors of the mask
-pub divided : (number : ℕ) (mask : List Bool) (v x : View) (found : ℕ) → ((p : ℕ) → get_or mask p false ≡ is_in number p) → CountedUp v found x → Divided number v (rest_of mask x)
+pub divided : (number : ℕ) (mask : List Bool) (v x : View) (found : ℕ) → ((p : ℕ) → get_or mask p false ≡ is_in number p) → CountedUp v found x → SplitBy number v (rest_of mask x)
 divided number mask v x found is t = let w : View = rest_of mask x in let e : Step (List Event) = count_up ends_word t.before in let less : v.member.ends + 1 - 1 ≡ v.member.ends = omega arith in
-    let y : View = rest_of mask (after (record v { member = told.with_split v.member }) t.past e) in let goes : w ≡ y = ap (rest_of mask) t.same in record {
+    let y : View = rest_of mask (after (record v { member = valid.with_split v.member }) t.past e) in let goes : w ≡ y = ap (rest_of mask) t.same in record {
       serves = λ p below. parted_and x.own.serves mask p
           ∙ (ap (λ (z : List Bool). get_or z p false && not (get_or mask p false)) (ap (λ (z : View). z.own.serves) t.same) ∙ ap (λ (b : Bool). get_or v.own.serves p false && not b) (is p));
       found = t.before;
@@ -28,7 +28,7 @@ divided number mask v x found is t = let w : View = rest_of mask x in let e : St
           (goes ∙ ((λ i. record y { member = record y.member { ends = less i } }) ∙ sym (ap (λ (z : View). seen_as (with_split v z) z) goes)));
     }
 
-pub born : (number : ℕ) (mask : List Bool) (v x : View) (found : ℕ) → ((p : ℕ) → get_or mask p false ≡ is_in number p) → CountedUp v found x → IsNewborn number v (rest_of mask x) (newborn mask x)
+pub born : (number : ℕ) (mask : List Bool) (v x : View) (found : ℕ) → ((p : ℕ) → get_or mask p false ≡ is_in number p) → CountedUp v found x → IsNewEnd number v (rest_of mask x) (newborn mask x)
 born number mask v x found is t = record {
   serves = λ p below. is p;
   same = (λ i. record (newborn mask x) { member = record (newborn mask x).member { share = given (t.same i).member.share } });
@@ -48,9 +48,9 @@ sees_together v u w found t = let s = t.sees in subst (λ (z : List Event). Sees
   shows = s.shows;
 }
 
-pub took_in : (v u w : View) (found : ℕ) → v.member.ends ≡ 1 → u.member.ends ≡ 1 → length u.own.held ≡ length v.own.held → length u.own.serves ≡ length v.own.serves → CountedDown (both v u) found w → TookIn v u w
+pub took_in : (v u w : View) (found : ℕ) → v.member.ends ≡ 1 → u.member.ends ≡ 1 → length u.own.held ≡ length v.own.held → length u.own.serves ≡ length v.own.serves → CountedDown (both v u) found w → JoinedBy v u w
 took_in v u w found one one' held serves t =
-    let less : v.member.ends + u.member.ends - 1 ≡ 1 = omega arith in let e : Step (List Event) = count_down ends_word t.before in let y : View = after (record (both v u) { member = told.with_join (both v u).member }) t.past e in
+    let less : v.member.ends + u.member.ends - 1 ≡ 1 = omega arith in let e : Step (List Event) = count_down ends_word t.before in let y : View = after (record (both v u) { member = valid.with_join (both v u).member }) t.past e in
     let a = or_parts (v.own.doubled || u.own.doubled || any_both v.own.held u.own.held) (any_both v.own.serves u.own.serves) t.sees.undoubled in
     let b = or_parts (v.own.doubled || u.own.doubled) (any_both v.own.held u.own.held) a.0 in
     let later : Begins (both v u).course w.course = begins_trans (both v u).course t.past w.course t.follows (subst (Begins t.past) (sym (ap (λ (z : View). z.course) t.same)) (e ∷ [], refl)) in

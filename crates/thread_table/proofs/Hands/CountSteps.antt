@@ -1,5 +1,5 @@
 -- The steps that count hands, and the one that finds how many steps an element had done, keep the rule.
-use Rattle.thread_table.proofs.Common.{IsUsed, by_ends, unused_kept, ◌≡◌, ℕ, suc, ◌+◌, ◌-◌, ◌%◌, ◌<◌, ◌≤◌, true, false, List, get_or, set, Some, Option, option_map, sym, refl, ap, ◌∙◌, subst, ⊎_elim, arith, length-set, get_or-set_same, get_or-set_other, slice_get, or_left, or_right, list_any_at, slice_get_within, get_or_from_slice_get, Hold, list_any, set-get_or, some, none, get_elem?, Me, keeps, Allows, Part, IsReal, EndsStand, load, count_up, count_down, stays, more, fewer, Event, Elements, hold, holds, is_put, stand_same, ELEMENTS, Shape, begins_refl, View, Counted, Past, thread_at, ends_word, done_word, WordsShow, uncounted, IsActive, HandIs, IsCounted, Rule, MayStep, nothing_of, may_step, count_of, Stands, had_by_both, having_found, of_hands, set_here, at_below}
+use Rattle.thread_table.proofs.Common.{IsUsed, by_ends, unused_kept, ◌≡◌, ℕ, suc, ◌+◌, ◌-◌, ◌%◌, ◌<◌, ◌≤◌, true, false, List, get_or, set, Some, Option, option_map, sym, refl, ap, ◌∙◌, subst, ⊎_elim, arith, length-set, get_or-set_same, get_or-set_other, slice_get, or_left, or_right, list_any_at, slice_get_within, get_or_from_slice_get, Hold, list_any, set-get_or, some, none, get_elem?, Me, keeps, Allows, Part, IsValidStep, EndsStand, load, count_up, count_down, stays, more, fewer, Event, Elements, hold, holds, is_put, stand_same, ELEMENTS, Shape, begins_refl, View, Counted, Past, thread_at, ends_word, done_word, WordsShow, uncounted, IsActive, HandIs, IsCounted, Rule, MayStep, nothing_of, may_step, count_of, HandStands, had_by_both, having_found, of_hands, set_here, at_below}
 use Rattle.thread_table.proofs.Hands.Releases.{hold_own}
 use Rattle.thread_table.proofs.Shown.QueueWords.{ring_kept, shows_else}
 use Rattle.atomic_table.specs.Table.{step}
@@ -10,7 +10,7 @@ use Rattle.thread_table.specs.Schedules.{elements_after}
 use Rattle.thread_table.proofs.Schedule.JoinEvents.{joined_set, none_uncounted, one_uncounted}
 use Rattle.thread_table.specs.Steps.{after, with_split, with_join, counts_up, counts_down, HasTallied, reads_pc}
 use Rattle.thread_table.proofs.Schedule.Acting.{stepped}
-use Rattle.thread_table.proofs.Hands.Looks.{St, steps_to, now_at, hand_counts, hand_quiet, stood_look, real_step, kept, kept_look, found_now, sees_of, honest_of, looked, stepped_now}
+use Rattle.thread_table.proofs.Hands.OnlyLoads.{St, steps_to, now_at, hand_counts, hand_quiet, stood_look, real_step, kept, kept_look, found_now, sees_of, valid_of, looked, stepped_now}
 
 shows_count : (first y : ℕ) (e : Elements) (words : List ℕ) → WordsShow first e words → WordsShow first e (set words 0 y)
 shows_count first y e words h = let same : (k : ℕ) → 1 ≤ k → get_or (set words 0 y) k 0 ≡ get_or words k 0 = λ k from. get_or-set_other words 0 k y 0 (λ z. omega arith) in
@@ -18,7 +18,7 @@ shows_count first y e words h = let same : (k : ℕ) → 1 ≤ k → get_or (set
     (λ ring b. ring_kept first e e ring words (set words 0 y) refl refl (λ k from to. same k (omega arith)) (h.rings ring b)) (unused_kept IsUsed words 0 y (by_ends refl) h.unused)
 
 -- the rule, where the number of hands becomes y, and another of them of the hand
-pub kept_count : (key : Shape) (s : St) (k : Rule key s) (id y : ℕ) (v : View) (m : Part) (e : Step (List Event)) → e.then ≡ now_at k → IsReal (of_hands key.first) e → e.next ≡ record (now_at k) { ends = y } → get_elem? s.views id ≡ some v → 1 ≤ v.member.ends → 1 ≤ m.ends → m.joins ≡ v.member.joins + uncounted v
+pub kept_count : (key : Shape) (s : St) (k : Rule key s) (id y : ℕ) (v : View) (m : Part) (e : Step (List Event)) → e.then ≡ now_at k → IsValidStep (of_hands key.first) e → e.next ≡ record (now_at k) { ends = y } → get_elem? s.views id ≡ some v → 1 ≤ v.member.ends → 1 ≤ m.ends → m.joins ≡ v.member.joins + uncounted v
     → EndsStand (nothing_of key.first) y (set s.views id (after (record v { member = m }) (steps_to k) e))
     → Rule key record { words = set s.words 0 y; homes = s.homes; views = set s.views id (after (record v { member = m }) (steps_to k) e) }
 kept_count key s k id y v m e found real leaves at live live' counts stand = let wide = k.shows.wide in let w : View = after (record v { member = m }) (steps_to k) e in let is : get_or (set s.words 0 y) 0 0 ≡ y = get_or-set_same s.words 0 y 0 (omega arith) in
@@ -32,21 +32,21 @@ pub ups : (key : Shape) (n id call : ℕ) (me : Me Unit View) → call ≡ id �
 ups key n id call me mine parts live s k _ at _ = let stands = live.0 in let v : View = me.0 in let c : ℕ = get_or s.words 0 0 in let y : ℕ = (c + 1) % 18446744073709551616 in let m : Part = with_split v.member in let e : Step (List Event) = count_up ends_word (now_at k) in
     let w : View = after (record v { member = m }) (steps_to k) e in
     let t = stand_up (nothing_of key.first) had_by_both c s.views id v w k.ends at parts refl in
-    let real : IsReal (of_hands key.first) e = real_step key s k 0 c e.next refl (more refl) in
+    let real : IsValidStep (of_hands key.first) e = real_step key s k 0 c e.next refl (more refl) in
     let counts : Rule key record { words = set s.words 0 y; homes = s.homes; views = set s.views id w } = kept_count key s k id y v m e refl real (ap (λ (z : ℕ). record (now_at k) { ends = z }) (sym t.0)) at live.0 (omega arith) (let n = none_uncounted v live.1 in omega arith)
     (subst (λ (z : ℕ). EndsStand (nothing_of key.first) z (set s.views id w)) (sym t.0) t.1) in (
       w,
       keeps,
       tt,
       counts,
-      (refl, record { past = steps_to k; follows = k.order.course.seen (suc id) v at; newest = λ whole. k.newest id v at whole live.1; before = now_at k; same = refl; sees = sees_of key s k id v at; told = honest_of key _ counts id w (set_here s.views id w (at_below s.views id v at)) }, subst (λ (z : ℕ). Stands z w) (sym mine) (hand_quiet id v w (elements_after k.events) refl refl refl refl refl (k.hands id v at))),
+      (refl, record { past = steps_to k; follows = k.order.course.seen (suc id) v at; newest = λ whole. k.newest id v at whole live.1; before = now_at k; same = refl; sees = sees_of key s k id v at; valid = valid_of key _ counts id w (set_here s.views id w (at_below s.views id v at)) }, subst (λ (z : ℕ). HandStands z w) (sym mine) (hand_quiet id v w (elements_after k.events) refl refl refl refl refl (k.hands id v at))),
     )
 
 pub downs : (key : Shape) (n id call : ℕ) (me : Me Unit View) → call ≡ id → 2 ≤ me.0.member.ends → me.0.own.fresh ≡ false → Allows (Rule key) n id me 0 (λ x. (x + (18446744073709551616 - 1)) % 18446744073709551616) (counts_down call (step n 0 1 0 none) me)
 downs key n id call me mine live stale s k _ at _ = let v : View = me.0 in let c : ℕ = get_or s.words 0 0 in let y : ℕ = (c + (18446744073709551616 - 1)) % 18446744073709551616 in let m : Part = with_join v.member in let e : Step (List Event) = count_down ends_word (now_at k) in
     let w : View = after (record v { member = m }) (steps_to k) e in
     let t = stand_down (nothing_of key.first) had_by_both c s.views id v w k.ends at live refl in
-    let real : IsReal (of_hands key.first) e = real_step key s k 0 c e.next refl (fewer refl t.1) in
+    let real : IsValidStep (of_hands key.first) e = real_step key s k 0 c e.next refl (fewer refl t.1) in
     let counts : Rule key record { words = set s.words 0 y; homes = s.homes; views = set s.views id w } = kept_count key s k id y v m e refl real (ap (λ (z : ℕ). record (now_at k) { ends = z }) (sym t.0)) at (omega arith) (omega arith) (let n = one_uncounted v stale (omega arith) in omega arith)
     (subst (λ (z : ℕ). EndsStand (nothing_of key.first) z (set s.views id w)) (sym t.0) t.2) in (
       w,
@@ -63,9 +63,9 @@ downs key n id call me mine live stale s k _ at _ = let v : View = me.0 in let c
           before = now_at k;
           same = refl;
           sees = sees_of key s k id v at;
-          told = honest_of key _ counts id w (set_here s.views id w (at_below s.views id v at));
+          valid = valid_of key _ counts id w (set_here s.views id w (at_below s.views id v at));
         },
-        subst (λ (z : ℕ). Stands z w) (sym mine) (hand_quiet id v w (elements_after k.events) refl refl refl refl refl (k.hands id v at)),
+        subst (λ (z : ℕ). HandStands z w) (sym mine) (hand_quiet id v w (elements_after k.events) refl refl refl refl refl (k.hands id v at)),
       ),
     )
 
@@ -76,7 +76,7 @@ tallies_ends key n id call me mine live fresh s k _ at _ = let v : View = me.0 i
   keeps,
   tt,
   kept_look key s k 0 id c v refl at active,
-  (refl, (record { looked = found_now key s k 0 id v at active; number = refl; count = number_is (nothing_of key.first) had_by_both c s.views id v k.ends at live }, subst (λ (z : ℕ). Stands z (looked v 0 c (steps_to k) (now_at k))) (sym mine) (stood_look key s k id 0 c v at))),
+  (refl, (record { looked = found_now key s k 0 id v at active; number = refl; count = number_is (nothing_of key.first) had_by_both c s.views id v k.ends at live }, subst (λ (z : ℕ). HandStands z (looked v 0 c (steps_to k) (now_at k))) (sym mine) (stood_look key s k id 0 c v at))),
 )
 
 some_count : (a b : Counted) → ◌≡◌ {A = Option Counted} (Some a) (Some b) → a ≡ b
@@ -106,7 +106,7 @@ counts_done key n id call me element mine known may live s k _ at _ = let v : Vi
       keeps,
       tt,
       counts,
-      (refl, stepped_now key s _ k counts id v now i found (now_at k) at live.1 (set_here s.views id w (at_below s.views id v at)) refl (begins_refl k.events) (λ x. refl), subst (λ (z : ℕ). Stands z w) (sym mine) hand),
+      (refl, stepped_now key s _ k counts id v now i found (now_at k) at live.1 (set_here s.views id w (at_below s.views id v at)) refl (begins_refl k.events) (λ x. refl), subst (λ (z : ℕ). HandStands z w) (sym mine) hand),
     )
 
 -- the same, where the word has another name

@@ -1,5 +1,5 @@
 -- A join of a hand to another keeps the rule.
-use Rattle.thread_table.proofs.Common.{map, ◌≡◌, ◌≢◌, ◌⊎◌, ⊎_elim, inl, inr, ℕ, suc, ◌≤◌, Bool, true, false, ◌||◌, ne_eqb, List, [], ◌∷◌, ◌++◌, ◌∙◌, map, length, get_or, set, Option, Some, None, option_map, slice_get, Ok, refl, sym, ap, ap₂, subst, arith, length-set, some, get_elem?, Elements, hold, holds, join_elements, renamed, join_queue, ◌>>=◌, Event, UnknownName, set_else, at_below, IsReal, EndsStand, Begins, order_to, if◌then◌else◌, nat_lt, Shape, View, Past, ring_at, element_at, Grows, WordsShow, Rule, HandIs, Seen, nothing_of, serves, running, claim_of, had_by_both, both, emptied, or_left, or_parts, false_from_ne_true, map-set, at_map, Made, AreMade, made_of, IsActive, IsSteady, IsNewest, may_step, has, any_both, list_any, get_or-eq_default, joining, of_hands, is_put, IsLawfulElements, dite, dec_lt, thread_at}
+use Rattle.thread_table.proofs.Common.{map, ◌≡◌, ◌≢◌, ◌⊎◌, ⊎_elim, inl, inr, ℕ, suc, ◌≤◌, Bool, true, false, ◌||◌, ne_eqb, List, [], ◌∷◌, ◌++◌, ◌∙◌, map, length, get_or, set, Option, Some, None, option_map, slice_get, Ok, refl, sym, ap, ap₂, subst, arith, length-set, some, get_elem?, Elements, hold, holds, join_elements, renamed, join_queue, ◌>>=◌, Event, UnknownName, set_else, at_below, IsValidStep, EndsStand, Begins, order_to, if◌then◌else◌, nat_lt, Shape, View, Past, ring_at, element_at, Grows, WordsShow, Rule, HandIs, Seen, nothing_of, serves, running, claim_of, had_by_both, both, emptied, or_left, or_parts, false_from_ne_true, map-set, at_map, MadeEvent, AreMade, made_of, IsActive, IsSteady, IsNewest, may_step, has, any_both, list_any, get_or-eq_default, joining, of_hands, is_put, IsLawfulElements, dite, dec_lt, thread_at}
 use Rattle.thread_table.proofs.Lists.Entries.{Passed, one_passes}
 use Rattle.thread_table.proofs.Lists.Entries.{each_joined}
 use Rattle.atomic_table.specs.Table.{Joins}
@@ -23,7 +23,7 @@ use Rattle.thread_table.proofs.Schedule.Courses.{order_joined}
 use Rattle.thread_table.proofs.Schedule.ListedEvents.{made_join}
 use Rattle.thread_table.proofs.Schedule.JoinEvents.{joined_join}
 use Rattle.thread_table.specs.Joins.{no_word}
-use Rattle.thread_table.proofs.Hands.Looks.{now_at, no_other, real_event}
+use Rattle.thread_table.proofs.Hands.OnlyLoads.{now_at, no_other, real_event}
 use Rattle.thread_table.proofs.Hands.Strangers.{others_count}
 use Rattle.thread_table.proofs.Schedule.Schedules.{lawful_after}
 
@@ -139,7 +139,7 @@ joins key id other v w live live' idle idle' s k at ne there = let at' : get_ele
     let after = after_join id other k.events k.allowed ne' in let event : Event = events.Join id other in
     let more : Grows e (elements_after (k.events ++ event ∷ [])) = subst (Grows e) (sym after.0) (grows_joined id other e) in
     let mine : Seen v (k.events ++ event ∷ []) = seen_more v k.events event (k.seen id v at) more in let its : Seen w (k.events ++ event ∷ []) = seen_more w k.events event (k.seen other w at') more in
-    let here : IsReal (of_hands key.first) (joining (now_at k) id other) = real_event key s k no_word 0 event (sym (get_or-eq_default s.words 0 (let wide = k.shows.wide in omega arith))) after.1 more in
+    let here : IsValidStep (of_hands key.first) (joining (now_at k) id other) = real_event key s k no_word 0 event (sym (get_or-eq_default s.words 0 (let wide = k.shows.wide in omega arith))) after.1 more in
     let order = order_joined (of_hands key.first) (now_at k) s.views k.joiner id other v w k.are_joins k.order here at at' ne in record {
       events = k.events ++ event ∷ [];
       allowed = after.1;
@@ -165,7 +165,7 @@ joins key id other v w live live' idle idle' s k at ne there = let at' : get_ele
           λ i. ((a i || b i) || c i) || d i)
           refl;
       made = subst (AreMade (k.events ++ event ∷ []))
-          (sym (map-set made_of (set s.views id (both v w)) other (emptied v) ∙ ap (λ (z : List (List Made)). set z other []) (map-set made_of s.views id (both v w))))
+          (sym (map-set made_of (set s.views id (both v w)) other (emptied v) ∙ ap (λ (z : List (List MadeEvent)). set z other []) (map-set made_of s.views id (both v w))))
           (made_join k.events (map made_of s.views) id other v.own.made w.own.made k.made (at_map made_of s.views id v at) (at_map made_of s.views other w at') ne);
       ends = ends_joined key.first (get_or s.words 0 0) s.views id other v w (k.first id v at) k.ends at at' ne live.0;
       joined = joined_join k.events s.views id other v w at at' ne live.0 live'.0 live.1 live'.1 k.joined;

@@ -1,5 +1,5 @@
 -- A step that is an event keeps the rule.
-use Rattle.thread_table.proofs.Common.{◌≡◌, ◌≢◌, ℕ, ◌<◌, Bool, true, false, ◌||◌, List, [], ◌∷◌, ◌++◌, map, length, get_or, set, Result, Ok, sym, refl, ap, ◌∙◌, subst, arith, length-set, get_or-set_other, false_from_ne_true, list_any, some, get_elem?, Elements, holds, is_put, IsLawfulElements, ◌>>=◌, State, effect, in_elements, counted, step, Event, Refusal, of_hands, IsReal, EndsStand, stand_same, at_below, ELEMENTS, Shape, View, Grows, thread_at, WordsShow, IsActive, IsSteady, HandIs, Seen, Rule, nothing_of, now_of, may_step, serves, Did, Stands, had_by_both, left_by_event, AreMade, made_of, is_join, map-set, at_map, set_here}
+use Rattle.thread_table.proofs.Common.{◌≡◌, ◌≢◌, ℕ, ◌<◌, Bool, true, false, ◌||◌, List, [], ◌∷◌, ◌++◌, map, length, get_or, set, Result, Ok, sym, refl, ap, ◌∙◌, subst, arith, length-set, get_or-set_other, false_from_ne_true, list_any, some, get_elem?, Elements, holds, is_put, IsLawfulElements, ◌>>=◌, State, effect, in_elements, counted, step, Event, Refusal, of_hands, IsValidStep, EndsStand, stand_same, at_below, ELEMENTS, Shape, View, Grows, thread_at, WordsShow, IsActive, IsSteady, HandIs, Seen, Rule, nothing_of, now_of, may_step, serves, HandDid, HandStands, had_by_both, left_by_event, AreMade, made_of, is_join, map-set, at_map, set_here}
 use Rattle.thread_table.proofs.Hands.HeldLists.{hand_kept}
 use Rattle.table_theory.specs.Ledgers.{Step}
 use Rattle.table_theory.proofs.Ends.{begins_on}
@@ -13,7 +13,7 @@ use Rattle.thread_table.proofs.Schedule.ListedEvents.{made_push}
 use Rattle.thread_table.proofs.Hands.CountSteps.{may_of}
 use Rattle.thread_table.proofs.Events.Effects.{Leaves, Effect}
 use Rattle.thread_table.proofs.Events.Owing.{Owes, claims_set}
-use Rattle.thread_table.proofs.Hands.Looks.{St, steps_to, now_at, hand_quiet, seen_all, each_set, sole_set, real_event, order_goes, stepped_now}
+use Rattle.thread_table.proofs.Hands.OnlyLoads.{St, steps_to, now_at, hand_quiet, seen_all, each_set, sole_set, real_event, order_goes, stepped_now}
 use Rattle.thread_table.proofs.Schedule.Schedules.{after_more, elements_after_more, elements_of, lawful_after, grows_trans}
 
 -- an element whose step a call may count is no other call's
@@ -45,7 +45,7 @@ steps events event change f is goes = let s : State = state_after events in let 
 -- the rule, and the step's result, after an event
 pub made : OthersCount → (key : Shape) (s : St) (k : Rule key s) (id : ℕ) (v : View) (event : Event) (change : Elements → Result Elements Refusal) (i y found : ℕ) → found ≡ get_or s.words i 0 → get_elem? s.views id ≡ some v → IsActive v → 0 < i
     → ((t : State) → effect event t ≡ in_elements change t) → is_join event ≡ false → Effect id v (left_by_event event (elements_after k.events) v) key.first change (elements_after k.events) (set s.words i y)
-    → (w : View) × Rule key record { words = set s.words i y; homes = s.homes; views = set s.views id w } × Did id v i found event w × Stands id w
+    → (w : View) × Rule key record { words = set s.words i y; homes = s.homes; views = set s.views id w } × HandDid id v i found event w × HandStands id w
 made others key s k id v event change i y found found_is at live past is plain effect =
     let old : List Event = k.events in let new : List Event = old ++ event ∷ [] in let e : Elements = elements_after old in let f : Elements = effect.f in let now : View = after_event event old v in
     let en : Step (List Event) = change_of i found (now_at k) event in let w : View = stepped v now (steps_to k) en in
@@ -53,7 +53,7 @@ made others key s k id v event change i y found found_is at live past is plain e
     let same : elements_after new ≡ f = elements_after_more old event (counted (record (state_after old) { elements = f })) f refl more.0 in
     let leaves : Leaves id v e (elements_after new) = subst (Leaves id v e) (sym same) effect.leaves in
     let lawful : IsLawfulElements e = lawful_after old k.allowed in
-    let real : IsReal (of_hands key.first) en = real_event key s k i found event found_is more.1 leaves.grows in
+    let real : IsValidStep (of_hands key.first) en = real_event key s k i found event found_is more.1 leaves.grows in
     let ends_same : get_or (set s.words i y) 0 0 ≡ get_or s.words 0 0 = get_or-set_other s.words i 0 y 0 (λ z. omega arith) in
     let order = order_goes key s k id v w w.own v.member en (now_of new (set s.words i y)) at live.0 refl refl real (ap (λ (z : ℕ). record { ends = z; object = new }) (sym ends_same)) in
     let kept : Rule key record { words = set s.words i y; homes = s.homes; views = set s.views id w } = record {

@@ -1,5 +1,5 @@
 -- A split of a hand keeps the rule.
-use Rattle.thread_table.proofs.Common.{◌≡◌, ⊎_elim, inl, inr, ℕ, suc, Bool, true, false, cond, eqb, eq-eqb, ne_eqb, List, [], ◌∷◌, ◌++◌, ◌∙◌, map, length, get_or, set, Option, option_map, Some, None, refl, sym, ap, subst, arith, length-set, and_parts, some, get_elem?, Splits, Elements, hold, holds, at_map, map-append, map-set, Made, AreMade, made_of, order_to, order_split, split_order, AreOrdered, Subject, Event, Shape, View, IsSteady, IsNewest, Rule, HandIs, HasStood, Seen, nothing_of, MayStep, has, serves, running, of_hands, parted, rest_of, newborn, had_by_both}
+use Rattle.thread_table.proofs.Common.{◌≡◌, ⊎_elim, inl, inr, ℕ, suc, Bool, true, false, cond, eqb, eq-eqb, ne_eqb, List, [], ◌∷◌, ◌++◌, ◌∙◌, map, length, get_or, set, Option, option_map, Some, None, refl, sym, ap, subst, arith, length-set, and_parts, some, get_elem?, Splits, Elements, hold, holds, at_map, map-append, map-set, MadeEvent, AreMade, made_of, order_to, order_split, split_order, AreOrdered, ObjectModel, Event, Shape, View, IsSteady, IsNewest, Rule, HandIs, HasStood, Seen, nothing_of, MayStep, has, serves, running, of_hands, parted, rest_of, newborn, had_by_both}
 use Rattle.std.proofs.lemmas.Bool.{and_cases, not-true, not-false}
 use Rattle.std.specs.Prelude.{not}
 use Rattle.thread_table.proofs.Lists.Entries.{each_split, Passed, one_passes}
@@ -7,7 +7,7 @@ use Rattle.std.proofs.lemmas.List.{length-append}
 use Rattle.atomic_table.proofs.Lists.{at_longer, set_again}
 use Rattle.thread_table.proofs.Schedule.ListedEvents.{made_new}
 use Rattle.thread_table.proofs.Schedule.JoinEvents.{joined_set, joined_new, same_uncounted}
-use Rattle.thread_table.proofs.Hands.Looks.{now_at}
+use Rattle.thread_table.proofs.Hands.OnlyLoads.{now_at}
 use Rattle.table_theory.proofs.Counting.{given_kept, given_some, kept_some}
 use Rattle.table_theory.proofs.Standing.{stand_parted}
 use Rattle.table_theory.proofs.Totals.{one_of}
@@ -68,7 +68,7 @@ has_nothing v mask x may = ⊎_elim (λ held. let no : has (newborn mask v) x �
 
 pub splits : (key : Shape) (id : ℕ) (v : View) (mask : List Bool) → v.member.ends ≡ 2 → length mask ≡ 8 → ((p : ℕ) → get_or mask p false ≡ true → (serves v p ≡ true) × (running v p ≡ None)) → Splits (Rule key) id v (rest_of mask v) (newborn mask v)
 splits key id v mask live long can s k at = let e : Elements = elements_after k.events in let left : View = rest_of mask v in let right : View = newborn mask v in let seen : Seen v k.events = k.seen id v at in let hand : HandIs id v e = k.hands id v at in
-    let T : Subject (List Event) = of_hands key.first in let order : AreOrdered T [] (now_at k) (k.joiner ∷ (set s.views id left ++ right ∷ [])) = order_split T [] (now_at k) (k.joiner ∷ s.views) (suc id) v left.own right.own left.member right.member k.order at in record {
+    let T : ObjectModel (List Event) = of_hands key.first in let order : AreOrdered T [] (now_at k) (k.joiner ∷ (set s.views id left ++ right ∷ [])) = order_split T [] (now_at k) (k.joiner ∷ s.views) (suc id) v left.own right.own left.member right.member k.order at in record {
       events = k.events;
       allowed = k.allowed;
       shows = k.shows;
@@ -85,7 +85,7 @@ splits key id v mask live long can s k at = let e : Elements = elements_after k.
           (λ up x low may. absurd (has_nothing v mask x may));
       undoubled = each_split (λ (j : ℕ) (u : View). u.own.doubled ≡ false) s.views id left right (λ j u ne there. k.undoubled j u there) (k.undoubled id v at) refl;
       made = subst (AreMade k.events)
-          (sym (map-append made_of (set s.views id left) (right ∷ []) ∙ ap (λ (z : List (List Made)). z ++ [] ∷ []) (map-set made_of s.views id left ∙ set_again (map made_of s.views) id v.own.made (at_map made_of s.views id v at))))
+          (sym (map-append made_of (set s.views id left) (right ∷ []) ∙ ap (λ (z : List (List MadeEvent)). z ++ [] ∷ []) (map-set made_of s.views id left ∙ set_again (map made_of s.views) id v.own.made (at_map made_of s.views id v at))))
           (made_new k.events (map made_of s.views) k.made);
       ends = stand_parted (nothing_of key.first) had_by_both (get_or s.words 0 0) s.views id v left right k.ends at live refl refl;
       joined = joined_new k.events (set s.views id left) right (omega arith) refl (joined_set k.events s.views id v left at (omega arith) (omega arith) (let n = same_uncounted v left refl (omega arith) (omega arith) in omega arith) k.joined);

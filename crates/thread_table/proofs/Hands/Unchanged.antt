@@ -1,5 +1,5 @@
 -- What a call leaves to its hand as it was.
-use Rattle.thread_table.proofs.Common.{◌≡◌, ⊎_elim, ℕ, zero, suc, Bool, true, false, List, Option, Some, None, Result, Ok, Err, [], ◌∷◌, refl, ap, ◌∙◌, Part, View, NextRefusal, Lost, quiet, tail_word, load, Step, Acts, TakeAnswer, MoveAnswer, WaitAnswer, IsTicket, StartAnswer, ParkAnswer, DeliverAnswer, ReadPc, DoneAnswer, NotifiedNow, BeforeAnswer}
+use Rattle.thread_table.proofs.Common.{◌≡◌, ⊎_elim, ℕ, zero, suc, Bool, true, false, List, Option, Some, None, Result, Ok, Err, [], ◌∷◌, refl, ap, ◌∙◌, Part, View, NextRefusal, Lost, quiet, tail_word, load, Step, PerformsEvents, TakeAnswer, MoveAnswer, WaitAnswer, IsTicket, StartAnswer, ParkAnswer, DeliverAnswer, ReadPc, DoneAnswer, NotifiedNow, BeforeAnswer}
 use Rattle.thread_table.specs.declared.takings.NextRefusal.TheVariants as nexts
 use Rattle.thread_table.specs.declared.moves.MoveRefusal.{MoveRefusal}
 use Rattle.thread_table.specs.declared.moves.MoveRefusal.TheVariants as moves
@@ -12,11 +12,11 @@ use Rattle.thread_table.specs.Answers.{TakesAfter, StoppedNow, SignalAnswer}
 use Rattle.thread_table.specs.Keeping.{Keeps, Stays}
 
 -- the hand has what it had, except for what it holds
-pub keeps_by : (v w now : View) (es : List Step) → Acts v es now w → now.own.first ≡ v.own.first → now.own.serves ≡ v.own.serves → now.own.on ≡ v.own.on → now.member ≡ v.member → Keeps v w
+pub keeps_by : (v w now : View) (es : List Step) → PerformsEvents v es now w → now.own.first ≡ v.own.first → now.own.serves ≡ v.own.serves → now.own.on ≡ v.own.on → now.member ≡ v.member → Keeps v w
 keeps_by v w now es a first serves on member = record { first = ap (λ (z : View). z.own.first) a.has ∙ first; serves = ap (λ (z : View). z.own.serves) a.has ∙ serves; on = ap (λ (z : View). z.own.on) a.has ∙ on; share = ap (λ (z : View). z.member.share) a.has ∙ ap (λ (m : Part). m.share) member }
 
 -- it only looked
-pub stays_by : (v w : View) (es : List Step) → Acts v es (quiet v) w → Stays v w
+pub stays_by : (v w : View) (es : List Step) → PerformsEvents v es (quiet v) w → Stays v w
 stays_by v w es a = record { keeps = keeps_by v w (quiet v) es a refl refl refl refl; held = ap (λ (z : View). z.own.held) a.has; made = ap (λ (z : View). z.own.made) a.has }
 
 pub after_stays : (before : List Step) (call ring : ℕ) (v w : View) (r : NextRefusal) → TakesAfter before call v ring (Err r) w → Stays v w

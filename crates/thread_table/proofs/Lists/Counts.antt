@@ -1,7 +1,7 @@
 -- How many of a list pass a test.
 use Rattle.thread_table.proofs.Common.{◌≡◌, ◌≢◌, ⊎_elim, ℕ, zero, suc, ◌+◌, ◌<◌, ◌≤◌, Bool, true, false, cond, eqb, eq-eqb, ne_eqb, List, [], ◌∷◌, ◌++◌, refl, sym, ap, ◌∙◌, arith, IsPermutation, length, subst, nat_lt, range_with_len, list_any, sum_by-cons, sum_by-append, sum_by-IsPermutation, some, dite, dec_lt, get_elem?, total, two_of}
 use Rattle.std.proofs.Common.{count_by}
-use Rattle.table_theory.proofs.Owned.{at_behind}
+use Rattle.table_theory.proofs.Owned.{at_after}
 use Rattle.std.proofs.lemmas.Bool.{ltb-true}
 use Rattle.std.specs.Prelude.{◌||◌}
 use Rattle.std.proofs.lemmas.Bool.Decides.{leb_tells}
@@ -53,7 +53,7 @@ module _ {A : Type 0} where
       record { front = x ∷ r.front; it = r.it; back = r.back; is = ap (λ z. x ∷ z) r.is; passes = r.passes })
 
   pub found_at : (p : A → Bool) (xs : List A) → 0 < count_by p xs → (k : ℕ) × (x : A) × (get_elem? xs k ≡ some x) × (p x ≡ true)
-  found_at p xs low = let f = find_it p xs low in (length f.front + 0, f.it, subst (λ (z : List A). get_elem? z (length f.front + 0) ≡ some f.it) (sym f.is) (at_behind f.front (f.it ∷ f.back) 0 f.it refl), f.passes)
+  found_at p xs low = let f = find_it p xs low in (length f.front + 0, f.it, subst (λ (z : List A). get_elem? z (length f.front + 0) ≡ some f.it) (sym f.is) (at_after f.front (f.it ∷ f.back) 0 f.it refl), f.passes)
 
   -- none passes
   pub many_none : (p : A → Bool) (xs : List A) → ((k : ℕ) (x : A) → get_elem? xs k ≡ some x → p x ≡ true → ⊥) → count_by p xs ≡ 0

@@ -9,18 +9,18 @@ module _ {A : Type 0} where
   -- Lists in which each entry is equally often
   pub same_counts : (same : A → A → Bool) → ((a b : A) → same a b ≡ true → a ≡ b) → ((a : A) → same a a ≡ true)
       → (xs ys : List A) → ((x : A) → count_by (same x) xs ≡ count_by (same x) ys) → IsPermutation ys xs
-  same_counts same tells itself [] [] h = IsPermutation-refl []
-  same_counts same tells itself [] (y ∷ ys) h =
+  same_counts same reports itself [] [] h = IsPermutation-refl []
+  same_counts same reports itself [] (y ∷ ys) h =
       let c = many_cons (same y) y ys in let a : plus (same y y) ≡ 1 = ap plus (itself y) in let e = h y in absurd (omega arith)
-  same_counts same tells itself (x ∷ xs) ys h =
+  same_counts same reports itself (x ∷ xs) ys h =
       let c = many_cons (same x) x xs in let a : plus (same x x) ≡ 1 = ap plus (itself x) in let e = h x in
       let f = find_it (same x) ys (omega arith) in
-      let it : x ≡ f.it = tells x f.it f.passes in
+      let it : x ≡ f.it = reports x f.it f.passes in
       let is : ys ≡ f.front ++ x ∷ f.back = f.is ∙ ap (λ z. f.front ++ z ∷ f.back) (sym it) in
       let rest : (z : A) → count_by (same z) xs ≡ count_by (same z) (f.front ++ f.back) = λ z.
       let p = many_cons (same z) x xs in let q = many_more (same z) f.front (x ∷ f.back) in let r = many_cons (same z) x f.back in
       let s = many_more (same z) f.front f.back in let t = h z in let u : count_by (same z) ys ≡ count_by (same z) (f.front ++ x ∷ f.back) = ap (count_by (same z)) is in omega arith in
-      let ih = same_counts same tells itself xs (f.front ++ f.back) rest in
+      let ih = same_counts same reports itself xs (f.front ++ f.back) rest in
       subst (λ z. IsPermutation z (x ∷ xs)) (sym is) (IsPermutation-trans (f.front ++ x ∷ f.back) (x ∷ (f.front ++ f.back)) (x ∷ xs)
       (IsPermutation-middle f.front x f.back) (IsPermutation-cons x (f.front ++ f.back) xs ih))
 

@@ -1,5 +1,5 @@
 -- The course of a table as it is made, and through a join, which is a step of no hand.
-use Rattle.thread_table.proofs.Common.{◌≡◌, ◌≢◌, ℕ, suc, true, false, List, [], ◌∷◌, ◌++◌, ◌∙◌, set, sym, refl, subst, ⊎_elim, arith, length-append, some, some-ne-none, get_elem?, Subject, IsReal, opened, first_of, AreOrdered, order_to, order_split, split_order, order_step, at_push, Event, Having, View, joining, is_join, nothing_of, Past, Course, had_by_both, both, emptied}
+use Rattle.thread_table.proofs.Common.{◌≡◌, ◌≢◌, ℕ, suc, true, false, List, [], ◌∷◌, ◌++◌, ◌∙◌, set, sym, refl, subst, ⊎_elim, arith, length-append, some, some-ne-none, get_elem?, ObjectModel, IsValidStep, opened, first_of, AreOrdered, order_to, order_split, split_order, order_step, at_push, Event, HandState, View, joining, is_join, nothing_of, Past, Course, had_by_both, both, emptied}
 use Rattle.table_theory.specs.Ledgers.{Step}
 use Rattle.table_theory.proofs.Orders.{after, order_first, first_order, order_join}
 use Rattle.event_theory.specs.declared.event.Event.TheVariants as events
@@ -21,12 +21,12 @@ joins_more joins past id other are = record {
 }
 
 -- no hand has made a step
-pub order_opened : (T : Subject (List Event)) (own : Having) → (o : AreOrdered T [] (opened []) (first_of own [] ∷ first_of own [] ∷ [])) × (order_to o ≡ [])
+pub order_opened : (T : ObjectModel (List Event)) (own : HandState) → (o : AreOrdered T [] (opened []) (first_of own [] ∷ first_of own [] ∷ [])) × (order_to o ≡ [])
 order_opened T own = let t = order_first T own [] in let w : View = first_of own [] in
     (order_split T [] (opened []) (w ∷ []) 0 w own own w.member w.member t refl, split_order T [] (opened []) (w ∷ []) 0 w own own w.member w.member t refl ∙ first_order T own [])
 
 -- a join comes after all steps
-pub order_joined : (T : Subject (List Event)) (now : Past) (views : List View) (joiner : View) (id other : ℕ) (v w : View) → AreJoins now.object joiner.steps → AreOrdered T [] now (joiner ∷ views) → IsReal T (joining now id other)
+pub order_joined : (T : ObjectModel (List Event)) (now : Past) (views : List View) (joiner : View) (id other : ℕ) (v w : View) → AreJoins now.object joiner.steps → AreOrdered T [] now (joiner ∷ views) → IsValidStep T (joining now id other)
     → get_elem? views id ≡ some v → get_elem? views other ≡ some w → other ≢ id
     → (next : View) × AreJoins (now.object ++ events.Join id other ∷ []) next.steps × AreOrdered T [] (joining now id other).next (next ∷ set (set views id (both v w)) other (emptied v))
 order_joined T now views joiner id other v w are order here at at' ne =

@@ -2,11 +2,11 @@
 use Rattle.thread_table.proofs.Common.{join_elements, ◌≡◌, ◌≢◌, ℕ, zero, suc, ◌+◌, ◌%◌, ◌<◌, ◌≤◌, Bool, true, false, eqb, eq-eqb, ne_eqb, List, [], ◌∷◌, ◌++◌, ◌∙◌, map, length, get_or, set, refl, sym, ap, subst, arith, Some, slice_get, Result, Ok, append_assoc, get_or-map, get_or-set_same, get_or-set_other, length-map, dite, ℕ_discrete, slice_get_within, get_or_from_slice_get, Elements, Queue, empty_queue, Refusal, Run, State, first_state, step, effect, in_elements, counted, Event, Reaches, Begins, ring_at, mark_of, head_in, mark_in, WAITS, RINGS, PLACES, NOTIFY, wait_ring, head_word, Step, Past, change}
 use Rattle.thread_table.specs.Schedules.{state_after, elements_after, IsAllowed}
 use Rattle.thread_table.specs.Notifies.{is_notify, notifies_in}
-use Rattle.thread_table.specs.Telling.{IsReal}
-use Rattle.thread_table.proofs.Schedule.Schedules.{elements_of, behind}
+use Rattle.thread_table.specs.Telling.{IsValidHandStep}
+use Rattle.thread_table.proofs.Schedule.Schedules.{elements_of, following}
 use Rattle.thread_table.proofs.Schedule.Orders.{real_allows}
 use Rattle.thread_table.proofs.Events.Saying.{head_says}
-use Rattle.thread_table.proofs.Closing.Retiring.{Gives, then_gives, test_gives, ok_gives, Changes, queue_told, claim_changes, wait_changes, take_changes, raise_changes}
+use Rattle.thread_table.proofs.Closing.Retiring.{Gives, then_gives, test_gives, ok_gives, Changes, queue_reported, claim_changes, wait_changes, take_changes, raise_changes}
 use Rattle.thread_table.proofs.Lists.Counts.{plus, many_cons}
 use Rattle.std.proofs.lemmas.List.{length-append}
 use Rattle.std.specs.Prelude.{◌==◌, ◌||◌, nat_le, nat_lt}
@@ -110,8 +110,8 @@ abbrev marked : Bool → ℕ → ℕ
 marked true n = (n + 1) % NOTIFY
 marked false n = n
 
-told_more : (other : ℕ) (s t : Elements) → notify_wait other s ≡ Ok t → ((wait : ℕ) → get_or t.notified wait 0 ≡ marked (eqb other wait) (get_or s.notified wait 0)) × Longer s t
-told_more other s t ok = let a = then_ok _ _ t ok in let c = change_ok other _ s.notified a.0 a.1 in let is : record s { notified = a.0 } ≡ t = given_ok (record s { notified = a.0 }) t a.2 in
+reported_more : (other : ℕ) (s t : Elements) → notify_wait other s ≡ Ok t → ((wait : ℕ) → get_or t.notified wait 0 ≡ marked (eqb other wait) (get_or s.notified wait 0)) × Longer s t
+reported_more other s t ok = let a = then_ok _ _ t ok in let c = change_ok other _ s.notified a.0 a.1 in let is : record s { notified = a.0 } ≡ t = given_ok (record s { notified = a.0 }) t a.2 in
     let was : get_or s.notified other 0 ≡ c.0 = get_or_from_slice_get s.notified other c.0 0 c.2 in let new : (c.0 + 1) % NOTIFY ≡ c.1 = given_ok _ c.1 c.3 in
     let now : t.notified ≡ set s.notified other ((get_or s.notified other 0 + 1) % NOTIFY) = ap (λ (e : Elements). e.notified) (sym is) ∙ (c.4 ∙ ap (set s.notified other) (sym new ∙ ap (λ (z : ℕ). (z + 1) % NOTIFY) (sym was))) in (
       (λ wait. dite (ℕ_discrete other wait)
@@ -131,7 +131,7 @@ of_kept : (s t : Elements) → Keeps s t → (wait : ℕ) → get_or t.notified 
 of_kept s t k wait = ap (λ (l : List ℕ). get_or l wait 0) k.notified
 
 effect_marks : (event : Event) (s t : State) → effect event s ≡ Ok t → Marks event s.elements t.elements
-effect_marks (events.NotifyWait call other) s t ok = let a = then_ok (notify_wait other s.elements) _ t ok in let is : record s { elements = a.0 } ≡ t = given_ok (record s { elements = a.0 }) t a.2 in let m = told_more other s.elements a.0 a.1 in
+effect_marks (events.NotifyWait call other) s t ok = let a = then_ok (notify_wait other s.elements) _ t ok in let is : record s { elements = a.0 } ≡ t = given_ok (record s { elements = a.0 }) t a.2 in let m = reported_more other s.elements a.0 a.1 in
     subst (λ (z : State). Marks (events.NotifyWait call other) s.elements z.elements) is (record { marks = m.0; longer = m.1 })
 effect_marks event s t ok = let k = effect_keeps event refl s t ok in record { marks = of_kept s.elements t.elements k; longer = k.longer }
 
@@ -163,12 +163,12 @@ mark_is e wait = let n : wait + 2 ≡ suc (suc wait) = omega arith in ap (mark_o
 
 -- later, no element queue has fewer runs
 long_on : (past later : List Event) → Begins past later → IsAllowed later → (ring : ℕ) → length (ring_at (elements_after past) ring).history ≤ length (ring_at (elements_after later) ring).history
-long_on past later b allowed ring = let r = runs_after (state_after past) b.0 (state_after (past ++ b.0)) (behind past b.0 (subst IsAllowed (sym b.1) allowed)) ring in
+long_on past later b allowed ring = let r = runs_after (state_after past) b.0 (state_after (past ++ b.0)) (following past b.0 (subst IsAllowed (sym b.1) allowed)) ring in
     let a = ap (λ (e : Elements). length (ring_at e ring).history) (elements_of past) in let c = ap (λ (e : Elements). length (ring_at e ring).history) (elements_of (past ++ b.0)) in let d = ap (λ (z : List Event). length (ring_at (elements_after z) ring).history) b.1 in omega arith
 
 -- a wait claims one place
 one_wait : (past : List Event) (call wait element ticket : ℕ) → IsAllowed (past ++ events.WaitAt call wait element ticket ∷ []) → length (ring_at (elements_after (past ++ events.WaitAt call wait element ticket ∷ [])) (wait_ring wait)).history ≡ length (ring_at (elements_after past) (wait_ring wait)).history + 1
-one_wait past call wait element ticket allowed = let event : Event = events.WaitAt call wait element ticket in let s : State = state_after past in let r = behind past (event ∷ []) allowed in
+one_wait past call wait element ticket allowed = let event : Event = events.WaitAt call wait element ticket in let s : State = state_after past in let r = following past (event ∷ []) allowed in
     let a = then_ok (effect event s) _ r.0 r.1 in let b = then_ok _ _ a.0 a.1 in let m = more_runs (wait_changes call wait element ticket s.elements b.0 b.1) in
     let one : b.0 ≡ r.0.elements = ap (λ (z : State). z.elements) (given_ok _ a.0 b.2) ∙ ap (λ (z : State). z.elements) (given_ok (counted a.0) r.0 a.2) in
     let x = ap (λ (e : Elements). length (ring_at e (wait_ring wait)).history) (one ∙ (ap (λ (z : State). z.elements) (sym r.2) ∙ sym (elements_of (past ++ event ∷ [])))) in
@@ -176,7 +176,7 @@ one_wait past call wait element ticket allowed = let event : Event = events.Wait
 
 -- THE LAWS
 
-module _ (first wait element ticket call other word found : ℕ) (p q : Past) (below : wait < WAITS) (waits : IsReal first (change (head_word (wait_ring wait)) word p (events.WaitAt call wait element ticket))) (notifies : IsReal first (change (head_word (wait_ring wait)) found q (events.NotifyWait other wait))) where
+module _ (first wait element ticket call other word found : ℕ) (p q : Past) (below : wait < WAITS) (waits : IsValidHandStep first (change (head_word (wait_ring wait)) word p (events.WaitAt call wait element ticket))) (notifies : IsValidHandStep first (change (head_word (wait_ring wait)) found q (events.NotifyWait other wait))) where
   abbrev waited : List Event
   waited = p.object ++ events.WaitAt call wait element ticket ∷ []
 
@@ -192,10 +192,10 @@ module _ (first wait element ticket call other word found : ℕ) (p q : Past) (b
   pub place_after : Begins (q.object ++ events.NotifyWait other wait ∷ []) p.object → head_in found ≤ head_in word
   place_after b = let a = place in let c = head in let on = long_on q.object p.object (events.NotifyWait other wait ∷ b.0, sym (append_assoc q.object (events.NotifyWait other wait ∷ []) b.0) ∙ b.1) waits.lawful (wait_ring wait) in omega arith
 
-pub none_between : (first wait : ℕ) (e f : Step) (rest : List Event) → wait < WAITS → e.word ≡ head_word (wait_ring wait) → f.word ≡ head_word (wait_ring wait) → IsReal first e → IsReal first f → e.then.object ++ rest ≡ f.then.object → mark_in e.found ≡ mark_in f.found → notifies_in wait rest < NOTIFY → notifies_in wait rest ≡ 0
+pub none_between : (first wait : ℕ) (e f : Step) (rest : List Event) → wait < WAITS → e.word ≡ head_word (wait_ring wait) → f.word ≡ head_word (wait_ring wait) → IsValidHandStep first e → IsValidHandStep first f → e.then.object ++ rest ≡ f.then.object → mark_in e.found ≡ mark_in f.found → notifies_in wait rest < NOTIFY → notifies_in wait rest ≡ 0
 none_between first wait e f rest below is is' r r' on same few =
     let past : List Event = e.then.object in let a = (head_says first e r (wait_ring wait) (omega arith) is).1 in let b = (head_says first f r' (wait_ring wait) (omega arith) is').1 in
     let n : mark_of (elements_after past) (wait_ring wait) ≡ get_or (state_after past).elements.notified wait 0 = mark_is (elements_after past) wait ∙ ap (λ (z : Elements). get_or z.notified wait 0) (elements_of past) in
     let m : mark_of (elements_after f.then.object) (wait_ring wait) ≡ get_or (state_after (past ++ rest)).elements.notified wait 0 = ap (λ (z : List Event). mark_of (elements_after z) (wait_ring wait)) (sym on) ∙ (mark_is (elements_after (past ++ rest)) wait ∙ ap (λ (z : Elements). get_or z.notified wait 0) (elements_of (past ++ rest))) in
     let low = (r.shows.rings (wait_ring wait) (omega arith)).marked in
-    let count = marks_after (state_after past) rest (state_after (past ++ rest)) (behind past rest (subst IsAllowed (sym on) r'.lawful)) wait (omega arith) in omega arith
+    let count = marks_after (state_after past) rest (state_after (past ++ rest)) (following past rest (subst IsAllowed (sym on) r'.lawful)) wait (omega arith) in omega arith

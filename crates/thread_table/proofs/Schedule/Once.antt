@@ -1,5 +1,5 @@
 -- Each step of an element is counted by one event of one hand.
-use Rattle.thread_table.proofs.Common.{◌≡◌, ◌⊎◌, inl, inr, ⊎_elim, ℕ, zero, suc, ◌+◌, ◌≤◌, Bool, true, false, cond, eqb, eq-eqb, List, [], ◌∷◌, map, length, get_or, refl, sym, ap, ◌∙◌, arith, slice_get, range_with_len, if◌then◌else◌, count_by, result_unwrap_or, eqb-true, and_parts, eqb_tells, length-map, length-range_with_len, dite, dec_lt, ℕ_discrete, is_done, Elements, Thread, new_thread, State, step, first_state, Event, Begins, entry_of, ELEMENTS, Made, is_join, made_in, numbered, AreMade, done_at, thread_at}
+use Rattle.thread_table.proofs.Common.{◌≡◌, ◌⊎◌, inl, inr, ⊎_elim, ℕ, zero, suc, ◌+◌, ◌≤◌, Bool, true, false, cond, eqb, eq-eqb, List, [], ◌∷◌, map, length, get_or, refl, sym, ap, ◌∙◌, arith, slice_get, range_with_len, if◌then◌else◌, count_by, result_unwrap_or, eqb-true, and_parts, eqb_tells, length-map, length-range_with_len, dite, dec_lt, ℕ_discrete, is_done, Elements, Thread, new_thread, State, step, first_state, Event, Begins, entry_of, ELEMENTS, MadeEvent, is_join, made_in, numbered, AreMade, done_at, thread_at}
 use Rattle.std.specs.List.{filter}
 use Rattle.std.specs.Prelude.{◌&&◌}
 use Rattle.std.proofs.lemmas.List.Sums.{length-filter}
@@ -50,27 +50,27 @@ done_kind x (events.Done call e) = ⊎_elim
 done_kind x event = inl refl
 
 -- an event of a list counts a step of the element
-abbrev pub counts_step : ℕ → Made → Bool
+abbrev pub counts_step : ℕ → MadeEvent → Bool
 counts_step x m = is_done x m.event
 
 -- the numbers of an element's steps, as its events gave them
-numbers_counted : (x : ℕ) (s : State) (es : List Event) → map (λ (m : Made). m.number + 1) (filter (counts_step x) (numbered s es)) ≡ done_numbers x (moves s es)
+numbers_counted : (x : ℕ) (s : State) (es : List Event) → map (λ (m : MadeEvent). m.number + 1) (filter (counts_step x) (numbered s es)) ≡ done_numbers x (moves s es)
 numbers_counted x s [] = refl
 numbers_counted x s (event ∷ es) =
     let t : State = result_unwrap_or (step event s) s in
-    let m : Made = made_in event s in
-    let n : List Made = numbered t es in
+    let m : MadeEvent = made_in event s in
+    let n : List MadeEvent = numbered t es in
     let ih = numbers_counted x t es in
     ⊎_elim
-    (λ isnt. ap (map (λ (m : Made). m.number + 1)) (drop_it (counts_step x) m n (is_join event) isnt) ∙ (ih
+    (λ isnt. ap (map (λ (m : MadeEvent). m.number + 1)) (drop_it (counts_step x) m n (is_join event) isnt) ∙ (ih
     ∙ sym (ap (map _) (drop_it (λ move. is_done x move.0) (event, s) (moves t es) false isnt))))
-    (λ is. ap (λ (b : Bool). map (λ (m : Made). m.number + 1) (filter (counts_step x) (if b then n else (m ∷ n)))) is.1
-    ∙ (ap (map (λ (m : Made). m.number + 1)) (keep_it (counts_step x) m n is.0)
+    (λ is. ap (λ (b : Bool). map (λ (m : MadeEvent). m.number + 1) (filter (counts_step x) (if b then n else (m ∷ n)))) is.1
+    ∙ (ap (map (λ (m : MadeEvent). m.number + 1)) (keep_it (counts_step x) m n is.0)
     ∙ ((λ k. (is.2 s k + 1) ∷ ih k) ∙ sym (ap (map _) (keep_it (λ move. is_done x move.0) (event, s) (moves t es) is.0)))))
     (done_kind x event)
 
 -- the numbers of an element's steps are 1, 2, and so on up to its steps done
-pub numbers_are : (past : List Event) → IsAllowed past → (x : ℕ) → map (λ (m : Made). m.number + 1) (filter (counts_step x) (numbered begun past)) ≡ range_with_len 1 (done_of x (state_after past))
+pub numbers_are : (past : List Event) → IsAllowed past → (x : ℕ) → map (λ (m : MadeEvent). m.number + 1) (filter (counts_step x) (numbered begun past)) ≡ range_with_len 1 (done_of x (state_after past))
 unfolding begun
 numbers_are past allowed x = numbers_counted x (first_state ELEMENTS) past ∙ (accounted past allowed).done x
 
@@ -91,17 +91,17 @@ pub done_grows : (past events : List Event) → Begins past events → IsAllowed
 done_grows past events b new x = omega (arith, counted_done past (allowed_before past events b new) x, counted_done events new x, many_more (is_done x) past b.0, ap (count_by (is_done x)) b.1)
 
 -- it counts the step after so many
-abbrev counts_it : ℕ → ℕ → Made → Bool
+abbrev counts_it : ℕ → ℕ → MadeEvent → Bool
 counts_it x n m = counts_step x m && eqb (n + 1) (m.number + 1)
 
 -- of the list of the only hand as many count it as are in the range of the numbers
-counted_once : (past : List Event) (l : List Made) (x n : ℕ) → IsAllowed past → AreMade past (l ∷ []) → count_by (counts_it x n) l ≡ count_by (eqb (n + 1)) (range_with_len 1 (done_of x (state_after past)))
+counted_once : (past : List Event) (l : List MadeEvent) (x n : ℕ) → IsAllowed past → AreMade past (l ∷ []) → count_by (counts_it x n) l ≡ count_by (eqb (n + 1)) (range_with_len 1 (done_of x (state_after past)))
 counted_once past l x n allowed m = sym (many_shuffled (counts_it x n) l (map entry_of m.log) (filed_shuffle m.log l m.listed))
-    ∙ (ap (count_by (counts_it x n)) m.logged ∙ (sym (count_mapped (counts_step x) (eqb (n + 1)) (λ (m : Made). m.number + 1) (numbered begun past))
+    ∙ (ap (count_by (counts_it x n)) m.logged ∙ (sym (count_mapped (counts_step x) (eqb (n + 1)) (λ (m : MadeEvent). m.number + 1) (numbered begun past))
     ∙ ap (count_by (eqb (n + 1))) (numbers_are past allowed x)))
 
 -- the list of the only hand counts each step once
-pub steps_once : (past : List Event) (l : List Made) → IsAllowed past → AreMade past (l ∷ []) → StepsOnce l (elements_after past)
+pub steps_once : (past : List Event) (l : List MadeEvent) → IsAllowed past → AreMade past (l ∷ []) → StepsOnce l (elements_after past)
 steps_once past l allowed m = record {
   once = λ i j x a b at at' up up' same. dite (ℕ_discrete i j) (λ e. e) (λ ne.
       let n : ℕ = a.number in let d : ℕ = done_of x (state_after past) in

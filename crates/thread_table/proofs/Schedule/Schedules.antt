@@ -74,12 +74,12 @@ grows_refl e ring = queue_refl _
 pub grows_trans : (e f g : Elements) → Grows e f → Grows f g → Grows e g
 grows_trans e f g a b ring = queue_trans _ _ _ (a ring) (b ring)
 
-behind_first : (s : State) (past rest : List Event) (t : State) → Reaches s (past ++ rest) t → Reaches (after s past) rest t
+after_first : (s : State) (past rest : List Event) (t : State) → Reaches s (past ++ rest) t → Reaches (after s past) rest t
 unfolding after
-behind_first s [] rest t r = r
-behind_first s (e ∷ es) rest t r = let same : result_unwrap_or (step e s) s ≡ r.0 = ap (λ (z : Result State Refusal). result_unwrap_or z s) r.1 in subst (λ (z : State). Reaches (after z es) rest t) (sym same) (behind_first r.0 es rest t r.2)
+after_first s [] rest t r = r
+after_first s (e ∷ es) rest t r = let same : result_unwrap_or (step e s) s ≡ r.0 = ap (λ (z : Result State Refusal). result_unwrap_or z s) r.1 in subst (λ (z : State). Reaches (after z es) rest t) (sym same) (after_first r.0 es rest t r.2)
 
 -- the rest of events that were allowed leads on from what the first of them lead to
-pub behind : (past rest : List Event) → IsAllowed (past ++ rest) → Reaches (state_after past) rest (state_after (past ++ rest))
+pub following : (past rest : List Event) → IsAllowed (past ++ rest) → Reaches (state_after past) rest (state_after (past ++ rest))
 unfolding state_after IsAllowed
-behind past rest allowed = behind_first begun past rest (after begun (past ++ rest)) allowed
+following past rest allowed = after_first begun past rest (after begun (past ++ rest)) allowed

@@ -1,5 +1,5 @@
 -- The table as it is made keeps the rule: all elements are free.
-use Rattle.thread_table.proofs.Common.{AreZero, IsUsed, ◌≡◌, ◌≢◌, ℕ, zero, suc, ◌+◌, ◌*◌, ◌%◌, ◌<◌, ◌≤◌, Bool, true, false, cond, eqb, ne_eqb, List, [], ◌∷◌, ◌∙◌, map, length, get_or, Option, Some, None, slice_get, refl, sym, ap, subst, arith, true≢false, repeat, get_or-map-range_with_len, length-map-range_with_len, nat_tests, range_with_len, of_hands, some, some-injective, some-ne-none, get_elem?, opening, EndsStand, opened, first_of, AreOrdered, order_to, order_at, Having, Elements, Thread, new_thread, holds, Queue, empty_queue, full_queue, Run, State, Hold, begins_refl, had_by_both, Shape, View, ring_at, thread_at, element_at, element_of, no_run, WORDS, ELEMENTS, RINGS, PLACES, head_word, tail_word, place_word, free_ring, WordsShow, RingShows, StateShows, processor_shown, mark_of, IsSteady, IsNewest, Rule, HandIs, Seen, IsOpen, newcomer, nothing_of, now_of, places_word, ready_ring, processor_word, state_word, done_word}
+use Rattle.thread_table.proofs.Common.{AreZero, IsUsed, ◌≡◌, ◌≢◌, ℕ, zero, suc, ◌+◌, ◌*◌, ◌%◌, ◌<◌, ◌≤◌, Bool, true, false, cond, eqb, ne_eqb, List, [], ◌∷◌, ◌∙◌, map, length, get_or, Option, Some, None, slice_get, refl, sym, ap, subst, arith, true≢false, repeat, get_or-map-range_with_len, length-map-range_with_len, nat_tests, range_with_len, of_hands, some, some-injective, some-ne-none, get_elem?, opening, EndsStand, opened, first_of, AreOrdered, order_to, order_at, HandState, Elements, Thread, new_thread, holds, Queue, empty_queue, full_queue, Run, State, Hold, begins_refl, had_by_both, Shape, View, ring_at, thread_at, element_at, element_of, no_run, WORDS, ELEMENTS, RINGS, PLACES, head_word, tail_word, place_word, free_ring, WordsShow, RingShows, StateShows, processor_shown, mark_of, IsSteady, IsNewest, Rule, HandIs, Seen, IsOpen, newcomer, nothing_of, now_of, places_word, ready_ring, processor_word, state_word, done_word}
 use Rattle.std.proofs.Common.{ltb}
 use Rattle.thread_table.proofs.Shown.QueueWords.{ring_shown}
 use Rattle.thread_table.proofs.Hands.HeldLists.{hand_idle}
@@ -117,7 +117,7 @@ first_are : elements_after [] ≡ e64
 first_are = elements_of [] ∙ ap (λ (s : State). s.elements) after_none.0
 
 -- no hand has made a step, where the words show one
-first_known : (key : Shape) (words : List ℕ) (own : Having) → get_or words 0 0 ≡ 1 → (o : AreOrdered (of_hands key.first) [] (now_of [] words) (first_of own [] ∷ first_of own [] ∷ [])) × (order_to o ≡ [])
+first_known : (key : Shape) (words : List ℕ) (own : HandState) → get_or words 0 0 ≡ 1 → (o : AreOrdered (of_hands key.first) [] (now_of [] words) (first_of own [] ∷ first_of own [] ∷ [])) × (order_to o ≡ [])
 first_known key words own one = let o = order_opened (of_hands key.first) own in
     let t = order_at (of_hands key.first) [] (first_of own [] ∷ first_of own [] ∷ []) (opened []) (now_of [] words) (ap (λ (z : ℕ). record { ends = z; object = [] }) (sym one)) o.0 in (t.0, t.1 ∙ o.1)
 

@@ -12,7 +12,7 @@ use Rattle.event_theory.specs.declared.names.QueueName.TheVariants as names
 use Rattle.event_theory.specs.declared.refusal.Refusal.TheVariants.{NoItems, NotHeld}
 use Rattle.thread_table.specs.Retiring.{items_of, retired_by, retired_in}
 use Rattle.thread_table.specs.Schedules.{after, begun, state_after, IsAllowed}
-use Rattle.thread_table.proofs.Closing.Retiring.{are_told}
+use Rattle.thread_table.proofs.Closing.Retiring.{are_reported}
 use Rattle.thread_table.proofs.Hands.Releases.{held_counts}
 use Rattle.thread_table.proofs.Lists.Counts.{range_out}
 use Rattle.turn_dispatch.proofs.Settling.Steps.{turned}
@@ -75,12 +75,12 @@ firsts (items ∷ runs) one = λ i. one_item items one.0 i ++ firsts runs one.1 
 pub left_is : (past : List Event) → IsAllowed past → takings_in past ≤ 64 → left (ring_at (elements_after past) 1) ≡ drop (takings_in past) (concat first_runs) ++ freed past
 unfolding IsAllowed
 left_is past allowed few =
-    let q : Queue = ring_at (elements_after past) 1 in let told = are_told past allowed in let all : List (List ℕ) = flat_map retired_by past in
-    let behind : concat all ≡ freed past = firsts all (all_one begun past (state_after past) allowed) in
+    let q : Queue = ring_at (elements_after past) 1 in let reported = are_reported past allowed in let all : List (List ℕ) = flat_map retired_by past in
+    let following : concat all ≡ freed past = firsts all (all_one begun past (state_after past) allowed) in
     let items : flat q.history ≡ concat first_runs ++ freed past = flat_runs q.history
-    ∙ (ap concat (told.0 ∙ ap (λ z. first_runs ++ z) (sym (listed past))) ∙ (concat-append first_runs all ∙ ap (λ z. concat first_runs ++ z) behind)) in
+    ∙ (ap concat (reported.0 ∙ ap (λ z. first_runs ++ z) (sym (listed past))) ∙ (concat-append first_runs all ∙ ap (λ z. concat first_runs ++ z) following)) in
     let long : length (concat first_runs) ≡ 64 = refl in
-    (λ i. drop (told.1 i) (items i)) ∙ drop-append-le (takings_in past) (concat first_runs) (freed past) (omega arith)
+    (λ i. drop (reported.1 i) (items i)) ∙ drop-append-le (takings_in past) (concat first_runs) (freed past) (omega arith)
 
 -- the elements left of the first 64, which go in the order of their numbers: those from the number of takings on
 drop_range : (k a n : ℕ) → drop k (range_with_len a n) ≡ range_with_len (a + k) (n - k)

@@ -1,5 +1,5 @@
 -- The sum of the only hand's list, by the events of the schedule and the states that they found.
-use Rattle.turn_dispatch.proofs.Common.{map, sum_by, result_unwrap_or, step, first_state, Reaches, ELEMENTS, Made, moves, made_in, AreMade, plus, many_cons, many_more}
+use Rattle.turn_dispatch.proofs.Common.{map, sum_by, result_unwrap_or, step, first_state, Reaches, ELEMENTS, MadeEvent, moves, made_in, AreMade, plus, many_cons, many_more}
 use Rattle.thread_table.proofs.Common.{◌≡◌, ℕ, Bool, List, [], ◌∷◌, ◌++◌, ◌∙◌, refl, sym, ap, arith, flat_map, count_by, sum_by-cons, sum_by-IsPermutation, State, Result, Event}
 use Rattle.event_theory.specs.declared.event.Event.TheVariants as events
 use Rattle.table_theory.specs.Filing.{entry_of}
@@ -11,7 +11,7 @@ use Rattle.thread_table.proofs.Lists.Shuffles.{filed_shuffle}
 abbrev pub Move : Type 0
 Move = Event × State
 
-module _ {B : Type 0} (f : Made → List B) where
+module _ {B : Type 0} (f : MadeEvent → List B) where
   -- the report of an event and of the state that it found
   abbrev pub by_move : Move → List B
   by_move m = f (made_in m.0 m.1)
@@ -30,12 +30,12 @@ module _ {B : Type 0} (f : Made → List B) where
     by_moves s (e ∷ es) = ap (λ xs. f (made_in e s) ++ xs) (by_moves (result_unwrap_or (step e s) s) es)
 
     module _ (p : B → Bool) where
-      summed : (l : List Made) → count_by p (flat_map f l) ≡ sum_by (λ m. count_by p (f m)) l
+      summed : (l : List MadeEvent) → count_by p (flat_map f l) ≡ sum_by (λ m. count_by p (f m)) l
       summed [] = refl
       summed (m ∷ l) = let a = many_more p (f m) (flat_map f l) in let b = summed l in let c = sum_by-cons (λ m. count_by p (f m)) m l in omega arith
 
       -- the same number of items of the only hand's list pass a test as of the schedule
-      pub of_schedule : (past : List Event) (l : List Made) → AreMade past (l ∷ []) → count_by p (flat_map f l) ≡ count_by p (flat_map by_move (moves (first_state ELEMENTS) past))
+      pub of_schedule : (past : List Event) (l : List MadeEvent) → AreMade past (l ∷ []) → count_by p (flat_map f l) ≡ count_by p (flat_map by_move (moves (first_state ELEMENTS) past))
       unfolding begun
       of_schedule past l made = summed l
           ∙ (sym (sum_by-IsPermutation (λ m. count_by p (f m)) l (map entry_of made.log) (filed_shuffle made.log l made.listed))

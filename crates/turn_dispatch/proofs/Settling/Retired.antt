@@ -1,5 +1,5 @@
 -- An element was retired once, after all its steps, if it is free at the end.
-use Rattle.turn_dispatch.proofs.Common.{drop, AllByRecursion, result_unwrap_or, dite, dec_lt, step, first_state, in_list, left, cases_lt, ◌==◌, ◌&&◌, concat, moves, all_append, ELEMENTS, Place, Made, ClosedNow, StandsAt, is_left, made_in, AreMade, View, taking_by, done_at, elements_after, ring_at, thread_at, first_runs, takings_in, plus, many_cons, by_bool, any_is, some_count, is_less, many_more, elements_of, lawful_after, same_pair, IsOnceWhere, is_free, place_of, tally, le-ltb}
+use Rattle.turn_dispatch.proofs.Common.{drop, AllByRecursion, result_unwrap_or, dite, dec_lt, step, first_state, in_list, left, cases_lt, ◌==◌, ◌&&◌, concat, moves, all_append, ELEMENTS, Place, MadeEvent, ClosedNow, StandsAt, is_left, made_in, AreMade, View, taking_by, done_at, elements_after, ring_at, thread_at, first_runs, takings_in, plus, many_cons, by_bool, any_is, some_count, is_less, many_more, elements_of, lawful_after, same_pair, IsOnceWhere, is_free, place_of, tally, le-ltb}
 use Rattle.thread_table.proofs.Common.{◌≡◌, ⊎_elim, ℕ, ◌+◌, ◌<◌, ◌≤◌, Bool, true, false, eqb_tells, List, [], ◌∷◌, ◌++◌, ◌∙◌, length, refl, sym, ap, subst, arith, count_by, flat_map, append_assoc, State, Event, Elements, nat_lt}
 use Rattle.std.specs.Prelude.{if◌then◌else◌}
 use Rattle.event_theory.specs.declared.event.Event.TheVariants as events
@@ -78,12 +78,12 @@ module _ (x : ℕ) where
         let g : when is_at (count_by is_of (r ∷ rs)) ≡ when is_at (plus (is_of r) + count_by is_of rs) = ap (when is_at) d in omega arith
 
   -- the element was put there as often as is reported
-  put_told : (s : State) (es : List Event) → count_by is_of (flat_map (by_move retired_by) (moves s es)) ≡ in_list x (freed es)
-  put_told s [] = refl
-  put_told s (events.Claim call names.Free items ∷ es) = let e : Event = events.Claim call names.Free items in let t : State = result_unwrap_or (step e s) s in
+  put_reported : (s : State) (es : List Event) → count_by is_of (flat_map (by_move retired_by) (moves s es)) ≡ in_list x (freed es)
+  put_reported s [] = refl
+  put_reported s (events.Claim call names.Free items ∷ es) = let e : Event = events.Claim call names.Free items in let t : State = result_unwrap_or (step e s) s in
       let r : ℕ × ℕ = (first_item items, (thread_at s.elements (first_item items)).done) in
-      let a = many_cons is_of r (flat_map (by_move retired_by) (moves t es)) in let b = many_cons (λ item. item == x) (first_item items) (freed es) in let c = put_told t es in omega arith
-  put_told s (e ∷ es) = put_told (result_unwrap_or (step e s) s) es
+      let a = many_cons is_of r (flat_map (by_move retired_by) (moves t es)) in let b = many_cons (λ item. item == x) (first_item items) (freed es) in let c = put_reported t es in omega arith
+  put_reported s (e ∷ es) = put_reported (result_unwrap_or (step e s) s) es
 
 -- TAKINGS
 
@@ -94,13 +94,13 @@ all_pass : (xs : List ℕ) → count_by always xs ≡ length xs
 all_pass [] = refl
 all_pass (x ∷ xs) = let a = many_cons always x xs in let b = all_pass xs in omega arith
 
-told_takings : (s : State) (es : List Event) → flat_map (by_move taken_by) (moves s es) ≡ flat_map taking_by es
-told_takings s [] = refl
-told_takings s (e ∷ es) = ap (λ z. taking_by e ++ z) (told_takings (result_unwrap_or (step e s) s) es)
+reported_takings : (s : State) (es : List Event) → flat_map (by_move taken_by) (moves s es) ≡ flat_map taking_by es
+reported_takings s [] = refl
+reported_takings s (e ∷ es) = ap (λ z. taking_by e ++ z) (reported_takings (result_unwrap_or (step e s) s) es)
 
-takings_told : (past : List Event) (l : List Made) → AreMade past (l ∷ []) → length (flat_map taken_by l) ≡ takings_in past
-takings_told past l made = sym (all_pass (flat_map taken_by l)) ∙ (of_schedule taken_by (λ call other s. refl) always past l made
-    ∙ (ap (count_by always) (told_takings (first_state ELEMENTS) past) ∙ all_pass (flat_map taking_by past)))
+takings_reported : (past : List Event) (l : List MadeEvent) → AreMade past (l ∷ []) → length (flat_map taken_by l) ≡ takings_in past
+takings_reported past l made = sym (all_pass (flat_map taken_by l)) ∙ (of_schedule taken_by (λ call other s. refl) always past l made
+    ∙ (ap (count_by always) (reported_takings (first_state ELEMENTS) past) ∙ all_pass (flat_map taking_by past)))
 
 -- THE CLOSED TABLE
 
@@ -117,13 +117,13 @@ module _ (x n call : ℕ) (v : View) (stands : List Place) (pcs pending : List �
   many = takings_in past
 
   many_are : length (tally v.own.made).taken ≡ many
-  many_are = takings_told past v.own.made c.made
+  many_are = takings_reported past v.own.made c.made
 
   few : many ≤ 64
   few = let m = many_are in let t = took in omega arith
 
-  abbrev told : List (ℕ × ℕ)
-  told = flat_map (by_move retired_by) (moves (first_state ELEMENTS) past)
+  abbrev reported : List (ℕ × ℕ)
+  reported = flat_map (by_move retired_by) (moves (first_state ELEMENTS) past)
 
   -- the element is among the free once if it is reported there, and otherwise not
   abbrev frees : List ℕ
@@ -141,20 +141,20 @@ module _ (x n call : ℕ) (v : View) (stands : List Place) (pcs pending : List �
       (λ no. let none : in_list x frees ≡ 0 = omega (arith, no) in none ∙ ap (λ b. when b 1) (sym other)))
 
   -- so it was put there once if it was taken of the first and is free
-  once_put : count_by (is_of x) told ≡ when (nat_lt x many && is_free (place_of stands x)) 1
-  once_put = let put = put_told x (first_state ELEMENTS) past in let once = once_free in
+  once_put : count_by (is_of x) reported ≡ when (nat_lt x many && is_free (place_of stands x)) 1
+  once_put = let put = put_reported x (first_state ELEMENTS) past in let once = once_free in
       let parts : in_list x frees ≡ in_list x (drop many (concat first_runs)) + in_list x (freed past) = ap (in_list x) (left_is past c.allowed few) ∙ many_more (λ item. item == x) (drop many (concat first_runs)) (freed past) in
       ⊎_elim
-      (λ gone. let none = first_gone x many gone in let is : count_by (is_of x) told ≡ when (is_free (place_of stands x)) 1 = omega arith in
+      (λ gone. let none = first_gone x many gone in let is : count_by (is_of x) reported ≡ when (is_free (place_of stands x)) 1 = omega arith in
       is ∙ ap (λ b. when (b && is_free (place_of stands x)) 1) (sym (is_less x many gone)))
       (λ still. let one = first_still x many still low in let most = once_left x (elements_after past) (lawful_after past c.allowed) in
-      let none : count_by (is_of x) told ≡ 0 = omega arith in none ∙ ap (λ b. when (b && is_free (place_of stands x)) 1) (sym (le-ltb x many still)))
+      let none : count_by (is_of x) reported ≡ 0 = omega arith in none ∙ ap (λ b. when (b && is_free (place_of stands x)) 1) (sym (le-ltb x many still)))
       (cases_lt x many)
 
   pub retired_settle : IsOnceWhere (is_back (length (tally v.own.made).taken) stands pcs x n) (x, n) (tally v.own.made).retired
   retired_settle =
       of_schedule retired_by (λ call other s. refl) (same_pair (x, n)) past v.own.made c.made
-      ∙ (as_often x n past told (subst (λ s. AllByRecursion (IsLast past) (flat_map (by_move retired_by) (moves s past))) after_none.0 (all_last past [] c.allowed few))
+      ∙ (as_often x n past reported (subst (λ s. AllByRecursion (IsLast past) (flat_map (by_move retired_by) (moves s past))) after_none.0 (all_last past [] c.allowed few))
       ∙ (ap (when (n == done_at past x)) once_put
       ∙ (by (nat_lt x many && is_free (place_of stands x)) (n == done_at past x)
       ∙ (λ i. when (nat_lt x (sym many_are i) && is_free (place_of stands x) && (n == sym (c.steps x low) i)) 1))))

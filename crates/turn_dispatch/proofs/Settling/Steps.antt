@@ -57,9 +57,9 @@ module _ (x n : ℕ) where
       (cases_lt n d)
 
   -- an element that there isn't has done none
-  told_done : (call : ℕ) (v : View) (stands : List Place) (pcs pending : List ℕ) (stops : ℕ) → ClosedNow call v stands pcs pending stops
+  reported_done : (call : ℕ) (v : View) (stands : List Place) (pcs pending : List ℕ) (stops : ℕ) → ClosedNow call v stands pcs pending stops
       → nat_lt n (done_of x (state_after v.seen.object)) ≡ has_done pcs x n
-  told_done call v stands pcs pending stops c = let past : List Event = v.seen.object in ⊎_elim
+  reported_done call v stands pcs pending stops c = let past : List Event = v.seen.object in ⊎_elim
       (λ low. λ i. sym (is_less x 64 low) i && nat_lt n (sym (c.steps x low ∙ done_is past x) i))
       (λ far. let long = ap (λ (z : ℕ × ℕ × ℕ). z.0) (sizes_are past c.allowed) in
       let none : done_of x (state_after past) ≡ 0 = sym (done_is past x) ∙ ap (λ (t : Thread). t.done) (get_or-eq_default (elements_after past).threads new_thread (omega (arith, far, long))) in
@@ -74,4 +74,4 @@ module _ (x n : ℕ) where
       ∙ (by_numbers (moves _ past)
       ∙ (ap (count_by (eqb (n + 1))) (c.accounted.done x)
       ∙ (in_range (done_of x (state_after past))
-      ∙ ap (λ (b : Bool). if b then 1 else 0) (told_done call v stands pcs pending stops c)))))
+      ∙ ap (λ (b : Bool). if b then 1 else 0) (reported_done call v stands pcs pending stops c)))))

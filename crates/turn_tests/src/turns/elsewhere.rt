@@ -2,7 +2,7 @@
 ghost use Rattle.std.specs.Prelude.{◌≡◌, ◌<◌, length};
 ghost use Rattle.thread_table.specs.Handles.{IsHandOf};
 ghost use Rattle.turn_io.specs.EndLists.{AreEndsOf};
-ghost use Rattle.processor.specs.Manning.{IsManned};
+ghost use Rattle.processor.specs.Manning.{IsRunnable};
 ghost use Rattle.processor.specs.Stations.{ArePartsOf};
 
 use super::partings::stand_two;
@@ -44,7 +44,7 @@ fn say_or_shut(queues: &[ClaimQueue<64>], ends: &mut Vec<QueueEnd<64>>, shuts: b
 }
 
 impl<'r, 's, R: Wait> Gate for Sayer<'r, 's, R> {
-    ghost told = { λ old p point new. new.shared.now ≡ old.shared.now };
+    ghost observes = { λ old p point new. new.shared.now ≡ old.shared.now };
 
     fn between(&mut self, _p: u8, point: Point) {
         if point != Point::TakeAnswered {
@@ -74,7 +74,7 @@ fn run_beside<R: Abort + Wait>(
     turns: u32,
     shuts: bool,
 ) -> (Station, Station)
-    requires manned { IsManned shared.now one.1 one.0.parts }
+    requires manned { IsRunnable shared.now one.1 one.0.parts }
     requires parts { ArePartsOf shared.now other.parts }
     ensures { ArePartsOf shared.now result.0.parts × ArePartsOf shared.now result.1.parts }
 {

@@ -18,17 +18,17 @@ struct Recorder {
 }
 
 impl Gate for Recorder {
-    ghost told = { λ old p point new. Unit {0} };
+    ghost observes = { λ old p point new. Unit {0} };
 
     fn between(&mut self, p: u8, point: Point) {
-        let _wanting = self.points.push((p, point));
+        let _short = self.points.push((p, point));
     }
 }
 
 /// The gate is called for each turn, with its number, between the parts of a say, and after the try of a hear. It is
 /// also called for a turn with no thread at hand.
 #[test]
-fn turns_are_told(rt: HostRuntime) {
+fn turns_are_reported(rt: HostRuntime) {
     let plan = plan_of(&rt, rt.alloc(), SAID);
     let p = processor(&rt, 5);
     let Ok((shared, station)) = stand(&rt, rt.alloc(), plan, p) else {
@@ -63,7 +63,7 @@ struct Taker<'r, 's, R: Wait> {
 }
 
 impl<'r, 's, R: Wait> Gate for Taker<'r, 's, R> {
-    ghost told = { λ old p point new. Unit {0} };
+    ghost observes = { λ old p point new. Unit {0} };
 
     fn between(&mut self, _p: u8, point: Point) {
         let taken = self.threads.try_next(&mut self.hand);
@@ -72,14 +72,14 @@ impl<'r, 's, R: Wait> Gate for Taker<'r, 's, R> {
                 make_ready(self.rt, self.threads, &mut self.hand, element);
             }
         }
-        let _wanting = self.taken.push((point, taken));
+        let _short = self.taken.push((point, taken));
     }
 }
 
 /// When the gate is called for a turn, the turn's element is still in the ready ring. The element of the turn before is
 /// there again; within a step it is not.
 #[test]
-fn turns_are_told_before_the_taking(rt: HostRuntime) {
+fn turns_are_reported_before_the_taking(rt: HostRuntime) {
     let plan = plan_of(&rt, rt.alloc(), SAID);
     let (p, q) = (processor(&rt, 5), processor(&rt, 1));
     let (shared, one, other) = stand_two(&rt, rt.alloc(), plan, p, q);
@@ -112,7 +112,7 @@ struct Canceller<'s> {
 }
 
 impl<'s> Gate for Canceller<'s> {
-    ghost told = { λ old p point new. Unit {0} };
+    ghost observes = { λ old p point new. Unit {0} };
 
     fn between(&mut self, _p: u8, point: Point) {
         let Point::Turn(number) = point else {
@@ -124,7 +124,7 @@ impl<'s> Gate for Canceller<'s> {
         };
         if slot < 16 {
             let cancelled = self.meters.cancel(&mut self.seat, slot, *alarm);
-            let _wanting = self.cancelled.push(cancelled);
+            let _short = self.cancelled.push(cancelled);
         }
     }
 }
@@ -141,7 +141,7 @@ pass
 /// When the gate is called for a turn, the alarms of its tick haven't fired: each can still be cancelled, and then
 /// doesn't.
 #[test]
-fn turns_are_told_before_the_alarms(rt: HostRuntime) {
+fn turns_are_reported_before_the_alarms(rt: HostRuntime) {
     let plan = plan_of(&rt, rt.alloc(), TWO_ALARMS);
     let (p, q) = (processor(&rt, 0), processor(&rt, 1));
     let (shared, one, other) = stand_two(&rt, rt.alloc(), plan, p, q);
@@ -153,6 +153,6 @@ fn turns_are_told_before_the_alarms(rt: HostRuntime) {
     };
     let station = run(&rt, &shared, one, p, 3, &mut gate);
     assert!(rt; gate.cancelled.as_slice() == [true, true].as_slice());
-    let (_station, _heard, mask) = told(station, 0);
+    let (_station, _heard, mask) = reported(station, 0);
     assert!(rt; mask == 0);
 }

@@ -25,7 +25,7 @@ fn boots<R: Abort + Wait>(rt: &R, alloc: Global, p: Processor) -> bool {
 
 /// If an allocation is refused, a boot has no memory, or goes on with the ends that were returned; others go on.
 #[test]
-fn memory_may_be_wanting(rt: HostRuntime) {
+fn memory_may_run_out(rt: HostRuntime) {
     let p = processor(&rt, 0);
     let mut booted = 0u8;
     for _ in 0..3u8 {

@@ -2,7 +2,7 @@
 ghost use Rattle.std.specs.Prelude.{◌≡◌, length};
 ghost use Rattle.std.specs.List.{All};
 ghost use Rattle.turn_io.specs.EndLists.{IsIdle, chain_table, chain_end_table};
-ghost use Rattle.processor.specs.Manning.{IsManned};
+ghost use Rattle.processor.specs.Manning.{IsRunnable};
 
 use super::stands::{Ways, first_station, readied};
 use super::*;
@@ -46,7 +46,7 @@ fn stand_pumped<R: Abort + Wait>(
     p: Processor,
     at: u32,
 ) -> (Shared, Station, ChainEnd<AnyQuaject>)
-    ensures manned { IsManned result.0 p result.1.parts }
+    ensures manned { IsRunnable result.0 p result.1.parts }
     ensures one { length result.0.chains.items ≡ 1 }
     ensures other { All (λ chain. chain_end_table result.2 ≡ chain_table chain) result.0.chains.items
         × IsIdle result.2 }

@@ -1,6 +1,6 @@
 //! Two processors over one ready ring.
 ghost use Rattle.std.specs.Thread.{IsSync};
-ghost use Rattle.processor.specs.Manning.{IsManned};
+ghost use Rattle.processor.specs.Manning.{IsRunnable};
 ghost use Rattle.processor.specs.Rooms.{HasRoom};
 ghost use Rattle.processor.specs.Stations.{ArePartsOf};
 
@@ -65,18 +65,18 @@ fn run_two<R: Threads + Wait + Sync>(
     one: (Station, Processor),
     other: (Station, Processor),
 ) -> (Station, Station)
-    requires { IsManned shared.now one.1 one.0.parts × IsManned shared.now other.1 other.0.parts }
+    requires { IsRunnable shared.now one.1 one.0.parts × IsRunnable shared.now other.1 other.0.parts }
     ensures parts { ArePartsOf shared.now result.0.parts × ArePartsOf shared.now result.1.parts }
     ensures room { HasRoom shared.now.plan result.0.parts }
 {
     thread::join(
         rt,
         move || -> Station
-            requires { IsSync R.row × IsManned shared.now one.1 one.0.parts }
+            requires { IsSync R.row × IsRunnable shared.now one.1 one.0.parts }
             ensures { ArePartsOf shared.entry.now result.parts × HasRoom shared.entry.now.plan result.parts }
         { run(rt, shared, one.0, one.1, TURNS, &mut NoGate) },
         move || -> Station
-            requires { IsSync R.row × IsManned shared.now other.1 other.0.parts }
+            requires { IsSync R.row × IsRunnable shared.now other.1 other.0.parts }
             ensures { ArePartsOf shared.entry.now result.parts }
         { run(rt, shared, other.0, other.1, TURNS, &mut NoGate) },
     )

@@ -1,7 +1,7 @@
 //! A station that is split for another processor, and joined again.
 ghost use Rattle.std.specs.Prelude.{◌≡◌};
 ghost use Rattle.turn_io.specs.EndLists.{AreEndsOf};
-ghost use Rattle.processor.specs.Manning.{IsManned};
+ghost use Rattle.processor.specs.Manning.{IsRunnable};
 ghost use Rattle.processor.specs.Partings.{AreDivisible};
 ghost use Rattle.processor.specs.Stations.{ArePartsOf};
 
@@ -21,7 +21,7 @@ fn split_for<R: Abort>(
     requires divisible { AreDivisible station.parts }
     ensures heard { result.0.parts.heard ≡ station.parts.heard }
     ensures parts { ArePartsOf shared.now result.0.parts }
-    ensures manned { IsManned shared.now q result.1.parts }
+    ensures manned { IsRunnable shared.now q result.1.parts }
 {
     let mut station = freed(rt, station, q);
     let Ok(other) = station.split(alloc, shared, 1 << q.number()) else {
@@ -39,7 +39,7 @@ pub(super) fn stand_two<R: Abort + Wait>(
     p: Processor,
     q: Processor,
 ) -> (Shared, Station, Station)
-    ensures { IsManned result.0 p result.1.parts × IsManned result.0 q result.2.parts }
+    ensures { IsRunnable result.0 p result.1.parts × IsRunnable result.0 q result.2.parts }
 {
     let Ok(ways) = make_queues(alloc, plan.queues.as_slice().len()) else {
         panic!(rt; "memory")
@@ -95,9 +95,9 @@ fn split_and_joined(rt: HostRuntime) {
     let one = run(&rt, &shared, one, p, 1, &mut NoGate);
     let other = run(&rt, &shared, other, q, 1, &mut NoGate);
     let one = run(&rt, &shared, one, p, 1, &mut NoGate);
-    let (mut one, heard, mask) = told(one, 1);
+    let (mut one, heard, mask) = reported(one, 1);
     assert!(rt; (heard, mask) == (0, 0));
-    let (other, heard, mask) = told(other, 1);
+    let (other, heard, mask) = reported(other, 1);
     assert!(rt; (heard, mask) == (1, 16));
     let lines = one.join(&shared, other);
     check_lines(&rt, &lines, &[(1, 0, b"xy\n")]);

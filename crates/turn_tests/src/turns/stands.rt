@@ -7,7 +7,7 @@ ghost use Rattle.meters.specs.Handles.{IsSeatOf, IsSameSeat};
 ghost use Rattle.meters.specs.Handles as seats;
 ghost use Rattle.turn_dispatch.specs.Holdings.{IsFree};
 ghost use Rattle.turn_io.specs.EndLists.{AreEndsOf, AreChainEndsOf, AreChainsOver, IsDivisible};
-ghost use Rattle.processor.specs.Manning.{IsManned};
+ghost use Rattle.processor.specs.Manning.{IsRunnable};
 ghost use Rattle.processor.specs.Programs.{hear_count, longest_line};
 ghost use Rattle.processor.specs.Stations.{ArePartsOf};
 
@@ -222,7 +222,7 @@ pub(super) fn readied<R: Abort + Wait>(
     requires heard { station.parts.heard.lines ≡ [] }
     requires room { hear_count shared.now.plan ≤ station.parts.heard.room }
     requires longest { longest_line shared.now.plan ≤ station.parts.heard.longest }
-    ensures { IsManned shared.now p result.parts }
+    ensures { IsRunnable shared.now p result.parts }
 {
     let mut parts = station.into_parts();
     let count = shared.plan.threads.as_slice().len();
@@ -243,7 +243,7 @@ pub(super) fn stand<R: Abort + Wait>(
     plan: BootPlan,
     p: Processor,
 ) -> Result<(Shared, Station), OutOfMemory>
-    ensures { IfOk result (λ r. IsManned r.0 p r.1.parts) }
+    ensures { IfOk result (λ r. IsRunnable r.0 p r.1.parts) }
 {
     let ways = make_queues(alloc, plan.queues.as_slice().len())?;
     let (shared, station) = first_station(rt, alloc, plan, (0, 0), ways)?;

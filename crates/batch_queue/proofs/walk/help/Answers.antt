@@ -1,4 +1,4 @@
-use Rattle.batch_queue.proofs.Common.{EndRecord, Made, [], ap, refl, subst, ◌∷◌}
+use Rattle.batch_queue.proofs.Common.{EndRecord, Performed, [], ap, refl, subst, ◌∷◌}
 use Rattle.table_theory.specs.declared.views.Part.{Part}
 use Rattle.batch_queue.proofs.Timing.{was_so_after}
 use Rattle.batch_queue.proofs.Growing.{grows_trans}
@@ -16,7 +16,7 @@ returns-clause-trace c = overtaken_by _ _ _ _ _ _ _ c.walk-to.ensures.trace c.mo
 
 pub returns-then-found-free-clause-exact : goal.returns-then-found-free-clause-exact
 returns-then-found-free-clause-exact c = let w = c.walk-to.ensures in let m = c.move_free-found.ensures in
-    λ still below. exact_help c.args.room c.args.free c.walk-to.result _ _ _ _ _ w.trace.made (subst (λ (z : EndRecord). Made c.walk-to.new.seat.me.0 (m.trace.last ∷ []) z c.move_free-found.new.seat.me.0) w.trace.made.did m.trace.made) (m.hit c.if-found-free.true).0 (w.stopped refl refl below)
+    λ still below. exact_help c.args.room c.args.free c.walk-to.result _ _ _ _ _ w.trace.made (subst (λ (z : EndRecord). Performed c.walk-to.new.seat.me.0 (m.trace.last ∷ []) z c.move_free-found.new.seat.me.0) w.trace.made.did m.trace.made) (m.hit c.if-found-free.true).0 (w.stopped refl refl below)
 
 pub returns-clause-passed : goal.returns-clause-passed
 returns-clause-passed c = λ moved. was_so_after _ _ _ _ _ (ap (λ (z : Part). z.share) c.walk-to.ensures.trace.made.member) c.walk-to.ensures.trace.made.adds (c.move_free-found.ensures.passed c.if-found-free.false)

@@ -4,11 +4,11 @@ use mir.Val.{SFits}
 use Rattle.bindings.specs.declared.payload.Payload.TheVariants.{Chain}
 use Rattle.bindings.specs.Handles.{MadeHandle}
 use Rattle.bindings.specs.ChainHeld.{IsNewChain}
-use Rattle.bindings.proofs.Telling.{as_told, made_as}
+use Rattle.bindings.proofs.Telling.{as_reported, made_as}
 use Rattle.bindings.proofs.chain.synth_raw_chain_new_marked.Goals as goal
 
 pub returns : goal.returns
 returns c = let f = c.fill in let fits : SFits w32 f.result = search rules in
-    as_told (MadeHandle (λ x. Chain x) (Unit {0}) (IsNewChain c.args.first c.args.mark) c.args.chain.now f.new.handle) f.result fits
+    as_reported (MadeHandle (λ x. Chain x) (Unit {0}) (IsNewChain c.args.first c.args.mark) c.args.chain.now f.new.handle) f.result fits
     (made_as (λ x. Chain x) (Unit {0}) (IsNewChain c.args.first c.args.mark) c.new-made.result c.args.chain.now f.new.handle f.result
     (sym c.is_full.ensures ∙ c.if-is_full.false) tt c.new-made.ensures f.ensures)

@@ -3,7 +3,7 @@ use Rattle.bindings.proofs.Calls.{line_out_in, unboxed}
 use Rattle.bindings.specs.declared.line.held.HeldIn.{HeldIn}
 use Rattle.bindings.specs.declared.line.held.HeldOut.{HeldOut}
 use Rattle.bindings.specs.declared.line.SynthLineTotals.{SynthLineTotals}
-use Rattle.bindings.specs.LineCalls.{IsTold}
+use Rattle.bindings.specs.LineCalls.{ReportsLine}
 use Rattle.bindings.proofs.line.synth_raw_line_finish.Goals as goal
 
 pub returns-then-first-second : goal.returns-then-first-second
@@ -11,7 +11,7 @@ returns-then-first-second c = let one = c.in-Some.ensures.value in let two = c.i
     inr (inl (refl, c.in-Some.first.now, c.in-Some-find.second.now, ap (of_kind line_in_in) one, ap (of_kind line_out_in) two, sym one, sym two, refl, search rules))
 
 pub returns : goal.returns
-returns c = let e = c.finish-told.ensures in let told : SynthLineTotals = record { sent = c.finish-told.result.sent; received = c.finish-told.result.received; left = c.finish-told.result.left } in
+returns c = let e = c.finish-reported.ensures in let reported : SynthLineTotals = record { sent = c.finish-reported.result.sent; received = c.finish-reported.result.received; left = c.finish-reported.result.left } in
     let x = c.in-Some.first.now in let z = c.in-Some-find.second.now in
     let one = unboxed line_in_in (LineIn x) refl c.take.ensures.taken c.into_inner.ensures c.unwrap-first.ensures in
     let two = unboxed line_out_in (LineOut z) refl c.take-2.ensures.taken c.into_inner-2.ensures c.unwrap-second.ensures in
@@ -24,6 +24,6 @@ returns c = let e = c.finish-told.ensures in let told : SynthLineTotals = record
       c.take.ensures.emptied,
       c.take-2.ensures.emptied,
       search rules,
-      subst (λ (h : HeldIn). IsTold h z told) one (subst (λ (h : HeldOut). IsTold c.unwrap-first.result h told) two
+      subst (λ (h : HeldIn). ReportsLine h z reported) one (subst (λ (h : HeldOut). ReportsLine c.unwrap-first.result h reported) two
           (record { whole = e.whole; sent = e.sent; received = e.received; left = e.left; within = e.within })),
     ))

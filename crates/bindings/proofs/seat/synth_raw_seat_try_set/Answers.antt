@@ -1,17 +1,17 @@
 use Rattle.bindings.proofs.Calls.{inr, refl, ap, Ok, Err, Some, of_kind, seat_in, answered, at_value}
-use Rattle.bindings.specs.SeatCalls.{SetTold}
+use Rattle.bindings.specs.SeatCalls.{IsSetCall}
 use Rattle.bindings.proofs.SeatSetting.{set_small}
 use Rattle.bindings.proofs.seat.synth_raw_seat_try_set.Goals as goal
 
 pub returns-in-Ok-clause-set : goal.returns-in-Ok-clause-set
-returns-in-Ok-clause-set c = let a = c.try_set-answer in let t = c.told-in-Ok.ensures in let m = c.in-Some-alarm_of in
-    at_value (λ x. SetTold x c.args.alarm.now c.args.slot.now c.in-Ok.found (Some a.new.self) c.told-in-Ok.result) (ap (of_kind seat_in) c.in-Some.ensures.value)
+returns-in-Ok-clause-set c = let a = c.try_set-answer in let t = c.answer_of-in-Ok.ensures in let m = c.in-Some-alarm_of in
+    at_value (λ x. IsSetCall x c.args.alarm.now c.args.slot.now c.in-Ok.found (Some a.new.self) c.answer_of-in-Ok.result) (ap (of_kind seat_in) c.in-Some.ensures.value)
     (inr (m.ensures.0, (m.alarm, m.ensures.1, answered a.new.self (Ok c.in-Ok.found) c.in-Ok.ensures (refl, t.0, t.1, t.2))))
 
-pub told_of_set-requires : goal.told_of_set-requires
-told_of_set-requires c = set_small _ _ c.in-Err.refusal c.in-Err.ensures.1
+pub answer_of_set-requires : goal.answer_of_set-requires
+answer_of_set-requires c = set_small _ _ c.in-Err.refusal c.in-Err.ensures.1
 
 pub returns-in-Err-clause-set : goal.returns-in-Err-clause-set
-returns-in-Err-clause-set c = let a = c.try_set-answer in let t = c.told_of_set.ensures in let m = c.in-Some-alarm_of in let r = c.in-Err.refusal in
-    at_value (λ x. SetTold x c.args.alarm.now c.args.slot.now c.args.slot.now (Some a.new.self) c.told_of_set.result) (ap (of_kind seat_in) c.in-Some.ensures.value)
+returns-in-Err-clause-set c = let a = c.try_set-answer in let t = c.answer_of_set.ensures in let m = c.in-Some-alarm_of in let r = c.in-Err.refusal in
+    at_value (λ x. IsSetCall x c.args.alarm.now c.args.slot.now c.args.slot.now (Some a.new.self) c.answer_of_set.result) (ap (of_kind seat_in) c.in-Some.ensures.value)
     (inr (m.ensures.0, (m.alarm, m.ensures.1, answered a.new.self (Err r) c.in-Err.ensures (refl, t.0, t.1, t.2))))

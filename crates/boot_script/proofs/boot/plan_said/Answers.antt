@@ -5,7 +5,7 @@ use Rattle.boot_script.specs.Plans.{first_draft, plan_from, plan_only}
 use Rattle.boot_data.specs.PlanLimits.{IsPlan}
 use Rattle.boot_script.specs.Drafts.{Draws}
 use Rattle.boot_script.proofs.EventScripts.EventsRead.{no_text}
-use Rattle.boot_script.proofs.BootScripts.LinesDrawn.{silent_line, line_told, line_fault, lines_done, is_said}
+use Rattle.boot_script.proofs.BootScripts.LinesDrawn.{silent_line, line_reported, line_fault, lines_done, is_said}
 use Rattle.boot_script.proofs.Drafts.PlanLimits.{draft_within}
 use Rattle.boot_script.proofs.boot.plan_said.Goals as goal
 use Rattle.boot_script.proofs.boot.plan_said.Goals.{then-not-is_silent+in-Ok, else-not-is_silent}
@@ -37,7 +37,7 @@ loop-rest-preserved c =
             so_far = record {
               d = next.0;
               drawn = subst (λ kept. Draws kept next.0) (sym w.draft-is) next.2;
-              all = line_told c.args.version c.loop-rest.line_number line lines so_far.d next.0 _ w.if-not-is_silent.ensures next.1 here;
+              all = line_reported c.args.version c.loop-rest.line_number line lines so_far.d next.0 _ w.if-not-is_silent.ensures next.1 here;
             };
             few = omega arith;
           }

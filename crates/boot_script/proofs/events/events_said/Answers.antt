@@ -6,7 +6,7 @@ use Rattle.boot_script.specs.Grammar.{line_event}
 use Rattle.boot_script.specs.Scripts.{events_from}
 use Rattle.boot_script.specs.Answers.{Fails}
 use Rattle.boot_script.proofs.Basics.Gathered.{with_front, none_yet, pushed, what_is_ok, is_ok_by}
-use Rattle.boot_script.proofs.EventScripts.EventsRead.{silent_more, told_more, told_fault, no_text, events_done}
+use Rattle.boot_script.proofs.EventScripts.EventsRead.{silent_more, reported_more, reported_fault, no_text, events_done}
 use Rattle.boot_script.proofs.events.events_said.Goals as goal
 use Rattle.boot_script.proofs.events.events_said.Goals.{then-not-is_silent+in-Ok+then-kept, then-not-is_silent+in-Ok+else-kept, then-not-is_silent+in-Err-OutOfMemory, else-not-is_silent}
 
@@ -20,7 +20,7 @@ pub returns-in-Err : goal.returns-in-Err
 returns-in-Err c =
     let front = c.loop-rest.invariant.gathered.front in
     let here = ap (λ ls. with_front front (events_from c.args.version c.loop-rest.line_number ls)) (sym c.first_line.ensures.lines) ∙ c.loop-rest.invariant.gathered.all in
-    inr (told_fault c.args.version c.loop-rest.line_number front c.first_line.result.0.now (lines_of c.first_line.result.1.now) _ c.in-Err.refusal (λ e. search rules) c.if-not-is_silent.ensures c.in-Err.ensures here)
+    inr (reported_fault c.args.version c.loop-rest.line_number front c.first_line.result.0.now (lines_of c.first_line.result.1.now) _ c.in-Err.refusal (λ e. search rules) c.if-not-is_silent.ensures c.in-Err.ensures here)
 
 pub loop-rest-preserved : goal.loop-rest-preserved
 loop-rest-preserved c =
@@ -35,7 +35,7 @@ loop-rest-preserved c =
             gathered = record {
               front = front ++ added ∷ [];
               here = pushed _ _ _ _ front added (ap (λ v. v.items) w.events-is ∙ w.push.ensures.items) (w.kept-is ∙ w.is_ok-kept.ensures.value) (c.loop-rest.invariant.gathered.here w.if-kept.true);
-              all = told_more c.args.version c.loop-rest.line_number front line lines _ w.in-Ok.event w.if-not-is_silent.ensures w.in-Ok.ensures here;
+              all = reported_more c.args.version c.loop-rest.line_number front line lines _ w.in-Ok.event w.if-not-is_silent.ensures w.in-Ok.ensures here;
             };
             few = omega arith;
           }
@@ -44,7 +44,7 @@ loop-rest-preserved c =
             gathered = record {
               front = front ++ (c.loop-rest.line_number, w.in-Ok.event) ∷ [];
               here = λ h. absurd (cc (h, w.kept-is, w.if-kept.false));
-              all = told_more c.args.version c.loop-rest.line_number front line lines _ w.in-Ok.event w.if-not-is_silent.ensures w.in-Ok.ensures here;
+              all = reported_more c.args.version c.loop-rest.line_number front line lines _ w.in-Ok.event w.if-not-is_silent.ensures w.in-Ok.ensures here;
             };
             few = omega arith;
           }
@@ -54,7 +54,7 @@ loop-rest-preserved c =
             gathered = record {
               front = front ++ (c.loop-rest.line_number, event.0) ∷ [];
               here = λ h. absurd (cc (h, w.kept-is));
-              all = told_more c.args.version c.loop-rest.line_number front line lines _ event.0 w.if-not-is_silent.ensures event.1 here;
+              all = reported_more c.args.version c.loop-rest.line_number front line lines _ event.0 w.if-not-is_silent.ensures event.1 here;
             };
             few = omega arith;
           }

@@ -1,4 +1,4 @@
-use Rattle.boot_threads.proofs.Common.{◌+◌, ◌≤◌, vec_len, vec_capacity, AllZip, into_iter_len, WasTold}
+use Rattle.boot_threads.proofs.Common.{◌+◌, ◌≤◌, vec_len, vec_capacity, AllZip, into_iter_len, StartReports}
 use Rattle.std.proofs.Common.{All}
 use Rattle.std.specs.Vec.Iter.{into_iter_items}
 use Rattle.boot_threads.proofs.crew.start_all.Given as goal
@@ -7,5 +7,5 @@ abbrev pub invariant-loop-job : goal.invariant-loop-job
 invariant-loop-job g l = record {
   room : vec_len l.handles + into_iter_len l.job-iterator ≤ vec_capacity l.handles;
   may : All (g.J.Job.may_run l.shared) (into_iter_items l.job-iterator);
-  told : AllZip (WasTold g.R.Witness.refused l.shared) l.yielded l.handles.items;
+  reported : AllZip (StartReports g.R.Witness.refused l.shared) l.yielded l.handles.items;
 }

@@ -2,4 +2,4 @@ use Rattle.boot_threads.proofs.Returning.{device_back}
 use Rattle.boot_threads.proofs.laws.devices_come_back.Goals as goal
 
 pub returns : goal.returns
-returns g c = device_back g.R.Witness.ran g.R.Witness.refused g.G.Gate.told
+returns g c = device_back g.R.Witness.ran g.R.Witness.refused g.G.Gate.observes

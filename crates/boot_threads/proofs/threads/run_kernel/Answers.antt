@@ -12,8 +12,8 @@ join_all-requires g c =
     (c.requires.backs.0, omega arith)
 
 pub returns-clause-worked : goal.returns-clause-worked
-returns-clause-worked g c = gave_all g.R.Witness.ran g.R.Witness.refused (HasWorked g.G.Gate.told) c.args.shared.now c.args.works.items c.scoped-handles.result.0.items c.join_all.result.items c.scoped-handles.ensures.1.0 c.join_all.ensures
+returns-clause-worked g c = gave_all g.R.Witness.ran g.R.Witness.refused (HasWorked g.G.Gate.observes) c.args.shared.now c.args.works.items c.scoped-handles.result.0.items c.join_all.result.items c.scoped-handles.ensures.1.0 c.join_all.ensures
 
 pub returns-clause-typed : goal.returns-clause-typed
-returns-clause-typed g c = typed_past g.R.Witness.ran (HasWorked g.G.Gate.told) c.args.processors c.args.shared.now.plan.ttys c.scoped-handles.result.0.items c.join_all.result.items c.args.lines.items c.scoped-handles.result.1.items
+returns-clause-typed g c = typed_past g.R.Witness.ran (HasWorked g.G.Gate.observes) c.args.processors c.args.shared.now.plan.ttys c.scoped-handles.result.0.items c.join_all.result.items c.args.lines.items c.scoped-handles.result.1.items
     c.join_all.ensures c.scoped-handles.ensures.1.1

@@ -8,7 +8,7 @@ returns c = record {
   stored = λ word found position item m views seat number index v w e r p l at has below is runs takes later.
       store_is m r.lawful position (fresh item) p (omega arith) views seat number index v w e l at has below is refl runs takes later;
   raised = λ word found position item m views seat number index v w e r p l at has below is runs takes later.
-      raise_is m r.lawful position (record { item = item; written = 1 }) p (omega arith) views seat number index v w e l at has below is runs takes later;
+      raise_is m r.lawful position (record { item = item; stage = 1 }) p (omega arith) views seat number index v w e l at has below is runs takes later;
   taken = take_is;
   shut = shut_is;
 }

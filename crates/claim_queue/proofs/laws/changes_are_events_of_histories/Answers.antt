@@ -8,7 +8,7 @@ returns c = record {
   history = λ e r. some_history e.then.object;
   claimed = claim_has;
   stored = λ word found position item m runs r p h. store_has m runs h r.lawful position (fresh item) p (omega arith);
-  raised = λ word found position item m runs r p h. raise_has m runs h r.lawful position (record { item = item; written = 1 }) p (omega arith);
+  raised = λ word found position item m runs r p h. raise_has m runs h r.lawful position (record { item = item; stage = 1 }) p (omega arith);
   taken = take_has;
   shut = shut_has;
 }

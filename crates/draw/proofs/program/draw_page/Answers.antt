@@ -10,9 +10,9 @@ pub returns-in-Ok-print_picture-clause-ok : goal.returns-in-Ok-print_picture-cla
 returns-in-Ok-print_picture-clause-ok c =
     let past = c.in_ok-past-in-Ok.past in
     let drawn = c.in_ok-drawn-in-Ok.drawn in
-    let told = subst (λ events. IsHistory past events (first_state c.in-Ok.elements)) c.deref.ensures.value c.in_ok-past-in-Ok.ensures in
+    let reported = subst (λ events. IsHistory past events (first_state c.in-Ok.elements)) c.deref.ensures.value c.in_ok-past-in-Ok.ensures in
     let printed = c.in-Ok-print_picture.ensures ∙ ap (λ before. before ++ picture_text drawn) c.new-page.ensures.items in
-    subst (λ said. IsDrawn said past.replayed c.print_picture.new.out.items) (sym c.in-Ok.ensures.said) (past, told, refl, (drawn, printed))
+    subst (λ said. IsDrawn said past.replayed c.print_picture.new.out.items) (sym c.in-Ok.ensures.said) (past, reported, refl, (drawn, printed))
 
 pub returns-in-OutOfMemory-clause-fault : goal.returns-in-OutOfMemory-clause-fault
 returns-in-OutOfMemory-clause-fault c = memory_last c.args.script.now c.in-Err.fault c.in-OutOfMemory.is c.in-Err.ensures.said

@@ -1,11 +1,11 @@
-use Rattle.meters.proofs.Common.{∥∥₁_elim, IsHonest, of_meters, view_of}
+use Rattle.meters.proofs.Common.{∥∥₁_elim, IsValidView, of_meters, view_of}
 use Rattle.std.proofs.Math.Bridge.{le_prop}
 use Rattle.meters.specs.declared.ends.MeterSeat.{MeterSeat}
 use Rattle.meters.proofs.Falling.{clock_around, clocks_in_order}
 use Rattle.meters.proofs.laws.never_below.Goals as goal
 
-by_both : {X : Type 0} (old new : MeterSeat) → IsProp X → (IsHonest of_meters (view_of old) → IsHonest of_meters (view_of new) → X) → X
-by_both old new prop f = ∥∥₁_elim old.told prop (λ (x : IsHonest of_meters (view_of old)). ∥∥₁_elim new.told prop (λ (y : IsHonest of_meters (view_of new)). f x y))
+by_both : {X : Type 0} (old new : MeterSeat) → IsProp X → (IsValidView of_meters (view_of old) → IsValidView of_meters (view_of new) → X) → X
+by_both old new prop f = ∥∥₁_elim old.valid prop (λ (x : IsValidView of_meters (view_of old)). ∥∥₁_elim new.valid prop (λ (y : IsValidView of_meters (view_of new)). f x y))
 
 pub returns : goal.returns
 returns c = record {

@@ -6,6 +6,6 @@ use Rattle.meters.proofs.laws.only_ends_are_never_lost.Goals as goal
 
 pub returns : goal.returns
 returns c = record {
-  advance = λ old new clock whole lost. by_both of_meters (view_of old) (view_of new) old.told new.told ⊥_prop (λ x y. clock_not_lost (view_of old) (view_of new) clock whole x y lost);
-  set = λ old new slot whole lost. by_both of_meters (view_of old) (view_of new) old.told new.told ⊥_prop (λ x y. slot_not_lost (view_of old) (view_of new) slot whole x y lost);
+  advance = λ old new clock whole lost. by_both of_meters (view_of old) (view_of new) old.valid new.valid ⊥_prop (λ x y. clock_not_lost (view_of old) (view_of new) clock whole x y lost);
+  set = λ old new slot whole lost. by_both of_meters (view_of old) (view_of new) old.valid new.valid ⊥_prop (λ x y. slot_not_lost (view_of old) (view_of new) slot whole x y lost);
 }

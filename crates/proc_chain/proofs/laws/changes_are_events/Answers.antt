@@ -1,5 +1,5 @@
-use Rattle.proc_chain.proofs.Common.{inl, inr, ⊎_elim, of_chains, ◌≡◌, ℕ, ◌+◌, ◌-◌, ◌<◌, ◌≤◌, ◌∙◌, [], ◌∷◌, ◌++◌, map, ap, subst, sym, refl, arith, length, get_or, dite, dec_lt, at_map, raise_note, Cell, Positions, change, blank, place_at, item_at, written_at, with_write, run_stands, raised_below, GatedQueue, IsChainEvent, with_note, with_raise, with_taken, with_gate, part_of, run, head_word, tail_word, gate_word}
-use Rattle.table_theory.specs.Seeing.{Stands}
+use Rattle.proc_chain.proofs.Common.{inl, inr, ⊎_elim, of_chains, ◌≡◌, ℕ, ◌+◌, ◌-◌, ◌<◌, ◌≤◌, ◌∙◌, [], ◌∷◌, ◌++◌, map, ap, subst, sym, refl, arith, length, get_or, dite, dec_lt, at_map, raise_note, Cell, Positions, change, blank, place_at, item_at, stage_at, with_write, run_stands, raised_below, GatedQueue, IsChainEvent, with_note, with_raise, with_taken, with_gate, part_of, run, head_word, tail_word, gate_word}
+use Rattle.table_theory.specs.Seeing.{RunIsIn}
 use Rattle.table_theory.proofs.Saying.{real_change}
 use Rattle.proc_chain.proofs.Becoming.{raise_is}
 use Rattle.proc_chain.proofs.Events.{claim_event, raise_event, take_event, won_event, notify_event, round_event, leave_event}
@@ -16,10 +16,10 @@ returns-clause-claimed c = λ head note m views seat v w shown r at is own. let 
 
 pub returns-clause-raised : goal.returns-clause-raised
 returns-clause-raised c = λ position note found number e m views seat v w shown r place at has start some_place is own. let o : GatedQueue = m.object in let q : Positions = o.queue in let p : ℕ = position - q.first in let from = place.from in let there : q.first + p ≡ position = omega arith in
-    let blank_there : written_at q p ≡ 0 = ap (λ (z : Cell). z.written) place.is in let item : item_at q p ≡ note = ap (λ (z : Cell). z.item) place.is in
-    let stands : Stands q e = run_stands q (map part_of views) seat number (part_of v) e shown.listed.lists (at_map part_of views seat v at) has in let st = stands.start in
+    let blank_there : stage_at q p ≡ 0 = ap (λ (z : Cell). z.stage) place.is in let item : item_at q p ≡ note = ap (λ (z : Cell). z.item) place.is in
+    let stands : RunIsIn q e = run_stands q (map part_of views) seat number (part_of v) e shown.listed.lists (at_map part_of views seat v at) has in let st = stands.start in
     let mine : place_at q p ≡ get_or e.places 0 blank = (let same : p ≡ stands.at + 0 = omega arith in ap (place_at q) same) ∙ stands.same 0 some_place in
-    let low : (get_or e.places 0 blank).written < 2 = subst (λ (z : Cell). z.written < 2) mine (omega arith) in
+    let low : (get_or e.places 0 blank).stage < 2 = subst (λ (z : Cell). z.stage < 2) mine (omega arith) in
     let ahead : q.taken ≤ p = dite (dec_lt p q.taken) (λ taken. let up = r.lawful.0.ready p taken in absurd (omega arith)) (λ no. omega arith) in
     let write : with_raise o position note ≡ record o { queue = with_write q p 2 } = (λ i. with_raise o (sym there i) (sym item i)) ∙ raise_is o p in
     let ev = raise_event o views seat v w shown at r.lawful.0 number p e has some_place (omega arith) ahead low (omega arith) (is ∙ write) own in

@@ -14,7 +14,7 @@ pub returns-in-None-clause-gave : goal.returns-in-None-clause-gave
 returns-in-None-clause-gave g c = let h = c.in-None.ensures.left in gave_back (makes g.Q.Quaject.made_by c.args.words.now.key.pact) (suits g.Q.Quaject.fits c.args.words.now.key.pact) c.args.seat.now.me c.exchange_gate.new.seat.me h.1 h.0 c.requires.runner
 
 pub returns-in-Some-clause-left : goal.returns-in-Some-clause-left
-returns-in-Some-clause-left g c = let x = c.exchange_gate.ensures in let m = c.in-Some.ensures.left in let r = c.requires.runner in round_now _ _ _ _ r.runner r.behind m.1 x.stays.1 c.swap_running.ensures.rounded
+returns-in-Some-clause-left g c = let x = c.exchange_gate.ensures in let m = c.in-Some.ensures.left in let r = c.requires.runner in round_now _ _ _ _ r.runner r.taken_within m.1 x.stays.1 c.swap_running.ensures.rounded
 
 pub returns-in-None-clause-left : goal.returns-in-None-clause-left
-returns-in-None-clause-left g c = left_now _ _ c.requires.runner.runner c.requires.runner.behind c.in-None.ensures.left.1
+returns-in-None-clause-left g c = left_now _ _ c.requires.runner.runner c.requires.runner.taken_within c.in-None.ensures.left.1

@@ -1,5 +1,5 @@
 use Rattle.processor.proofs.Common.{◌≡◌, ℕ, List, sym, ◌∙◌, subst, at_each, at_one, both_queue, idle_queue, queue_account, taken_if, OnEnd}
-use Rattle.turn_io.specs.Deeds.{Heard}
+use Rattle.turn_io.specs.Outcomes.{Heard}
 use Rattle.processor.proofs.lines.hear_small.Goals as goal
 
 pub returns-clause-heard : goal.returns-clause-heard

@@ -1,6 +1,6 @@
-use Rattle.processor.proofs.Common.{rules, ◌≡◌, ◌<◌, inl, inr, ℕ, true, false, List, Option, Some, None, get_or, set, sym, subst, ap, ◌∙◌, counted_step, Tally, Adds, behind, no_events, TakesOff, view_of, call_of, done_at, serves, running, Deed, line_in, raised_by, EndsWorked}
+use Rattle.processor.proofs.Common.{rules, ◌≡◌, ◌<◌, inl, inr, ℕ, true, false, List, Option, Some, None, get_or, set, sym, subst, ap, ◌∙◌, counted_step, Tally, AddsToTally, followed_by, no_events, TakesOff, view_of, call_of, done_at, serves, running, StepOutcome, line_in, raised_by, EndsWorked}
 use Rattle.thread_table.specs.Rules.{has}
-use Rattle.processor.proofs.Acting.{on_back, adds_on, nothing_behind}
+use Rattle.processor.proofs.Acting.{on_back, adds_on, nothing_after}
 use Rattle.processor.proofs.Rising.{rises_on, falls, putting, counting, taking_off}
 use Rattle.turn_dispatch.proofs.Beginnings.{more_has}
 use Rattle.processor.proofs.Rooming.{number_on}
@@ -55,8 +55,8 @@ returns-clause-number g c =
     let same : c.take_off.result ≡ e = some_same c.take_off.result e (sym c.take_off.ensures.stood ∙ runs) in
     let held : has w e ≡ true = subst (λ (z : ℕ). has w z ≡ true) same (more_has c.take_off.result after w c.take_off.ensures.holds) in
     let before = c.do_step-attempt.ensures.acts.steady p e low there.0 there.1 ∙ c.seat-seated.ensures.steady e low (inl c.requires.held) (inr (p, there.0, there.1)) in
-    let behind = c.take_off.ensures.steady e low (inr (p, mine, runs)) (inl held) in
-    number_on c.count_step-tried.result.counted e v did after w before behind c.count_step-tried.ensures.number
+    let followed_by = c.take_off.ensures.steady e low (inr (p, mine, runs)) (inl held) in
+    number_on c.count_step-tried.result.counted e v did after w before followed_by c.count_step-tried.ensures.number
 
 pub returns-clause-rises : goal.returns-clause-rises
 returns-clause-rises g c =
@@ -65,9 +65,9 @@ returns-clause-rises g c =
     let did = view_of c.do_step-attempt.new.parts.hand in
     let after = view_of c.count_step-tried.new.hand in
     let w = view_of c.take_off.new.hand in
-    rises_on v on w (falls v on c.seat-seated.new.hand.told (putting _ _ _ v on c.seat-seated.ensures.put)) (rises_on on did w c.do_step-attempt.ensures.acts.rises
-    (rises_on did after w (falls did after c.count_step-tried.new.hand.told (counting _ _ _ did after _ c.count_step-tried.ensures.counted))
-    (falls after w c.take_off.new.hand.told (taking_off _ _ _ after w c.take_off.ensures.taken))))
+    rises_on v on w (falls v on c.seat-seated.new.hand.valid (putting _ _ _ v on c.seat-seated.ensures.put)) (rises_on on did w c.do_step-attempt.ensures.acts.rises
+    (rises_on did after w (falls did after c.count_step-tried.new.hand.valid (counting _ _ _ did after _ c.count_step-tried.ensures.counted))
+    (falls after w c.take_off.new.hand.valid (taking_off _ _ _ after w c.take_off.ensures.taken))))
 
 pub returns-clause-on : goal.returns-clause-on
 returns-clause-on g c =
@@ -86,22 +86,22 @@ returns-clause-adds g c =
     let w = view_of c.take_off.new.hand in
     let e = c.args.element in
     let tried = c.count_step-tried.result in
-    let raised = raised_by c.do_step-attempt.result.deed in
+    let raised = raised_by c.do_step-attempt.result.step_outcome in
     let counted = counted_step tried.counted e (done_at did.seen.object e) in
     let there = c.seat-seated.ensures.there in
     let low : e < 64 = search rules in
     let same = c.do_step-attempt.ensures.acts.steady c.args.p e low there.0 there.1 ∙ c.seat-seated.ensures.steady e low (inl c.requires.held) (inr (c.args.p, there.0, there.1)) in
     let ab = adds_on no_events raised v on did c.seat-seated.ensures.adds c.do_step-attempt.ensures.acts.adds in
     let abc = adds_on raised counted v did after ab c.count_step-tried.ensures.adds in
-    let all = adds_on (behind raised counted) no_events v after w abc c.take_off.ensures.adds in
-    let plain = subst (λ (z : Tally). Adds z v w) (nothing_behind (behind raised counted)) all in
-    subst (λ (z : Deed). Adds (behind (raised_by z) (counted_step tried.counted e (done_at v.seen.object e))) v w) (sym c.count_step-tried.ensures.deed)
-    (subst (λ (n : ℕ). Adds (behind raised (counted_step tried.counted e n)) v w) same plain)
+    let all = adds_on (followed_by raised counted) no_events v after w abc c.take_off.ensures.adds in
+    let plain = subst (λ (z : Tally). AddsToTally z v w) (nothing_after (followed_by raised counted)) all in
+    subst (λ (z : StepOutcome). AddsToTally (followed_by (raised_by z) (counted_step tried.counted e (done_at v.seen.object e))) v w) (sym c.count_step-tried.ensures.step_outcome)
+    (subst (λ (n : ℕ). AddsToTally (followed_by raised (counted_step tried.counted e n)) v w) same plain)
 
 pub returns-clause-worked : goal.returns-clause-worked
 returns-clause-worked g c =
     let w = c.do_step-attempt.ensures.worked in
-    subst (λ (z : Deed). EndsWorked z (line_in c.args.step.now c.do_step-attempt.new.room.heard.items) c.args.parts.now (record c.do_step-attempt.new.parts { hand = c.take_off.new.hand })) (sym c.count_step-tried.ensures.deed)
+    subst (λ (z : StepOutcome). EndsWorked z (line_in c.args.step.now c.do_step-attempt.new.room.heard.items) c.args.parts.now (record c.do_step-attempt.new.parts { hand = c.take_off.new.hand })) (sym c.count_step-tried.ensures.step_outcome)
     (record { queues = w.queues; chains = w.chains; ticks = w.ticks; small = w.small; large = w.large; chains_kept = w.chains_kept; seat_kept = w.seat_kept; seat = w.seat })
 
 pub returns-clause-order : goal.returns-clause-order
@@ -111,8 +111,8 @@ returns-clause-order g c =
     let old = c.args.parts.now in
     let new : Parts = record c.do_step-attempt.new.parts { hand = c.take_off.new.hand } in
     let o = c.do_step-attempt.ensures.order in
-    let deed = c.do_step-attempt.result.deed in
+    let step_outcome = c.do_step-attempt.result.step_outcome in
     let start = one_more (count_of old.hand) in
-    let tried : InOrder S plan start deed old new = subst (λ (z : Count). InOrder S plan z deed old new) (put_counts _ _ _ old.hand c.seat-seated.new.hand c.seat-seated.ensures.put c.seat-seated.ensures.same)
+    let tried : InOrder S plan start step_outcome old new = subst (λ (z : Count). InOrder S plan z step_outcome old new) (put_counts _ _ _ old.hand c.seat-seated.new.hand c.seat-seated.ensures.put c.seat-seated.ensures.same)
     (record { queues = o.queues; chains = o.chains; seat = o.seat }) in
-    subst (λ (z : Deed). InOrder S plan start z old new) (sym c.count_step-tried.ensures.deed) tried
+    subst (λ (z : StepOutcome). InOrder S plan start z old new) (sym c.count_step-tried.ensures.step_outcome) tried

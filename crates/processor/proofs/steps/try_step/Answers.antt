@@ -1,6 +1,6 @@
 use Rattle.processor.proofs.Common.{rules, refl, sym, ap, subst, with_items_is, Step, OnEnd, line_in}
-use Rattle.turn_io.specs.Deeds.{HasShut, PokedAt}
-use Rattle.processor.specs.declared.deed.Deed.TheVariants as deeds
+use Rattle.turn_io.specs.Outcomes.{HasShut, PokedAt}
+use Rattle.processor.specs.declared.step_outcome.StepOutcome.TheVariants as step_outcomes
 use Rattle.processor.proofs.Placing.{at_queues, at_chains, did_small, of_same}
 use Rattle.processor.proofs.Logging.{sound_still}
 use Rattle.processor.proofs.Ordering.{stood_as}
@@ -9,13 +9,13 @@ use Rattle.processor.specs.Sights.{ChainShown}
 use Rattle.processor.proofs.steps.try_step.Goals as goal
 
 pub returns-in-Say-clause-worked : goal.returns-in-Say-clause-worked
-returns-in-Say-clause-worked g c = at_queues (deeds.Say c.in-Say.queue c.say_step.result) _ _ c.args.parts.now _ _ _ _ _ (sym (ap (λ (z : Step). line_in z c.args.room.now.heard.items) c.in-Say.is))
+returns-in-Say-clause-worked g c = at_queues (step_outcomes.Say c.in-Say.queue c.say_step.result) _ _ c.args.parts.now _ _ _ _ _ (sym (ap (λ (z : Step). line_in z c.args.room.now.heard.items) c.in-Say.is))
     c.as_mut_slice.ensures.value (sym (with_items_is c.args.parts.now.small c.say_step.new.small (search rules)))
     c.as_mut_slice-in-Say.ensures.value (sym (with_items_is c.args.parts.now.large c.say_step.new.large (search rules)))
     c.say_step.ensures.did c.say_step.ensures.sound.0 c.say_step.ensures.sound.1 refl refl refl refl
 
 pub returns-in-Hear-clause-worked : goal.returns-in-Hear-clause-worked
-returns-in-Hear-clause-worked g c = at_queues (deeds.Hear c.in-Hear.queue c.hear_step.result) _ _ c.args.parts.now _ _ _ _ _ (sym (ap (λ (z : Step). line_in z c.hear_step.new.room.heard.items) c.in-Hear.is))
+returns-in-Hear-clause-worked g c = at_queues (step_outcomes.Hear c.in-Hear.queue c.hear_step.result) _ _ c.args.parts.now _ _ _ _ _ (sym (ap (λ (z : Step). line_in z c.hear_step.new.room.heard.items) c.in-Hear.is))
     c.as_mut_slice-in-Hear.ensures.value (sym (with_items_is c.args.parts.now.small c.hear_step.new.small (search rules)))
     c.as_mut_slice-in-Hear-2.ensures.value (sym (with_items_is c.args.parts.now.large c.hear_step.new.large (search rules)))
     c.hear_step.ensures.did c.hear_step.ensures.sound.0 c.hear_step.ensures.sound.1 refl refl refl refl
@@ -29,7 +29,7 @@ returns-in-Poke-clause-ends g c = record {
 }
 
 pub returns-in-Poke-clause-worked : goal.returns-in-Poke-clause-worked
-returns-in-Poke-clause-worked g c = at_chains (deeds.Poke c.in-Poke.mover c.poke-answer.result) _ c.args.parts.now _ _ _ c.as_mut_slice-ends.ensures.value (sym (with_items_is c.args.parts.now.chains c.poke-answer.new.ends (search rules)))
+returns-in-Poke-clause-worked g c = at_chains (step_outcomes.Poke c.in-Poke.mover c.poke-answer.result) _ c.args.parts.now _ _ _ c.as_mut_slice-ends.ensures.value (sym (with_items_is c.args.parts.now.chains c.poke-answer.new.ends (search rules)))
     c.poke-answer.ensures.did c.poke-answer.ensures.shares refl refl refl refl refl
 
 pub returns-in-Close-clause-ends : goal.returns-in-Close-clause-ends
@@ -44,7 +44,7 @@ returns-in-Close-clause-ends g c = record {
 }
 
 pub returns-in-Close-clause-worked : goal.returns-in-Close-clause-worked
-returns-in-Close-clause-worked g c = at_queues (deeds.Close c.in-Close.queue c.close_step-was_open.result.was_open c.close_step-was_open.result.readers c.close_step-was_open.result.writers) _ _ c.args.parts.now _ _ _ c.args.parts.now.large.items _ refl
+returns-in-Close-clause-worked g c = at_queues (step_outcomes.Close c.in-Close.queue c.close_step-was_open.result.was_open c.close_step-was_open.result.readers c.close_step-was_open.result.writers) _ _ c.args.parts.now _ _ _ c.args.parts.now.large.items _ refl
     c.as_mut_slice-small.ensures.value (sym (with_items_is c.args.parts.now.small c.close_step-was_open.new.small (search rules))) refl refl
     (did_small c.in-Close.queue _ _ c.close_step-was_open.new.small c.args.parts.now.large.items c.close_step-was_open.ensures.did) c.close_step-was_open.ensures.sound (sound_still _ _ refl) refl refl refl refl
 

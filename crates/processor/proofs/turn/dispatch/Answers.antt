@@ -1,7 +1,7 @@
 use Rattle.processor.proofs.Common.{◌≡◌, ◌≤◌, ℕ, List, length, Some, refl, sym, subst, [], Step, beginning, HasDone}
 use Rattle.std.proofs.Common.{slice_get}
 use Rattle.std.proofs.lemmas.Option.{slice_get_read}
-use Rattle.processor.specs.declared.outcome.Had.TheVariants as hads
+use Rattle.processor.specs.declared.outcome.TurnResult.TheVariants as hads
 use Rattle.processor.specs.Entries.{having}
 use Rattle.processor.proofs.Logging.{done_on}
 use Rattle.processor.proofs.turn.dispatch.Goals as goal
@@ -15,7 +15,7 @@ returns-then-number-steps-clause-came g c =
     let e = c.retire_at-moved.ensures in
     let begun = c.in-Ok.begun in
     let mid = c.begin_turn.new.parts in
-    let ended = hads.Ended c.retire_at-moved.result in
+    let ended = hads.Retired c.retire_at-moved.result in
     let over = subst (λ (z : List Step). length z ≤ begun.number) c.program_of-steps.ensures c.if-number-steps.true in (
       [],
       (mid, c.in-Ok.ensures.begun, (over, e.sent, e.rest, e.others.0, e.others.1, refl), tt),
@@ -23,7 +23,7 @@ returns-then-number-steps-clause-came g c =
         planned = (over, refl);
         done = done_on (beginning begun) (having begun.element begun.number ended []) c.args.parts.now mid c.retire_at-moved.new.parts c.in-Ok.ensures.done
             (subst (λ (z : ℕ). HasDone (having begun.element z ended []) mid c.retire_at-moved.new.parts) (sym c.in-Ok.ensures.number) e.done);
-        told = λ q h. cc;
+        reported = λ q h. cc;
       },
     )
 
@@ -36,9 +36,9 @@ returns-else-number-steps-clause-came g c =
       record {
         planned = ran.2.planned;
         done = done_on (beginning begun) (having begun.element begun.number (hads.Ran c.run_element-sent.result) ran.0) c.args.parts.now c.begin_turn.new.parts c.run_element-sent.new.parts c.in-Ok.ensures.done ran.2.done;
-        told = ran.2.told;
+        reported = ran.2.reported;
       },
     )
 
 pub returns-in-Err-clause-came : goal.returns-in-Err-clause-came
-returns-in-Err-clause-came g c = ([], (c.in-Err.ensures.begun, refl), record { planned = refl; done = c.in-Err.ensures.done; told = λ q h. cc })
+returns-in-Err-clause-came g c = ([], (c.in-Err.ensures.begun, refl), record { planned = refl; done = c.in-Err.ensures.done; reported = λ q h. cc })

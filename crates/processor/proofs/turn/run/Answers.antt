@@ -12,12 +12,12 @@ loop-number-preserved g c =
     let e = c.turn.ensures in
     let log = i.1 in
     let entry = e.turn.0 in
-    let said = subst (λ (q : ℕ). g.G.Gate.told c.loop-number.gate q (Turn c.loop-number.number) c.between.new.self) c.number.ensures.value c.between.ensures in (
+    let said = subst (λ (q : ℕ). g.G.Gate.observes c.loop-number.gate q (Turn c.loop-number.number) c.between.new.self) c.number.ensures.value c.between.ensures in (
       stays_on c.args.shared.now c.args.p c.args.station.parts c.loop-number.parts c.turn.new.parts i.0 e.manned,
       log ++ entry ∷ [],
       length-append log (entry ∷ []) ∙ ap (λ n. n + 1) i.2,
-      turns_more g.G.Watch.shown g.G.Gate.told c.args.shared.now c.args.p 0 log entry c.args.station.parts c.loop-number.parts c.turn.new.parts c.args.gate.now c.loop-number.gate c.turn.new.gate i.3 e.turn.1
-          (c.between.new.self, subst (λ (n : ℕ). g.G.Gate.told c.loop-number.gate c.args.p (Turn n) c.between.new.self) (sym (zero-add (length log) ∙ i.2)) said, e.turn.3),
+      turns_more g.G.Watch.shown g.G.Gate.observes c.args.shared.now c.args.p 0 log entry c.args.station.parts c.loop-number.parts c.turn.new.parts c.args.gate.now c.loop-number.gate c.turn.new.gate i.3 e.turn.1
+          (c.between.new.self, subst (λ (n : ℕ). g.G.Gate.observes c.loop-number.gate c.args.p (Turn n) c.between.new.self) (sym (zero-add (length log) ∙ i.2)) said, e.turn.3),
       ran_on c.args.shared.now.plan log (entry ∷ []) c.args.station.parts c.loop-number.parts c.turn.new.parts i.4 e.turn.2,
     )
 
@@ -33,7 +33,7 @@ returns-clause-turned g c =
       turned = record {
         log = i.1;
         many = i.2 ∙ search rules;
-        told = told_of g.G.Watch.shown g.G.Gate.told c.args.shared.now c.args.p 0 i.1 old new c.args.gate.now c.loop-number.gate i.3;
+        reported = told_of g.G.Watch.shown g.G.Gate.observes c.args.shared.now c.args.p 0 i.1 old new c.args.gate.now c.loop-number.gate i.3;
         ran = i.4;
         leaves = λ fresh. leaves c.args.shared.now.plan i.1 old new fresh i.0.seat i.4;
       };

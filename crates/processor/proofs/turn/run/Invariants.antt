@@ -1,7 +1,7 @@
-use Rattle.processor.proofs.Common.{◌≡◌, List, length, LogEntry, Ran, StaysManned}
+use Rattle.processor.proofs.Common.{◌≡◌, List, length, LogEntry, Ran, KeepsStation}
 use Rattle.processor.specs.Orders.{TurnsInOrder}
 use Rattle.processor.proofs.turn.run.Given as goal
 
 abbrev pub invariant-loop-number : goal.invariant-loop-number
-invariant-loop-number g l = StaysManned l.shared l.p l.fn.station.parts l.parts × (log : List LogEntry) × (length log ≡ l.number)
-    × TurnsInOrder g.G.Watch.shown g.G.Gate.told l.shared l.p 0 log l.fn.station.parts l.parts l.fn.gate l.gate × Ran l.shared.plan log l.fn.station.parts l.parts
+invariant-loop-number g l = KeepsStation l.shared l.p l.fn.station.parts l.parts × (log : List LogEntry) × (length log ≡ l.number)
+    × TurnsInOrder g.G.Watch.shown g.G.Gate.observes l.shared l.p 0 log l.fn.station.parts l.parts l.fn.gate l.gate × Ran l.shared.plan log l.fn.station.parts l.parts

@@ -1,7 +1,7 @@
-use Rattle.processor.proofs.Common.{◌≡◌, ◌<◌, ◌≤◌, ℕ, true, List, length, ◌++◌, map, rules, sym, ap, ◌∙◌, subst, arith, AllByRecursion, by_index, view_of, call_of, Deed, SentOn, Parts, is_done, line_in, heard_by, is_heard, told_shut, FollowsStep, trying, Went, Key, AreHears, hear_count, program, key_of, IsPast, Goes, is_last}
+use Rattle.processor.proofs.Common.{◌≡◌, ◌<◌, ◌≤◌, ℕ, true, List, length, ◌++◌, map, rules, sym, ap, ◌∙◌, subst, arith, AllByRecursion, by_index, view_of, call_of, StepOutcome, Rescheduled, Parts, is_done, line_in, heard_by, is_heard, saw_shut, FollowsStep, trying, Went, Key, AreHears, hear_count, program, key_of, IsPast, Goes, is_last}
 use Rattle.std.proofs.lemmas.List.{length-map}
 use Rattle.boot_data.specs.Hearing.{Heard}
-use Rattle.processor.specs.declared.counting.Tried.{Tried}
+use Rattle.processor.specs.declared.counting.StepCounted.{StepCounted}
 use Rattle.processor.specs.Programs.{longest_line}
 use Rattle.processor.specs.Orders.{InOrder, count_of, one_more}
 use Rattle.processor.specs.Turns.{RanStep}
@@ -18,9 +18,9 @@ keep-requires-clause-room g c is =
     let r = c.run_step-tried.ensures in
     let had = c.requires.manned.room in
     let keys : List Key = map key_of heard.lines in
-    let more = hears_more c.args.begun.now.element c.args.begun.now.number plan c.args.step.now c.run_step-tried.result.deed _ (view_of c.args.parts.now.hand) keys c.requires.its r.deed c.requires.known had.hears had.past in
-    let it = subst (λ (z : Deed). is_heard z ≡ true) c.deed.ensures is in
-    let left = room_left plan keys c.run_step-tried.result.deed c.args.begun.now.element c.args.begun.now.number more it in
+    let more = hears_more c.args.begun.now.element c.args.begun.now.number plan c.args.step.now c.run_step-tried.result.step_outcome _ (view_of c.args.parts.now.hand) keys c.requires.its r.step_outcome c.requires.known had.hears had.past in
+    let it = subst (λ (z : StepOutcome). is_heard z ≡ true) c.step_outcome.ensures is in
+    let left = room_left plan keys c.run_step-tried.result.step_outcome c.args.begun.now.element c.args.begun.now.number more it in
     let long = length-map heard.lines key_of in
     let room = had.room in
     subst (λ (z : Heard). length z.lines < z.room) (sym r.heard) (omega arith)
@@ -31,8 +31,8 @@ keep-requires-clause-few g c is =
     let r = c.run_step-tried.ensures in
     let had = c.requires.manned.room in
     let text = c.run_step-tried.new.room.heard.items in
-    let it = subst (λ (z : Deed). is_heard z ≡ true) c.deed.ensures is in
-    let short : length text ≤ longest_line plan = heard_within plan c.args.begun.now.element c.args.begun.now.number c.args.step.now c.run_step-tried.result.deed text _ _ _ _ c.requires.its r.deed r.ends.queues it in
+    let it = subst (λ (z : StepOutcome). is_heard z ≡ true) c.step_outcome.ensures is in
+    let short : length text ≤ longest_line plan = heard_within plan c.args.begun.now.element c.args.begun.now.number c.args.step.now c.run_step-tried.result.step_outcome text _ _ _ _ c.requires.its r.step_outcome r.ends.queues it in
     let long : length text ≤ c.args.parts.now.heard.longest = let most = had.longest in omega arith in
     subst (λ (z : Heard). length c.as_slice.result.now ≤ z.longest) (sym r.heard) (subst (λ (z : List ℕ). length z ≤ c.args.parts.now.heard.longest) (sym c.as_slice.ensures.value) long)
 
@@ -45,16 +45,16 @@ returns-clause-manned g c =
     let r = c.run_step-tried.ensures in
     let s = c.send_on.ensures in
     let had = c.requires.manned.room in
-    let deed = c.run_step-tried.result.deed in
+    let step_outcome = c.run_step-tried.result.step_outcome in
     let v = view_of c.args.parts.now.hand in
     let u = view_of c.run_step-tried.new.parts.hand in
     let w = view_of c.send_on.new.hand in
     let keys : List Key = map key_of heard.lines in
-    let more = hears_more e n plan c.args.step.now deed _ v keys c.requires.its r.deed c.requires.known had.hears had.past in
-    let past = past_more _ _ e n plan deed c.run_step-tried.result.counted v u w keys r.hand r.number c.requires.known c.requires.low r.rises s.rises had.past in
-    let are : map key_of c.keep.new.lines.lines ≡ keys ++ key_in deed e n =
-    keys_more c.run_step-tried.new.parts.heard.lines c.keep.new.lines.lines deed e n _
-    (subst (λ (z : Deed). c.keep.new.lines.lines ≡ c.run_step-tried.new.parts.heard.lines ++ heard_by z e n c.as_slice.result.now) c.deed.ensures c.keep.ensures.lines) ∙ ap (λ z. map key_of z.lines ++ key_in deed e n) r.heard in
+    let more = hears_more e n plan c.args.step.now step_outcome _ v keys c.requires.its r.step_outcome c.requires.known had.hears had.past in
+    let past = past_more _ _ e n plan step_outcome c.run_step-tried.result.counted v u w keys r.hand r.number c.requires.known c.requires.low r.rises s.rises had.past in
+    let are : map key_of c.keep.new.lines.lines ≡ keys ++ key_in step_outcome e n =
+    keys_more c.run_step-tried.new.parts.heard.lines c.keep.new.lines.lines step_outcome e n _
+    (subst (λ (z : StepOutcome). c.keep.new.lines.lines ≡ c.run_step-tried.new.parts.heard.lines ++ heard_by z e n c.as_slice.result.now) c.step_outcome.ensures c.keep.ensures.lines) ∙ ap (λ z. map key_of z.lines ++ key_in step_outcome e n) r.heard in
     let sized : c.keep.new.lines.room ≡ heard.room = c.keep.ensures.room ∙ ap (λ z. z.room) r.heard in
     let on = s.keeps.on ∙ r.on in
     let serves = s.keeps.serves ∙ r.serves in
@@ -92,22 +92,22 @@ returns-clause-ran g c =
     let s = c.send_on.ensures in
     let mid = c.run_step-tried.new.parts in
     let new : Parts = record mid { hand = c.send_on.new.hand; heard = c.keep.new.lines } in
-    let sent : SentOn = record { tried = tried; moved = c.send_on.result.moved } in
+    let sent : Rescheduled = record { tried = tried; moved = c.send_on.result.moved } in
     let text = c.run_step-tried.new.room.heard.items in
     let line = line_in c.args.step.now text in
-    let kept = subst (λ (z : Deed). c.keep.new.lines.lines ≡ mid.heard.lines ++ heard_by z e n c.as_slice.result.now) c.deed.ensures c.keep.ensures.lines in
-    let bytes = ap (λ (z : List ℕ). mid.heard.lines ++ heard_by tried.deed e n z) c.as_slice.ensures.value in
-    let lines = kept ∙ bytes ∙ (ap (λ z. z.lines ++ heard_by tried.deed e n text) r.heard ∙ ap (λ z. old.heard.lines ++ z) (heard_line c.args.step.now tried.deed e n text r.deed)) in
-    let last : c.is_last-last.result ≡ is_last (is_done tried.deed) n (length (program shared.plan e)) = search rules in
-    let goes = subst (λ k. Goes k tried.deed (is_last (is_done tried.deed) n (length (program shared.plan e))) e sent.moved (view_of mid.hand) (view_of new.hand)) r.same.hand.1
-    (subst (λ b. Goes (call_of mid.hand) tried.deed b e sent.moved (view_of mid.hand) (view_of new.hand)) last s.goes) in
-    let both = subst (λ (z : Tried). RanStep shared c.args.p e n (record { tried = z; moved = c.send_on.result.moved }) line old new
-    × Went (FollowsStep shared.plan e n (record { tried = z; moved = c.send_on.result.moved }) line) (trying e n (record { tried = z; moved = c.send_on.result.moved }) line) (told_shut z.deed) old new)
+    let kept = subst (λ (z : StepOutcome). c.keep.new.lines.lines ≡ mid.heard.lines ++ heard_by z e n c.as_slice.result.now) c.step_outcome.ensures c.keep.ensures.lines in
+    let bytes = ap (λ (z : List ℕ). mid.heard.lines ++ heard_by tried.step_outcome e n z) c.as_slice.ensures.value in
+    let lines = kept ∙ bytes ∙ (ap (λ z. z.lines ++ heard_by tried.step_outcome e n text) r.heard ∙ ap (λ z. old.heard.lines ++ z) (heard_line c.args.step.now tried.step_outcome e n text r.step_outcome)) in
+    let last : c.is_last-last.result ≡ is_last (is_done tried.step_outcome) n (length (program shared.plan e)) = search rules in
+    let goes = subst (λ k. Goes k tried.step_outcome (is_last (is_done tried.step_outcome) n (length (program shared.plan e))) e sent.moved (view_of mid.hand) (view_of new.hand)) r.same.hand.1
+    (subst (λ b. Goes (call_of mid.hand) tried.step_outcome b e sent.moved (view_of mid.hand) (view_of new.hand)) last s.goes) in
+    let both = subst (λ (z : StepCounted). RanStep shared c.args.p e n (record { tried = z; moved = c.send_on.result.moved }) line old new
+    × Went (FollowsStep shared.plan e n (record { tried = z; moved = c.send_on.result.moved }) line) (trying e n (record { tried = z; moved = c.send_on.result.moved }) line) (saw_shut z.step_outcome) old new)
     (sym s.tried) (
       record {
         step = c.args.step.now;
         is = c.requires.its;
-        deed = r.deed;
+        step_outcome = r.step_outcome;
         stepped = view_of mid.hand;
         ran = r.hand;
         goes = goes;
@@ -115,7 +115,7 @@ returns-clause-ran g c =
         lines = lines;
         signals = r.signals;
       },
-      tried_went shared _ _ c.args.p e n c.args.step.now sent line old mid new c.requires.its r.deed r.hand r.number c.requires.known c.requires.low goes
+      tried_went shared _ _ c.args.p e n c.args.step.now sent line old mid new c.requires.its r.step_outcome r.hand r.number c.requires.known c.requires.low goes
           r.rises s.rises r.adds s.adds r.ends.queues (record { queues = r.worked.queues; chains = r.worked.chains; ticks = r.worked.ticks; small = r.worked.small; large = r.worked.large; chains_kept = r.worked.chains_kept; seat_kept = r.worked.seat_kept; seat = r.worked.seat }) lines r.signals,
     ) in
     (line, both.0, both.1)
@@ -125,5 +125,5 @@ returns-clause-order g c =
     let old = c.args.parts.now in
     let new : Parts = record c.run_step-tried.new.parts { hand = c.send_on.new.hand; heard = c.keep.new.lines } in
     let o = c.run_step-tried.ensures.order in
-    subst (λ (z : Tried). InOrder g.G.Watch.shown c.args.shared.now.plan (one_more (count_of old.hand)) z.deed old new) (sym c.send_on.ensures.tried)
+    subst (λ (z : StepCounted). InOrder g.G.Watch.shown c.args.shared.now.plan (one_more (count_of old.hand)) z.step_outcome old new) (sym c.send_on.ensures.tried)
     (record { queues = o.queues; chains = o.chains; seat = o.seat })

@@ -4,10 +4,10 @@ use Rattle.std.specs.Option.{ok_or, option_zip}
 use Rattle.std.proofs.Common.{◌≡◌, ◌+◌, ◌++◌, ◌∙◌, List, Option, Result, IfOk, IfSome, sym, ap, subst, arith}
 use Rattle.table_theory.specs.declared.queues.Batch.{Batch}
 use Rattle.table_theory.specs.Sharing.{given, kept}
-use Rattle.claim_queue.proofs.Certain.{honest_end}
+use Rattle.claim_queue.proofs.Certain.{valid_end}
 use Rattle.claim_queue.proofs.Ordered.{join_grows, join_grows_other}
 use Rattle.claim_queue.specs.Handles.{view_of}
-use Rattle.claim_queue.specs.Endings.{Divided, IsNewborn, TookIn}
+use Rattle.claim_queue.specs.Endings.{SplitBy, IsNewEnd, JoinedBy}
 use Rattle.claim_queue.specs.Own.{View}
 use Rattle.spooler.specs.declared.line.Line.{Line}
 use Rattle.spooler.specs.Doings.{HasTaken}
@@ -16,20 +16,20 @@ use Rattle.spooler.proofs.Settling.{Idle, spooled, produced, taken, same_share, 
 use Rattle.spooler.proofs.spool.run_spool.Goals as goal
 
 -- a split leaves an end with nothing as it was, and gives one with nothing
-split_idle : (v w : View) → Divided v w → Idle v → Idle w
+split_idle : (v w : View) → SplitBy v w → Idle v → Idle w
 split_idle v w d i = ((λ k. (d.own k).runs) ∙ i.0, (λ k. (d.own k).takes) ∙ i.1)
 
-born_idle : (v w born : View) → IsNewborn v w born → Idle born
+born_idle : (v w born : View) → IsNewEnd v w born → Idle born
 born_idle v w born b = (ap (λ (z : View). z.own.runs) b, ap (λ (z : View). z.own.takes) b)
 
 -- the shares of both are the share that was split
-split_share : (v w born : View) → Divided v w → IsNewborn v w born → w.member.share + born.member.share ≡ v.member.share
+split_share : (v w born : View) → SplitBy v w → IsNewEnd v w born → w.member.share + born.member.share ≡ v.member.share
 split_share v w born d b =
     let left : w.member.share ≡ kept v.member.share = (λ k. (d.member k).share) in
     let gone : born.member.share ≡ given v.member.share = ap (λ (z : View). z.member.share) b in
     omega arith
 
-joined_share : (v u w : View) → TookIn v u w → w.member.share ≡ v.member.share + u.member.share
+joined_share : (v u w : View) → JoinedBy v u w → w.member.share ≡ v.member.share + u.member.share
 joined_share v u w t = λ k. (t.member k).share
 
 -- what both came back with
@@ -103,4 +103,4 @@ returns g c =
     (λ x y h k. spooled c.args.jobs.now x.items y.items v5 p t u j2 put.backs _ _ _ _ i5
     (produced _ _ put.backs (ia, (ib, (ic, tt))) put.puts) put.gathered
     (taken (lines_of x.items) d0 t id.0 id.1 took.0.1 h) (taken (lines_of y.items) e0 u ie.0 ie.1 took.1.1 k)
-    runs takes (grown_two t.seen.object j1.seen.object j2.seen.object (join_grows_other p t j1 (honest_end back.1.0.0) (honest_end c.join.new.end) t1) (join_grows j1 u j2 (honest_end c.join.new.end) (honest_end c.join-2.new.end) t2)) c.in-Ok.ensures.closed.1)
+    runs takes (grown_two t.seen.object j1.seen.object j2.seen.object (join_grows_other p t j1 (valid_end back.1.0.0) (valid_end c.join.new.end) t1) (join_grows j1 u j2 (valid_end c.join.new.end) (valid_end c.join-2.new.end) t2)) c.in-Ok.ensures.closed.1)

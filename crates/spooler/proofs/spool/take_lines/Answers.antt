@@ -7,7 +7,7 @@ use Rattle.claim_queue.specs.Handles.{view_of}
 use Rattle.spooler.specs.declared.line.Line.{Line}
 use Rattle.spooler.specs.Doings.{HasTaken}
 use Rattle.spooler.specs.Lines.{lines_of}
-use Rattle.claim_queue.proofs.Certain.{honest_end}
+use Rattle.claim_queue.proofs.Certain.{valid_end}
 use Rattle.spooler.proofs.Wholes.{line_whole}
 use Rattle.spooler.proofs.Taking.{more_taken, puts_through, all_taken, refused_ordered, took_ordered, took_few}
 use Rattle.spooler.proofs.spool.take_lines.Goals as goal
@@ -20,7 +20,7 @@ loop-preserved g c = let i = c.loop.invariant in let s = c.in-Err.ensures.lines 
   steps = search rules;
   mine = search rules;
   puts = puts_through (view_of c.args.end) (view_of c.loop.end) (view_of c.try_take_line.new.end) i.puts s.puts s.share;
-  order = λ o. refused_ordered (view_of c.loop.end) (view_of c.try_take_line.new.end) c.in-Err.field-0 (honest_end c.loop.end) (honest_end c.try_take_line.new.end) c.in-Err.ensures.steps (i.order o);
+  order = λ o. refused_ordered (view_of c.loop.end) (view_of c.try_take_line.new.end) c.in-Err.field-0 (valid_end c.loop.end) (valid_end c.try_take_line.new.end) c.in-Err.ensures.steps (i.order o);
   taken = λ k. s.takes ∙ i.taken k;
 }
 
@@ -37,7 +37,7 @@ loop-preserved-then-is_ok g c = let i = c.loop.invariant in let t = c.in-Ok.ensu
   steps = search rules;
   mine = search rules;
   puts = puts_through (view_of c.args.end) (view_of c.loop.end) (view_of c.try_take_line.new.end) i.puts t.puts t.share;
-  order = λ o. took_ordered (view_of c.loop.end) (view_of c.try_take_line.new.end) items (honest_end c.loop.end) (honest_end c.try_take_line.new.end) c.in-Ok.ensures.line.1.1 c.in-Ok.ensures.steps (i.order o);
+  order = λ o. took_ordered (view_of c.loop.end) (view_of c.try_take_line.new.end) items (valid_end c.loop.end) (valid_end c.try_take_line.new.end) c.in-Ok.ensures.line.1.1 c.in-Ok.ensures.steps (i.order o);
   taken = λ k. more_taken (view_of c.args.end) (view_of c.loop.end) (view_of c.try_take_line.new.end) items (lines_of c.loop.lines.items) (lines_of c.push.new.self.items) t (i.taken k) (pushed _ _ _ _ c.push.ensures.items (sym c.is_ok.ensures.value ∙ c.if-is_ok.true));
 }
 
@@ -46,7 +46,7 @@ loop-preserved-else-is_ok g c = let i = c.loop.invariant in let t = c.in-Ok.ensu
   steps = search rules;
   mine = search rules;
   puts = puts_through (view_of c.args.end) (view_of c.loop.end) (view_of c.try_take_line.new.end) i.puts t.puts t.share;
-  order = λ o. took_ordered (view_of c.loop.end) (view_of c.try_take_line.new.end) items (honest_end c.loop.end) (honest_end c.try_take_line.new.end) c.in-Ok.ensures.line.1.1 c.in-Ok.ensures.steps (i.order o);
+  order = λ o. took_ordered (view_of c.loop.end) (view_of c.try_take_line.new.end) items (valid_end c.loop.end) (valid_end c.try_take_line.new.end) c.in-Ok.ensures.line.1.1 c.in-Ok.ensures.steps (i.order o);
   taken = λ k. absurd (never (sym c.if-is_ok.false ∙ k));
 }
 
@@ -61,5 +61,5 @@ returns-in-Err-Closed g c = let i = c.loop.invariant in let s = c.in-Err-Closed.
   puts_through (view_of c.args.end) (view_of c.loop.end) (view_of c.try_take_line.new.end) i.puts s.puts s.share,
   kept_lines c.loop.kept c.loop.lines c.then_some.result (λ lines. HasTaken (lines_of lines.items) (view_of c.args.end) (view_of c.try_take_line.new.end)) c.then_some.ensures
       (λ k. all_taken (view_of c.args.end) (view_of c.loop.end) (view_of c.try_take_line.new.end) (lines_of c.loop.lines.items) c.in-Err-Closed.field-0 c.in-Err-Closed.field-0-is
-      (honest_end c.loop.end) (honest_end c.try_take_line.new.end) c.in-Err-Closed.ensures.steps c.in-Err-Closed.ensures.lines i.order (i.taken k)),
+      (valid_end c.loop.end) (valid_end c.try_take_line.new.end) c.in-Err-Closed.ensures.steps c.in-Err-Closed.ensures.lines i.order (i.taken k)),
 )

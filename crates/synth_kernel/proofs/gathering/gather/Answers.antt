@@ -7,7 +7,7 @@ finish_all-ttys-requires g c =
     record {
       lines = subst (λ (z : List Served). AllZip (λ (one : Served) (input : LineIn). IsLine input one.line) z c.args.inputs.items) (sym s.1) (c.requires.lines s.2);
       ttys = (room.ttys.0, let n = room.ttys.1 in omega arith);
-      told = (room.told.0, let n = room.told.1 in omega arith);
+      reported = (room.reported.0, let n = room.reported.1 in omega arith);
     }
 
 pub join_stations-station-requires : goal.join_stations-station-requires
@@ -30,5 +30,5 @@ returns-clause-gathered g c =
       heard = j.heard ∙ ap (λ (z : List (Processed g.row.G.Denot)). flat_map heard_lines (map parts_of z)) s.0;
       gates = j.gates ∙ ap (λ (z : List (Processed g.row.G.Denot)). map gate_of z) s.0;
       ttys = c.finish_all-ttys.ensures.ttys ∙ ap (map tty_of) s.1;
-      told = subst (λ (z : List Served). AllThree TotalsAre z c.args.inputs.items c.finish_all-ttys.result.1.items) s.1 c.finish_all-ttys.ensures.told;
+      reported = subst (λ (z : List Served). AllThree TotalsAre z c.args.inputs.items c.finish_all-ttys.result.1.items) s.1 c.finish_all-ttys.ensures.reported;
     }

@@ -16,18 +16,18 @@ gather-requires g c =
     let inputs = c.run_kernel-backs.result.1.items in
     let worked = c.run_kernel-backs.ensures.worked in
     let typed = subst (λ (z : ℕ). AreTyped o.shared.plan.ttys (drop z backs) o.inputs.items inputs) c.requires.ready.2 c.run_kernel-backs.ensures.typed in
-    let few = few_came g.R.Witness.ran g.R.Witness.refused shown g.G.Gate.told o.shared.plan c.requires.ready.0 c.requires.ready.1 o r backs inputs worked typed in
+    let few = few_came g.R.Witness.ran g.R.Witness.refused shown g.G.Gate.observes o.shared.plan c.requires.ready.0 c.requires.ready.1 o r backs inputs worked typed in
     record {
       first = r.parts;
-      stations = λ all. parts_came g.R.Witness.ran g.R.Witness.refused shown g.G.Gate.told o.shared.plan c.requires.ready.0 c.requires.ready.1 o r backs inputs worked typed all;
-      lines = λ all. lines_came g.R.Witness.ran g.R.Witness.refused shown g.G.Gate.told o.shared.plan c.requires.ready.0 c.requires.ready.1 o r backs inputs worked typed all;
+      stations = λ all. parts_came g.R.Witness.ran g.R.Witness.refused shown g.G.Gate.observes o.shared.plan c.requires.ready.0 c.requires.ready.1 o r backs inputs worked typed all;
+      lines = λ all. lines_came g.R.Witness.ran g.R.Witness.refused shown g.G.Gate.observes o.shared.plan c.requires.ready.0 c.requires.ready.1 o r backs inputs worked typed all;
       room = record {
         processed = (r.room.processed.0, let n = r.room.processed.1 in let f = few.0 in omega arith);
         served = (r.room.served.0, let n = r.room.served.1 in let f = few.1 in omega arith);
         ttys = (r.room.ttys.0, let n = r.room.ttys.1 in let f = few.1 in omega arith);
         heards = (r.room.heards.0, let n = r.room.heards.1 in let f = few.0 in omega arith);
         gates = (r.room.gates.0, let n = r.room.gates.1 in let f = few.0 in omega arith);
-        told = (r.room.told.0, let n = r.room.told.1 in let f = few.1 in omega arith);
+        reported = (r.room.reported.0, let n = r.room.reported.1 in let f = few.1 in omega arith);
       };
     }
 

@@ -18,12 +18,12 @@ returns-in-Some-Boot-clause-boot g c = λ processors turns asked.
     let answer = c.boot_on-answer.result in
     let is = asked_of _ c.in-Some-Boot.field-0 c.in-Some-Boot.processors c.in-Some-Boot.turns c.in-Some-Boot.field-0-is c.in-Some-Boot.ensures.asks in (
       answer_in answer,
-      subst (λ (z : Option (Booted NoGate)). IsBootedBy ran shown read processors turns (answer_in answer) z old new) (sym c.told_of_boot.ensures.booted)
+      subst (λ (z : Option (Booted NoGate)). IsBootedBy ran shown read processors turns (answer_in answer) z old new) (sym c.answer_of_boot.ensures.booted)
           (subst (λ (z : ℕ). IsBootedBy ran shown read processors z (answer_in answer) (result_ok answer) old new) (same_turns _ c.in-Some-Boot.processors c.in-Some-Boot.turns processors turns is asked)
           (subst (λ (z : ℕ). IsBootedBy ran shown read z c.in-Some-Boot.turns (answer_in answer) (result_ok answer) old new) (same_processors _ c.in-Some-Boot.processors c.in-Some-Boot.turns processors turns is asked)
           (booted_by ran shown read c.in-Some-Boot.processors c.in-Some-Boot.turns answer old new c.boot_on-answer.ensures.numbers c.boot_on-answer.ensures.ok c.boot_on-answer.ensures.fault c.boot_on-answer.ensures.unwritten))),
       boot_caused g.R.Source.answers g.W.Sink.fails answer c.args.reader.now c.boot_on-answer.new.reader c.boot_on-answer.new.writer c.boot_on-answer.ensures.read c.boot_on-answer.ensures.write,
-      c.told_of_boot.ensures.exit,
+      c.answer_of_boot.ensures.exit,
     )
 
 pub returns-in-None-clause-boot : goal.returns-in-None-clause-boot
@@ -37,5 +37,5 @@ returns-in-Some-Replay-clause-error g c = λ five.
 pub returns-in-Some-Boot-clause-error : goal.returns-in-Some-Boot-clause-error
 returns-in-Some-Boot-clause-error g c = λ five.
     let answer = c.boot_on-answer.result in
-    boot_failed g.R.Source.answers g.W.Sink.fails (answer_in answer) c.args.reader.now c.boot_on-answer.new.reader c.boot_on-answer.new.writer (sym c.told_of_boot.ensures.exit.0 ∙ five)
+    boot_failed g.R.Source.answers g.W.Sink.fails (answer_in answer) c.args.reader.now c.boot_on-answer.new.reader c.boot_on-answer.new.writer (sym c.answer_of_boot.ensures.exit.0 ∙ five)
     (boot_caused g.R.Source.answers g.W.Sink.fails answer c.args.reader.now c.boot_on-answer.new.reader c.boot_on-answer.new.writer c.boot_on-answer.ensures.read c.boot_on-answer.ensures.write)

@@ -8,5 +8,5 @@ returns c = record {
     both_told old new _ (λ x h. joins_reach (view_of old) (view_of other) (view_of new) x h t),
     both_told other new _ (λ x h. joins_reach_other (view_of old) (view_of other) (view_of new) x h t),
   );
-  entry = λ old other new t. ∥∥₁_map new.told (λ h. join_real (view_of old) (view_of other) (view_of new) h t);
+  entry = λ old other new t. ∥∥₁_map new.valid (λ h. join_real (view_of old) (view_of other) (view_of new) h t);
 }

@@ -1,10 +1,10 @@
-use Rattle.thread_table.proofs.Common.{◌≤◌, ∥∥₁_elim, Hand, IsHonest, view_of}
+use Rattle.thread_table.proofs.Common.{◌≤◌, ∥∥₁_elim, Hand, IsValidHandView, view_of}
 use Rattle.std.proofs.Math.Bridge.{le_prop}
 use Rattle.thread_table.proofs.Schedule.Falling.{head_around, heads_in_order, tail_around, tails_in_order}
 use Rattle.thread_table.proofs.laws.never_below.Goals as goal
 
-by_both : {X : Type 0} (old new : Hand) → IsProp X → (IsHonest (view_of old) → IsHonest (view_of new) → X) → X
-by_both old new prop f = ∥∥₁_elim old.told prop (λ (x : IsHonest (view_of old)). ∥∥₁_elim new.told prop (λ (y : IsHonest (view_of new)). f x y))
+by_both : {X : Type 0} (old new : Hand) → IsProp X → (IsValidHandView (view_of old) → IsValidHandView (view_of new) → X) → X
+by_both old new prop f = ∥∥₁_elim old.valid prop (λ (x : IsValidHandView (view_of old)). ∥∥₁_elim new.valid prop (λ (y : IsValidHandView (view_of new)). f x y))
 
 pub returns : goal.returns
 returns c = record {

@@ -1,11 +1,11 @@
-use Rattle.thread_table.proofs.Common.{∥∥₁_elim, Hand, view_of, IsHonest}
+use Rattle.thread_table.proofs.Common.{∥∥₁_elim, Hand, view_of, IsValidHandView}
 use mathlib.Core.HLevel.{⊥_prop}
 use Rattle.thread_table.proofs.Events.Lone.{take_not_lost, before_not_lost, move_not_lost, wait_not_lost, start_not_lost, park_not_lost, deliver_not_lost}
 use Rattle.thread_table.proofs.laws.only_hands_are_never_lost.Goals as goal
 
 -- what can't be of honest hands can't be
-never : (old new : Hand) → (IsHonest (view_of old) → IsHonest (view_of new) → ⊥) → ⊥
-never old new wrong = ∥∥₁_elim old.told ⊥_prop (λ (x : IsHonest (view_of old)). ∥∥₁_elim new.told ⊥_prop (λ (y : IsHonest (view_of new)). wrong x y))
+never : (old new : Hand) → (IsValidHandView (view_of old) → IsValidHandView (view_of new) → ⊥) → ⊥
+never old new wrong = ∥∥₁_elim old.valid ⊥_prop (λ (x : IsValidHandView (view_of old)). ∥∥₁_elim new.valid ⊥_prop (λ (y : IsValidHandView (view_of new)). wrong x y))
 
 pub returns : goal.returns
 returns c = record {

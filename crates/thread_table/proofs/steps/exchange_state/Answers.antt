@@ -2,7 +2,7 @@ use Rattle.thread_table.proofs.Common.{rules}
 use Rattle.thread_table.proofs.Events.Allowed.{tries_it}
 use Rattle.thread_table.proofs.Events.Threads.{may_turn}
 use Rattle.thread_table.proofs.Events.Tells.{did_at, found_at, state_found}
-use Rattle.thread_table.proofs.Hands.Looks.{stood}
+use Rattle.thread_table.proofs.Hands.OnlyLoads.{stood}
 use Rattle.thread_table.proofs.steps.exchange_state.Goals as goal
 
 pub compare_exchange-requires : goal.compare_exchange-requires

@@ -2,14 +2,14 @@ use Rattle.thread_table.proofs.Common.{rules}
 use Rattle.thread_table.proofs.Events.Allowed.{makes_it}
 use Rattle.thread_table.proofs.Events.Threads.{may_stop}
 use Rattle.thread_table.proofs.Events.Tells.{did_at}
-use Rattle.thread_table.proofs.Hands.Looks.{stood}
+use Rattle.thread_table.proofs.Hands.OnlyLoads.{stood}
 use Rattle.thread_table.proofs.steps.or_stop.Goals as goal
 
 pub fetch_or-requires : goal.fetch_or-requires
-fetch_or-requires g c = (search rules, search rules, makes_it c.requires.mine.0 (may_stop _ _ c.requires.mine.1 _ c.requires.queue.2) _ _ _ _ c.requires.deed.0 c.requires.deed.1 c.state_word.ensures.0)
+fetch_or-requires g c = (search rules, search rules, makes_it c.requires.mine.0 (may_stop _ _ c.requires.mine.1 _ c.requires.queue.2) _ _ _ _ c.requires.step_outcome.0 c.requires.step_outcome.1 c.state_word.ensures.0)
 
 pub returns-clause-did : goal.returns-clause-did
 returns-clause-did g c = did_at c.state_word.ensures.0 c.fetch_or.ensures.2.1
 
 pub returns-clause-stands : goal.returns-clause-stands
-returns-clause-stands g c = stood _ _ _ _ c.requires.deed.0 (search rules) c.fetch_or.ensures.2.2
+returns-clause-stands g c = stood _ _ _ _ c.requires.step_outcome.0 (search rules) c.fetch_or.ensures.2.2

@@ -1,5 +1,5 @@
 use Rattle.turn_io.proofs.Common.{arith}
-use Rattle.turn_io.specs.Deeds.{HasShut}
+use Rattle.turn_io.specs.Outcomes.{HasShut}
 use Rattle.turn_io.proofs.Using.{its_end, in_ends, ends_same, ends_fit, used_at}
 use Rattle.turn_io.proofs.Accounting.{did_at, sound_at}
 use Rattle.turn_io.proofs.hearing.shut_queue.Goals as goal

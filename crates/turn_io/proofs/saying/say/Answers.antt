@@ -1,5 +1,5 @@
 use Rattle.turn_io.proofs.Common.{arith}
-use Rattle.turn_io.specs.Deeds.{Said}
+use Rattle.turn_io.specs.Outcomes.{Said}
 use Rattle.turn_io.proofs.Using.{its_end, in_ends, ends_same, ends_fit, used_at}
 use Rattle.turn_io.proofs.Accounting.{did_at, sound_at}
 use Rattle.turn_io.proofs.saying.say.Goals as goal

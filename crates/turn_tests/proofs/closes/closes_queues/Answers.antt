@@ -3,7 +3,7 @@ use Rattle.std.proofs.Math.Nat.{add-zero}
 use Rattle.std.specs.List.{All}
 use Rattle.claim_queue.specs.declared.ends.QueueEnd.{QueueEnd}
 use Rattle.claim_queue.specs.Handles.{IsOnlyEnd}
-use Rattle.claim_queue.specs.declared.rule.Did.{Did}
+use Rattle.claim_queue.specs.declared.rule.QueueOps.{QueueOps}
 use Rattle.turn_io.specs.Accounts.{Stake, queue_shares}
 use Rattle.turn_io.specs.EndLists.{queue_table, end_table, end_share, share_at}
 use Rattle.turn_io.proofs.Places.{as_long}
@@ -21,7 +21,7 @@ close_queues-closed-requires g c =
     let long = as_long end_table queue_table new made.queues.items fit in let one = made.one in
     let shares = c.shut_queue.ensures.sound.shares ∙ (c.hear.ensures.sound.shares ∙ (c.say-2.ensures.sound.shares ∙ (c.say.ensures.sound.shares ∙ ap queue_shares lent.ensures.value))) in
     let same : queue_shares c.shut_queue.new.ends 0 ≡ share_at made.ends.items 0 = ap (λ (f : ℕ → ℕ). f 0) shares ∙ share_is made.ends.items 0 in
-    let sum : share_at new 0 ≡ queue_shares c.shut_queue.new.ends 0 + (end_share made.other + 0) = sym (share_is new 0) ∙ ap (λ (f : ℕ → Stake Did). (f 0).share) c.join_at.ensures.gained.stakes_are in
+    let sum : share_at new 0 ≡ queue_shares c.shut_queue.new.ends 0 + (end_share made.other + 0) = sym (share_is new 0) ∙ ap (λ (f : ℕ → Stake QueueOps). (f 0).share) c.join_at.ensures.gained.stakes_are in
     let whole = only_one new (omega arith) (sum ∙ ((λ i. same i + add-zero (end_share made.other) i) ∙ made.whole)) in (
       omega arith,
       (

@@ -1,10 +1,10 @@
 use Rattle.bindings.proofs.Calls.{ℕ, inr, refl, subst, pos, ap, Some, of_kind, hand_in, at_value}
-use Rattle.bindings.specs.HandMoves.{WasTicket, TicketTold}
+use Rattle.bindings.specs.HandMoves.{WasTicket, IsTicketCall}
 use Rattle.bindings.proofs.hand.moves.synth_raw_hand_ticket.Goals as goal
 
 pub returns-clause-loaded : goal.returns-clause-loaded
 returns-clause-loaded c = let a = c.ticket in let y = a.new.self in let m = c.in-Some-wait_of in
-    at_value (λ x. TicketTold c.args.wait x c.args.ticket.now a.result (Some y) (pos 0)) (ap (of_kind hand_in) c.in-Some.ensures.value)
+    at_value (λ x. IsTicketCall c.args.wait x c.args.ticket.now a.result (Some y) (pos 0)) (ap (of_kind hand_in) c.in-Some.ensures.value)
     (inr (
       refl,
       m.ensures.1,

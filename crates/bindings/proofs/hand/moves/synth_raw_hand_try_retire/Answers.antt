@@ -1,10 +1,10 @@
 use Rattle.bindings.proofs.Calls.{rules, ℕ, inr, subst, refl, ap, Some, of_kind, hand_in, answered, at_value}
-use Rattle.bindings.specs.HandMoves.{WasMoved, MovingTold}
+use Rattle.bindings.specs.HandMoves.{WasMoved, IsMovingCall}
 use Rattle.bindings.proofs.hand.moves.synth_raw_hand_try_retire.Goals as goal
 
 pub returns-clause-moved : goal.returns-clause-moved
-returns-clause-moved c = let a = c.try_retire-answer in let y = a.new.self in let t = c.told_of_move in let m = c.in-Some-element_of in
-    at_value (λ x. MovingTold 1 c.args.element x (Some y) t.result) (ap (of_kind hand_in) c.in-Some.ensures.value)
+returns-clause-moved c = let a = c.try_retire-answer in let y = a.new.self in let t = c.answer_of_move in let m = c.in-Some-element_of in
+    at_value (λ x. IsMovingCall 1 c.args.element x (Some y) t.result) (ap (of_kind hand_in) c.in-Some.ensures.value)
     (inr (
       m.ensures.1,
       inr (

@@ -1,10 +1,10 @@
 use Rattle.bindings.proofs.Calls.{ℕ, inr, refl, subst, pos, ap, Some, of_kind, hand_in, at_value}
-use Rattle.bindings.specs.HandStates.{WasSignalled, SignalTold}
+use Rattle.bindings.specs.HandStates.{WasSignalled, IsSignalCall}
 use Rattle.bindings.proofs.hand.states.synth_raw_hand_signal.Goals as goal
 
 pub returns-clause-signalled : goal.returns-clause-signalled
 returns-clause-signalled c = let a = c.signal in let y = a.new.self in let e = c.in-Some-element_of in let s = c.in-Some-signal_of in
-    at_value (λ x. SignalTold c.args.element c.args.signal x c.args.raised.now c.was_raised.result (Some y) (pos 0)) (ap (of_kind hand_in) c.in-Some.ensures.value)
+    at_value (λ x. IsSignalCall c.args.element c.args.signal x c.args.raised.now c.was_raised.result (Some y) (pos 0)) (ap (of_kind hand_in) c.in-Some.ensures.value)
     (inr (
       refl,
       e.ensures.1,

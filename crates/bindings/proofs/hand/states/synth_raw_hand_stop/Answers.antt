@@ -1,10 +1,10 @@
 use Rattle.bindings.proofs.Calls.{ℕ, inr, refl, subst, pos, ap, Some, of_kind, hand_in, at_value}
-use Rattle.bindings.specs.HandStates.{WasStopped, StopTold}
+use Rattle.bindings.specs.HandStates.{WasStopped, IsStopCall}
 use Rattle.bindings.proofs.hand.states.synth_raw_hand_stop.Goals as goal
 
 pub returns-clause-stopped : goal.returns-clause-stopped
 returns-clause-stopped c = let a = c.stop in let y = a.new.self in let e = c.in-Some-element_of in
-    at_value (λ x. StopTold c.args.element x c.args.was_clear.now a.result (Some y) (pos 0)) (ap (of_kind hand_in) c.in-Some.ensures.value)
+    at_value (λ x. IsStopCall c.args.element x c.args.was_clear.now a.result (Some y) (pos 0)) (ap (of_kind hand_in) c.in-Some.ensures.value)
     (inr (
       refl,
       e.ensures.1,

@@ -1,16 +1,16 @@
 use Rattle.bindings.proofs.Calls.{ℕ, ◌+◌, inr, subst, arith, refl, ap, Some, of_kind, hand_in, answered, at_value}
 use Rattle.thread_table.specs.Handles.{view_of, call_of}
-use Rattle.bindings.specs.HandWakes.{WasTriedBefore, BeforeTold}
+use Rattle.bindings.specs.HandWakes.{WasTriedBefore, IsBeforeCall}
 use Rattle.bindings.proofs.HandFits.{fit_before}
 use Rattle.bindings.proofs.hand.wakes.synth_raw_hand_try_wake_before.Goals as goal
 
 pub tell_before-requires : goal.tell_before-requires
 tell_before-requires c = let x = c.in-Some.held.now in let a = c.try_wake_before-answer in let m = c.in-Some-wait_of in let is = m.ensures.0 in let below = m.ensures.1 in
-    fit_before (call_of x.hand) (m.wait + 2) c.args.head (view_of x.hand) (view_of a.new.self.hand) a.result (omega arith) a.new.self.hand.told a.ensures.1
+    fit_before (call_of x.hand) (m.wait + 2) c.args.head (view_of x.hand) (view_of a.new.self.hand) a.result (omega arith) a.new.self.hand.valid a.ensures.1
 
 pub returns-clause-taken : goal.returns-clause-taken
 returns-clause-taken c = let a = c.try_wake_before-answer in let y = a.new.self in let t = c.tell_before in let m = c.in-Some-wait_of in
-    at_value (λ x. BeforeTold c.args.wait c.args.head x c.args.element.now t.new.element (Some y) t.result) (ap (of_kind hand_in) c.in-Some.ensures.value)
+    at_value (λ x. IsBeforeCall c.args.wait c.args.head x c.args.element.now t.new.element (Some y) t.result) (ap (of_kind hand_in) c.in-Some.ensures.value)
     (inr (
       m.ensures.1,
       answered y a.result (subst (λ (q : ℕ). WasTriedBefore q c.args.head a.result c.in-Some.held.now y) m.ensures.0 a.ensures) t.ensures,

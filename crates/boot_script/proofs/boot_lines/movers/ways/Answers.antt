@@ -4,7 +4,7 @@ use Rattle.boot_script.specs.Words.{◌>>=◌}
 use Rattle.boot_script.specs.Grammar.{at_most_of}
 use Rattle.boot_script.specs.BootLines.{ways_from}
 use Rattle.boot_script.proofs.Escaping.Unescaped.{no_room}
-use Rattle.boot_script.proofs.BootScripts.WaysSoFar.{AreReadSoFar, no_way_yet, pushed_way, full_way, way_refused, ways_read, ways_said, few_ways, many_ways, told}
+use Rattle.boot_script.proofs.BootScripts.WaysSoFar.{AreReadSoFar, no_way_yet, pushed_way, full_way, way_refused, ways_read, ways_said, few_ways, many_ways, reported}
 use Rattle.boot_script.proofs.boot_lines.movers.ways.Goals as goal
 
 pub loop-seen-init : goal.loop-seen-init
@@ -22,7 +22,7 @@ loop-seen-init c = record {
 
 pub loop-seen-preserved-then-push : goal.loop-seen-preserved-then-push
 loop-seen-preserved-then-push c =
-    let some : c.loop-seen.words ≡ [] → ⊥ = told c.is_done-in-loop-seen.result c.loop-seen.words c.loop-seen-test.true c.is_done-in-loop-seen.ensures.1 in
+    let some : c.loop-seen.words ≡ [] → ⊥ = reported c.is_done-in-loop-seen.result c.loop-seen.words c.loop-seen-test.true c.is_done-in-loop-seen.ensures.1 in
     let room : c.in-Ok.way.key < length c.loop-seen.seen = omega (arith, c.loop-seen.invariant.whole) in
     let marked = ap (λ k. slice_set c.loop-seen.seen k true) c.from.ensures in
     record {
@@ -34,7 +34,7 @@ loop-seen-preserved-then-push c =
 
 pub loop-seen-preserved : goal.loop-seen-preserved
 loop-seen-preserved c =
-    let some : c.loop-seen.words ≡ [] → ⊥ = told c.is_done-in-loop-seen.result c.loop-seen.words c.loop-seen-test.true c.is_done-in-loop-seen.ensures.1 in
+    let some : c.loop-seen.words ≡ [] → ⊥ = reported c.is_done-in-loop-seen.result c.loop-seen.words c.loop-seen-test.true c.is_done-in-loop-seen.ensures.1 in
     let room : c.in-Ok.way.key < length c.loop-seen.seen = omega (arith, c.loop-seen.invariant.whole) in
     let marked = ap (λ k. slice_set c.loop-seen.seen k true) c.from.ensures in
     record {
@@ -47,15 +47,15 @@ loop-seen-preserved c =
 
 pub returns-in-Err : goal.returns-in-Err
 returns-in-Err c =
-    let first : c.args.words.now ≡ [] → ⊥ = told c.is_done.result c.args.words.now c.if-is_done.false c.is_done.ensures.1 in
-    let some : c.loop-seen.words ≡ [] → ⊥ = told c.is_done-in-loop-seen.result c.loop-seen.words c.loop-seen-test.true c.is_done-in-loop-seen.ensures.1 in
+    let first : c.args.words.now ≡ [] → ⊥ = reported c.is_done.result c.args.words.now c.if-is_done.false c.is_done.ensures.1 in
+    let some : c.loop-seen.words ≡ [] → ⊥ = reported c.is_done-in-loop-seen.result c.loop-seen.words c.loop-seen-test.true c.is_done-in-loop-seen.ensures.1 in
     let so_far = c.loop-seen.invariant.so_far in
     let said = way_refused so_far.front c.args.names.now so_far.keys c.loop-seen.words (ways_from c.args.names.now [] c.args.words.now) c.in-Err.refusal some (sym (c.in-Err.ensures.said so_far.keys so_far.marked)) so_far.all in
     sym (ways_said c.args.names.now c.args.words.now first ∙ ap (λ r. r >>= λ ways. at_most_of 4 ways >>= λ end. Ok ways) said)
 
 pub returns-then-fits : goal.returns-then-fits
 returns-then-fits c =
-    let first : c.args.words.now ≡ [] → ⊥ = told c.is_done.result c.args.words.now c.if-is_done.false c.is_done.ensures.1 in
+    let first : c.args.words.now ≡ [] → ⊥ = reported c.is_done.result c.args.words.now c.if-is_done.false c.is_done.ensures.1 in
     let so_far = c.loop-seen.invariant.so_far in
     let here = so_far.here c.if-fits.true in
     let said = ways_read so_far.front c.args.names.now so_far.keys c.loop-seen.words (ways_from c.args.names.now [] c.args.words.now) (c.is_done-in-loop-seen.ensures.0 c.loop-seen-test.false) so_far.all in
@@ -63,7 +63,7 @@ returns-then-fits c =
 
 pub returns-else-fits : goal.returns-else-fits
 returns-else-fits c =
-    let first : c.args.words.now ≡ [] → ⊥ = told c.is_done.result c.args.words.now c.if-is_done.false c.is_done.ensures.1 in
+    let first : c.args.words.now ≡ [] → ⊥ = reported c.is_done.result c.args.words.now c.if-is_done.false c.is_done.ensures.1 in
     let so_far = c.loop-seen.invariant.so_far in
     let said = ways_read so_far.front c.args.names.now so_far.keys c.loop-seen.words (ways_from c.args.names.now [] c.args.words.now) (c.is_done-in-loop-seen.ensures.0 c.loop-seen-test.false) so_far.all in
     sym (ways_said c.args.names.now c.args.words.now first ∙ (ap (λ r. r >>= λ ways. at_most_of 4 ways >>= λ end. Ok ways) said ∙ many_ways so_far.front (so_far.lost c.if-fits.false)))

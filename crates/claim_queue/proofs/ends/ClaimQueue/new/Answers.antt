@@ -1,4 +1,4 @@
-use Rattle.claim_queue.proofs.Common.{rules, sym, subst, ◌≡◌, ◌≤◌, Shape, newcomer, IsRuled}
+use Rattle.claim_queue.proofs.Common.{rules, sym, subst, ◌≡◌, ◌≤◌, Shape, newcomer, InvHeldOf}
 use Rattle.claim_queue.proofs.Tallying.{opens, new_ruled}
 use Rattle.claim_queue.proofs.ends.ClaimQueue.new.Goals as goal
 
@@ -7,4 +7,4 @@ of_words-requires g c = opens (record { first = c.args.first; room = g.row.N }) 
 
 pub invariant_of-result-2-clause-ruled : goal.invariant_of-result-2-clause-ruled
 invariant_of-result-2-clause-ruled g c = let key : Shape = record { first = c.args.first; room = g.row.N } in let some : 1 ≤ g.row.N = c.requires.0 in let e : c.in_ok-table.seat.me.0 ≡ newcomer key = search rules in
-    ∣ subst IsRuled (sym e) (new_ruled key some (search rules)) ∣₁
+    ∣ subst InvHeldOf (sym e) (new_ruled key some (search rules)) ∣₁

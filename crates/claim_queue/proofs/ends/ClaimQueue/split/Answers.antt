@@ -1,4 +1,4 @@
-use Rattle.claim_queue.proofs.Common.{◌≡◌, ℕ, ◌+◌, ap, arith, sym, subst, ◌∙◌, Part, IsRuled}
+use Rattle.claim_queue.proofs.Common.{◌≡◌, ℕ, ◌+◌, ap, arith, sym, subst, ◌∙◌, Part, InvHeldOf}
 use Rattle.claim_queue.proofs.Tallying.{ups, splits, rest_ruled, born_ruled}
 use Rattle.claim_queue.proofs.ends.ClaimQueue.split.Goals as goal
 
@@ -10,8 +10,8 @@ split_off-seat-requires-clause-allowed g c = splits _ _ _ (ap (λ (z : Part). z.
 
 pub invariant_of-end-clause-ruled : goal.invariant_of-end-clause-ruled
 invariant_of-end-clause-ruled g c = let two : c.count_up.new.seat.me.0.member.ends ≡ 2 = ap (λ (z : Part). z.ends) c.count_up.ensures.counted.member ∙ ap (λ (z : ℕ). z + 1) c.args.end.now.one in
-    ∣ subst (λ z. IsRuled z.0) (sym c.split_off-seat.ensures.split.0) (rest_ruled _ two c.count_up.ensures.suits) ∣₁
+    ∣ subst (λ z. InvHeldOf z.0) (sym c.split_off-seat.ensures.split.0) (rest_ruled _ two c.count_up.ensures.suits) ∣₁
 
 pub invariant_of-result-clause-ruled : goal.invariant_of-result-clause-ruled
 invariant_of-result-clause-ruled g c = let two : c.count_up.new.seat.me.0.member.ends ≡ 2 = ap (λ (z : Part). z.ends) c.count_up.ensures.counted.member ∙ ap (λ (z : ℕ). z + 1) c.args.end.now.one in
-    ∣ subst (λ z. IsRuled z.0) (sym c.split_off-seat.ensures.split.1) (born_ruled _ two c.count_up.ensures.suits) ∣₁
+    ∣ subst (λ z. InvHeldOf z.0) (sym c.split_off-seat.ensures.split.1) (born_ruled _ two c.count_up.ensures.suits) ∣₁

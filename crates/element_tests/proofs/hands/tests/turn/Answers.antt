@@ -4,10 +4,10 @@ use Rattle.thread_table.specs.Rules.{MayStep, done_at}
 use Rattle.turn_dispatch.specs.Countings.{counted_step}
 use Rattle.turn_dispatch.specs.Dispatches.{mask_of}
 use Rattle.turn_dispatch.specs.Holdings.{IsOn, OnlyAdds}
-use Rattle.turn_dispatch.specs.Tallies.{Tally, Adds, behind, one_delivery, one_signal}
+use Rattle.turn_dispatch.specs.Tallies.{Tally, AddsToTally, followed_by, one_delivery, one_signal}
 use Rattle.turn_dispatch.proofs.Beginnings.{more_has}
 use Rattle.turn_dispatch.proofs.Calm.{still_on}
-use Rattle.turn_dispatch.proofs.Looks.{signal_only}
+use Rattle.turn_dispatch.proofs.OnlyLoads.{signal_only}
 use Rattle.turn_dispatch.proofs.Tallies.{adds_on, adds_before}
 use Rattle.element_tests.proofs.hands.tests.turn.Goals as goal
 
@@ -26,7 +26,7 @@ returns-clause-adds g c =
     let n = view_of c.count-counted.new.hand in
     let o = view_of c.take_off-element.new.hand in
     let w = view_of c.make_ready.new.hand in
-    let sent : OnlyAdds (one_signal e c.args.signal) b s = signal_only (call_of c.put_on.new.hand) e c.args.signal c.signal.result b s c.put_on.new.hand.fresh c.put_on.new.hand.told c.signal.new.hand.told c.signal.ensures.steps in
+    let sent : OnlyAdds (one_signal e c.args.signal) b s = signal_only (call_of c.put_on.new.hand) e c.args.signal c.signal.result b s c.put_on.new.hand.fresh c.put_on.new.hand.valid c.signal.new.hand.valid c.signal.ensures.steps in
     let on : IsOn c.args.p e b = c.put_on.ensures.there in
     let on' : IsOn c.args.p e s = still_on c.args.p e b s sent.keeps on in
     let on'' : IsOn c.args.p e k = still_on c.args.p e s k c.wake.ensures.keeps on' in
@@ -38,7 +38,7 @@ returns-clause-adds g c =
     let one : Tally = one_delivery e (mask_of c.in-Ok.begun.delivered) in
     let two : Tally = one_signal e c.args.signal in
     let last : Tally = counted_step c.count-counted.result e c.in-Ok.begun.number in
-    let counted : Adds last k n = subst (λ (m : ℕ). Adds (counted_step c.count-counted.result e m) k n) number c.count-counted.ensures.adds in
-    let ends : Adds last k w = adds_before last k o w (adds_before last k n o counted c.take_off-element.ensures.adds) c.make_ready.ensures.adds in
-    let middle : Adds (behind two last) b w = adds_on two last b k w (adds_before two b s k sent.adds c.wake.ensures.adds) ends in
-    adds_on one (behind two last) v b w (adds_before one v a b c.in-Ok.ensures.adds c.put_on.ensures.adds) middle
+    let counted : AddsToTally last k n = subst (λ (m : ℕ). AddsToTally (counted_step c.count-counted.result e m) k n) number c.count-counted.ensures.adds in
+    let ends : AddsToTally last k w = adds_before last k o w (adds_before last k n o counted c.take_off-element.ensures.adds) c.make_ready.ensures.adds in
+    let middle : AddsToTally (followed_by two last) b w = adds_on two last b k w (adds_before two b s k sent.adds c.wake.ensures.adds) ends in
+    adds_on one (followed_by two last) v b w (adds_before one v a b c.in-Ok.ensures.adds c.put_on.ensures.adds) middle

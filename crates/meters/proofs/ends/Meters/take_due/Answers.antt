@@ -7,7 +7,7 @@ use Rattle.meters.proofs.ends.Meters.take_due.Goals as goal
 pub loop-slot-init : goal.loop-slot-init
 loop-slot-init c = let load = c.load_clock-clock.ensures in let is = load.clock in record {
   same = (refl, refl);
-  told = omega arith;
+  valid = omega arith;
   swept = swept_none _ _ _ c.clear.ensures;
 }
 
@@ -16,7 +16,7 @@ fire-requires-clause-room c = let few = swept_few _ _ _ _ _ c.loop-slot.invarian
 
 pub fire-requires-clause-clock : goal.fire-requires-clause-clock
 fire-requires-clause-clock c = let load = c.load_slot-found.ensures in
-    clock_seat _ _ c.load_clock-clock.result _ c.loop-slot.seat.told load.seat.2 load.found.2.looked.made.adds c.loop-slot.invariant.told
+    clock_seat _ _ c.load_clock-clock.result _ c.loop-slot.seat.valid load.seat.2 load.found.2.looked.made.adds c.loop-slot.invariant.valid
 
 pub loop-slot-preserved : goal.loop-slot-preserved
 loop-slot-preserved c =
@@ -32,14 +32,14 @@ loop-slot-preserved c =
           let got = fire.gave v load.found.0 load.found.1 load.found.2 in
           let g = subst (λ (z : MeterSeat). Gave v clock slot got.0 z.seat.me.0) (sym w.seat-is) got.1 in record {
             same = ((λ i. (w.seat-is i).seat.table_id) ∙ (fire.same.0 ∙ (load.seat.0.0 ∙ old.same.0)), (λ i. (w.seat-is i).seat.id) ∙ (fire.same.1 ∙ (load.seat.0.1 ∙ old.same.1)));
-            told = clock_on v _ clock slot got.0 c.loop-slot.seat.told c.if-not-is_empty.seat.told old.told g;
+            valid = clock_on v _ clock slot got.0 c.loop-slot.seat.valid c.if-not-is_empty.seat.valid old.valid g;
             swept = swept_more _ v _ clock slot items c.if-not-is_empty.fired.items got.0 old.swept g ((λ i. (w.fired-is i).items) ∙ got.2);
           }
       | else-not-is_empty w ↦
           let empty = empty_found v _ clock slot _ load.found.0 load.found.1 load.found.2 (sym c.is_empty.ensures ∙ w.if-not-is_empty.false) in
           let g = subst (λ (z : MeterSeat). Gave v clock slot None z.seat.me.0) (sym w.seat-is) empty in record {
             same = ((λ i. (w.seat-is i).seat.table_id) ∙ (load.seat.0.0 ∙ old.same.0), (λ i. (w.seat-is i).seat.id) ∙ (load.seat.0.1 ∙ old.same.1));
-            told = clock_on v _ clock slot None c.loop-slot.seat.told c.if-not-is_empty.seat.told old.told g;
+            valid = clock_on v _ clock slot None c.loop-slot.seat.valid c.if-not-is_empty.seat.valid old.valid g;
             swept = swept_more _ v _ clock slot items c.if-not-is_empty.fired.items None old.swept g ((λ i. (w.fired-is i).items) ∙ sym (append-nil items));
           }
     ]

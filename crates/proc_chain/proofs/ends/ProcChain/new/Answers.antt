@@ -8,4 +8,4 @@ new-requires g c = opens_new (makes g.Q.Quaject.made_by) (suits g.Q.Quaject.fits
     (subst (λ first. g.Q.Quaject.made_by first c.args.quaject []) (sym c.of-2.ensures) c.requires.made) (subst (λ world. g.Q.Quaject.fits world c.args.quaject) (sym c.of.ensures) c.requires.fits)
 
 pub invariant_of-result-in-Ok : goal.invariant_of-result-in-Ok
-invariant_of-result-in-Ok g c = let is = ap (λ (z : Me _ View). z.0) c.in-Ok.ensures.ok.4 in let n = of_newcomer _ _ is c.ranges.first.fits in record { turned = ap (λ (z : View). z.own.runner) is; rests = n.0; told = ∣ n.1 ∣₁ }
+invariant_of-result-in-Ok g c = let is = ap (λ (z : Me _ View). z.0) c.in-Ok.ensures.ok.4 in let n = of_newcomer _ _ is c.ranges.first.fits in record { turned = ap (λ (z : View). z.own.runner) is; rests = n.0; valid = ∣ n.1 ∣₁ }

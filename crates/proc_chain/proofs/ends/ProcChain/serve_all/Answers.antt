@@ -1,5 +1,5 @@
 use Rattle.proc_chain.proofs.Common.{rules, arith, refl, ◌∙◌, [], ◌∷◌, ◌++◌, suits, makes}
-use Rattle.proc_chain.proofs.Finding.{told_behind}
+use Rattle.proc_chain.proofs.Finding.{reported_after}
 use Rattle.proc_chain.proofs.Rounds.{no_rounds, rounds_more, all_done, few_run, since_still, since_then}
 use Rattle.proc_chain.proofs.ends.ProcChain.serve_all.Goals as goal
 
@@ -11,7 +11,7 @@ loop-init g c = record {
   turn = c.requires.turn;
   servings = [];
   rounds = no_rounds c.args.end.now.seat.me.0 (c.args.end.now.turned ∙ c.requires.turn);
-  since = since_still (makes g.Q.Quaject.made_by c.args.self.now.table.shared.key.pact) (suits g.Q.Quaject.fits c.args.self.now.table.shared.key.pact) c.args.end.now.seat.me.0 c.args.end.now.seat.me.1 (told_behind c.args.end.now.seat.me.0 c.args.end.now.told) (c.requires.ends.1.0 (c.args.end.now.turned ∙ c.requires.turn));
+  since = since_still (makes g.Q.Quaject.made_by c.args.self.now.table.shared.key.pact) (suits g.Q.Quaject.fits c.args.self.now.table.shared.key.pact) c.args.end.now.seat.me.0 c.args.end.now.seat.me.1 (reported_after c.args.end.now.seat.me.0 c.args.end.now.valid) (c.requires.ends.1.0 (c.args.end.now.turned ∙ c.requires.turn));
 }
 
 pub returns-in-Done-clause-steps : goal.returns-in-Done-clause-steps
@@ -25,16 +25,16 @@ loop-preserved g c = let l = c.loop.invariant in let s = c.in-More.ensures.steps
   turn = c.in-More.ensures.turn;
   servings = l.servings ++ s.0 ∷ [];
   rounds = rounds_more _ _ _ l.servings s.0 c.loop.total c.in-More.ran l.rounds s.1 s.2;
-  since = since_then (makes g.Q.Quaject.made_by c.args.self.now.table.shared.key.pact) (suits g.Q.Quaject.fits c.args.self.now.table.shared.key.pact) c.args.end.now.seat.me.0 c.loop.end.seat.me.0 c.serve.new.end.seat.me.0 _ l.since c.serve.ensures.made s.2.served.notes (told_behind c.loop.end.seat.me.0 c.loop.end.told);
+  since = since_then (makes g.Q.Quaject.made_by c.args.self.now.table.shared.key.pact) (suits g.Q.Quaject.fits c.args.self.now.table.shared.key.pact) c.args.end.now.seat.me.0 c.loop.end.seat.me.0 c.serve.new.end.seat.me.0 _ l.since c.serve.ensures.made s.2.served.notes (reported_after c.loop.end.seat.me.0 c.loop.end.valid);
 }
 
 pub overflow_add-result : goal.overflow_add-result
 overflow_add-result g c = let l = c.loop.invariant.rounds in let s = c.in-Done.ensures.steps.3 in let end = c.loop.end in let new = c.serve.new.end in
-    let few = few_run _ _ _ l.all.served end.told in let number = l.number in let few' = few_run _ _ _ s.served new.told in let number' = s.number in record { fits = omega arith }
+    let few = few_run _ _ _ l.all.served end.valid in let number = l.number in let few' = few_run _ _ _ s.served new.valid in let number' = s.number in record { fits = omega arith }
 
 pub overflow_add-total : goal.overflow_add-total
 overflow_add-total g c = let l = c.loop.invariant.rounds in let s = c.in-More.ensures.steps.2 in let end = c.loop.end in let new = c.serve.new.end in
-    let few = few_run _ _ _ l.all.served end.told in let number = l.number in let few' = few_run _ _ _ s.served new.told in let number' = s.number in record { fits = omega arith }
+    let few = few_run _ _ _ l.all.served end.valid in let number = l.number in let few' = few_run _ _ _ s.served new.valid in let number' = s.number in record { fits = omega arith }
 
 pub returns-in-Done-clause-made : goal.returns-in-Done-clause-made
-returns-in-Done-clause-made g c = since_then (makes g.Q.Quaject.made_by c.args.self.now.table.shared.key.pact) (suits g.Q.Quaject.fits c.args.self.now.table.shared.key.pact) c.args.end.now.seat.me.0 c.loop.end.seat.me.0 c.serve.new.end.seat.me.0 _ c.loop.invariant.since c.serve.ensures.made c.in-Done.ensures.steps.3.served.notes (told_behind c.loop.end.seat.me.0 c.loop.end.told)
+returns-in-Done-clause-made g c = since_then (makes g.Q.Quaject.made_by c.args.self.now.table.shared.key.pact) (suits g.Q.Quaject.fits c.args.self.now.table.shared.key.pact) c.args.end.now.seat.me.0 c.loop.end.seat.me.0 c.serve.new.end.seat.me.0 _ c.loop.invariant.since c.serve.ensures.made c.in-Done.ensures.steps.3.served.notes (reported_after c.loop.end.seat.me.0 c.loop.end.valid)

@@ -1,4 +1,4 @@
-use Rattle.thread_table.proofs.Common.{rules, ◌<◌, ◌∙◌, set, false, arith, sym, ap, transport, ELEMENTS, merely, claim_event, Did, View, call_of, view_of, head_word, place_word, raise_event, MovedBy}
+use Rattle.thread_table.proofs.Common.{rules, ◌<◌, ◌∙◌, set, false, arith, sym, ap, transport, ELEMENTS, merely, claim_event, HandDid, View, call_of, view_of, head_word, place_word, raise_event, MovedBy}
 use Rattle.thread_table.proofs.Events.Answering.{was_spent, overtaken, claim_known, claim_moves, moved_to}
 use Rattle.thread_table.proofs.hand.ThreadTable.move_to.Goals as goal
 
@@ -20,8 +20,8 @@ raise-requires-clause-claimed c = let hit = c.exchange_head-found.ensures.hit c.
 moved : (c : goal.After-raise) → MovedBy (call_of c.args.hand.now) (view_of c.args.hand.now) c.args.ring c.args.element (claim_event (call_of c.args.hand.now) c.args.ring c.args.element) c.load_head-word.result c.raise.new.seat.me.0
 moved c = let a = c.load_head-word.ensures in let x = c.exchange_head-found in let s = c.raise.ensures in let id = a.queue.0.1 in let id' = x.ensures.queue.0.1 ∙ id in let n = c.number-number.ensures.value in
     let ring = c.args.ring in let h = c.args.hand.now in let v = c.load_head-word.new.seat.me.0 in let m = x.new.seat.me.0 in let w = c.raise.new.seat.me.0 in let head = c.of-head.result.head in let known : c.args.element < ELEMENTS = search rules in
-    let claimed = transport (λ i. Did (id i) v (head_word ring) c.load_head-word.result (claim_event (id i) ring (n i)) m) (x.ensures.hit c.if-found-word.false) in
-    let raised = transport (λ i. Did (id' i) m (place_word ring head) s.did.0 (raise_event (id' i) m ring head) w) s.did.1 in
+    let claimed = transport (λ i. HandDid (id i) v (head_word ring) c.load_head-word.result (claim_event (id i) ring (n i)) m) (x.ensures.hit c.if-found-word.false) in
+    let raised = transport (λ i. HandDid (id' i) m (place_word ring head) s.did.0 (raise_event (id' i) m ring head) w) s.did.1 in
     moved_to _ _ _ _ _ head c.of-head.result.mark v m c.requires.table.1 (claim_moves h.seat.id ring c.args.element) claimed c.of-head.ensures.0 c.of-head.ensures.1 _ _ _ h.fresh c.requires.holds known a.found c.if-head.false raised
 
 pub invariant_of-hand-2 : goal.invariant_of-hand-2
@@ -33,7 +33,7 @@ invariant_of-hand-2 c = let a = c.load_head-word.ensures in let x = c.exchange_h
   holding = s.held ∙ ((λ i. set (h.holding i) (n i) false) ∙ sym (ap (λ (z : View). z.own.held) has));
   serving = h.serving ∙ sym (ap (λ (z : View). z.own.serves) has);
   putting = h.putting ∙ sym (ap (λ (z : View). z.own.on) has);
-  told = merely s.did.1.step.told;
+  valid = merely s.did.1.step.valid;
   stands = s.stands;
 }
 

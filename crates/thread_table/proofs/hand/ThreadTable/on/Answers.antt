@@ -1,4 +1,4 @@
-use Rattle.thread_table.proofs.Common.{◌≡◌, ◌<◌, ◌∙◌, Some, None, false, rules, set, sym, ap, transport, merely, View, call_of, view_of, processor_word, running, Did, ELEMENTS, PROCESSORS}
+use Rattle.thread_table.proofs.Common.{◌≡◌, ◌<◌, ◌∙◌, Some, None, false, rules, set, sym, ap, transport, merely, View, call_of, view_of, processor_word, running, HandDid, ELEMENTS, PROCESSORS}
 use Rattle.event_theory.specs.declared.event.Event.TheVariants as events
 use Rattle.thread_table.proofs.Events.StatesSeen.{puts_on}
 use Rattle.thread_table.proofs.hand.ThreadTable.on.Goals as goal
@@ -12,7 +12,7 @@ invariant_of-hand c = let s = c.swap_on.ensures in let h = c.args.hand.now in le
   holding = c.set_held.ensures ∙ ((λ i. set (h.holding i) c.number-number.result false) ∙ sym (ap (λ (z : View). z.own.held) has));
   serving = h.serving ∙ sym (ap (λ (z : View). z.own.serves) has);
   putting = c.set_running.ensures ∙ ((λ i. set (h.putting i) ((c.number-3.ensures.value ∙ sym p) i) (Some (sym n i))) ∙ sym (ap (λ (z : View). z.own.on) has));
-  told = merely s.did.1.step.told;
+  valid = merely s.did.1.step.valid;
   stands = s.stands;
 }
 
@@ -20,5 +20,5 @@ pub returns-clause-steps : goal.returns-clause-steps
 returns-clause-steps c = let h = c.args.hand.now in let n = c.number-number.ensures.value in let p = c.number-2.ensures.value in let d = c.swap_on.ensures.did in
     let known : c.args.element < ELEMENTS = search rules in let few : c.args.processor < PROCESSORS = search rules in let empty : running (view_of h) c.args.processor ≡ None = search rules in (
       empty,
-      puts_on (call_of h) c.args.processor c.args.element d.0 (view_of h) _ known few c.requires.mine.1 empty (transport (λ i. Did (call_of h) (view_of h) (processor_word (p i)) d.0 (events.On (call_of h) (p i) (n i)) c.swap_on.new.seat.me.0) d.1),
+      puts_on (call_of h) c.args.processor c.args.element d.0 (view_of h) _ known few c.requires.mine.1 empty (transport (λ i. HandDid (call_of h) (view_of h) (processor_word (p i)) d.0 (events.On (call_of h) (p i) (n i)) c.swap_on.new.seat.me.0) d.1),
     )

@@ -1,12 +1,12 @@
-use Rattle.thread_table.proofs.Common.{ℕ, List, Bool, sym, ap, subst, View, Divided, IsNewborn, rest_of}
+use Rattle.thread_table.proofs.Common.{ℕ, List, Bool, sym, ap, subst, View, SplitBy, IsNewEnd, rest_of}
 use Rattle.thread_table.proofs.Hands.AfterSplits.{divided, born}
 use Rattle.thread_table.proofs.hand.ThreadTable.split.Goals as goal
 
 pub returns-clause-steps : goal.returns-clause-steps
 returns-clause-steps c = let number : ℕ = c.args.processors in let mask : List Bool = c.marks_of-mask.result in let v : View = c.args.hand.now.seat.me.0 in let x : View = c.count_up.new.seat.me.0 in
-    subst (Divided number v) (sym (ap (λ z. z.0) c.split_off-seat.ensures.split.0)) (divided number mask v x _ c.marks_of-mask.ensures c.count_up.ensures.counted)
+    subst (SplitBy number v) (sym (ap (λ z. z.0) c.split_off-seat.ensures.split.0)) (divided number mask v x _ c.marks_of-mask.ensures c.count_up.ensures.counted)
 
 pub returns-clause-born : goal.returns-clause-born
 returns-clause-born c = let number : ℕ = c.args.processors in let mask : List Bool = c.marks_of-mask.result in let v : View = c.args.hand.now.seat.me.0 in let x : View = c.count_up.new.seat.me.0 in
     let left = ap (λ z. z.0) c.split_off-seat.ensures.split.0 in let right = ap (λ z. z.0) c.split_off-seat.ensures.split.1 in
-    subst (λ (y : View). IsNewborn number v y c.split_off-seat.result.me.0) (sym left) (subst (IsNewborn number v (rest_of mask x)) (sym right) (born number mask v x _ c.marks_of-mask.ensures c.count_up.ensures.counted))
+    subst (λ (y : View). IsNewEnd number v y c.split_off-seat.result.me.0) (sym left) (subst (IsNewEnd number v (rest_of mask x)) (sym right) (born number mask v x _ c.marks_of-mask.ensures c.count_up.ensures.counted))

@@ -1,4 +1,4 @@
-use Rattle.thread_table.proofs.Common.{Ok, rules, ◌≡◌, ◌<◌, ◌∙◌, ℕ, set, true, subst, sym, ap, transport, View, call_of, view_of, take_event, tail_word, Did, merely, ELEMENTS, TakeAnswer}
+use Rattle.thread_table.proofs.Common.{Ok, rules, ◌≡◌, ◌<◌, ◌∙◌, ℕ, set, true, subst, sym, ap, transport, View, call_of, view_of, take_event, tail_word, HandDid, merely, ELEMENTS, TakeAnswer}
 use Rattle.thread_table.proofs.Events.Answering.{not_raised, passed_by, taken_first}
 use Rattle.thread_table.proofs.hand.ThreadTable.take_first.Goals as goal
 
@@ -17,7 +17,7 @@ returns-then-found-tail-clause-steps c = let t = c.load_tail-tail.ensures in let
 -- what the three steps of the taking say
 taken : (c : goal.After-from) → (c.of-place.result.element < ELEMENTS) × TakeAnswer (call_of c.args.hand.now) (view_of c.args.hand.now) c.args.ring (Ok c.of-place.result.element) c.exchange_tail-found.new.seat.me.0
 taken c = let t = c.load_tail-tail.ensures in let p = c.load_place.ensures in let x = c.of-place.result in let h = c.args.hand.now in let w = c.exchange_tail-found.new.seat.me.0 in let id = p.queue.0.1 ∙ t.queue.0.1 in let bounded : x.element < 256 = search rules in
-    let d = transport (λ i. Did (id i) c.load_place.new.seat.me.0 (tail_word c.args.ring) c.load_tail-tail.result (take_event (id i) c.args.ring) w) (c.exchange_tail-found.ensures.hit c.if-found-tail.false) in
+    let d = transport (λ i. HandDid (id i) c.load_place.new.seat.me.0 (tail_word c.args.ring) c.load_tail-tail.result (take_event (id i) c.args.ring) w) (c.exchange_tail-found.ensures.hit c.if-found-tail.false) in
     taken_first _ _ _ _ _ _ _ _ x.element x.mark c.requires.1 t.found p.found t.tail p.place c.of-place.ensures bounded c.if-place-tail.false d
 
 pub bounds-hand-from : goal.bounds-hand-from
@@ -32,7 +32,7 @@ invariant_of-hand-2 c = let t = c.load_tail-tail.ensures in let p = c.load_place
   holding = (λ i. set (h.holding i) (c.from.ensures i) true) ∙ sym (ap (λ (z : View). z.own.held) has);
   serving = h.serving ∙ sym (ap (λ (z : View). z.own.serves) has);
   putting = h.putting ∙ sym (ap (λ (z : View). z.own.on) has);
-  told = merely (e.hit c.if-found-tail.false).step.told;
+  valid = merely (e.hit c.if-found-tail.false).step.valid;
   stands = e.stands;
 }
 

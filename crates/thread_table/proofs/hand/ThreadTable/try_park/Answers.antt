@@ -1,4 +1,4 @@
-use Rattle.thread_table.proofs.Common.{◌<◌, rules, ap, transport, state_word, Did, ELEMENTS}
+use Rattle.thread_table.proofs.Common.{◌<◌, rules, ap, transport, state_word, HandDid, ELEMENTS}
 use Rattle.event_theory.specs.declared.event.Event.TheVariants as events
 use Rattle.thread_table.proofs.Schedule.Acting.{acts_two}
 use Rattle.thread_table.proofs.Events.StatesSeen.{bit_up, bit_down, parked}
@@ -14,5 +14,5 @@ returns-then-seen-word-clause-steps c = let here = ap state_word c.number-number
 
 pub returns-clause-steps : goal.returns-clause-steps
 returns-clause-steps c = let h = c.args.hand.now in let n = c.number-number.ensures.value in let l = c.load_state-word in let id = l.ensures.queue.0.1 in let u = l.new.seat.me.0 in let known : c.args.element < ELEMENTS = search rules in
-    let d = transport (λ i. Did (id i) u (state_word (n i)) l.result (events.Park (id i) (n i)) c.exchange_state-seen.new.seat.me.0) (c.exchange_state-seen.ensures.hit c.if-seen-word.false) in let found = found_at (ap state_word n) l.ensures.found in
+    let d = transport (λ i. HandDid (id i) u (state_word (n i)) l.result (events.Park (id i) (n i)) c.exchange_state-seen.new.seat.me.0) (c.exchange_state-seen.ensures.hit c.if-seen-word.false) in let found = found_at (ap state_word n) l.ensures.found in
     parked _ _ _ _ _ _ h.fresh c.requires.holds known found c.if-not-is_stopping.ensures d

@@ -1,4 +1,4 @@
-use Rattle.thread_table.proofs.Common.{Ok, ◌<◌, ◌∙◌, rules, true, set, sym, ap, transport, merely, View, call_of, view_of, StartAnswer, state_word, Did, ELEMENTS}
+use Rattle.thread_table.proofs.Common.{Ok, ◌<◌, ◌∙◌, rules, true, set, sym, ap, transport, merely, View, call_of, view_of, StartAnswer, state_word, HandDid, ELEMENTS}
 use Rattle.thread_table.specs.declared.states.Started.TheVariants as started
 use Rattle.event_theory.specs.declared.event.Event.TheVariants as events
 use Rattle.thread_table.proofs.Schedule.Acting.{acts_two}
@@ -16,7 +16,7 @@ returns-then-seen-word-clause-steps c = let here = ap state_word c.number-number
 -- what the two steps say
 starts_clear : (c : goal.Then-not-is_parked) → StartAnswer (call_of c.args.hand.now) (view_of c.args.hand.now) c.args.element (Ok started.Cleared) c.exchange_state-seen.new.seat.me.0
 starts_clear c = let h = c.args.hand.now in let n = c.number-number.ensures.value in let l = c.load_state-word in let id = l.ensures.queue.0.1 in let u = l.new.seat.me.0 in let known : c.args.element < ELEMENTS = search rules in
-    let d = transport (λ i. Did (id i) u (state_word (n i)) l.result (events.Start (id i) (n i)) c.exchange_state-seen.new.seat.me.0) (c.exchange_state-seen.ensures.hit c.if-seen-word.false) in let found = found_at (ap state_word n) l.ensures.found in
+    let d = transport (λ i. HandDid (id i) u (state_word (n i)) l.result (events.Start (id i) (n i)) c.exchange_state-seen.new.seat.me.0) (c.exchange_state-seen.ensures.hit c.if-seen-word.false) in let found = found_at (ap state_word n) l.ensures.found in
     cleared _ _ _ _ _ _ known found c.if-not-is_stopping.ensures d c.if-not-is_parked.ensures
 
 pub invariant_of-hand-then-not-is_parked : goal.invariant_of-hand-then-not-is_parked
@@ -28,14 +28,14 @@ invariant_of-hand-then-not-is_parked c = let h = c.args.hand.now in let n = c.nu
   holding = h.holding ∙ sym (ap (λ (z : View). z.own.held) has);
   serving = h.serving ∙ sym (ap (λ (z : View). z.own.serves) has);
   putting = h.putting ∙ sym (ap (λ (z : View). z.own.on) has);
-  told = merely (e.hit c.if-seen-word.false).step.told;
+  valid = merely (e.hit c.if-seen-word.false).step.valid;
   stands = e.stands;
 }
 
 -- what the two steps say
 starts_held : (c : goal.After-set_held) → StartAnswer (call_of c.args.hand.now) (view_of c.args.hand.now) c.args.element (Ok started.Held) c.exchange_state-seen.new.seat.me.0
 starts_held c = let h = c.args.hand.now in let n = c.number-number.ensures.value in let l = c.load_state-word in let id = l.ensures.queue.0.1 in let u = l.new.seat.me.0 in let known : c.args.element < ELEMENTS = search rules in
-    let d = transport (λ i. Did (id i) u (state_word (n i)) l.result (events.Start (id i) (n i)) c.exchange_state-seen.new.seat.me.0) (c.exchange_state-seen.ensures.hit c.if-seen-word.false) in let found = found_at (ap state_word n) l.ensures.found in
+    let d = transport (λ i. HandDid (id i) u (state_word (n i)) l.result (events.Start (id i) (n i)) c.exchange_state-seen.new.seat.me.0) (c.exchange_state-seen.ensures.hit c.if-seen-word.false) in let found = found_at (ap state_word n) l.ensures.found in
     held_again _ _ _ _ _ _ known found c.if-not-is_stopping.ensures d c.if-not-is_parked.ensures
 
 pub invariant_of-hand-2 : goal.invariant_of-hand-2
@@ -47,7 +47,7 @@ invariant_of-hand-2 c = let h = c.args.hand.now in let n = c.number-number.ensur
   holding = c.set_held.ensures ∙ ((λ i. set (h.holding i) (n i) true) ∙ sym (ap (λ (z : View). z.own.held) has));
   serving = h.serving ∙ sym (ap (λ (z : View). z.own.serves) has);
   putting = h.putting ∙ sym (ap (λ (z : View). z.own.on) has);
-  told = merely (e.hit c.if-seen-word.false).step.told;
+  valid = merely (e.hit c.if-seen-word.false).step.valid;
   stands = e.stands;
 }
 

@@ -1,4 +1,4 @@
-use Rattle.thread_table.proofs.Common.{rules, ◌≡◌, ◌<◌, ◌∙◌, ◌+◌, ℕ, set, false, sym, ap, refl, subst, arith, transport, merely, ELEMENTS, WAITS, wait_ring, HasClaimed, Did, View, call_of, view_of, head_word, place_word, raise_event, MovedBy}
+use Rattle.thread_table.proofs.Common.{rules, ◌≡◌, ◌<◌, ◌∙◌, ◌+◌, ℕ, set, false, sym, ap, refl, subst, arith, transport, merely, ELEMENTS, WAITS, wait_ring, HasClaimed, HandDid, View, call_of, view_of, head_word, place_word, raise_event, MovedBy}
 use Rattle.event_theory.specs.declared.event.Event.TheVariants as events
 use Rattle.thread_table.proofs.Events.Answering.{found_in, was_spent, moved_before, moved_meanwhile, overtaken_at, claim_known, moved_to, word_parts}
 use Rattle.thread_table.proofs.hand.ThreadTable.try_wait_at.Goals as goal
@@ -34,8 +34,8 @@ moved : (c : goal.After-raise) → MovedBy (call_of c.args.hand.now) (view_of c.
 moved c = let a = c.load_head-word.ensures in let x = c.exchange_head_at-found in let s = c.raise.ensures in let id = a.queue.0.1 in let id' = x.ensures.queue.0.1 ∙ id in let n = c.number-number.ensures.value in
     let q = c.number-queue.ensures.value in let ring : c.wait_ring-ring.result ≡ wait_ring c.args.wait = c.wait_ring-ring.ensures.0 ∙ ap (λ (n : ℕ). n + 2) q in let below : c.args.wait < WAITS = search rules in
     let h = c.args.hand.now in let v = c.load_head-word.new.seat.me.0 in let m = x.new.seat.me.0 in let w = c.raise.new.seat.me.0 in let head = c.of-head.result.head in let known : c.args.element < ELEMENTS = search rules in
-    let claimed = transport (λ i. Did (id i) v (head_word (wait_ring (q i))) c.load_head-word.result (events.WaitAt (id i) (q i) (n i) c.args.ticket) m) (x.ensures.hit c.if-found-word.false) in
-    let raised = transport (λ i. Did (id' i) m (place_word (ring i) head) s.did.0 (raise_event (id' i) m (ring i) head) w) s.did.1 in
+    let claimed = transport (λ i. HandDid (id i) v (head_word (wait_ring (q i))) c.load_head-word.result (events.WaitAt (id i) (q i) (n i) c.args.ticket) m) (x.ensures.hit c.if-found-word.false) in
+    let raised = transport (λ i. HandDid (id' i) m (place_word (ring i) head) s.did.0 (raise_event (id' i) m (ring i) head) w) s.did.1 in
     moved_to _ _ _ _ _ head c.of-head.result.mark v m (omega arith) (λ z e. refl) claimed c.of-head.ensures.0 c.of-head.ensures.1 _ _ _ h.fresh c.requires.holds known (found_in ring a.found) c.if-head.false raised
 
 pub invariant_of-hand-2 : goal.invariant_of-hand-2
@@ -47,7 +47,7 @@ invariant_of-hand-2 c = let a = c.load_head-word.ensures in let x = c.exchange_h
   holding = s.held ∙ ((λ i. set (h.holding i) (n i) false) ∙ sym (ap (λ (z : View). z.own.held) has));
   serving = h.serving ∙ sym (ap (λ (z : View). z.own.serves) has);
   putting = h.putting ∙ sym (ap (λ (z : View). z.own.on) has);
-  told = merely s.did.1.step.told;
+  valid = merely s.did.1.step.valid;
   stands = s.stands;
 }
 

@@ -1,4 +1,4 @@
-use Rattle.thread_table.proofs.Common.{rules, ℕ, ◌≡◌, ◌+◌, ◌<◌, ◌≤◌, sym, ap, subst, ◌∙◌, Ok, Err, transport, call_of, view_of, head_word, tail_word, wait_ring, Did, Found, TakeAnswer}
+use Rattle.thread_table.proofs.Common.{rules, ℕ, ◌≡◌, ◌+◌, ◌<◌, ◌≤◌, sym, ap, subst, ◌∙◌, Ok, Err, transport, call_of, view_of, head_word, tail_word, wait_ring, HandDid, Found, TakeAnswer}
 use Rattle.event_theory.specs.declared.event.Event.TheVariants as events
 use Rattle.thread_table.proofs.Events.Answering.{word_parts}
 use Rattle.thread_table.proofs.Events.Waking.{Rounds, rounds_none, rounds_took, rounds_missed, woke_all}
@@ -8,7 +8,7 @@ pub loop-init : goal.loop-init
 loop-init g c = let h = c.args.hand.now in let n = c.number-2.ensures.value in record {
   steps = search rules;
   same = search rules;
-  rounds = rounds_none _ _ _ _ _ _ (transport (λ i. Did (call_of h) (view_of h) (head_word (wait_ring (n i))) c.add_notify-word.result (events.NotifyWait (call_of h) (n i)) c.add_notify-word.new.seat.me.0) c.add_notify-word.ensures.did);
+  rounds = rounds_none _ _ _ _ _ _ (transport (λ i. HandDid (call_of h) (view_of h) (head_word (wait_ring (n i))) c.add_notify-word.result (events.NotifyWait (call_of h) (n i)) c.add_notify-word.new.seat.me.0) c.add_notify-word.ensures.did);
 }
 
 pub returns-then-tail-head-clause-steps : goal.returns-then-tail-head-clause-steps

@@ -9,7 +9,7 @@ use Rattle.turn_tests.proofs.turns.elsewhere.run_beside.Goals as goal
 pub returns : goal.returns
 returns g c =
     let after = c.run-station.new.gate in
-    let same = turns_keep _ (λ gate. gate.shared.now) (λ old p point new t. t) _ _ _ _ _ _ _ _ c.run-station.ensures.turned.turned.told in
+    let same = turns_keep _ (λ gate. gate.shared.now) (λ old p point new t. t) _ _ _ _ _ _ _ _ c.run-station.ensures.turned.turned.reported in
     let were = subst (ArePartsOf c.args.shared.now) (sym c.into_parts-hand.ensures) c.requires.parts in (
       c.run-station.ensures.manned.manned.parts_are,
       subst (ArePartsOf c.args.shared.now) (sym c.from_parts.ensures) (record {

@@ -17,8 +17,8 @@ End = QueueEnd 64
 first_of : (queue : ClaimQueue 64) (xs ys : List End) (x : End) → xs ≡ x ∷ ys → AreEndsOf queue xs → IsEndOf queue x
 first_of queue xs ys x e h = subst (AreEndsOf queue) e h 0 x (omega arith)
 
-behind : (queue : ClaimQueue 64) (xs ys : List End) (x : End) → xs ≡ x ∷ ys → AreEndsOf queue xs → AreEndsOf queue ys
-behind queue xs ys x e h = let k = subst (AreEndsOf queue) e h in λ i d low. k (suc i) d (omega arith)
+following : (queue : ClaimQueue 64) (xs ys : List End) (x : End) → xs ≡ x ∷ ys → AreEndsOf queue xs → AreEndsOf queue ys
+following queue xs ys x e h = let k = subst (AreEndsOf queue) e h in λ i d low. k (suc i) d (omega arith)
 
 nothing_left : (l : List End) → length l ≡ 0 → l ≡ []
 nothing_left [] h = refl
@@ -49,7 +49,7 @@ loop-end-preserved g c =
     let v : View = view_of c.captures.last in
     let z : View = view_of c.join.new.end in record {
       mine = c.join.ensures.same.0 ∙ i.mine;
-      theirs = behind c.captures.shared.now _ _ x steps i.theirs;
+      theirs = following c.captures.shared.now _ _ x steps i.theirs;
       all = append_assoc at.yielded (x ∷ []) (array_into_iter_items c.next.new.self) ∙ (ap (λ (l : List End). at.yielded ++ l) (sym steps) ∙ i.all);
       gathered = subst (λ (us : List View). Gathered v us z) (sym (map-append view_of at.yielded (x ∷ [])))
           (gathered_more v (view_of at.last) (view_of x) z (map view_of at.yielded) i.gathered c.join.ensures.steps);

@@ -3,7 +3,7 @@ ghost use Rattle.std.specs.Prelude.{◌≡◌, option_copied};
 
 use crate::ticket::Ticket;
 use crate::tries::{HearAnswer, SayAnswer};
-use crate::waking::Paid;
+use crate::waking::WakeDone;
 use boot_data::plan::QueueIndex;
 use event_theory::{Element, Gauge, Signal, WaitNumber};
 use proc_chain::ChainRefusal;
@@ -13,16 +13,16 @@ use turn_io::Poked;
 
 /// The result of the one try of a step, with the step's operands. A step is done unless it was refused.
 #[derive(Drop)]
-pub enum Deed {
+pub enum StepOutcome {
     /// A line was to be put in the queue.
     Say {
         queue: QueueIndex,
-        answer: SayAnswer<Paid>,
+        answer: SayAnswer<WakeDone>,
     },
     /// A line was to be taken from the queue.
     Hear {
         queue: QueueIndex,
-        answer: HearAnswer<Paid>,
+        answer: HearAnswer<WakeDone>,
     },
     /// The element is to wait.
     Wait {
@@ -66,29 +66,29 @@ pub enum Deed {
     Close {
         queue: usize,
         was_open: bool,
-        readers: Paid,
-        writers: Paid,
+        readers: WakeDone,
+        writers: WakeDone,
     },
 }
 
-impl Deed {
-    ghost use Rattle.processor.specs.Deeds.{is_done, sleeps_on, wait_of};
+impl StepOutcome {
+    ghost use Rattle.processor.specs.Outcomes.{is_done, sleeps_on, wait_of};
 
     /// Whether the step is done.
     pub fn is_done(&self) -> bool
         ensures { result ≡ is_done self.now }
     {
         match self {
-            Deed::Say {
+            StepOutcome::Say {
                 answer: SayAnswer::Refused(_),
                 ..
             } => false,
-            Deed::Hear {
+            StepOutcome::Hear {
                 answer: HearAnswer::Refused(_),
                 ..
             } => false,
-            Deed::Start { answer: Err(_), .. } => false,
-            Deed::Poke { answer: Err(_), .. } => false,
+            StepOutcome::Start { answer: Err(_), .. } => false,
+            StepOutcome::Poke { answer: Err(_), .. } => false,
             _ => true,
         }
     }
@@ -98,11 +98,11 @@ impl Deed {
         ensures { option_copied result ≡ sleeps_on self.now }
     {
         match self {
-            Deed::Say {
+            StepOutcome::Say {
                 answer: SayAnswer::Refused(unsaid),
                 ..
             } => unsaid.ticket_if_full(),
-            Deed::Hear {
+            StepOutcome::Hear {
                 answer: HearAnswer::Refused(unheard),
                 ..
             } => unheard.ticket_if_empty(),
@@ -115,7 +115,7 @@ impl Deed {
         ensures { result ≡ wait_of self.now }
     {
         match self {
-            Deed::Wait { wait } => Some(*wait),
+            StepOutcome::Wait { wait } => Some(*wait),
             _ => None,
         }
     }

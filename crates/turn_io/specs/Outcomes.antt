@@ -41,17 +41,17 @@ module _ {n : ℕ} where
 
 -- By one try the note was chained, and the Turn that the try gave was served to its end, with this many notes run. Or
 -- the note was chained and left to another end, or the try was refused
-abbrev pub ToldOnce : {Q : Type 0} → (Q → List ℕ → Type 0) → (Q → Type 0) → Me Q View → ℕ → Result Poked ChainRefusal
+abbrev pub ReportedOnce : {Q : Type 0} → (Q → List ℕ → Type 0) → (Q → Type 0) → Me Q View → ℕ → Result Poked ChainRefusal
     → Me Q View → Type 0
-ToldOnce made fits me note (Ok (Ran notes)) me' = IsRun made fits me [] note notes me'
-ToldOnce made fits me note (Ok Left) me' = IsLeft me [] note me'
-ToldOnce made fits me note (Err refusal) me' = NotChained me.0 refusal me'.0 × (me'.1 ≡ me.1)
+ReportedOnce made fits me note (Ok (Ran notes)) me' = IsRun made fits me [] note notes me'
+ReportedOnce made fits me note (Ok Left) me' = IsLeft me [] note me'
+ReportedOnce made fits me note (Err refusal) me' = NotChained me.0 refusal me'.0 × (me'.1 ≡ me.1)
 
 module _ {Q W : Type 0} {g : Ghosts Q W} where
   -- the end of this chain made one try to chain the note, with this answer
   abbrev pub HasPoked : ProcChain Q W → ℕ → Result Poked ChainRefusal → ChainEnd Q W g → ChainEnd Q W g → Type 0
   HasPoked chain note answer old new =
-      ToldOnce (makes g.made_by (chain_ends.pact_of chain)) (suits g.fits (chain_ends.pact_of chain))
+      ReportedOnce (makes g.made_by (chain_ends.pact_of chain)) (suits g.fits (chain_ends.pact_of chain))
       (chain_ends.me_of old) note answer (chain_ends.me_of new)
 
   -- the end of the chain with this index made one try to chain the note, and the other ends did nothing

@@ -1,5 +1,5 @@
 -- The steps that are no event keep the rule.
-use Rattle.thread_table.proofs.Common.{◌≡◌, ◌≢◌, ◌+◌, ℕ, zero, suc, ◌≤◌, Bool, true, false, List, [], ◌∷◌, ◌++◌, map, length, get_or, set, Some, None, Option, option_map, sym, refl, ap, ◌∙◌, subst, ⊎_elim, arith, length-set, set-get_or, map-set, some, none, some-injective, get_elem?, Me, keeps, Allows, at_set, at_map, set_here, AreMade, made_of, Part, Begins, StepEffect, stays, event, IsReal, EndsStand, load, AreOrdered, IsWhole, order_to, order_at, order_step, stand_same, at_below, begins_refl, two_of, Elements, hold, Event, Shape, Having, View, Counted, Past, Course, Grows, WordsShow, AreJoined, HasStood, IsActive, IsSteady, IsNewest, done_at, HandIs, IsCounted, Seen, Rule, newcomer, nothing_of, now_of, serves, Sees, Found, Stands, had_by_both, steps_in, steps_by, quiet, of_hands, IsHonest}
+use Rattle.thread_table.proofs.Common.{◌≡◌, ◌≢◌, ◌+◌, ℕ, zero, suc, ◌≤◌, Bool, true, false, List, [], ◌∷◌, ◌++◌, map, length, get_or, set, Some, None, Option, option_map, sym, refl, ap, ◌∙◌, subst, ⊎_elim, arith, length-set, set-get_or, map-set, some, none, some-injective, get_elem?, Me, keeps, Allows, at_set, at_map, set_here, AreMade, made_of, Part, Begins, StepEffect, stays, event, IsValidStep, EndsStand, load, AreOrdered, IsWhole, order_to, order_at, order_step, stand_same, at_below, begins_refl, two_of, Elements, hold, Event, Shape, HandState, View, Counted, Past, Course, Grows, WordsShow, AreJoined, HasStood, IsActive, IsSteady, IsNewest, done_at, HandIs, IsCounted, Seen, Rule, newcomer, nothing_of, now_of, serves, Sees, Found, HandStands, had_by_both, steps_in, steps_by, quiet, of_hands, IsValidHandView}
 use Rattle.atomic_table.specs.Table.{State, step}
 use Rattle.table_theory.specs.Ledgers as ends
 use Rattle.table_theory.specs.Ledgers.{Step}
@@ -88,25 +88,25 @@ made_same past views id v w at same m = subst (AreMade past)
     (sym (map-set made_of views id w ∙ (ap (set (map made_of views) id) same ∙ set_again (map made_of views) id v.own.made (at_map made_of views id v at)))) m
 
 -- a step that found this number in its word, and did this, is real
-pub real_step : (key : Shape) (s : St) (k : Rule key s) (i found : ℕ) (next : Past) → found ≡ get_or s.words i 0 → StepEffect (of_hands key.first) (now_at k) next → IsReal (of_hands key.first) record { word = i; found = found; then = now_at k; next = next }
+pub real_step : (key : Shape) (s : St) (k : Rule key s) (i found : ℕ) (next : Past) → found ≡ get_or s.words i 0 → StepEffect (of_hands key.first) (now_at k) next → IsValidStep (of_hands key.first) record { word = i; found = found; then = now_at k; next = next }
 real_step key s k i found next is effect = record { lawful = k.allowed; words = s.words; shows = k.shows; ends = refl; is = is; effect = effect }
 
 -- so is a step that made an event
 pub real_event : (key : Shape) (s : St) (k : Rule key s) (i found : ℕ) (more : Event) → found ≡ get_or s.words i 0 → IsAllowed (k.events ++ more ∷ []) → Grows (elements_after k.events) (elements_after (k.events ++ more ∷ []))
-    → IsReal (of_hands key.first) record { word = i; found = found; then = now_at k; next = record (now_at k) { object = k.events ++ more ∷ [] } }
+    → IsValidStep (of_hands key.first) record { word = i; found = found; then = now_at k; next = record (now_at k) { object = k.events ++ more ∷ [] } }
 real_event key s k i found more is allowed grows = real_step key s k i found (record (now_at k) { object = k.events ++ more ∷ [] }) is (event (k.events ++ more ∷ []) (more, refl, allowed, grows) refl)
 
 -- by the rule, a hand's list is true
-pub honest_of : (key : Shape) (s : St) (k : Rule key s) (id : ℕ) (v : View) → get_elem? s.views id ≡ some v → IsHonest v
-honest_of key s k id v at = record {
-  list = subst (λ (z : ℕ). ends.IsHonest (of_hands z) v) (sym (k.first id v at)) (order_true (of_hands key.first) [] (now_at k) (k.joiner ∷ s.views) (suc id) v k.order at);
+pub valid_of : (key : Shape) (s : St) (k : Rule key s) (id : ℕ) (v : View) → get_elem? s.views id ≡ some v → IsValidHandView v
+valid_of key s k id v at = record {
+  list = subst (λ (z : ℕ). ends.IsValidView (of_hands z) v) (sym (k.first id v at)) (order_true (of_hands key.first) [] (now_at k) (k.joiner ∷ s.views) (suc id) v k.order at);
   first = k.order.first_is (suc id) v at;
   allowed = allowed_before v.seen.object k.events (k.seen id v at).schedule k.allowed;
   undoubled = k.undoubled id v at;
 }
 
 -- the order after a step of a hand that has this then, and those who have the whole have seen all of it
-pub order_goes : (key : Shape) (s : St) (k : Rule key s) (id : ℕ) (v w : View) (own : Having) (member : Part) (e : Step (List Event)) (now : Past) → get_elem? s.views id ≡ some v → 1 ≤ v.member.ends → w ≡ after v own member (steps_to k) e → e.then ≡ now_at k → IsReal (of_hands key.first) e → e.next ≡ now
+pub order_goes : (key : Shape) (s : St) (k : Rule key s) (id : ℕ) (v w : View) (own : HandState) (member : Part) (e : Step (List Event)) (now : Past) → get_elem? s.views id ≡ some v → 1 ≤ v.member.ends → w ≡ after v own member (steps_to k) e → e.then ≡ now_at k → IsValidStep (of_hands key.first) e → e.next ≡ now
     → (order : AreOrdered (of_hands key.first) [] now (k.joiner ∷ set s.views id w)) × ((j : ℕ) (u : View) → get_elem? (set s.views id w) j ≡ some u → IsNewest u (order_to order))
 order_goes key s k id v w own member e now at live is found real leaves =
     let x : View = after v own member (steps_to k) e in let vs : List View = k.joiner ∷ s.views in
@@ -118,11 +118,11 @@ order_goes key s k id v w own member e now at live is found real leaves =
     (same.0, each_set (λ j u. IsNewest u (order_to same.0)) s.views id x (λ j u ne has whole up. absurd (no_other key.first (get_or s.words 0 0) s.views id j v u k.ends at live has ne whole)) (λ whole up. to))
 
 -- the first hand of a table lists nothing
-pub honest_first : (key : Shape) → IsHonest (newcomer key)
-honest_first key = record { list = record { leads = refl; real = tt; own = tt }; first = refl; allowed = after_none.1; undoubled = refl }
+pub valid_first : (key : Shape) → IsValidHandView (newcomer key)
+valid_first key = record { list = record { leads = refl; real = tt; own = tt }; first = refl; allowed = after_none.1; undoubled = refl }
 
 -- the rule, where no event came, and a view has seen all
-pub kept : (key : Shape) (s : St) (k : Rule key s) (id : ℕ) (ws : List ℕ) (v w : View) (own : Having) (member : Part) (e : Step (List Event)) → w ≡ after v own member (steps_to k) e → e.then ≡ now_at k → IsReal (of_hands key.first) e → e.next ≡ now_of k.events ws
+pub kept : (key : Shape) (s : St) (k : Rule key s) (id : ℕ) (ws : List ℕ) (v w : View) (own : HandState) (member : Part) (e : Step (List Event)) → w ≡ after v own member (steps_to k) e → e.then ≡ now_at k → IsValidStep (of_hands key.first) e → e.next ≡ now_of k.events ws
     → get_elem? s.views id ≡ some v → 1 ≤ v.member.ends → WordsShow key.first (elements_after k.events) ws
     → w.own.first ≡ v.own.first → w.seen.object ≡ k.events → w.own.serves ≡ v.own.serves → w.own.claimed ≡ v.own.claimed → (w.own.made ≡ v.own.made) × (w.own.doubled ≡ v.own.doubled) → HandIs id w (elements_after k.events)
     → EndsStand (nothing_of key.first) (get_or ws 0 0) (set s.views id w) → AreJoined k.events (set s.views id w) → Rule key record { words = ws; homes = s.homes; views = set s.views id w }
@@ -189,7 +189,7 @@ stepped_now key s t k j id v now word found next at up there is grows counts = l
   sees = sees;
   is = is ∙ ap (λ (z : List ℕ). get_or z word 0) (sym (sees_words key s k id v at));
   acts = acts_step v now (steps_to k) e (k.order.course.seen (suc id) v at) (λ whole. k.newest id v at whole up) sees grows counts;
-  told = honest_of key t j id (stepped v now (steps_to k) e) there;
+  valid = valid_of key t j id (stepped v now (steps_to k) e) there;
 }
 
 pub found_now : (key : Shape) (s : St) (k : Rule key s) (i id : ℕ) (v : View) → get_elem? s.views id ≡ some v → IsActive v → Found v i (get_or s.words i 0) (looked v i (get_or s.words i 0) (steps_to k) (now_at k))
@@ -197,12 +197,12 @@ found_now key s k i id v at live = stepped_now key s _ k (kept_look key s k i id
     (set_here s.views id _ (at_below s.views id v at)) refl (begins_refl k.events) (λ x. refl)
 
 -- what the hand has then is what its call has
-pub stood_look : (key : Shape) (s : St) (k : Rule key s) (id i found : ℕ) (v : View) → get_elem? s.views id ≡ some v → Stands id (looked v i found (steps_to k) (now_at k))
+pub stood_look : (key : Shape) (s : St) (k : Rule key s) (id i found : ℕ) (v : View) → get_elem? s.views id ≡ some v → HandStands id (looked v i found (steps_to k) (now_at k))
 stood_look key s k id i found v at = hand_quiet id v (looked v i found (steps_to k) (now_at k)) (elements_after k.events) refl refl refl refl refl (k.hands id v at)
 
-pub stood : (call id now : ℕ) (w : View) → call ≡ id → now ≡ id → Stands call w → ∥ HasStood now w ∥₁
-stood call id now w mine same is = ∣ (λ made. subst (λ (z : ℕ). Stands z w) (mine ∙ sym same) is) ∣₁
+pub stood : (call id now : ℕ) (w : View) → call ≡ id → now ≡ id → HandStands call w → ∥ HasStood now w ∥₁
+stood call id now w mine same is = ∣ (λ made. subst (λ (z : ℕ). HandStands z w) (mine ∙ sym same) is) ∣₁
 
 pub looks : (key : Shape) (n id : ℕ) (me : Me Unit View) (call i : ℕ) → call ≡ id → IsActive me.0 → Allows (Rule key) n id me i (λ x. x) (finds call (step n i 0 0 none) me)
 looks key n id me call i mine live s k _ at _ = let found : ℕ = get_or s.words i 0 in let w : View = looked me.0 i found (steps_to k) (now_at k) in
-    (w, keeps, tt, kept_look key s k i id found me.0 refl at live, (refl, found_now key s k i id me.0 at live, subst (λ (z : ℕ). Stands z w) (sym mine) (stood_look key s k id i found me.0 at)))
+    (w, keeps, tt, kept_look key s k i id found me.0 refl at live, (refl, found_now key s k i id me.0 at live, subst (λ (z : ℕ). HandStands z w) (sym mine) (stood_look key s k id i found me.0 at)))

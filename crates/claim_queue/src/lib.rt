@@ -21,8 +21,8 @@
 //! assert!(rt; (closed.put, closed.taken) == (3, 3));
 //! ```
 //!
-//! Producers claim at the *head* and takers take at the *tail* (Massalin). In `crossbeam` and in `VecDeque` the names are the
-//! other way round: items leave at the head.
+//! Producers claim at the *head* and takers take at the *tail* (Massalin). In `crossbeam` and in `VecDeque` the names
+//! are the other way round: items leave at the head.
 //!
 //! `N` is 1 to 256. An item is a `u64`. Items are numbered by positions, from the first position of the queue on, and
 //! each position is used once: a queue takes 4,294,967,295 items less its first position, and is then Spent. The

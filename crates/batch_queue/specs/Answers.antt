@@ -36,5 +36,6 @@ WhyNotTaken v most (not_taken.Empty at) w = AtSomeMoment v w (λ o. (o.taken ≡
     × AtSomeMoment v w (λ o. o.shut ≡ true → o.taken < claimed o)
 WhyNotTaken v most (not_taken.ShortBuffer at count) w = (most < count)
     × AtSomeMoment v w (λ o. (o.taken ≡ at) × IsStop o at × IsRest o.batches at (at + count) × (phase_at o at ≡ 1))
-WhyNotTaken v most (not_taken.Lost tail) w = AtTwoMoments v w (λ o later. (o.taken < later.taken) × (later.taken ≡ tail))
+WhyNotTaken v most (not_taken.Lost tail) w = AtTwoMoments v w (λ o later. (o.taken < later.taken)
+    × (later.taken ≡ tail))
 WhyNotTaken v most not_taken.Closed w = AtSomeMoment v w (λ o. (o.shut ≡ true) × (o.taken ≡ claimed o))

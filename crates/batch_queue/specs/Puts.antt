@@ -156,7 +156,8 @@ tried (entries ∷ tries) = entries ++ tried tries
 abbrev pub PutAnswer : ℕ → View → List ℕ → Result ℕ PutRefusal → View → Type 0
 PutAnswer room v items (Ok start) w = (tries : List (List (Step BatchState)))
     × AllByRecursion (IsLostTry room (length items)) tries
-    × PutBy (λ entries. Performed v (tried tries ++ entries) (with_put v.own start items) w) room (length items) start items
+    × PutBy (λ entries. Performed v (tried tries ++ entries) (with_put v.own start items) w)
+    room (length items) start items
 PutAnswer room v items (Err (Lost head)) w = ⊥
 PutAnswer room v items (Err refusal) w = (tries : List (List (Step BatchState)))
     × AllByRecursion (IsLostTry room (length items)) tries

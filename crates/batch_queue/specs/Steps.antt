@@ -129,7 +129,8 @@ HasBack v free new = (free < v.seen.object.freed)
 
 -- the window moved from the free position to the new one
 abbrev pub Freed : View → ℕ → ℕ → View → Type 0
-Freed v free new w = (at : AbsState BatchState) × Stepped v (change free_word free at (with_freed at.object new)) v.own w
+Freed v free new w = (at : AbsState BatchState)
+    × Stepped v (change free_word free at (with_freed at.object new)) v.own w
 
 abbrev pub frees : Step ℕ → Me ℕ View → ℕ → Me ℕ View → Type 0
 frees st m r m' = Stays m.0 m'.0 × (r ≡ st.first → (m'.1 ≡ m.1) × Freed m.0 st.first st.second m'.0) × Missed st m r m'

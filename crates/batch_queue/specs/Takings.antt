@@ -195,7 +195,8 @@ IsIdleTry room most entries = (r : TakeRefusal) × IsTrue (must_wait (Err r))
 abbrev pub TakeAnswer : ℕ → View → ℕ → List ℕ → Result ℕ TakeRefusal → View → Type 0
 TakeAnswer room v most line (Ok n) w = (tries : List (List (Step BatchState)))
     × AllByRecursion (IsIdleTry room most) tries
-    × TookBy (λ at entries. Performed v (tried tries ++ entries) (with_line v.own at.object (length line)) w) room most line
+    × TookBy (λ at entries. Performed v (tried tries ++ entries) (with_line v.own at.object (length line)) w)
+    room most line
 TakeAnswer room v most line (Err refusal) w = IsFalse (must_wait (Err refusal))
     × (tries : List (List (Step BatchState)))
     × AllByRecursion (IsIdleTry room most) tries

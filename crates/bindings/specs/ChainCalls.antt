@@ -24,7 +24,8 @@ use Rattle.bindings.specs.declared.payload.Payload.TheVariants.{Chain}
 abbrev pub ReportsNoted : Result Noted ChainRefusal → SynthAnswer → Type 0
 ReportsNoted (Ok noted.Run) reported = IsCodeAlone Run reported
 ReportsNoted (Ok noted.Left) reported = IsCodeAlone Left reported
-ReportsNoted (Err r) reported = (reported.code ≡ code_of_chain r) × (reported.head ≡ head_of_chain r) × (reported.tail ≡ tail_of_chain r)
+ReportsNoted (Err r) reported = (reported.code ≡ code_of_chain r) × (reported.head ≡ head_of_chain r)
+    × (reported.tail ≡ tail_of_chain r)
 
 -- the library's `try_chain` was called, and its answer is reported
 abbrev pub IsChainCall : HeldChain → ℕ → Option HeldChain → SynthAnswer → Type 0
@@ -49,6 +50,7 @@ ReportsClosed c reported = (reported.put ≡ c.put) × (reported.run ≡ c.taken
 
 -- if the end runs notes, the chain stays open and the end is unchanged; else the outcome of the close is reported
 pub data WasClosed (x : HeldChain) (new : Option Payload) (old reported : SynthChained) (code : ℤ) : Type 0 where
-  runs_notes : has_turn x ≡ true → code ≡ Running → reported ≡ old → new ≡ Some (Chain x) → WasClosed x new old reported code
+  runs_notes : has_turn x ≡ true → code ≡ Running → reported ≡ old → new ≡ Some (Chain x)
+      → WasClosed x new old reported code
   runs_none : has_turn x ≡ false → WasEnded Chain (λ outcome. Ended outcome x) ReportsClosed new old reported code
       → WasClosed x new old reported code

@@ -27,5 +27,6 @@ c_place places.Held = record { kind = 5; number = 0 }
 
 -- the report of a closed table: the place, the steps and the pending signals of each element, and the stop bits
 abbrev pub ReportsPlaces : Places → SynthPlaces → Type 0
-ReportsPlaces c reported = (reported.place ≡ map c_place c.places) × (reported.pc ≡ c.pcs) × (reported.pending ≡ c.pending)
+ReportsPlaces c reported = (reported.place ≡ map c_place c.places) × (reported.pc ≡ c.pcs)
+    × (reported.pending ≡ c.pending)
     × (reported.stops ≡ c.stops)

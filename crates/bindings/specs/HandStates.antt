@@ -78,7 +78,8 @@ ReportsPark answer old new reported = MatchResult answer (λ b. (new ≡ b) × I
 
 -- the report of a delivery: the signals as bits 0 to 15, which are written, or the state word that was found
 abbrev pub ReportsDelivery : Result ℕ Lost → ℕ → ℕ → SynthState → Type 0
-ReportsDelivery answer old new reported = MatchResult answer (λ mask. (mask < 65536) × (new ≡ mask) × IsStateCode Done reported)
+ReportsDelivery answer old new reported = MatchResult answer (λ mask. (mask < 65536) × (new ≡ mask)
+    × IsStateCode Done reported)
     (λ lost. (new ≡ old) × ReportsLost lost reported)
 
 -- the effect of `stop`, by its code

@@ -25,7 +25,8 @@ ReportsPut answer reported = (reported.code ≡ code_of_claim answer) × (report
 
 -- the library's `try_put` was called, and its answer is reported
 abbrev pub WasPut : HeldQueue → List ℕ → Option HeldQueue → SynthAnswer → Type 0
-WasPut x items new reported = Answered (λ answer. AtSize (PutPart items answer)) (λ answer. ReportsPut answer reported) x new
+WasPut x items new reported =
+    Answered (λ answer. AtSize (PutPart items answer)) (λ answer. ReportsPut answer reported) x new
 
 -- the report of a taking: the item or the count, which is written, or the code and the tail of the refusal
 abbrev pub ReportsTake : Result ℕ TakeRefusal → ℕ → ℕ → SynthAnswer → Type 0
@@ -40,7 +41,8 @@ WasTaken x old_item item new reported =
 
 -- the library's `try_take_line` was called, and its answer is reported, with the number of items in the line
 abbrev pub WasLineTaken : HeldQueue → List ℕ → List ℕ → ℕ → ℕ → Option HeldQueue → SynthAnswer → Type 0
-WasLineTaken x old_line line old_count count new reported = Answered (λ answer. AtSize (TookLinePart old_line line answer))
+WasLineTaken x old_line line old_count count new reported =
+    Answered (λ answer. AtSize (TookLinePart old_line line answer))
     (λ answer. ReportsTake answer old_count count reported) x new
 
 -- the report of takings of one item each: the code, and the tail in the refusal
@@ -51,7 +53,8 @@ ReportsSome count refusal reported = (reported.code ≡ code_of_some count refus
 -- items were taken one by one into the buffer, and the reason why no more were taken is reported
 abbrev pub WasTakenUpTo : HeldQueue → List ℕ → List ℕ → ℕ → Option HeldQueue → SynthAnswer → Type 0
 WasTakenUpTo x old_items items count new reported =
-    Answered (λ refusal. AtSize (TookSomePart old_items items (count, refusal))) (λ refusal. ReportsSome count refusal reported)
+    Answered (λ refusal. AtSize (TookSomePart old_items items (count, refusal)))
+    (λ refusal. ReportsSome count refusal reported)
     x new
 
 -- the buffer has fewer places than the queue, and nothing happened; or the taking of a line is reported
@@ -64,7 +67,8 @@ TakesLine x old_line line old_count count new reported =
 -- the buffer has no room, and nothing happened; or takings of one item each are reported
 abbrev pub TakesSome : HeldQueue → List ℕ → List ℕ → ℕ → ℕ → Option HeldQueue → SynthAnswer → Type 0
 TakesSome x old_items items old_count count new reported =
-    (IsCodeAlone ShortBuffer reported × (length old_items ≡ 0) × (new ≡ Some x) × (items ≡ old_items) × (count ≡ old_count))
+    (IsCodeAlone ShortBuffer reported × (length old_items ≡ 0) × (new ≡ Some x) × (items ≡ old_items)
+    × (count ≡ old_count))
     ⊎ ((0 < length old_items) × WasTakenUpTo x old_items items count new reported)
 
 -- the buffer has fewer places than the queue, and nothing happened; or the outcome of the close is reported

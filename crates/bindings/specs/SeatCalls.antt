@@ -40,7 +40,8 @@ ReportsAdvance answer old new reported = MatchResult answer
 
 -- the library's `advance` was called, and its answer is reported
 abbrev pub IsAdvanceCall : HeldSeat → ℕ → ℕ → Option HeldSeat → SynthAnswer → Type 0
-IsAdvanceCall x old_clock clock new reported = Answered WasAdvanced (λ answer. ReportsAdvance answer old_clock clock reported) x new
+IsAdvanceCall x old_clock clock new reported =
+    Answered WasAdvanced (λ answer. ReportsAdvance answer old_clock clock reported) x new
 
 abbrev pub code_of_set : SetRefusal → ℤ
 code_of_set set.NoRoom = pos 11
@@ -85,5 +86,6 @@ IsDueCall x old_alarms alarms old_count count new code =
 
 -- the report of closed meters: the gauges, the clock and the alarms, with blank places after the alarms
 abbrev pub ReportsMetered : Metered → SynthMetered → Type 0
-ReportsMetered c reported = (reported.gauges ≡ c.gauges) × (reported.clock ≡ c.clock) × (reported.alarms ≡ length c.alarms.items)
+ReportsMetered c reported = (reported.gauges ≡ c.gauges) × (reported.clock ≡ c.clock)
+    × (reported.alarms ≡ length c.alarms.items)
     × (take reported.alarms reported.alarm ≡ map c_alarm c.alarms.items) × IsBlankFrom reported.alarms reported.alarm

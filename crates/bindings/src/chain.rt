@@ -1,5 +1,5 @@
-//! The chain for C: each call is one of the library's, on the end that a handle holds. Notes are pulled: the caller does
-//! what a note is for between one call and the next.
+//! The chain for C: each call is one of the library's, on the end that a handle holds. Notes are pulled: the caller
+//! does what a note is for between one call and the next.
 ghost use Rattle.std.specs.Prelude.{◌≡◌, ◌≤◌};
 ghost use Rattle.bindings.specs.ChainCalls.{IsChainCall, ReportsNoted, IsPullCall, WasClosed};
 ghost use Rattle.bindings.specs.ChainHeld.{IsNewChain, SplitBy, Joined, AreOfOneChain};

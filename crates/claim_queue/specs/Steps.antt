@@ -70,7 +70,8 @@ claims items st m r m' = Stays m m' × (r ≡ st.first → Claimed m.0 st.first 
 abbrev pub Wrote : View → Batch → ℕ → ℕ → ℕ → View → Type 0
 Wrote v e i n word w = (found : ℕ) × (at : AbsState Positions)
     × IsPlace at.object (e.start + i) (slice_index_or e.places i blank)
-    × Stepped v (change word found at (with_stage_at at.object (e.start + i) n)) (with_changed v.own (with_stage e i n)) w
+    × Stepped v (change word found at (with_stage_at at.object (e.start + i) n))
+    (with_changed v.own (with_stage e i n)) w
 
 -- the end stored in the word of the place i of its run from `start` on: n steps of writing are then done there
 abbrev pub WroteAt : ℕ → ℕ → ℕ → ℕ → View → View → Type 0

@@ -36,7 +36,8 @@
 //! `look` is for monitoring: it returns how many items are in the queue, and whether a put that has not ended holds up
 //! the takers.
 //!
-//! `ClaimRule`, `Shape`, `QueueOps` and `View` are for the proofs alone: the contracts about the lists of the ends use them.
+//! `ClaimRule`, `Shape`, `QueueOps` and `View` are for the proofs alone: the contracts about the lists of the ends use
+//! them.
 #![tactic(auto)]
 
 mod between;

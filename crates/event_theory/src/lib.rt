@@ -2,9 +2,9 @@
 //! every schedule.
 //!
 //! Each event is one atomic step of the running kernel, by a call on a queue, a chain, a thread element or a meter. The
-//! many-producer queue, its claims and procedure chaining are those of Massalin and Pu (1991); thread elements, signals,
-//! gauges and alarms follow Massalin (1992). The crate runs no code except for names and lists: the tables refine
-//! these events, and `quaject_core` applies them to what it stores.
+//! many-producer queue, its claims and procedure chaining are those of Massalin and Pu (1991); thread elements,
+//! signals, gauges and alarms follow Massalin (1992). The crate runs no code except for names and lists: the tables
+//! refine these events, and `quaject_core` applies them to what it stores.
 #![tactic(auto)]
 
 mod alarm;

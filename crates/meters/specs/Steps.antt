@@ -104,4 +104,5 @@ pub record Gave (v : SeatView) (clock slot : ℕ) (alarm : Option Alarm) (w : Se
   pub visit : Visit
   pub alarm_is : alarm ≡ gave visit
   pub fits : IsVisit clock visit
-  pub made : Performed v (entries_of slot visit) (record v.own { fired = v.own.fired ++ filter_map gave (visit ∷ []) }) w
+  pub made : Performed v (entries_of slot visit)
+      (record v.own { fired = v.own.fired ++ filter_map gave (visit ∷ []) }) w

@@ -1,12 +1,14 @@
 //! Laws over plain data: an end's list is true, and each change is an event of the core.
 
-ghost use Rattle.std.specs.Prelude.{◌≡◌, ◌≢◌, ◌+◌, ◌^◌, ◌<◌, ◌≤◌, ◌∷◌, ◌++◌, ◌⊎◌, ℕ, List, Some, None, Ok, slice_index_or};
+ghost use Rattle.std.specs.Prelude.{◌≡◌, ◌≢◌, ◌+◌, ◌^◌, ◌<◌, ◌≤◌, ◌∷◌, ◌++◌, ◌⊎◌, ℕ, List, Some, None, Ok};
+ghost use Rattle.std.specs.Prelude.{slice_index_or};
 ghost use Rattle.std.specs.List.{AllByRecursion};
 ghost use Rattle.event_theory.specs.declared.alarm.Alarm.{Alarm};
 ghost use Rattle.event_theory.specs.Meters.{tick, advance, fire, cancel};
 ghost use Rattle.table_theory.specs.declared.views.AbsState.{AbsState};
 ghost use Rattle.table_theory.specs.Courses.{Continues};
-ghost use Rattle.table_theory.specs.Ledgers.{Step, load, change, count_down, ExtendsTrace, IsValidStep, IsValidView, Reaches, Passes};
+ghost use Rattle.table_theory.specs.Ledgers.{Step, load, change, count_down, ExtendsTrace, IsValidStep};
+ghost use Rattle.table_theory.specs.Ledgers.{IsValidView, Reaches, Passes};
 ghost use Rattle.meters.specs.Layout.{ends_word, gauge_word, clock_word, slot_word, width, word_of, alarm_in};
 ghost use Rattle.meters.specs.declared.layout.TheConstants.{GAUGES, SLOTS, TICKS, LAST_TICK, ELEMENT, SIGNAL};
 ghost use Rattle.meters.specs.declared.layout.TheConstants.{FIELD, STANDS};

@@ -60,7 +60,8 @@ fn work<R: Wait>(rt: &R, pool: &Pool, holder: Holder) -> Holder
     holder
 }
 
-/// Two workers acquire and release buffers of one pool. When both are done, all buffers are left in the pool, each once.
+/// Two workers acquire and release buffers of one pool. When both are done, all buffers are left in the pool, each
+/// once.
 pub fn run_workers<R: Threads + Wait + Sync>(
     rt: &R,
     alloc: Global,

@@ -93,4 +93,5 @@ pub record ShowsEnds {Q W : Type 0} (key : Shape W) (s : State Q View) (now : Ga
   pub views : AreShown now s.views
   pub ends : ℕ
   pub number : slice_index_or s.words ends_word 0 ≡ ends
-  pub true_ends : AreValidViews of_chains nothing_did (first_queue key.first) (record { ends = ends; object = now }) s.views
+  pub true_ends : AreValidViews of_chains nothing_did (first_queue key.first)
+      (record { ends = ends; object = now }) s.views

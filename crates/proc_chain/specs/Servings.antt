@@ -25,7 +25,8 @@ use Rattle.proc_chain.specs.Turns.{HasServed}
 -- compare-and-swap found the gate More, and a round was begun
 pub data Use : Type 0 where
   took : (note tail : ℕ) → AbsState GatedQueue → AbsState GatedQueue → AbsState GatedQueue → Use
-  failed : (tail word gate : ℕ) → AbsState GatedQueue → AbsState GatedQueue → AbsState GatedQueue → AbsState GatedQueue → Use
+  failed : (tail word gate : ℕ) → AbsState GatedQueue → AbsState GatedQueue → AbsState GatedQueue → AbsState GatedQueue
+      → Use
 
 -- the entries of a use
 abbrev pub entries_of : Use → List (Step GatedQueue)

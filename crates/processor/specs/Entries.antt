@@ -11,7 +11,8 @@ use Rattle.turn_dispatch.specs.declared.dispatch.Begun.{Begun}
 use Rattle.turn_dispatch.specs.Countings.{counted_step}
 use Rattle.turn_dispatch.specs.Dispatches.{mask_of}
 use Rattle.turn_dispatch.specs.Sendings.{retired}
-use Rattle.turn_dispatch.specs.Tallies.{Tally, followed_by, no_events, one_delivery, delivery, signals_for, is_delivered}
+use Rattle.turn_dispatch.specs.Tallies.{Tally, followed_by, no_events, one_delivery, delivery, signals_for}
+use Rattle.turn_dispatch.specs.Tallies.{is_delivered}
 use Rattle.turn_dispatch.specs.Tendings.{tick_to}
 use Rattle.meters.specs.declared.gauges.AdvanceRefusal.{AdvanceRefusal}
 use Rattle.meters.specs.Own.{nothing_did}

@@ -58,7 +58,8 @@ pub record HasDone (more : Account) (old new : Parts) : Type 0 where
 
 -- The result of a part of a processor's work: it follows the plan, and the ends did this. If an answer was that a queue
 -- is shut, the queue's end knows that
-pub record Went (IsPlanned : Type 0) (more : Account) (was_reported : QueueIndex → Bool) (old new : Parts) : Type 0 where
+pub record Went (IsPlanned : Type 0) (more : Account) (was_reported : QueueIndex → Bool) (old new : Parts)
+    : Type 0 where
   pub planned : IsPlanned
   pub done : HasDone more old new
   pub reported : (queue : QueueIndex) → was_reported queue ≡ true → knows_shut new queue ≡ true

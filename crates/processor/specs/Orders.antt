@@ -106,7 +106,8 @@ SeatInOrder S start (step_outcomes.Tick gauge amount before) old new = SeatStood
 SeatInOrder S start step_outcome old new = Unit {0}
 
 -- a step that began at this count of the hand did its parts in order
-pub record InOrder (S : Sights) (plan : BootPlan) (start : Count) (step_outcome : StepOutcome) (old new : Parts) : Type 0 where
+pub record InOrder (S : Sights) (plan : BootPlan) (start : Count) (step_outcome : StepOutcome) (old new : Parts)
+    : Type 0 where
   pub queues : QueuesInOrder S plan start step_outcome old.small.items new.small.items old.large.items new.large.items
   pub chains : ChainsInOrder S start step_outcome old.chains.items new.chains.items
   pub seat : SeatInOrder S start step_outcome old.meters new.meters
@@ -115,7 +116,8 @@ pub record InOrder (S : Sights) (plan : BootPlan) (start : Count) (step_outcome 
 -- one step of the hand
 abbrev pub TurnResultInOrder : Sights → BootPlan → TurnResult → Parts → Parts → Type 0
 TurnResultInOrder S plan (hads.Retired moved) old new = Unit {0}
-TurnResultInOrder S plan (hads.Ran sent) old new = InOrder S plan (one_more (count_of old.hand)) sent.tried.step_outcome old new
+TurnResultInOrder S plan (hads.Ran sent) old new =
+    InOrder S plan (one_more (count_of old.hand)) sent.tried.step_outcome old new
 
 -- the result of an element's turn, if one was at hand, with its parts in order
 abbrev pub CameInOrder : Sights → Shared → ℕ → TurnOutcome → List ℕ → Parts → Parts → Type 0

@@ -54,14 +54,16 @@ IsLineIf (Err refusal) places line = line ≡ []
 -- otherwise empty
 abbrev pub IsOutcomeOf : Step → StepOutcome → List ℕ → Type 0
 IsOutcomeOf (steps.Say queue text) (step_outcomes.Say at answer) line = (at ≡ queue) × (line ≡ said_line text)
-IsOutcomeOf (steps.Hear queue) (step_outcomes.Hear at answer) line = (at ≡ queue) × IsLineIf (heard answer) (room_of queue) line
+IsOutcomeOf (steps.Hear queue) (step_outcomes.Hear at answer) line = (at ≡ queue)
+    × IsLineIf (heard answer) (room_of queue) line
 IsOutcomeOf (steps.Wait wait) (step_outcomes.Wait at) line = (at ≡ wait) × (line ≡ [])
 IsOutcomeOf (steps.Wake wait) (step_outcomes.Wake at woken) line = (at ≡ wait) × (line ≡ [])
 IsOutcomeOf (steps.Signal thread signal) (step_outcomes.Signal at number answer) line =
     (at ≡ thread) × (number ≡ signal) × (line ≡ [])
 IsOutcomeOf (steps.Stop thread) (step_outcomes.Stop at was_clear) line = (at ≡ thread) × (line ≡ [])
 IsOutcomeOf (steps.Start thread) (step_outcomes.Start at answer) line = (at ≡ thread) × (line ≡ [])
-IsOutcomeOf (steps.Tick gauge amount) (step_outcomes.Tick at by before) line = (at ≡ gauge) × (by ≡ amount) × (line ≡ [])
+IsOutcomeOf (steps.Tick gauge amount) (step_outcomes.Tick at by before) line = (at ≡ gauge) × (by ≡ amount)
+    × (line ≡ [])
 IsOutcomeOf (steps.Poke mover) (step_outcomes.Poke at answer) line = (at ≡ mover) × (line ≡ [])
 IsOutcomeOf steps.Pass step_outcomes.Pass line = line ≡ []
 IsOutcomeOf (steps.Close queue) (step_outcomes.Close at was_open readers writers) line = (at ≡ queue) × (line ≡ [])

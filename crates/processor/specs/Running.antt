@@ -18,8 +18,8 @@ use Rattle.processor.specs.Outcomes.{is_done, sleeps_on, wait_of}
 use Rattle.processor.specs.Steps.{HandDid, QueuesDid, ChainsDid, SeatDid}
 
 -- the element was put on the processor, its step was tried, and counted if it is done, and the element was taken off
-pub record Stepped (call : ℕ) (plan : BootPlan) (p element : ℕ) (step_outcome : StepOutcome) (counted : Counted) (v w : View)
-    : Type 0 where
+pub record Stepped (call : ℕ) (plan : BootPlan) (p element : ℕ) (step_outcome : StepOutcome) (counted : Counted)
+    (v w : View) : Type 0 where
   pub on : View
   pub did : View
   pub after : View
@@ -37,7 +37,8 @@ pub record EndsDid (shared : Shared) (step_outcome : StepOutcome) (line : List �
 -- The element was sent on after its step: with its ticket to the wait queue of a pipe; for a step that waits, to the
 -- step's wait queue; after its last step to the free elements; and otherwise to the ready ring
 abbrev pub Goes : ℕ → StepOutcome → Bool → ℕ → Moved → View → View → Type 0
-Goes call step_outcome last element (moveds.Ticketed waited) v w = (ticket : Ticket) × (sleeps_on step_outcome ≡ Some ticket)
+Goes call step_outcome last element (moveds.Ticketed waited) v w = (ticket : Ticket)
+    × (sleeps_on step_outcome ≡ Some ticket)
     × WaitedAt call ticket.wait element ticket.number waited v w
 Goes call step_outcome last element (moveds.Waits moved) v w = (wait : ℕ) × (sleeps_on step_outcome ≡ None)
     × (wait_of step_outcome ≡ Some wait) × Sent call (wait_ring wait) element moved v w

@@ -55,10 +55,12 @@ pub record RanStep (shared : Shared) (p element number : ℕ) (sent : Reschedule
   pub is : step_of shared.plan element number ≡ Some step
   pub step_outcome : IsOutcomeOf step sent.tried.step_outcome line
   pub stepped : View
-  pub ran : Stepped (call_of old.hand) shared.plan p element sent.tried.step_outcome sent.tried.counted (view_of old.hand)
+  pub ran : Stepped (call_of old.hand) shared.plan p element sent.tried.step_outcome sent.tried.counted
+      (view_of old.hand)
       stepped
   pub goes : Goes (call_of old.hand) sent.tried.step_outcome
-      (is_last (is_done sent.tried.step_outcome) number (length (program shared.plan element))) element sent.moved stepped
+      (is_last (is_done sent.tried.step_outcome) number (length (program shared.plan element)))
+      element sent.moved stepped
       (view_of new.hand)
   pub ends : EndsDid shared sent.tried.step_outcome line old new
   pub lines : heard_lines new ≡ heard_lines old ++ heard_by sent.tried.step_outcome element number line

@@ -1,8 +1,9 @@
 //! The one try of a step, in the form that its counting requires.
 //!
 //! The types keep an order: an element is put on its processor, its step is tried, and then the step is counted and the
-//! element goes on. `seat` alone makes a `OnProcessor`, which `do_step` takes by value; `do_step` alone makes an `StepTry`,
-//! which the count takes by value. So a tick, a shut, a poke and all else that a step does is done in between.
+//! element goes on. `seat` alone makes an `OnProcessor`, which `do_step` takes by value; `do_step` alone makes an
+//! `StepTry`, which the count takes by value. So a tick, a shut, a poke and all else that a step does is done in
+//! between.
 ghost use Rattle.std.specs.Prelude.{◌≡◌, [], length, true, Some, slice_set};
 ghost use Rattle.turn_dispatch.specs.Holdings.{IsFree, IsOn, KeepsBut, Steady};
 ghost use Rattle.turn_dispatch.specs.Tallies.{AddsToTally, no_events};

@@ -1,7 +1,7 @@
 //! Counting a step that was tried.
 //!
-//! The type keeps an order: a step is counted after its try, and its element goes on after both. A `StepCounted`, with which
-//! the element goes on, contains what only a try makes; so no `StepCounted` exists before the try.
+//! The type keeps an order: a step is counted after its try, and its element goes on after both. A `StepCounted`, with
+//! which the element goes on, contains what only a try makes; so no `StepCounted` exists before the try.
 ghost use Rattle.std.specs.Prelude.{◌≡◌};
 ghost use Rattle.turn_dispatch.specs.Countings.{CountAnswer, IsNumber, SteadyBut, counted_step};
 ghost use Rattle.turn_dispatch.specs.Holdings.{HoldsSame};

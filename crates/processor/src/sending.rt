@@ -1,7 +1,8 @@
 //! The queue to which an element goes after its step.
 //!
-//! The type keeps an order: an element goes on after the try and the count of its step. A `Rescheduled`, the result of the
-//! element's turn, contains the `StepCounted` that only the count makes; so no `Rescheduled` exists before the count.
+//! The type keeps an order: an element goes on after the try and the count of its step. A `Rescheduled`, the result of
+//! the element's turn, contains the `StepCounted` that only the count makes; so no `Rescheduled` exists before the
+//! count.
 ghost use Rattle.std.specs.Prelude.{◌≡◌, true, option_copied};
 ghost use Rattle.turn_dispatch.specs.Tallies.{AddsToTally};
 ghost use Rattle.thread_table.specs.Handles.{view_of, call_of, IsHandOf, IsSameHand};

@@ -134,8 +134,8 @@ fn finish_one(input: LineIn, served: Served) -> (RawTty, Typed)
     (tty, reported)
 }
 
-// Ends the lines of all devices. The raw ttys go into `ttys`, and the devices' totals into `reported`, in the order of the
-// devices. Both lists are empty and have room, so it takes no memory.
+// Ends the lines of all devices. The raw ttys go into `ttys`, and the devices' totals into `reported`, in the order of
+// the devices. Both lists are empty and have room, so it takes no memory.
 //
 // Conditions: there is an input for each device, in the order of the devices, which is the input of its line.
 fn finish_all(

@@ -159,7 +159,8 @@ emptied nothing v = record v {
 }
 
 -- the end added these entries, its record is now `own`, and its part among the ends is unchanged
-pub record Performed {K O : Type 0} (v : EndState K O) (entries : List (Step O)) (own : K) (w : EndState K O) : Type 0 where
+pub record Performed {K O : Type 0} (v : EndState K O) (entries : List (Step O)) (own : K) (w : EndState K O)
+    : Type 0 where
   pub adds : ExtendsTrace v entries w
   pub did : w.own ≡ own
   pub member : w.member ≡ v.member
@@ -260,8 +261,8 @@ pub record AreValidViews {K O : Type 0} (subject : ObjectModel O) (nothing : K) 
 
 -- The words show the object, which is lawful, and have the number of ends that exist. The ends' steps lead from the
 -- first object to this one
-pub record TableInv {K O : Type 0} (subject : ObjectModel O) (nothing : K) (first : O) (now : AbsState O) (words : List ℕ)
-    (views : List (EndState K O)) : Type 0 where
+pub record TableInv {K O : Type 0} (subject : ObjectModel O) (nothing : K) (first : O) (now : AbsState O)
+    (words : List ℕ) (views : List (EndState K O)) : Type 0 where
   pub lawful : subject.IsLawful now.object
   pub shows : subject.Shows now.object words
   pub number : slice_index_or words subject.ends_word 0 ≡ now.ends

@@ -12,8 +12,8 @@ use Rattle.table_theory.specs.Ledgers.{ObjectModel, IsValidStep, opened}
 
 -- The ends' steps, all real, lead in one order from the first object to this moment. Each end has seen a beginning of
 -- the order, with all its own steps, and the object as this beginning left it
-pub record AreOrdered {K O : Type 0} (subject : ObjectModel O) (first : O) (now : AbsState O) (views : List (EndState K O))
-    : Type 0 where
+pub record AreOrdered {K O : Type 0} (subject : ObjectModel O) (first : O) (now : AbsState O)
+    (views : List (EndState K O)) : Type 0 where
   pub course : IsCourse (λ v. v.steps) (λ v. v.course) (opened first) now views
   pub real : AllByRecursion (IsValidStep subject) (map entry_of course.course)
   pub first_is : (j : ℕ) (v : EndState K O) → get_elem? views j ≡ some v → v.first ≡ first

@@ -113,7 +113,8 @@ abbrev pub HasMoved : View → ℕ → ℕ → ℕ → View → Type 0
 HasMoved v wait ticket mark w = (word : ℕ) × (r : Past) × (head_in word < last_head) × (mark ≢ ticket)
     × (((mark ≡ mark_in word) × PerformsEvents v (load (head_word (wait_ring wait)) word r ∷ []) (quiet v) w)
     ⊎ ((mark_in word ≡ ticket) × (seen : ℕ) × (s : Past) × (mark ≡ mark_in seen)
-    × PerformsEvents v (load (head_word (wait_ring wait)) word r ∷ load (head_word (wait_ring wait)) seen s ∷ []) (quiet v) w))
+    × PerformsEvents v
+    (load (head_word (wait_ring wait)) word r ∷ load (head_word (wait_ring wait)) seen s ∷ []) (quiet v) w))
 
 -- the result of a wait with a ticket: the element is in the wait queue; or no position was left; or another hand moved
 -- first, and the ticket is still good; or the number of notifies is no longer the ticket
@@ -242,7 +243,8 @@ with_step v event number = record v {
 abbrev pub DoneAnswer : ℕ → View → ℕ → Result ℕ Spent → View → Type 0
 DoneAnswer call v element (Ok number) w = (count : ℕ) × (r s : Past) × (number ≡ count + 1)
     × (count ≡ steps_in element r.object) × (count ≡ steps_in element s.object)
-    × PerformsEvents v (load (done_word element) count r ∷ change (done_word element) count s (events.Done call element) ∷ [])
+    × PerformsEvents v
+    (load (done_word element) count r ∷ change (done_word element) count s (events.Done call element) ∷ [])
     (with_step v (events.Done call element) count) w
 DoneAnswer call v element (Err spent) w = ReadPc element v most_done w
 

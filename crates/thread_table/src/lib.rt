@@ -38,8 +38,8 @@
 //! place was claimed before the notify. So a waiter is either ahead of the notify and is woken, or has to check again.
 //! This is the event count of Reed and Kanodia (1979).
 //!
-//! `Claimed`, `Counted`, `HandState`, `Performed`, `Shape`, `ThreadRule` and `View` are for proofs alone: only the table itself
-//! makes values of them.
+//! `Claimed`, `Counted`, `HandState`, `MadeEvent`, `Shape`, `ThreadRule` and `View` are for proofs alone: only the
+//! table itself makes values of them.
 #![tactic(auto)]
 
 mod between;

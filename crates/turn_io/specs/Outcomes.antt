@@ -41,7 +41,8 @@ module _ {n : ℕ} where
 
 -- By one try the note was chained, and the Turn that the try gave was served to its end, with this many notes run. Or
 -- the note was chained and left to another end, or the try was refused
-abbrev pub ReportedOnce : {Q : Type 0} → (Q → List ℕ → Type 0) → (Q → Type 0) → Me Q View → ℕ → Result Poked ChainRefusal
+abbrev pub ReportedOnce : {Q : Type 0} → (Q → List ℕ → Type 0) → (Q → Type 0) → Me Q View → ℕ
+    → Result Poked ChainRefusal
     → Me Q View → Type 0
 ReportedOnce made fits me note (Ok (Ran notes)) me' = IsRun made fits me [] note notes me'
 ReportedOnce made fits me note (Ok Left) me' = IsLeft me [] note me'

@@ -21,7 +21,8 @@ pub struct HeldBatch {
 }
 
 impl HeldBatch {
-    ghost use Rattle.bindings.specs.BatchHeld.{IsCapacity, IsNewBatch, places_of, Put, PutSome, Took, TookUpTo, Counted};
+    ghost use Rattle.bindings.specs.BatchHeld.{IsCapacity, IsNewBatch, places_of, Put, PutSome, Took};
+    ghost use Rattle.bindings.specs.BatchHeld.{TookUpTo, Counted};
     ghost use Rattle.bindings.specs.BatchHeld.{WasShut};
 
     /// Whether a queue can have so many places: a power of two, 2^24 at most.

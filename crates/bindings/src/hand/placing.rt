@@ -2,7 +2,8 @@
 ghost use Rattle.std.specs.Prelude.{◌≡◌};
 ghost use Rattle.bindings.specs.Codes.{EmptyHandle};
 ghost use Rattle.bindings.specs.Handles.{hand_of, NoneIn, HoldsThen, TurnsThen};
-ghost use Rattle.bindings.specs.HandCalls.{IsHoldsCall, IsServesCall, IsOnProcessorCall, IsOnCall, IsOffCall, IsPcCall, IsStepCall};
+ghost use Rattle.bindings.specs.HandCalls.{IsHoldsCall, IsServesCall, IsOnProcessorCall, IsOnCall, IsOffCall};
+ghost use Rattle.bindings.specs.HandCalls.{IsPcCall, IsStepCall};
 
 use super::held::HeldHand;
 use super::numbers::element_of;

@@ -19,8 +19,8 @@ fn fault_of(alloc: Global, text: &[u8]) -> (u32, u8) {
     }
 }
 
-/// Names of each kind: the queue q, the pipe p, the ttys t and u, the pump m, the switch s, the gauge g and the threads a
-/// and b.
+/// Names of each kind: the queue q, the pipe p, the ttys t and u, the pump m, the switch s, the gauge g and the threads
+/// a and b.
 const DECLARED: &[u8] = b"synthesis 3
 queue q
 pipe p 0 15

@@ -21,7 +21,8 @@ pub(crate) enum Act {
     Parked(u8),
     /// The step of an element that is held isn't done.
     Undone(u8),
-    /// An element that is held is made ready, retired, or waits in this wait queue, or stays held; or waits at a ticket.
+    /// An element that is held is made ready, retired, or waits in this wait queue, or stays held; or waits at a
+    /// ticket.
     Ready(u8, bool),
     Retire(u8, bool),
     WaitIn(u8, u8, bool),

@@ -58,8 +58,8 @@ fn looks_at_the_last_positions(rt: HostRuntime) {
     plays(&rt, rt.alloc(), &LOOKS_AT_THE_LAST_POSITIONS);
 }
 
-/// After the claim of the positions 1 and 2 an item is put, at 3. While the claim isn't raised, only the item before the
-/// claim counts.
+/// After the claim of the positions 1 and 2 an item is put, at 3. While the claim isn't raised, only the item before
+/// the claim counts.
 const OVER_A_CLAIM: [Act; 3] = [
     Act::Look(0, 1, 3, false),
     Act::Put(&[4], Ok(3)),

@@ -131,8 +131,8 @@ fn type_all<R: Abort + Wait>(
     tty
 }
 
-/// A byte is put before the note for it is served: the fifth note finds the fifth byte, which ends the line, and the line
-/// is cooked, put and shown.
+/// A byte is put before the note for it is served: the fifth note finds the fifth byte, which ends the line, and the
+/// line is cooked, put and shown.
 #[test]
 #[tactic(auto, using(quajects::proofs::Making::made_of_itself))]
 fn a_byte_is_put_before_its_note_is_served(rt: HostRuntime) {

@@ -12,8 +12,8 @@ use proc_chain::{ChainEnd, Chained};
 use quajects::AnyQuaject;
 use std::test::*;
 
-/// A pump whose chain begins at this position, with an end of each of its queues and of its chain, and another end of the
-/// chain.
+/// A pump whose chain begins at this position, with an end of each of its queues and of its chain, and another end of
+/// the chain.
 fn split_pump<R: Abort>(rt: &R, alloc: Global, at: u32) -> (Ways, ChainEnd<AnyQuaject>)
     ensures one { length result.0.chains.items ≡ 1 }
     ensures other { All (λ chain. chain_end_table result.1 ≡ chain_table chain) result.0.chains.items

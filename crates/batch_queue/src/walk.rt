@@ -133,7 +133,7 @@ fn help(words: &Words, seat: &mut Seat<u64, View>, room: usize, free: u64) -> Fr
     ensures slots { seat.new.me.1 ≡ seat.old.me.1 }
     ensures grows { Grows seat.old.me.0.seen.object seat.new.me.0.seen.object }
     ensures free { (result.free ≤ seat.new.me.0.seen.object.freed) × (result.free < POSITIONS) }
-    ensures exact { IsFalse result.moved → result.free < free + room → AtSomeMoment seat.old.me.0 seat.new.me.0
+    ensures result { IsFalse result.moved → result.free < free + room → AtSomeMoment seat.old.me.0 seat.new.me.0
         (λ o. Grows seat.old.me.0.seen.object o × IsGivenBackTo o result.free) }
     ensures passed { IsTrue result.moved → AtSomeMoment seat.old.me.0 seat.new.me.0 (λ o. free < o.freed) }
     ensures trace { HelpedBy room free result.free result.moved seat.old.me.0 seat.new.me.0 }
@@ -173,7 +173,7 @@ pub(crate) fn look_free(
     ensures slots { seat.new.me.1 ≡ seat.old.me.1 }
     ensures grows { Grows seat.old.me.0.seen.object seat.new.me.0.seen.object }
     ensures free { (result.free ≤ seat.new.me.0.seen.object.freed) × (result.free < POSITIONS) }
-    ensures exact { IsFalse result.moved → result.free + room < new
+    ensures result { IsFalse result.moved → result.free + room < new
         → new ≤ seat.old.me.0.seen.object.freed + room + room → AtSomeMoment seat.old.me.0 seat.new.me.0
         (λ o. Grows seat.old.me.0.seen.object o × IsGivenBackTo o result.free) }
     ensures passed { IsTrue result.moved → AtTwoMoments seat.old.me.0 seat.new.me.0 (λ o later. o.freed < later.freed) }

@@ -109,7 +109,7 @@ impl Job<ThreadTable, Passed> for Passer {
 fn part(table: &ThreadTable, hand: &mut Hand, processor: Processor) -> Option<Passer>
     requires table { IsHandOf table.now hand.old }
     requires parts { IsDivisible hand.old }
-    ensures same { IsSameHand hand.old hand.new }
+    ensures handle { IsSameHand hand.old hand.new }
     ensures part { IfSome result (λ passer. IsHandOf table.now passer.hand
         × ((view_of hand.new).member.share ≡ kept (view_of hand.old).member.share)) }
 {
@@ -137,7 +137,7 @@ fn parts(
     requires table { IsHandOf table.now hand.old }
     requires parts { 8 * MOST_GIVEN + 2 ≤ (view_of hand.old).member.share }
     ensures passers { IfOk result (λ passers. All (λ passer. IsHandOf table.now passer.hand) passers.items) }
-    ensures same { IsSameHand hand.old hand.new }
+    ensures handle { IsSameHand hand.old hand.new }
 {
     let mut passers = Vec::new(alloc);
     for number in 0..processors.min(8) {

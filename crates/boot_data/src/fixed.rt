@@ -55,7 +55,7 @@ impl<const N: usize> Text<N> {
     pub fn append(&mut self, bytes: &[u8]) -> bool
         ensures room { IsTrue result ↔ (length self.old + length bytes.now ≤ N) }
         ensures appended { result ≡ true → self.new ≡ self.old ++ bytes.now }
-        ensures same { result ≡ false → self.new ≡ self.old }
+        ensures frame { result ≡ false → self.new ≡ self.old }
     {
         self.bytes.try_extend_from_slice(bytes).is_ok()
     }
@@ -64,7 +64,7 @@ impl<const N: usize> Text<N> {
     pub fn push(&mut self, byte: u8) -> bool
         ensures room { IsTrue result ↔ (length self.old < N) }
         ensures pushed { result ≡ true → self.new ≡ self.old ++ byte ∷ [] }
-        ensures same { result ≡ false → self.new ≡ self.old }
+        ensures frame { result ≡ false → self.new ≡ self.old }
     {
         self.bytes.try_push(byte).is_ok()
     }

@@ -148,7 +148,7 @@ impl Ways {
     pub fn push(&mut self, way: Way) -> bool
         ensures room { IsTrue result ↔ (length self.old < 4) }
         ensures pushed { result ≡ true → self.new ≡ self.old ++ way ∷ [] }
-        ensures same { result ≡ false → self.new ≡ self.old }
+        ensures frame { result ≡ false → self.new ≡ self.old }
     {
         self.ways.try_push(way).is_ok()
     }

@@ -38,7 +38,7 @@ pub fn make_objects(alloc: Global, plan: BootPlan) -> Result<Objects, OutOfMemor
     ensures hand { IfOk result (λ o. IsFirstHand o.shared.threads o.station.parts.hand) }
     ensures seat { IfOk result (λ o. IsFirstSeat o.shared.meters o.station.parts.meters) }
     ensures begin { IfOk result (λ o. BeginAtZero o.shared.queues o.shared.chains.items) }
-    ensures did { IfOk result (λ o. account o.station.parts ≡ nothing) }
+    ensures effect { IfOk result (λ o. account o.station.parts ≡ nothing) }
     ensures quajects { IfOk result (λ o. AreQuajectsOf o.shared.plan o.shared.queues
         (quajects_of o.shared.chains.items)) }
     ensures devices { IfOk result (λ o. AreDevicesOf o.shared.plan o.shared.queues o.shared.chains.items

@@ -120,7 +120,7 @@ impl BootWord {
 
 /// The word that is written like this, in any version. Else UnknownWord.
 fn named_word(word: &[u8]) -> Result<BootWord, ScriptRefusal>
-    ensures exact { result ≡ word_named word.now boot_words }
+    ensures result { result ≡ word_named word.now boot_words }
     ensures refused { IfErr result (λ refusal. refusal ≡ ScriptRefusal.UnknownWord) }
 {
     for known in BOOT_WORDS {
@@ -138,7 +138,7 @@ pub(crate) fn line_word(
     going: bool,
     word: &[u8],
 ) -> Result<BootWord, ScriptRefusal>
-    ensures exact { result ≡ boot_word_of version going word.now }
+    ensures result { result ≡ boot_word_of version going word.now }
     ensures refused { IfErr result (λ refusal. refusal ≡ ScriptRefusal.UnknownWord) }
 {
     let known = named_word(word)?;

@@ -109,7 +109,7 @@ impl Command {
 
 /// The command that a word names in some version. Else UnknownWord.
 fn named_command(word: &[u8]) -> Result<Command, ScriptRefusal>
-    ensures exact { result ≡ named word.now commands }
+    ensures result { result ≡ named word.now commands }
     ensures refused { IfErr result (λ refusal. refusal ≡ ScriptRefusal.UnknownWord) }
 {
     for command in COMMANDS {
@@ -123,7 +123,7 @@ fn named_command(word: &[u8]) -> Result<Command, ScriptRefusal>
 /// The command that a word names in a version. Else UnknownWord.
 #[tactic(auto, unfolding(crate::specs::Commands::command_of))]
 pub(crate) fn version_command(version: Version, word: &[u8]) -> Result<Command, ScriptRefusal>
-    ensures exact { result ≡ command_of version word.now }
+    ensures result { result ≡ command_of version word.now }
     ensures refused { IfErr result (λ refusal. refusal ≡ ScriptRefusal.UnknownWord) }
 {
     let command = named_command(word)?;

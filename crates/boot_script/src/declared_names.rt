@@ -143,7 +143,7 @@ fn has_name_form(word: &[u8]) -> bool
 
 /// The name that a word is: 1 to 8 bytes of a to z and 0 to 9, the first a letter. Else BadName.
 fn name(word: &[u8]) -> Result<Name, ScriptRefusal>
-    ensures exact { result ≡ name_of word.now }
+    ensures result { result ≡ name_of word.now }
     ensures refused { IfErr result (λ refusal. refusal ≡ ScriptRefusal.BadName) }
 {
     if has_name_form(word) {
@@ -165,7 +165,7 @@ impl Names {
 
     /// The number of the thing with this name, if the name was declared for this kind. Else NameUnknown.
     fn find(&self, kind: Kind, name: &[u8]) -> Result<usize, ScriptRefusal>
-        ensures exact { result ≡ find kind self.now name.now }
+        ensures result { result ≡ find kind self.now name.now }
         ensures within { IfOk result (λ number. number < most_of Version.Three kind) }
         ensures refused { IfErr result (λ refusal. refusal ≡ ScriptRefusal.NameUnknown) }
     {
@@ -195,7 +195,7 @@ impl Names {
 
     /// The number of the name that the word is, if it was declared for this kind. Else BadName, NameUnknown.
     pub(crate) fn number(&self, kind: Kind, word: &[u8]) -> Result<usize, ScriptRefusal>
-        ensures exact { result ≡ number_named kind self.now word.now }
+        ensures result { result ≡ number_named kind self.now word.now }
         ensures within { IfOk result (λ number. number < most_of Version.Three kind) }
     {
         if !has_name_form(word) {
@@ -206,7 +206,7 @@ impl Names {
 
     /// The element of the thread that the word names. Else BadName, NameUnknown.
     pub(crate) fn thread(&self, word: &[u8]) -> Result<Element, ScriptRefusal>
-        ensures exact { result ≡ number_named Kind.Thread self.now word.now }
+        ensures result { result ≡ number_named Kind.Thread self.now word.now }
     {
         let number = self.number(Kind::Thread, word)?;
         Element::new(number as u8).ok_or(ScriptRefusal::NameUnknown)
@@ -214,7 +214,7 @@ impl Names {
 
     /// The tty that the word names. Else BadName, NameUnknown.
     pub(crate) fn tty(&self, word: &[u8]) -> Result<TtyNumber, ScriptRefusal>
-        ensures exact { result ≡ number_named Kind.Tty self.now word.now }
+        ensures result { result ≡ number_named Kind.Tty self.now word.now }
     {
         let number = self.number(Kind::Tty, word)? as u8;
         Ok(TtyNumber { number })
@@ -222,7 +222,7 @@ impl Names {
 
     /// The gauge that the word names. Else BadName, NameUnknown.
     pub(crate) fn gauge(&self, word: &[u8]) -> Result<Gauge, ScriptRefusal>
-        ensures exact { result ≡ number_named Kind.Gauge self.now word.now }
+        ensures result { result ≡ number_named Kind.Gauge self.now word.now }
     {
         let number = self.number(Kind::Gauge, word)?;
         Gauge::new(number as u8).ok_or(ScriptRefusal::NameUnknown)

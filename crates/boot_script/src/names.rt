@@ -26,7 +26,7 @@ pub(crate) enum Listener {
 
 /// The number after a letter. Else BadName.
 fn numbered(word: &[u8], letter: u8, most: u8) -> Result<u8, ScriptRefusal>
-    ensures exact { result ≡ numbered_name letter most word.now }
+    ensures result { result ≡ numbered_name letter most word.now }
     ensures within { IfOk result (λ n. n ≤ most) }
     ensures refused { IfErr result (λ refusal. refusal ≡ ScriptRefusal.BadName) }
 {
@@ -41,7 +41,7 @@ fn numbered(word: &[u8], letter: u8, most: u8) -> Result<u8, ScriptRefusal>
 
 /// A call, `c0` to `c63`. Else BadName.
 pub(crate) fn call(word: &[u8]) -> Result<Call, ScriptRefusal>
-    ensures exact { result ≡ call_of word.now }
+    ensures result { result ≡ call_of word.now }
     ensures refused { IfErr result (λ refusal. refusal ≡ ScriptRefusal.BadName) }
 {
     let number = numbered(word, b'c', 63)?;
@@ -50,7 +50,7 @@ pub(crate) fn call(word: &[u8]) -> Result<Call, ScriptRefusal>
 
 /// A processor of the version, `p0` to its last. Else BadName.
 pub(crate) fn processor(version: Version, word: &[u8]) -> Result<Processor, ScriptRefusal>
-    ensures exact { result ≡ processor_of version word.now }
+    ensures result { result ≡ processor_of version word.now }
     ensures refused { IfErr result (λ refusal. refusal ≡ ScriptRefusal.BadName) }
 {
     let number = numbered(word, b'p', version.last_processor())?;
@@ -59,7 +59,7 @@ pub(crate) fn processor(version: Version, word: &[u8]) -> Result<Processor, Scri
 
 /// An element of the version, `e0` to its last. Else BadName.
 pub(crate) fn element(version: Version, word: &[u8]) -> Result<Element, ScriptRefusal>
-    ensures exact { result ≡ element_of version word.now }
+    ensures result { result ≡ element_of version word.now }
     ensures refused { IfErr result (λ refusal. refusal ≡ ScriptRefusal.BadName) }
 {
     let number = numbered(word, b'e', version.last_element())?;
@@ -68,7 +68,7 @@ pub(crate) fn element(version: Version, word: &[u8]) -> Result<Element, ScriptRe
 
 /// A gauge, `g0` to `g7`. Else BadName.
 pub(crate) fn gauge(word: &[u8]) -> Result<Gauge, ScriptRefusal>
-    ensures exact { result ≡ gauge_of word.now }
+    ensures result { result ≡ gauge_of word.now }
     ensures refused { IfErr result (λ refusal. refusal ≡ ScriptRefusal.BadName) }
 {
     let number = numbered(word, b'g', 7)?;
@@ -77,7 +77,7 @@ pub(crate) fn gauge(word: &[u8]) -> Result<Gauge, ScriptRefusal>
 
 /// A signal, 0 to 15. Else BadNumber.
 pub(crate) fn signal(word: &[u8]) -> Result<Signal, ScriptRefusal>
-    ensures exact { result ≡ signal_of word.now }
+    ensures result { result ≡ signal_of word.now }
     ensures refused { IfErr result (λ refusal. refusal ≡ ScriptRefusal.BadNumber) }
 {
     let number = number(word, 15)? as u8;
@@ -86,7 +86,7 @@ pub(crate) fn signal(word: &[u8]) -> Result<Signal, ScriptRefusal>
 
 /// A wait queue of the version by its number alone, 0 to its last. Else BadNumber.
 pub(crate) fn wait_number(version: Version, word: &[u8]) -> Result<WaitNumber, ScriptRefusal>
-    ensures exact { result ≡ number_of (last_wait version) word.now }
+    ensures result { result ≡ number_of (last_wait version) word.now }
     ensures refused { IfErr result (λ refusal. refusal ≡ ScriptRefusal.BadNumber) }
 {
     let number = number(word, u64::from(version.last_wait()))? as u8;
@@ -95,7 +95,7 @@ pub(crate) fn wait_number(version: Version, word: &[u8]) -> Result<WaitNumber, S
 
 /// A slot of an alarm, 0 to 15. Else BadNumber.
 pub(crate) fn slot(word: &[u8]) -> Result<Slot, ScriptRefusal>
-    ensures exact { result ≡ slot_of word.now }
+    ensures result { result ≡ slot_of word.now }
     ensures refused { IfErr result (λ refusal. refusal ≡ ScriptRefusal.BadNumber) }
 {
     let number = number(word, 15)? as u8;
@@ -104,7 +104,7 @@ pub(crate) fn slot(word: &[u8]) -> Result<Slot, ScriptRefusal>
 
 /// A byte queue, `q0` to `q7`. Else BadName.
 pub(crate) fn byte_queue(word: &[u8]) -> Result<QueueNumber, ScriptRefusal>
-    ensures exact { result ≡ byte_queue_of word.now }
+    ensures result { result ≡ byte_queue_of word.now }
     ensures refused { IfErr result (λ refusal. refusal ≡ ScriptRefusal.BadName) }
 {
     let number = numbered(word, b'q', 7)?;
@@ -113,7 +113,7 @@ pub(crate) fn byte_queue(word: &[u8]) -> Result<QueueNumber, ScriptRefusal>
 
 /// A chain, `k0` to `k7`. Else BadName.
 pub(crate) fn chain(word: &[u8]) -> Result<ChainNumber, ScriptRefusal>
-    ensures exact { result ≡ chain_of word.now }
+    ensures result { result ≡ chain_of word.now }
     ensures refused { IfErr result (λ refusal. refusal ≡ ScriptRefusal.BadName) }
 {
     let number = numbered(word, b'k', 7)?;
@@ -122,7 +122,7 @@ pub(crate) fn chain(word: &[u8]) -> Result<ChainNumber, ScriptRefusal>
 
 /// A wait queue of the version, `w0` to its last. Else BadName.
 pub(crate) fn wait(version: Version, word: &[u8]) -> Result<WaitNumber, ScriptRefusal>
-    ensures exact { result ≡ wait_of version word.now }
+    ensures result { result ≡ wait_of version word.now }
     ensures refused { IfErr result (λ refusal. refusal ≡ ScriptRefusal.BadName) }
 {
     let number = numbered(word, b'w', version.last_wait())?;
@@ -132,7 +132,7 @@ pub(crate) fn wait(version: Version, word: &[u8]) -> Result<WaitNumber, ScriptRe
 /// A queue of the version: a byte queue, the notes of a chain, a wait queue, `ready` or `free`. Else BadName.
 #[tactic(auto, unfolding(crate::specs::Names::queue_of))]
 pub(crate) fn queue(version: Version, word: &[u8]) -> Result<QueueName, ScriptRefusal>
-    ensures exact { result ≡ queue_of version word.now }
+    ensures result { result ≡ queue_of version word.now }
     ensures refused { IfErr result (λ refusal. refusal ≡ ScriptRefusal.BadName) }
 {
     if word == b"ready".as_slice() {
@@ -153,7 +153,7 @@ pub(crate) fn queue(version: Version, word: &[u8]) -> Result<QueueName, ScriptRe
 /// The listener of a notify: a chain, and from the second version on also a wait queue. Else BadName.
 #[tactic(auto, unfolding(crate::specs::Names::listener_of))]
 pub(crate) fn notify_listener(version: Version, word: &[u8]) -> Result<Listener, ScriptRefusal>
-    ensures exact { result ≡ listener_of version word.now }
+    ensures result { result ≡ listener_of version word.now }
     ensures refused { IfErr result (λ refusal. refusal ≡ ScriptRefusal.BadName) }
 {
     if let Ok(number) = chain(word) {

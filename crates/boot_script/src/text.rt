@@ -118,7 +118,7 @@ impl<'a> Words<'a> {
 
 /// The number that a word of a script spells, at most `most`, with no sign and no leading zero. Else `BadNumber`.
 pub fn number(word: &[u8], most: u64) -> Result<u64, ScriptRefusal>
-    ensures exact { result ≡ number_of most word.now }
+    ensures result { result ≡ number_of most word.now }
     ensures within { IfOk result (λ n. n ≤ most) }
     ensures refused { IfErr result (λ refusal. refusal ≡ ScriptRefusal.BadNumber) }
 {
@@ -150,7 +150,7 @@ pub fn number(word: &[u8], most: u64) -> Result<u64, ScriptRefusal>
 
 /// The number that a word spells, at most 32 bits. Else `BadNumber`.
 pub(crate) fn number_u32(word: &[u8]) -> Result<u32, ScriptRefusal>
-    ensures exact { result ≡ number_of u32_max word.now }
+    ensures result { result ≡ number_of u32_max word.now }
     ensures refused { IfErr result (λ refusal. refusal ≡ ScriptRefusal.BadNumber) }
 {
     Ok(number(word, u64::from(u32::MAX))? as u32)

@@ -10,7 +10,7 @@ use std::marker::Model;
 
 /// The value of a digit, 0 to 9 or A to F. Else BadNumber.
 fn digit(byte: u8) -> Result<u8, ScriptRefusal>
-    ensures exact { result ≡ digit_of byte }
+    ensures result { result ≡ digit_of byte }
     ensures within { IfOk result (λ value. value < 16) }
     ensures refused { IfErr result (λ refusal. refusal ≡ ScriptRefusal.BadNumber) }
 {
@@ -24,7 +24,7 @@ fn digit(byte: u8) -> Result<u8, ScriptRefusal>
 /// The byte of two digits. Else BadNumber.
 #[tactic(auto, unfolding(crate::specs::Texts::escape_of))]
 fn escape(high: u8, low: u8) -> Result<u8, ScriptRefusal>
-    ensures exact { result ≡ escape_of high low }
+    ensures result { result ≡ escape_of high low }
     ensures refused { IfErr result (λ refusal. refusal ≡ ScriptRefusal.BadNumber) }
 {
     let high = digit(high)?;

@@ -11,7 +11,7 @@ use std::sync::Wait;
 fn set_alarm<R: Wait>(rt: &R, meters: &Meters, seat: &mut MeterSeat, alarm: &Alarm)
     requires { IsSeatOf meters.now seat.old }
     ensures set { DidSet alarm.now (view_of seat.old) (view_of seat.new) }
-    ensures same { IsSameSeat seat.old seat.new }
+    ensures handle { IsSameSeat seat.old seat.new }
 {
     for _ in rt.forever() {
         match meters.try_set(seat, *alarm) {
@@ -26,7 +26,7 @@ fn set_alarm<R: Wait>(rt: &R, meters: &Meters, seat: &mut MeterSeat, alarm: &Ala
 pub fn set_alarms<R: Wait>(rt: &R, meters: &Meters, seat: MeterSeat, alarms: &[Alarm]) -> MeterSeat
     requires { IsSeatOf meters.now seat }
     ensures set { DidSetAll alarms.now (view_of seat) (view_of result) }
-    ensures same { IsSameSeat seat result }
+    ensures handle { IsSameSeat seat result }
 {
     let mut seat = seat;
     for alarm in alarms {

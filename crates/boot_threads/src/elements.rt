@@ -22,7 +22,7 @@ fn take_free<R: Wait>(rt: &R, threads: &ThreadTable, hand: &mut Hand, element: E
     requires { IsHandOf threads.now hand.old }
     ensures holds { has (view_of hand.new) element ≡ true }
     ensures took { TookFree (view_of hand.old) (view_of hand.new) }
-    ensures same { IsSameHand hand.old hand.new }
+    ensures handle { IsSameHand hand.old hand.new }
 {
     for _ in rt.forever() {
         if hand.holds(element) {
@@ -41,8 +41,8 @@ fn try_put(
 ) -> Result<(), MoveRefusal>
     requires table { IsHandOf threads.now hand.old }
     requires holds { has (view_of hand.old) element ≡ true }
-    ensures steps { MoveAnswer (call_of hand.old) (view_of hand.old) (ring_of ring) element result (view_of hand.new) }
-    ensures same { IsSameHand hand.old hand.new }
+    ensures trace { MoveAnswer (call_of hand.old) (view_of hand.old) (ring_of ring) element result (view_of hand.new) }
+    ensures handle { IsSameHand hand.old hand.new }
 {
     match ring {
         Ring::Ready => threads.try_ready(hand, element),
@@ -55,7 +55,7 @@ fn put<R: Wait>(rt: &R, threads: &ThreadTable, hand: &mut Hand, ring: Ring, elem
     requires table { IsHandOf threads.now hand.old }
     requires holds { has (view_of hand.old) element ≡ true }
     ensures put { PutInto (call_of hand.old) (ring_of ring) element (view_of hand.old) (view_of hand.new) }
-    ensures same { IsSameHand hand.old hand.new }
+    ensures handle { IsSameHand hand.old hand.new }
 {
     for _ in rt.forever() {
         match try_put(threads, hand, ring, element) {
@@ -81,7 +81,7 @@ fn take_all<R: Wait>(rt: &R, threads: &ThreadTable, hand: &mut Hand)
     requires { IsHandOf threads.now hand.old }
     ensures holds { HoldsFrom 0 (view_of hand.new) }
     ensures took { TookFree (view_of hand.old) (view_of hand.new) }
-    ensures same { IsSameHand hand.old hand.new }
+    ensures handle { IsSameHand hand.old hand.new }
 {
     for number in 0..64 {
         take_free(rt, threads, hand, element_of(number));
@@ -96,7 +96,7 @@ fn put_all<R: Wait>(rt: &R, threads: &ThreadTable, hand: &mut Hand, ring: Ring, 
     ensures holds { HoldsFrom to (view_of hand.new) }
     ensures moved { Moved (claims (call_of hand.old) (ring_of ring) (range_with_len from (to - from)))
         (view_of hand.old) (view_of hand.new) }
-    ensures same { IsSameHand hand.old hand.new }
+    ensures handle { IsSameHand hand.old hand.new }
 {
     for number in from..to {
         put(rt, threads, hand, ring, element_of(number));
@@ -112,7 +112,7 @@ pub fn prepare<R: Wait>(rt: &R, threads: &ThreadTable, hand: Hand, count: u8) ->
     requires table { IsHandOf threads.now hand }
     requires most { count ≤ 64 }
     ensures prepared { Prepared (call_of hand) count (view_of hand) (view_of result) }
-    ensures same { IsSameHand hand result }
+    ensures handle { IsSameHand hand result }
 {
     let mut hand = hand;
     take_all(rt, threads, &mut hand);

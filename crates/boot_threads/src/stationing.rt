@@ -26,7 +26,7 @@ fn post<G: Gate + Drop>(
     requires split { CanSplit 1 station.old.parts }
     requires free { (k : ℕ) → p ≤ k → k < 8 → IsFree k (view_of station.old.parts.hand) }
     ensures parts { ArePartsOf shared.now station.new.parts }
-    ensures same { AreSameParts station.old.parts station.new.parts }
+    ensures handle { AreSameParts station.old.parts station.new.parts }
     ensures posted { IfOk result (λ work. IsPosted shared.now p turns gate station.old.parts station.new.parts work) }
 {
     let born = station.split(alloc, shared, 1 << p.number())?;

@@ -103,17 +103,17 @@ impl<const N: usize> ClaimQueue<N> {
     /// `ClaimRefusal` lists them.
     pub fn try_claim(&self, end: &mut QueueEnd<N>, items: &[u64]) -> Result<Claim<N>, ClaimRefusal>
         requires { IsEndOf self.now end.old }
-        ensures lines { MatchResult result (λ c. PutLine items.now (view_of end.old) (view_of end.new))
+        ensures effect { MatchResult result (λ c. PutLine items.now (view_of end.old) (view_of end.new))
             (λ r. SameLines (view_of end.old) (view_of end.new)) }
-        ensures own { IfOk result (λ c. (c.items.items ≡ items.now) × (c.raised ≡ 0)
+        ensures owns { IfOk result (λ c. (c.items.items ≡ items.now) × (c.raised ≡ 0)
             × Owns (view_of end.new) c.start c.items.items c.raised) }
         ensures shut { (view_of end.old).seen.object.shut ≡ true → 0 < length items.now → length items.now ≤ N
             → MatchResult result (λ claim. ⊥) (λ refusal. refusal ≡ refusals.Closed) }
-        ensures steps { MatchResult result
+        ensures trace { MatchResult result
             (λ c. ClaimedItems N (view_of end.old) c.start items.now (view_of end.new))
             (λ r. Refused N (view_of end.old) (length items.now) r (view_of end.new)) }
-        ensures others { KeepsClaims (view_of end.old) (view_of end.new) }
-        ensures same { IsSameEnd end.old end.new }
+        ensures frame { KeepsClaims (view_of end.old) (view_of end.new) }
+        ensures handle { IsSameEnd end.old end.new }
     {
         self.try_claim_paused(end, items, &mut NoPause)
     }
@@ -127,18 +127,18 @@ impl<const N: usize> ClaimQueue<N> {
         pause: &mut P,
     ) -> Result<Claim<N>, ClaimRefusal>
         requires { IsEndOf self.now end.old }
-        ensures lines { MatchResult result (λ c. PutLine items.now (view_of end.old) (view_of end.new))
+        ensures effect { MatchResult result (λ c. PutLine items.now (view_of end.old) (view_of end.new))
             (λ r. SameLines (view_of end.old) (view_of end.new)) }
-        ensures own { IfOk result (λ c. (c.items.items ≡ items.now) × (c.raised ≡ 0)
+        ensures owns { IfOk result (λ c. (c.items.items ≡ items.now) × (c.raised ≡ 0)
             × Owns (view_of end.new) c.start c.items.items c.raised) }
         ensures shut { (view_of end.old).seen.object.shut ≡ true → 0 < length items.now → length items.now ≤ N
             → MatchResult result (λ claim. ⊥) (λ refusal. refusal ≡ refusals.Closed) }
-        ensures steps { MatchResult result
+        ensures trace { MatchResult result
             (λ c. ClaimedItems N (view_of end.old) c.start items.now (view_of end.new))
             (λ r. Refused N (view_of end.old) (length items.now) r (view_of end.new)) }
-        ensures others { KeepsClaims (view_of end.old) (view_of end.new) }
-        ensures same { IsSameEnd end.old end.new }
-        ensures paused { MatchResult result (λ c. P.paused pause.old pause.new) (λ r. PausedClaim P.paused N
+        ensures frame { KeepsClaims (view_of end.old) (view_of end.new) }
+        ensures handle { IsSameEnd end.old end.new }
+        ensures hook { MatchResult result (λ c. P.paused pause.old pause.new) (λ r. PausedClaim P.paused N
             (view_of end.old) (length items.now) r (view_of end.new) pause.old pause.new) }
     {
         let start = self.claim_places(end, items, pause)?;
@@ -157,14 +157,14 @@ impl<const N: usize> ClaimQueue<N> {
         pause: &mut P,
     ) -> Result<u32, ClaimRefusal>
         requires { IsEndOf self.now end.old }
-        ensures own { IfOk result (λ start. Owns (view_of end.new) start items.now 0 × (length items.now ≤ N)) }
+        ensures owns { IfOk result (λ start. Owns (view_of end.new) start items.now 0 × (length items.now ≤ N)) }
         ensures shut { (view_of end.old).seen.object.shut ≡ true → 0 < length items.now → length items.now ≤ N
             → MatchResult result (λ start. ⊥) (λ refusal. refusal ≡ refusals.Closed) }
-        ensures steps { MatchResult result
+        ensures trace { MatchResult result
             (λ start. ClaimedItems N (view_of end.old) start items.now (view_of end.new))
             (λ r. Refused N (view_of end.old) (length items.now) r (view_of end.new)) }
-        ensures same { IsSameEnd end.old end.new }
-        ensures paused { MatchResult result (λ start. P.paused pause.old pause.new) (λ r. PausedClaim P.paused N
+        ensures handle { IsSameEnd end.old end.new }
+        ensures hook { MatchResult result (λ start. P.paused pause.old pause.new) (λ r. PausedClaim P.paused N
             (view_of end.old) (length items.now) r (view_of end.new) pause.old pause.new) }
     {
         let count = items.len();
@@ -209,12 +209,12 @@ impl<const N: usize> ClaimQueue<N> {
     // Stores the item with this index in the end's run, and then its flag.
     fn raise_place(&self, end: &mut QueueEnd<N>, start: u32, items: &[u64], index: usize)
         requires queue { IsEndOf self.now end.old }
-        requires own { Owns (view_of end.old) start items.now index × (length items.now ≤ N) }
+        requires owns { Owns (view_of end.old) start items.now index × (length items.now ≤ N) }
         requires below { index < length items.now }
-        ensures own { Owns (view_of end.new) start items.now (index + 1) }
-        ensures steps { Raised N (view_of end.old) start items.now index (view_of end.new) }
-        ensures others { KeepsOthers start (view_of end.old) (view_of end.new) }
-        ensures same { IsSameEnd end.old end.new }
+        ensures owns { Owns (view_of end.new) start items.now (index + 1) }
+        ensures trace { Raised N (view_of end.old) start items.now index (view_of end.new) }
+        ensures frame { KeepsOthers start (view_of end.old) (view_of end.new) }
+        ensures handle { IsSameEnd end.old end.new }
     {
         let (start, item) = (start as u64, items[index]);
         // The data is stored before the flag, so an end that finds the flag finds the item. Stores suffice: no other
@@ -230,16 +230,16 @@ impl<const N: usize> ClaimQueue<N> {
     /// Condition: the claim is the end's own.
     pub fn raise_next(&self, end: &mut QueueEnd<N>, claim: &mut Claim<N>) -> bool
         requires queue { IsEndOf self.now end.old }
-        requires own { Owns (view_of end.old) claim.old.start claim.old.items.items claim.old.raised }
+        requires owns { Owns (view_of end.old) claim.old.start claim.old.items.items claim.old.raised }
         ensures raised { MatchBool result (claim.new.raised ≡ claim.old.raised + 1)
             ((claim.old.raised ≡ length claim.old.items.items) × (claim.new.raised ≡ claim.old.raised)) }
-        ensures lines { SameLines (view_of end.old) (view_of end.new) }
-        ensures own { Owns (view_of end.new) claim.new.start claim.new.items.items claim.new.raised }
-        ensures steps { MatchBool result (Raised N (view_of end.old) claim.old.start claim.old.items.items
+        ensures effect { SameLines (view_of end.old) (view_of end.new) }
+        ensures owns { Owns (view_of end.new) claim.new.start claim.new.items.items claim.new.raised }
+        ensures trace { MatchBool result (Raised N (view_of end.old) claim.old.start claim.old.items.items
             claim.old.raised (view_of end.new)) ((view_of end.new) ≡ (view_of end.old)) }
         ensures claim { (claim.new.start ≡ claim.old.start) × (claim.new.items.items ≡ claim.old.items.items) }
-        ensures others { KeepsOthers claim.old.start (view_of end.old) (view_of end.new) }
-        ensures same { IsSameEnd end.old end.new }
+        ensures frame { KeepsOthers claim.old.start (view_of end.old) (view_of end.new) }
+        ensures handle { IsSameEnd end.old end.new }
     {
         let index = claim.raised;
         if index >= claim.items.len() {
@@ -253,11 +253,11 @@ impl<const N: usize> ClaimQueue<N> {
     // Raises all items of a run that was just claimed.
     fn raise_all(&self, end: &mut QueueEnd<N>, start: u32, items: &[u64])
         requires queue { IsEndOf self.now end.old }
-        requires own { Owns (view_of end.old) start items.now 0 × (length items.now ≤ N) }
-        ensures own { Owns (view_of end.new) start items.now (length items.now) }
-        ensures steps { RaisedFrom N start items.now (view_of end.old) (view_of end.new) (length items.now) }
-        ensures others { KeepsOthers start (view_of end.old) (view_of end.new) }
-        ensures same { IsSameEnd end.old end.new }
+        requires owns { Owns (view_of end.old) start items.now 0 × (length items.now ≤ N) }
+        ensures owns { Owns (view_of end.new) start items.now (length items.now) }
+        ensures trace { RaisedFrom N start items.now (view_of end.old) (view_of end.new) (length items.now) }
+        ensures frame { KeepsOthers start (view_of end.old) (view_of end.new) }
+        ensures handle { IsSameEnd end.old end.new }
     {
         for i in 0..items.len() {
             self.raise_place(end, start, items, i);
@@ -267,15 +267,15 @@ impl<const N: usize> ClaimQueue<N> {
     /// One try to claim a run; if it succeeds, all items are raised. Returns the position of the first item.
     pub fn try_put(&self, end: &mut QueueEnd<N>, items: &[u64]) -> Result<u32, ClaimRefusal>
         requires { IsEndOf self.now end.old }
-        ensures lines { MatchResult result (λ start. PutLine items.now (view_of end.old) (view_of end.new))
+        ensures effect { MatchResult result (λ start. PutLine items.now (view_of end.old) (view_of end.new))
             (λ r. SameLines (view_of end.old) (view_of end.new)) }
         ensures raised { AllRaised (view_of end.old).own.runs → AllRaised (view_of end.new).own.runs }
         ensures shut { (view_of end.old).seen.object.shut ≡ true → 0 < length items.now → length items.now ≤ N
             → MatchResult result (λ start. ⊥) (λ refusal. refusal ≡ refusals.Closed) }
-        ensures steps { MatchResult result (λ start. IsPut N (view_of end.old) start items.now (view_of end.new))
+        ensures trace { MatchResult result (λ start. IsPut N (view_of end.old) start items.now (view_of end.new))
             (λ r. Refused N (view_of end.old) (length items.now) r (view_of end.new)) }
-        ensures others { KeepsClaims (view_of end.old) (view_of end.new) }
-        ensures same { IsSameEnd end.old end.new }
+        ensures frame { KeepsClaims (view_of end.old) (view_of end.new) }
+        ensures handle { IsSameEnd end.old end.new }
     {
         let start = self.claim_places(end, items, &mut NoPause)?;
         self.raise_all(end, start, items);
@@ -291,14 +291,14 @@ impl<const N: usize> ClaimQueue<N> {
         items: &[u64],
     ) -> Result<u32, ClaimRefusal>
         requires { IsEndOf self.now end.old }
-        ensures lines { MatchResult result (λ start. PutLine items.now (view_of end.old) (view_of end.new))
+        ensures effect { MatchResult result (λ start. PutLine items.now (view_of end.old) (view_of end.new))
             (λ r. SameLines (view_of end.old) (view_of end.new)) }
         ensures raised { AllRaised (view_of end.old).own.runs → AllRaised (view_of end.new).own.runs }
         ensures shut { (view_of end.old).seen.object.shut ≡ true → 0 < length items.now → length items.now ≤ N
             → MatchResult result (λ start. ⊥) (λ refusal. refusal ≡ refusals.Closed) }
-        ensures steps { PutAnswer N (view_of end.old) items.now result (view_of end.new) }
-        ensures others { KeepsClaims (view_of end.old) (view_of end.new) }
-        ensures same { IsSameEnd end.old end.new }
+        ensures trace { PutAnswer N (view_of end.old) items.now result (view_of end.new) }
+        ensures frame { KeepsClaims (view_of end.old) (view_of end.new) }
+        ensures handle { IsSameEnd end.old end.new }
     {
         let backoff = Backoff::new();
         for _ in rt.forever() {

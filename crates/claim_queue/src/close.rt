@@ -65,10 +65,10 @@ impl<const N: usize> ClaimQueue<N> {
     /// open: only one call for a queue ever returns true.
     pub fn shut(&self, end: &mut QueueEnd<N>) -> bool
         requires { IsEndOf self.now end.old }
-        ensures lines { SameLines (view_of end.old) (view_of end.new) }
-        ensures steps { ShutNow (view_of end.old) result (view_of end.new) }
-        ensures others { KeepsClaims (view_of end.old) (view_of end.new) }
-        ensures same { IsSameEnd end.old end.new }
+        ensures effect { SameLines (view_of end.old) (view_of end.new) }
+        ensures trace { ShutNow (view_of end.old) result (view_of end.new) }
+        ensures frame { KeepsClaims (view_of end.old) (view_of end.new) }
+        ensures handle { IsSameEnd end.old end.new }
     {
         // linearization point: the queue is shut. One fetch-or suffices: it sets the mark whatever the head is, and the
         // word that it finds shows whether the queue was open.
@@ -85,8 +85,8 @@ impl<const N: usize> ClaimQueue<N> {
         ensures only { IsOnlyEnd end.entry → MatchResult result (λ c. Unit {0}) (λ e. ⊥) }
         ensures closed { IfOk result (λ c. (c.first ≡ first_of self.entry)
             × ClosedNow (view_of end.entry) c.first c.put c.taken c.left.items) }
-        ensures steps { IfErr result (λ e. WereOpen ends_word (view_of end.entry) e.2.others (view_of e.1)) }
-        ensures same { IfErr result (λ e. (e.0 ≡ self.entry) × IsSameEnd end.entry e.1) }
+        ensures trace { IfErr result (λ e. WereOpen ends_word (view_of end.entry) e.2.others (view_of e.1)) }
+        ensures handle { IfErr result (λ e. (e.0 ≡ self.entry) × IsSameEnd end.entry e.1) }
     {
         let QueueEnd { seat } = end;
         // One load suffices: if the number is 1, this is the only end, and no other end can step after the load.

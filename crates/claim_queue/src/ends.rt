@@ -68,12 +68,12 @@ impl<const N: usize> ClaimQueue<N> {
     pub fn split(&self, end: &mut QueueEnd<N>) -> QueueEnd<N>
         requires queue { IsEndOf self.now end.old }
         requires parts { IsDivisible end.old }
-        ensures lines { (lines_put (view_of end.new) ≡ lines_put (view_of end.old))
+        ensures effect { (lines_put (view_of end.new) ≡ lines_put (view_of end.old))
             × (lines_taken (view_of end.new) ≡ lines_taken (view_of end.old)) }
         ensures born { IsNewEnd (view_of end.old) (view_of end.new) (view_of result) }
-        ensures steps { SplitBy (view_of end.old) (view_of end.new) }
+        ensures trace { SplitBy (view_of end.old) (view_of end.new) }
         ensures claims { KeepsClaims (view_of end.old) (view_of end.new) }
-        ensures same { IsSameEnd end.old end.new × AreOfOneQueue end.old result }
+        ensures handle { IsSameEnd end.old end.new × AreOfOneQueue end.old result }
     {
         // linearization point: the new end is counted, before it exists, so a close cannot miss it
         count_up(&self.table.shared, &mut end.seat, ENDS);
@@ -86,12 +86,12 @@ impl<const N: usize> ClaimQueue<N> {
     /// used.
     pub fn join(&self, end: &mut QueueEnd<N>, other: QueueEnd<N>)
         requires { IsEndOf self.now end.old × IsEndOf self.now other }
-        ensures lines { (lines_put (view_of end.new) ≡ lines_put (view_of end.old) ++ lines_put (view_of other.entry))
+        ensures effect { (lines_put (view_of end.new) ≡ lines_put (view_of end.old) ++ lines_put (view_of other.entry))
             × (lines_taken (view_of end.new) ≡ lines_taken (view_of end.old) ++ lines_taken (view_of other.entry)) }
-        ensures steps { JoinedBy (view_of end.old) (view_of other.entry) (view_of end.new) }
+        ensures trace { JoinedBy (view_of end.old) (view_of other.entry) (view_of end.new) }
         ensures claims { KeepsClaims (view_of end.old) (view_of end.new)
             × KeepsClaims (view_of other.entry) (view_of end.new) }
-        ensures same { IsSameEnd end.old end.new }
+        ensures handle { IsSameEnd end.old end.new }
     {
         let QueueEnd { seat } = other;
         take_in::<_, _, _, _, _, Brand>(&self.table.shared, &mut end.seat, seat);

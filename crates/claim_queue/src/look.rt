@@ -48,8 +48,8 @@ impl<const N: usize> ClaimQueue<N> {
         ensures most { result ≤ most }
         ensures raised { AreRaised (view_of end.new).seen.object tail result }
         ensures next { result < most → IsNotRaised (view_of end.new).seen.object (tail + result) }
-        ensures steps { HasWalked N tail most result (view_of end.old) (view_of end.new) }
-        ensures same { IsSameEnd end.old end.new }
+        ensures trace { HasWalked N tail most result (view_of end.old) (view_of end.new) }
+        ensures handle { IsSameEnd end.old end.new }
     {
         for i in 0..most {
             let position = tail + i as u64;
@@ -66,11 +66,11 @@ impl<const N: usize> ClaimQueue<N> {
     /// raised, at that head, or after N flags. It makes at most N + 2 loads, and changes nothing.
     pub fn look(&self, end: &mut QueueEnd<N>) -> QueueLook
         requires { IsEndOf self.now end.old }
-        ensures lines { SameLines (view_of end.old) (view_of end.new) }
+        ensures effect { SameLines (view_of end.old) (view_of end.new) }
         ensures result { LookAgrees N result (view_of end.new).seen.object }
-        ensures steps { HasLooked N (view_of end.old) result (view_of end.new) }
-        ensures others { KeepsClaims (view_of end.old) (view_of end.new) }
-        ensures same { IsSameEnd end.old end.new }
+        ensures trace { HasLooked N (view_of end.old) result (view_of end.new) }
+        ensures frame { KeepsClaims (view_of end.old) (view_of end.new) }
+        ensures handle { IsSameEnd end.old end.new }
     {
         // The tail is loaded first: the head never falls, so the head loaded after it is not below this tail.
         let tail = load_tail(&self.table.shared, &mut end.seat);

@@ -36,12 +36,12 @@ impl<const N: usize> ClaimQueue<N> {
     /// One try to take the first item left.
     pub fn try_take(&self, end: &mut QueueEnd<N>) -> Result<u64, TakeRefusal>
         requires { IsEndOf self.now end.old }
-        ensures lines { MatchResult result (λ x. TookLine (x ∷ []) (view_of end.old) (view_of end.new))
+        ensures effect { MatchResult result (λ x. TookLine (x ∷ []) (view_of end.old) (view_of end.new))
             (λ r. SameLines (view_of end.old) (view_of end.new)) }
-        ensures steps { MatchResult result (λ x. TookItems N (view_of end.old) (x ∷ []) (view_of end.new))
+        ensures trace { MatchResult result (λ x. TookItems N (view_of end.old) (x ∷ []) (view_of end.new))
             (λ r. RefusedTake IsNone IsOne N (view_of end.old) r (view_of end.new)) }
-        ensures others { KeepsClaims (view_of end.old) (view_of end.new) }
-        ensures same { IsSameEnd end.old end.new }
+        ensures frame { KeepsClaims (view_of end.old) (view_of end.new) }
+        ensures handle { IsSameEnd end.old end.new }
     {
         self.try_take_paused(end, &mut NoPause)
     }
@@ -54,13 +54,13 @@ impl<const N: usize> ClaimQueue<N> {
         pause: &mut P,
     ) -> Result<u64, TakeRefusal>
         requires { IsEndOf self.now end.old }
-        ensures lines { MatchResult result (λ x. TookLine (x ∷ []) (view_of end.old) (view_of end.new))
+        ensures effect { MatchResult result (λ x. TookLine (x ∷ []) (view_of end.old) (view_of end.new))
             (λ r. SameLines (view_of end.old) (view_of end.new)) }
-        ensures steps { MatchResult result (λ x. TookItems N (view_of end.old) (x ∷ []) (view_of end.new))
+        ensures trace { MatchResult result (λ x. TookItems N (view_of end.old) (x ∷ []) (view_of end.new))
             (λ r. RefusedTake IsNone IsOne N (view_of end.old) r (view_of end.new)) }
-        ensures others { KeepsClaims (view_of end.old) (view_of end.new) }
-        ensures same { IsSameEnd end.old end.new }
-        ensures paused { MatchResult result (λ x. P.paused pause.old pause.new)
+        ensures frame { KeepsClaims (view_of end.old) (view_of end.new) }
+        ensures handle { IsSameEnd end.old end.new }
+        ensures hook { MatchResult result (λ x. P.paused pause.old pause.new)
             (λ r. PausedTake P.paused N (view_of end.old) r (view_of end.new) pause.old pause.new) }
     {
         // The tail never falls, and no position is used again: if the compare-and-swap finds this tail, no item was
@@ -89,7 +89,7 @@ impl<const N: usize> ClaimQueue<N> {
         requires bounded { (tail < POSITIONS) × (at < POSITIONS) }
         requires passed { tail ≤ tail_of (view_of end.old).seen.object }
         ensures why { IsRefusedAt (view_of end.old) tail at result (view_of end.new) }
-        ensures same { IsSameEnd end.old end.new }
+        ensures handle { IsSameEnd end.old end.new }
     {
         // linearization point of Closed: the queue's tail is between `tail` and the head. If they are equal, nothing is
         // left, and a shut queue stays shut.
@@ -111,11 +111,11 @@ impl<const N: usize> ClaimQueue<N> {
         requires started { HasFound (view_of end.old) tail [] × (tail < POSITIONS) }
         requires empty { line.old.items ≡ [] }
         ensures found { HasFound (view_of end.new) tail line.new.items }
-        ensures steps { MatchBool result
+        ensures trace { MatchBool result
             (IsScanned N (view_of end.old) tail line.new.items (view_of end.new) × IsLine N line.new.items)
             (IsStopped N (view_of end.old) tail line.new.items (view_of end.new) × IsBegun N line.new.items) }
         ensures short { IsFalse result → tail + length line.new.items < POSITIONS }
-        ensures same { IsSameEnd end.old end.new }
+        ensures handle { IsSameEnd end.old end.new }
     {
         for i in 0..N {
             let position = tail + i as u64;
@@ -149,12 +149,12 @@ impl<const N: usize> ClaimQueue<N> {
         requires empty { line.old.items ≡ [] }
         ensures line { MatchResult result (λ n. (n ≡ length line.new.items) × IsLine N line.new.items)
             (λ r. line.new.items ≡ []) }
-        ensures lines { MatchResult result (λ n. TookLine line.new.items (view_of end.old) (view_of end.new))
+        ensures effect { MatchResult result (λ n. TookLine line.new.items (view_of end.old) (view_of end.new))
             (λ r. SameLines (view_of end.old) (view_of end.new)) }
-        ensures steps { MatchResult result (λ n. TookItems N (view_of end.old) line.new.items (view_of end.new))
+        ensures trace { MatchResult result (λ n. TookItems N (view_of end.old) line.new.items (view_of end.new))
             (λ r. RefusedTake (IsBegun N) (IsLine N) N (view_of end.old) r (view_of end.new)) }
-        ensures others { KeepsClaims (view_of end.old) (view_of end.new) }
-        ensures same { IsSameEnd end.old end.new }
+        ensures frame { KeepsClaims (view_of end.old) (view_of end.new) }
+        ensures handle { IsSameEnd end.old end.new }
     {
         // The tail never falls, and no position is used again: if the compare-and-swap finds this tail, no item was
         // taken in between.

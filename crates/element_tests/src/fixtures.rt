@@ -67,7 +67,7 @@ pub(crate) fn closes<R: Abort>(
 pub(crate) fn part(table: &ThreadTable, hand: &mut Hand, processor: Processor) -> Option<Hand>
     requires table { IsHandOf table.now hand.old }
     requires parts { IsDivisible hand.old }
-    ensures same { IsSameHand hand.old hand.new }
+    ensures handle { IsSameHand hand.old hand.new }
     ensures part { IfSome result (λ other. AreOfOneTable hand.old other
         × ((view_of hand.new).member.share ≡ kept (view_of hand.old).member.share)) }
 {

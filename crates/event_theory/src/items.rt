@@ -29,7 +29,7 @@ impl<T> Items<T> {
     /// Appends an item. If a growth is refused, the item is returned, and the list is unchanged.
     pub fn push(&mut self, item: T) -> Result<(), AllocFailed<T>>
         ensures pushed { OnOk result (self.new ≡ self.old ++ item ∷ []) }
-        ensures same { OnErr result (self.new ≡ self.old) }
+        ensures frame { OnErr result (self.new ≡ self.old) }
         ensures back { IfErr result (λ refused. refused.value ≡ item) }
     {
         self.items.push(item)

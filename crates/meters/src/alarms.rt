@@ -33,11 +33,11 @@ impl Meters {
     /// compare-and-swap. Returns the slot, 0 to 15, by which the alarm can be cancelled.
     pub fn try_set(&self, seat: &mut MeterSeat, alarm: Alarm) -> Result<usize, SetRefusal>
         requires { IsSeatOf self.now seat.old }
-        ensures own { MatchResult result (λ slot. DidSet alarm (view_of seat.old) (view_of seat.new))
+        ensures owns { MatchResult result (λ slot. DidSet alarm (view_of seat.old) (view_of seat.new))
             (λ r. DidNothing (view_of seat.old) (view_of seat.new)) }
-        ensures steps { MatchResult result (λ slot. SetNow (view_of seat.old) slot alarm (view_of seat.new))
+        ensures trace { MatchResult result (λ slot. SetNow (view_of seat.old) slot alarm (view_of seat.new))
             (λ r. NotSet (view_of seat.old) r (view_of seat.new)) }
-        ensures same { IsSameSeat seat.old seat.new }
+        ensures handle { IsSameSeat seat.old seat.new }
     {
         for slot in 0..SLOTS {
             // one load of each slot: NoRoom means that each slot was taken when it was loaded, not that all were taken
@@ -57,10 +57,10 @@ impl Meters {
     /// fired or cancelled before, or was never there. Two equal alarms cannot be distinguished.
     pub fn cancel(&self, seat: &mut MeterSeat, slot: usize, alarm: Alarm) -> bool
         requires { IsSeatOf self.now seat.old × (slot < SLOTS) }
-        ensures own { MatchBool result (DidCancel alarm (view_of seat.old) (view_of seat.new))
+        ensures owns { MatchBool result (DidCancel alarm (view_of seat.old) (view_of seat.new))
             (DidNothing (view_of seat.old) (view_of seat.new)) }
-        ensures steps { CancelledNow (view_of seat.old) slot alarm result (view_of seat.new) }
-        ensures same { IsSameSeat seat.old seat.new }
+        ensures trace { CancelledNow (view_of seat.old) slot alarm result (view_of seat.new) }
+        ensures handle { IsSameSeat seat.old seat.new }
     {
         // linearization point: the alarm is out of the slot, or the slot has another word; the whole alarm is in one
         // word
@@ -85,7 +85,7 @@ impl Meters {
             → FoundIn v slot stood (view_of seat.old)
             → (alarm : Option Alarm) × Gave v clock slot alarm (view_of seat.new)
             × (fired.new.items ≡ fired.old.items ++ filter_map (λ a. a) (alarm ∷ [])) }
-        ensures same { IsSameSeat seat.old seat.new }
+        ensures handle { IsSameSeat seat.old seat.new }
     {
         let Some(alarm) = found.alarm() else { return };
         let standing = alarm;
@@ -104,9 +104,9 @@ impl Meters {
     /// over.
     pub fn due(&self, seat: &mut MeterSeat) -> ArrayVec<Alarm, SLOTS>
         requires { IsSeatOf self.now seat.old }
-        ensures own { DidFire result.items (view_of seat.old) (view_of seat.new) }
-        ensures steps { FiredNow (view_of seat.old) result.items (view_of seat.new) }
-        ensures same { IsSameSeat seat.old seat.new }
+        ensures owns { DidFire result.items (view_of seat.old) (view_of seat.new) }
+        ensures trace { FiredNow (view_of seat.old) result.items (view_of seat.new) }
+        ensures handle { IsSameSeat seat.old seat.new }
     {
         let mut fired = ArrayVec::new();
         self.take_due(seat, &mut fired);
@@ -117,9 +117,9 @@ impl Meters {
     /// can be used again and again, and none is moved.
     pub fn take_due(&self, seat: &mut MeterSeat, fired: &mut ArrayVec<Alarm, SLOTS>)
         requires { IsSeatOf self.now seat.old }
-        ensures own { DidFire fired.new.items (view_of seat.old) (view_of seat.new) }
-        ensures steps { FiredNow (view_of seat.old) fired.new.items (view_of seat.new) }
-        ensures same { IsSameSeat seat.old seat.new }
+        ensures owns { DidFire fired.new.items (view_of seat.old) (view_of seat.new) }
+        ensures trace { FiredNow (view_of seat.old) fired.new.items (view_of seat.new) }
+        ensures handle { IsSameSeat seat.old seat.new }
     {
         fired.clear();
         // one load of the clock suffices: an alarm that is due at it stays due, since the clock never goes down

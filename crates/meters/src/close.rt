@@ -60,8 +60,8 @@ impl Meters {
         ensures only { IsOnlySeat seat → MatchResult result (λ c. Unit {0}) (λ e. ⊥) }
         ensures closed { IfOk result
             (λ c. ClosedNow (first_of self) (view_of seat) c.gauges c.clock c.alarms.items) }
-        ensures steps { IfErr result (λ e. WereOpen (view_of seat) e.2.others (view_of e.1)) }
-        ensures same { IfErr result (λ e. (e.0 ≡ self) × IsSameSeat seat e.1) }
+        ensures trace { IfErr result (λ e. WereOpen (view_of seat) e.2.others (view_of e.1)) }
+        ensures handle { IfErr result (λ e. (e.0 ≡ self) × IsSameSeat seat e.1) }
     {
         let MeterSeat { seat } = seat;
         // linearization point: the number of ends is loaded; one load suffices, since it is 1 exactly if this end has

@@ -64,10 +64,10 @@ impl Meters {
     pub fn split(&self, seat: &mut MeterSeat) -> MeterSeat
         requires seat { IsSeatOf self.now seat.old }
         requires parts { IsDivisible seat.old }
-        ensures own { DidSplit (view_of seat.old) (view_of seat.new) }
+        ensures owns { DidSplit (view_of seat.old) (view_of seat.new) }
         ensures born { IsNewEnd (view_of seat.old) (view_of seat.new) (view_of result) }
-        ensures steps { SplitBy (view_of seat.old) (view_of seat.new) }
-        ensures same { IsSameSeat seat.old seat.new × AreOfOneTable seat.old result }
+        ensures trace { SplitBy (view_of seat.old) (view_of seat.new) }
+        ensures handle { IsSameSeat seat.old seat.new × AreOfOneTable seat.old result }
     {
         // linearization point: the number of ends becomes one more, before the new end is made, so it is never too low
         count_up(&self.table.shared, &mut seat.seat, ENDS);
@@ -80,9 +80,9 @@ impl Meters {
     /// counts one end less, the first word is loaded once, and the number found there is not used.
     pub fn join(&self, seat: &mut MeterSeat, other: MeterSeat)
         requires { IsSeatOf self.now seat.old × IsSeatOf self.now other }
-        ensures own { DidBoth (view_of seat.old) (view_of other) (view_of seat.new) }
-        ensures steps { JoinedBy (view_of seat.old) (view_of other) (view_of seat.new) }
-        ensures same { IsSameSeat seat.old seat.new }
+        ensures owns { DidBoth (view_of seat.old) (view_of other) (view_of seat.new) }
+        ensures trace { JoinedBy (view_of seat.old) (view_of other) (view_of seat.new) }
+        ensures handle { IsSameSeat seat.old seat.new }
     {
         let MeterSeat { seat: spent } = other;
         // linearization point: the first end has what both had; the first word is loaded too, and its number is not

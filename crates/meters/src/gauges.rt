@@ -26,9 +26,9 @@ impl Meters {
     /// Adds `amount` to the gauge 0 to 7, modulo 2^64, by one step, and returns the gauge's value before.
     pub fn tick(&self, seat: &mut MeterSeat, gauge: usize, amount: u64) -> u64
         requires { IsSeatOf self.now seat.old × (gauge < GAUGES) }
-        ensures own { DidTick gauge amount (view_of seat.old) (view_of seat.new) }
-        ensures steps { Ticked (view_of seat.old) gauge amount result (view_of seat.new) }
-        ensures same { IsSameSeat seat.old seat.new }
+        ensures owns { DidTick gauge amount (view_of seat.old) (view_of seat.new) }
+        ensures trace { Ticked (view_of seat.old) gauge amount result (view_of seat.new) }
+        ensures handle { IsSameSeat seat.old seat.new }
     {
         // linearization point: the amount is added; one fetch-and-add finds the value before
         add_to_gauge(&self.table.shared, &mut seat.seat, gauge, amount)
@@ -37,9 +37,9 @@ impl Meters {
     /// The value of the gauge 0 to 7, by one load.
     pub fn gauge(&self, seat: &mut MeterSeat, gauge: usize) -> u64
         requires { IsSeatOf self.now seat.old × (gauge < GAUGES) }
-        ensures own { DidNothing (view_of seat.old) (view_of seat.new) }
-        ensures steps { Loaded (view_of seat.old) (gauge_word gauge) result (view_of seat.new) }
-        ensures same { IsSameSeat seat.old seat.new }
+        ensures owns { DidNothing (view_of seat.old) (view_of seat.new) }
+        ensures trace { Loaded (view_of seat.old) (gauge_word gauge) result (view_of seat.new) }
+        ensures handle { IsSameSeat seat.old seat.new }
     {
         // linearization point: the gauge is loaded
         load_gauge(&self.table.shared, &mut seat.seat, gauge)
@@ -48,9 +48,9 @@ impl Meters {
     /// The clock, by one load.
     pub fn clock(&self, seat: &mut MeterSeat) -> u32
         requires { IsSeatOf self.now seat.old }
-        ensures own { DidNothing (view_of seat.old) (view_of seat.new) }
-        ensures steps { Loaded (view_of seat.old) clock_word result (view_of seat.new) }
-        ensures same { IsSameSeat seat.old seat.new }
+        ensures owns { DidNothing (view_of seat.old) (view_of seat.new) }
+        ensures trace { Loaded (view_of seat.old) clock_word result (view_of seat.new) }
+        ensures handle { IsSameSeat seat.old seat.new }
     {
         // linearization point: the clock is loaded
         load_clock(&self.table.shared, &mut seat.seat) as u32
@@ -60,11 +60,11 @@ impl Meters {
     /// compare-and-swap. Returns the new clock.
     pub fn advance(&self, seat: &mut MeterSeat) -> Result<u32, AdvanceRefusal>
         requires { IsSeatOf self.now seat.old }
-        ensures own { MatchResult result (λ clock. DidAdvance clock (view_of seat.old) (view_of seat.new))
+        ensures owns { MatchResult result (λ clock. DidAdvance clock (view_of seat.old) (view_of seat.new))
             (λ r. DidNothing (view_of seat.old) (view_of seat.new)) }
-        ensures steps { MatchResult result (λ clock. AdvancedNow (view_of seat.old) clock (view_of seat.new))
+        ensures trace { MatchResult result (λ clock. AdvancedNow (view_of seat.old) clock (view_of seat.new))
             (λ r. NotAdvanced (view_of seat.old) r (view_of seat.new)) }
-        ensures same { IsSameSeat seat.old seat.new }
+        ensures handle { IsSameSeat seat.old seat.new }
     {
         // linearization point of Spent: one load suffices, since the clock never leaves its last tick
         let clock = load_clock(&self.table.shared, &mut seat.seat);

@@ -47,15 +47,15 @@ impl<Q: Quaject> ProcChain<Q> {
     /// lists them, and change nothing.
     pub fn try_chain(&self, end: &mut ChainEnd<Q>, note: u16) -> Result<Chained, ChainRefusal>
         requires { IsEndOf self.now end.old }
-        ensures notes { MatchResult result (λ r. PutNote note (view_of end.old) (view_of end.new))
+        ensures effect { MatchResult result (λ r. PutNote note (view_of end.old) (view_of end.new))
             (λ e. SameNotes (view_of end.old) (view_of end.new)) }
         ensures turn { MatchResult result (λ r. is_run r ≡ true → (turn_of end.old ≡ false) × (turn_of end.new ≡ true))
             (λ e. KeepsTurn end.old end.new) }
         ensures kept { IfOk result (λ r. is_run r ≡ false → KeepsTurn end.old end.new) }
-        ensures steps { MatchResult result (λ r. ChainedNow (view_of end.old) note r (view_of end.new))
+        ensures trace { MatchResult result (λ r. ChainedNow (view_of end.old) note r (view_of end.new))
             (λ e. NotChained (view_of end.old) e (view_of end.new)) }
         ensures ends { IsEndOf self.now end.new }
-        ensures same { IsSameEnd end.old end.new × KeepsTaken (view_of end.old) (view_of end.new) }
+        ensures handle { IsSameEnd end.old end.new × KeepsTaken (view_of end.old) (view_of end.new) }
     {
         let words = &self.table.shared;
         // linearization point of Spent and Full. One load suffices: the head never falls.

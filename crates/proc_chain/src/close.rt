@@ -71,9 +71,9 @@ impl<Q: Quaject> ProcChain<Q> {
         ensures only { IsOnlyEnd end → MatchResult result (λ c. Unit {0}) (λ e. ⊥) }
         ensures closed { IfOk result (λ c. ClosedNow (makes Q.made_by (pact_of self)) (suits Q.fits (pact_of self))
             (view_of end) (first_of self) c.put c.taken c.left.items c.quaject) }
-        ensures steps { IfErr result (λ e. WereOpen (view_of end) e.2.others (view_of e.1)) }
+        ensures trace { IfErr result (λ e. WereOpen (view_of end) e.2.others (view_of e.1)) }
         ensures ends { IfErr result (λ e. IsEndOf self e.1) }
-        ensures same { IfErr result (λ e. (e.0 ≡ self) × IsSameEnd end e.1 × KeepsTurn end e.1) }
+        ensures handle { IfErr result (λ e. (e.0 ≡ self) × IsSameEnd end e.1 × KeepsTurn end e.1) }
     {
         let ChainEnd { seat, turn } = end;
         // One load suffices: if the number is 1, this is the only end, and no other end can step after the load.

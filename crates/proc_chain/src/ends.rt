@@ -111,12 +111,12 @@ impl<Q: Quaject> ProcChain<Q> {
     pub fn split(&self, end: &mut ChainEnd<Q>) -> ChainEnd<Q>
         requires ends { IsEndOf self.now end.old }
         requires parts { IsDivisible end.old }
-        ensures notes { SameNotes (view_of end.old) (view_of end.new) }
+        ensures effect { SameNotes (view_of end.old) (view_of end.new) }
         ensures turns { KeepsTurn end.old end.new × (turn_of result ≡ false) }
         ensures born { IsNewEnd (view_of end.old) (view_of end.new) (view_of result) }
-        ensures steps { SplitBy (view_of end.old) (view_of end.new) }
+        ensures trace { SplitBy (view_of end.old) (view_of end.new) }
         ensures ends { IsEndOf self.now end.new × IsEndOf self.now result }
-        ensures same { IsSameEnd end.old end.new × KeepsTaken (view_of end.old) (view_of end.new) }
+        ensures handle { IsSameEnd end.old end.new × KeepsTaken (view_of end.old) (view_of end.new) }
     {
         // linearization point: the new end is counted, before it exists, so a close cannot miss it
         count_up(&self.table.shared, &mut end.seat);
@@ -132,9 +132,9 @@ impl<Q: Quaject> ProcChain<Q> {
         requires ends { IsEndOf self.now end.old × IsEndOf self.now other }
         ensures turn { turn_of end.new ≡ (turn_of other || turn_of end.old) }
         ensures one_turn { turn_of other ≡ true → turn_of end.old ≡ false }
-        ensures steps { Joined (turn_of other) (me_of end.old) (me_of other) (me_of end.new) }
+        ensures trace { Joined (turn_of other) (me_of end.old) (me_of other) (me_of end.new) }
         ensures ends { IsEndOf self.now end.new }
-        ensures same { turn_of other ≡ false
+        ensures handle { turn_of other ≡ false
             → IsSameEnd end.old end.new × KeepsTaken (view_of end.old) (view_of end.new) }
         ensures swapped { turn_of other ≡ true
             → IsSameEnd other end.new × KeepsTaken (view_of other) (view_of end.new) }

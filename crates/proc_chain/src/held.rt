@@ -44,9 +44,9 @@ impl<Q: Quaject> ProcChain<Q> {
             (goes_on_after result) (me_of end.new) }
         ensures made { MadeSince (makes Q.made_by (pact_of self.now)) (suits Q.fits (pact_of self.now))
             (view_of end.old) (view_of end.new) }
-        ensures steps { KeptNow (me_of end.old) limit result (me_of end.new) }
+        ensures trace { KeptNow (me_of end.old) limit result (me_of end.new) }
         ensures ends { IsEndOf self.now end.new }
-        ensures same { IsSameEnd end.old end.new }
+        ensures handle { IsSameEnd end.old end.new }
     {
         let turn = turn_of_runner(&self.table.shared, &end.seat);
         match self.serve(end, world, turn, limit) {
@@ -71,7 +71,7 @@ impl<Q: Quaject + Copy> ProcChain<Q> {
         ensures result { (me_of end.old).1 ≡ (0, result) ∷ [] }
         ensures frame { (me_of end.new ≡ me_of end.old) × (turn_of end.new ≡ true) }
         ensures ends { IsEndOf self.now end.new }
-        ensures same { IsSameEnd end.old end.new }
+        ensures handle { IsSameEnd end.old end.new }
     {
         *end.seat.slot_mut(&self.table.shared, 0)
     }

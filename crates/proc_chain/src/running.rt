@@ -62,7 +62,7 @@ pub(crate) fn swap_more<Q: Quaject, J: Runner<Q>>(
     requires live { (1 ≤ seat.old.me.0.member.ends) × (seat.old.me.0.own.owes ≡ true) }
     requires suits { (x : Q) → suits Q.fits words.now.key.pact x → J.suits x }
     requires makes { (x : Q) (notes : List ℕ) → makes Q.made_by words.now.key.pact x notes → J.made x notes }
-    ensures stays { IsSame seat.old seat.new × IsValidChainView seat.new.me.0 }
+    ensures frame { IsSame seat.old seat.new × IsValidChainView seat.new.me.0 }
     ensures notified { MatchOption result
         ((gate : ℕ) × (seat.new.me.1 ≡ seat.old.me.1) × Notified seat.old.me.0 gate seat.new.me.0)
         (λ turn. GotTurn J.made J.suits seat.old.me seat.new.me) }
@@ -87,7 +87,7 @@ pub(crate) fn store_tail<Q: Quaject>(
     requires tail { (tail ≡ tail_of (queue_of seat.old.me.0)) × (tail < POSITIONS) }
     requires raised { 2 ≤ stage_at (queue_of seat.old.me.0) (queue_of seat.old.me.0).taken }
     requires note { note ≡ item_at (queue_of seat.old.me.0) (queue_of seat.old.me.0).taken }
-    ensures stays { IsSame seat.old seat.new × Stays seat.old.me seat.new.me }
+    ensures frame { IsSame seat.old seat.new × Stays seat.old.me seat.new.me }
     ensures took { Took seat.old.me.0 tail seat.new.me.0 }
     ensures taken { (result.note ≡ note) × (result.end.value ≡ seat.new) }
 {
@@ -131,7 +131,7 @@ pub(crate) fn exchange_gate<Q: Quaject>(
     requires queue { (seat.old.table_id ≡ words.now.table_id) × (words.now.table_id.words ≡ width) }
     requires runner { IsRunner (makes Q.made_by words.now.key.pact) (suits Q.fits words.now.key.pact) seat.old.me }
     requires saw { seat.old.me.0.own.saw ≡ true }
-    ensures stays { IsSame seat.old seat.new × IsValidChainView seat.new.me.0 }
+    ensures frame { IsSame seat.old seat.new × IsValidChainView seat.new.me.0 }
     ensures left { MatchOption result ((seat.new.me.1 ≡ []) × HasLeft seat.old.me.0 seat.new.me.0)
         (λ turn. (seat.new.me.1 ≡ seat.old.me.1) × Found seat.old.me.0 gate_word MORE seat.new.me.0) }
 {

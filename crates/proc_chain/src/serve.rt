@@ -38,7 +38,7 @@ fn run_next<Q: Quaject>(
     requires queue { (seat.old.table_id ≡ words.now.table_id) × (words.now.table_id.words ≡ width) }
     requires world { words.now.key.pact.world.value ≡ world.now }
     requires runner { IsRunner (makes Q.made_by words.now.key.pact) (suits Q.fits words.now.key.pact) seat.old.me }
-    ensures stays { IsSame seat.old seat.new × IsValidChainView seat.new.me.0 }
+    ensures frame { IsSame seat.old seat.new × IsValidChainView seat.new.me.0 }
     ensures runner { IsRunner (makes Q.made_by words.now.key.pact) (suits Q.fits words.now.key.pact) seat.new.me }
     ensures ran { MatchBool result.0 (RanNote seat.old.me.0 seat.new.me.0) (FoundNone seat.old.me.0 seat.new.me.0) }
 {
@@ -64,7 +64,7 @@ fn leave_or_round<Q: Quaject>(
     requires queue { (seat.old.table_id ≡ words.now.table_id) × (words.now.table_id.words ≡ width) }
     requires runner { IsRunner (makes Q.made_by words.now.key.pact) (suits Q.fits words.now.key.pact) seat.old.me }
     requires saw { seat.old.me.0.own.saw ≡ true }
-    ensures stays { IsSame seat.old seat.new × IsValidChainView seat.new.me.0 }
+    ensures frame { IsSame seat.old seat.new × IsValidChainView seat.new.me.0 }
     ensures gave { MatchOption result
         (HasOrGave (makes Q.made_by words.now.key.pact) (suits Q.fits words.now.key.pact) false seat.new.me)
         (λ turn. IsRunner (makes Q.made_by words.now.key.pact) (suits Q.fits words.now.key.pact) seat.new.me) }
@@ -96,7 +96,7 @@ fn serve_seat<Q: Quaject>(
     requires world { words.now.key.pact.world.value ≡ world.now }
     requires runner { IsRunner (makes Q.made_by words.now.key.pact) (suits Q.fits words.now.key.pact) seat.old.me }
     requires some_limit { 0 < limit }
-    ensures stays { IsSame seat.old seat.new × IsValidChainView seat.new.me.0 }
+    ensures frame { IsSame seat.old seat.new × IsValidChainView seat.new.me.0 }
     ensures gave { MatchOption result.0
         (HasOrGave (makes Q.made_by words.now.key.pact) (suits Q.fits words.now.key.pact) false seat.new.me)
         (λ turn. IsRunner (makes Q.made_by words.now.key.pact) (suits Q.fits words.now.key.pact) seat.new.me) }
@@ -144,9 +144,9 @@ impl<Q: Quaject> ProcChain<Q> {
             (is_more result) (me_of end.new) }
         ensures made { MadeSince (makes Q.made_by (pact_of self.now)) (suits Q.fits (pact_of self.now))
             (view_of end.old) (view_of end.new) }
-        ensures steps { ServedNow (me_of end.old) limit result (me_of end.new) }
+        ensures trace { ServedNow (me_of end.old) limit result (me_of end.new) }
         ensures ends { IsEndOf self.now end.new }
-        ensures same { IsSameEnd end.old end.new }
+        ensures handle { IsSameEnd end.old end.new }
     {
         if limit == 0 {
             return Served::More { turn, ran: 0 };
@@ -179,9 +179,9 @@ impl<Q: Quaject> ProcChain<Q> {
             false (me_of end.new) }
         ensures made { MadeSince (makes Q.made_by (pact_of self.now)) (suits Q.fits (pact_of self.now))
             (view_of end.old) (view_of end.new) }
-        ensures steps { AllServed (view_of end.old) result (view_of end.new) }
+        ensures trace { AllServed (view_of end.old) result (view_of end.new) }
         ensures ends { IsEndOf self.now end.new }
-        ensures same { IsSameEnd end.old end.new }
+        ensures handle { IsSameEnd end.old end.new }
     {
         let mut turn = turn;
         let mut total = 0u64;

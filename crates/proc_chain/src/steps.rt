@@ -35,7 +35,7 @@ pub(crate) fn load<Q: Quaject>(
 ) -> u64
     requires queue { (seat.old.table_id ≡ words.now.table_id) × (word < words.now.table_id.words) }
     requires live { 1 ≤ seat.old.me.0.member.ends }
-    ensures stays { IsSame seat.old seat.new × Stays seat.old.me seat.new.me }
+    ensures frame { IsSame seat.old seat.new × Stays seat.old.me seat.new.me }
     ensures found { Found seat.old.me.0 word result seat.new.me.0 }
     ensures bounded { (word ≡ head_word → result < POSITIONS) × (word ≡ tail_word → result < POSITIONS) }
 {
@@ -54,7 +54,7 @@ pub(crate) fn exchange_head<Q: Quaject, J: ClaimedNote>(
     requires note { J.note ≡ note }
     requires room { head + 1 ≤ tail_of (queue_of seat.old.me.0) + (queue_of seat.old.me.0).room }
     requires bounded { head + 1 < POSITIONS }
-    ensures stays { IsSame seat.old seat.new × Stays seat.old.me seat.new.me }
+    ensures frame { IsSame seat.old seat.new × Stays seat.old.me seat.new.me }
     ensures hit { result ≡ head → Claimed seat.old.me.0 head J.note seat.new.me.0 }
     ensures miss { result ≢ head → Found seat.old.me.0 head_word result seat.new.me.0 }
 {
@@ -76,7 +76,7 @@ pub(crate) fn store_place<Q: Quaject>(
         × (get_elem? seat.old.me.0.own.runs (number_of start seat.old.me.0.own.runs) ≡ some e)
         × (e.start ≡ start) × (0 < length e.places) × ((slice_index_or e.places 0 blank).stage < 2)
         × ((slice_index_or e.places 0 blank).item ≡ note) }
-    ensures stays { IsSame seat.old seat.new × Stays seat.old.me seat.new.me }
+    ensures frame { IsSame seat.old seat.new × Stays seat.old.me seat.new.me }
     ensures raised { (e : Batch) → get_elem? seat.old.me.0.own.runs (number_of start seat.old.me.0.own.runs) ≡ some e
         → Raised seat.old.me.0 start note e seat.new.me.0 }
 {
@@ -93,7 +93,7 @@ pub(crate) fn load_place<Q: Quaject>(
     requires queue { (seat.old.table_id ≡ words.now.table_id) × (words.now.table_id.words ≡ width) }
     requires runner { IsRunner (makes Q.made_by words.now.key.pact) (suits Q.fits words.now.key.pact) seat.old.me }
     requires tail { (tail ≡ tail_of (queue_of seat.old.me.0)) × (tail < POSITIONS) }
-    ensures stays { IsSame seat.old seat.new × Stays seat.old.me seat.new.me }
+    ensures frame { IsSame seat.old seat.new × Stays seat.old.me seat.new.me }
     ensures note { result.note < NOTES }
     ensures up { result.mark ≡ tail + 1
         → Found seat.old.me.0 (place_word tail) (raised_word tail result.note) seat.new.me.0 }
@@ -110,7 +110,7 @@ pub(crate) fn swap_running<Q: Quaject>(
 ) -> u64
     requires queue { (seat.old.table_id ≡ words.now.table_id) × (words.now.table_id.words ≡ width) }
     requires runner { IsRunner (makes Q.made_by words.now.key.pact) (suits Q.fits words.now.key.pact) seat.old.me }
-    ensures stays { IsSame seat.old seat.new × Stays seat.old.me seat.new.me }
+    ensures frame { IsSame seat.old seat.new × Stays seat.old.me seat.new.me }
     ensures rounded { BegunRound seat.old.me.0 result seat.new.me.0 }
 {
     words.swap::<Rounds>(seat, GATE, RUNNING)
@@ -122,7 +122,7 @@ pub(crate) fn count_up<Q: Quaject>(
 ) -> u64
     requires queue { (seat.old.table_id ≡ words.now.table_id) × (words.now.table_id.words ≡ width) }
     requires parts { seat.old.me.0.member.ends + 1 ≤ seat.old.me.0.member.share }
-    ensures stays { IsSame seat.old seat.new × Stays seat.old.me seat.new.me }
+    ensures frame { IsSame seat.old seat.new × Stays seat.old.me seat.new.me }
     ensures counted { CountedUp ends_word seat.old.me.0 seat.new.me.0
         × Meets seat.old.me.0 seat.new.me.0.seen.object }
 {
@@ -135,7 +135,7 @@ pub(crate) fn count_down<Q: Quaject>(
 ) -> u64
     requires queue { (seat.old.table_id ≡ words.now.table_id) × (words.now.table_id.words ≡ width) }
     requires live { 2 ≤ seat.old.me.0.member.ends }
-    ensures stays { IsSame seat.old seat.new × Stays seat.old.me seat.new.me }
+    ensures frame { IsSame seat.old seat.new × Stays seat.old.me seat.new.me }
     ensures counted { CountedDown ends_word seat.old.me.0 seat.new.me.0
         × Meets seat.old.me.0 seat.new.me.0.seen.object × (seat.old.me.0.own.doubled ≡ false) }
 {

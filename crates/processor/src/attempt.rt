@@ -72,13 +72,13 @@ pub(crate) fn seat(
     requires held { has (view_of hand.old) element ≡ true }
     requires free { IsFree processor (view_of hand.old) }
     ensures there { IsOn processor element (view_of hand.new) }
-    ensures keeps { KeepsBut (slice_set (view_of hand.old).own.on processor (Some element)) (view_of hand.old)
+    ensures frame { KeepsBut (slice_set (view_of hand.old).own.on processor (Some element)) (view_of hand.old)
         (view_of hand.new) }
     ensures holds { HoldsLess element (view_of hand.old) (view_of hand.new) }
     ensures adds { AddsToTally no_events (view_of hand.old) (view_of hand.new) }
     ensures steady { Steady (view_of hand.old) (view_of hand.new) }
     ensures put { PutsOn (call_of hand.old) processor element (view_of hand.old) (view_of hand.new) }
-    ensures same { IsSameHand hand.old hand.new }
+    ensures handle { IsSameHand hand.old hand.new }
 {
     put_on(threads, hand, processor, element);
     OnProcessor(())
@@ -100,7 +100,7 @@ pub(crate) fn do_step<R: Wait, G: Watch>(
     requires empty { room.old.heard.items ≡ [] }
     ensures step_outcome { IsOutcomeOf step.now result.step_outcome (line_in step.now room.new.heard.items) }
     ensures parts { ArePartsOf shared.now parts.new }
-    ensures same { AreSameParts parts.old parts.new }
+    ensures handle { AreSameParts parts.old parts.new }
     ensures hand { HandDid (call_of parts.old.hand) shared.now.plan result.step_outcome (view_of parts.old.hand)
         (view_of parts.new.hand) }
     ensures ends { EndsDid shared.now result.step_outcome (line_in step.now room.new.heard.items) parts.old parts.new }
@@ -108,7 +108,7 @@ pub(crate) fn do_step<R: Wait, G: Watch>(
     ensures acts { AddsOnly (raised_by result.step_outcome) (view_of parts.old.hand) (view_of parts.new.hand) }
     ensures heard { parts.new.heard ≡ parts.old.heard }
     ensures signals { parts.new.signals ≡ parts.old.signals }
-    ensures gate { GateSaw G.observes p (points_of result.step_outcome) gate.old gate.new }
+    ensures hook { GateSaw G.observes p (points_of result.step_outcome) gate.old gate.new }
     ensures order { InOrder G.shown shared.now.plan (count_of parts.old.hand) result.step_outcome parts.old parts.new }
 {
     StepTry {

@@ -44,7 +44,7 @@ pub(crate) fn count_step(
     requires table { IsHandOf threads.now hand.old }
     requires mine { MayStep (view_of hand.old) element }
     ensures step_outcome { result.step_outcome ≡ attempt.step_outcome }
-    ensures keeps { Keeps (view_of hand.old) (view_of hand.new) }
+    ensures frame { Keeps (view_of hand.old) (view_of hand.new) }
     ensures holds { HoldsSame (view_of hand.old) (view_of hand.new) }
     ensures adds { AddsToTally (counted_step result.counted element (done_at (view_of hand.old).seen.object element))
         (view_of hand.old) (view_of hand.new) }
@@ -52,7 +52,7 @@ pub(crate) fn count_step(
     ensures steady { SteadyBut element (view_of hand.old) (view_of hand.new) }
     ensures counted { CountAnswer (call_of hand.old) element (is_done attempt.step_outcome) (view_of hand.old) result.counted
         (view_of hand.new) }
-    ensures same { IsSameHand hand.old hand.new }
+    ensures handle { IsSameHand hand.old hand.new }
 {
     let (step_outcome, was_tried) = attempt.into_outcome();
     let counted = count(threads, hand, element, step_outcome.is_done());

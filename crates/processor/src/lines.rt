@@ -59,13 +59,13 @@ pub(crate) fn say_at<G: Gate>(
     requires small { AreEndsOf queues.now.small.items small.old }
     requires large { AreEndsOf queues.now.large.items large.old }
     requires there { IsThere queues.now queue }
-    ensures same { AreSameEnds small.old small.new × AreSameEnds large.old large.new }
+    ensures handle { AreSameEnds small.old small.new × AreSameEnds large.old large.new }
     ensures small { AreEndsOf queues.now.small.items small.new }
     ensures large { AreEndsOf queues.now.large.items large.new }
     ensures said { SaidAt queue line.now result small.old small.new large.old large.new }
-    ensures did { DidAt queue (put_if result line.now) small.old small.new large.old large.new }
-    ensures sound { StaySound small.old small.new × StaySound large.old large.new }
-    ensures gate { HookSawSay G.observes p result gate.old gate.new }
+    ensures effect { DidAt queue (put_if result line.now) small.old small.new large.old large.new }
+    ensures frame { StaySound small.old small.new × StaySound large.old large.new }
+    ensures hook { HookSawSay G.observes p result gate.old gate.new }
 {
     match queue {
         QueueIndex::Small(at) => say(queues.small.as_slice(), small, at, line, p, gate),
@@ -96,13 +96,13 @@ fn hear_small<G: Gate>(
     requires small { AreEndsOf queues.now.small.items small.old }
     requires there { at < length queues.now.small.items }
     requires empty { room.old.heard.items ≡ [] }
-    ensures same { AreSameEnds small.old small.new }
+    ensures handle { AreSameEnds small.old small.new }
     ensures small { AreEndsOf queues.now.small.items small.new }
     ensures heard { OnEnd at (Heard room.new.heard.items result) small.old small.new }
-    ensures did { queue_account small.new
+    ensures effect { queue_account small.new
         ≡ at_each both_queue (queue_account small.old) (at_one idle_queue at (taken_if result room.new.heard.items)) }
-    ensures sound { StaySound small.old small.new }
-    ensures gate { G.observes gate.old p TakeAnswered gate.new }
+    ensures frame { StaySound small.old small.new }
+    ensures hook { G.observes gate.old p TakeAnswered gate.new }
 {
     room.short.clear();
     let answer = hear(queues.small.as_slice(), small, at, &mut room.short, p, gate);
@@ -124,13 +124,13 @@ pub(crate) fn hear_at<G: Gate>(
     requires large { AreEndsOf queues.now.large.items large.old }
     requires there { IsThere queues.now queue }
     requires empty { room.old.heard.items ≡ [] }
-    ensures same { AreSameEnds small.old small.new × AreSameEnds large.old large.new }
+    ensures handle { AreSameEnds small.old small.new × AreSameEnds large.old large.new }
     ensures small { AreEndsOf queues.now.small.items small.new }
     ensures large { AreEndsOf queues.now.large.items large.new }
     ensures heard { HeardAt queue room.new.heard.items result small.old small.new large.old large.new }
-    ensures did { DidAt queue (taken_if result room.new.heard.items) small.old small.new large.old large.new }
-    ensures sound { StaySound small.old small.new × StaySound large.old large.new }
-    ensures gate { G.observes gate.old p TakeAnswered gate.new }
+    ensures effect { DidAt queue (taken_if result room.new.heard.items) small.old small.new large.old large.new }
+    ensures frame { StaySound small.old small.new × StaySound large.old large.new }
+    ensures hook { G.observes gate.old p TakeAnswered gate.new }
 {
     match queue {
         QueueIndex::Small(at) => hear_small(queues, small, at, room, p, gate),

@@ -29,7 +29,7 @@ fn hears_in(steps: &[Step]) -> usize
 
 /// How many steps of a plan hear.
 pub fn hears_of(plan: &BootPlan) -> usize
-    ensures exact { result ≡ hear_count plan.now }
+    ensures result { result ≡ hear_count plan.now }
     ensures few { result ≤ 4096 }
 {
     let mut hears = 0;
@@ -64,7 +64,7 @@ fn one_hears_large(threads: &[PlannedThread]) -> bool
 
 // The most items of a line that a step of a plan can hear: 256 if one hears from a large queue, else 64.
 pub(crate) fn longest_line(plan: &BootPlan) -> usize
-    ensures exact { result ≡ longest_line plan.now }
+    ensures result { result ≡ longest_line plan.now }
     ensures few { result ≤ 256 }
 {
     if one_hears_large(plan.threads.as_slice()) {

@@ -52,12 +52,12 @@ pub(crate) fn say_step<R: Wait, G: Watch>(
         (view_of hand.new) }
     ensures acts { AddsOnly no_events (view_of hand.old) (view_of hand.new) }
     ensures queues { QueuesDid (step_outcomes.Say queue result) (said_line text.now) small.old small.new large.old large.new }
-    ensures did { DidAt queue (put_if (said result) (said_line text.now)) small.old small.new large.old large.new }
-    ensures sound { StaySound small.old small.new × StaySound large.old large.new }
-    ensures gate { GateSaw G.observes p (points_of (step_outcomes.Say queue result)) gate.old gate.new }
+    ensures effect { DidAt queue (put_if (said result) (said_line text.now)) small.old small.new large.old large.new }
+    ensures frame { StaySound small.old small.new × StaySound large.old large.new }
+    ensures hook { GateSaw G.observes p (points_of (step_outcomes.Say queue result)) gate.old gate.new }
     ensures order { QueuesInOrder G.shown shared.now.plan (count_of hand.old) (step_outcomes.Say queue result) small.old small.new
         large.old large.new }
-    ensures same { IsSameHand hand.old hand.new × AreSameEnds small.old small.new × AreSameEnds large.old large.new }
+    ensures handle { IsSameHand hand.old hand.new × AreSameEnds small.old small.new × AreSameEnds large.old large.new }
 {
     let (readers, writers) = waits_of(&shared.plan, queue);
     write_line(text, line);
@@ -106,12 +106,12 @@ pub(crate) fn hear_step<R: Wait, G: Watch>(
         (view_of hand.new) }
     ensures acts { AddsOnly no_events (view_of hand.old) (view_of hand.new) }
     ensures queues { QueuesDid (step_outcomes.Hear queue result) room.new.heard.items small.old small.new large.old large.new }
-    ensures did { DidAt queue (taken_if (heard result) room.new.heard.items) small.old small.new large.old large.new }
-    ensures sound { StaySound small.old small.new × StaySound large.old large.new }
-    ensures gate { GateSaw G.observes p (points_of (step_outcomes.Hear queue result)) gate.old gate.new }
+    ensures effect { DidAt queue (taken_if (heard result) room.new.heard.items) small.old small.new large.old large.new }
+    ensures frame { StaySound small.old small.new × StaySound large.old large.new }
+    ensures hook { GateSaw G.observes p (points_of (step_outcomes.Hear queue result)) gate.old gate.new }
     ensures order { QueuesInOrder G.shown shared.now.plan (count_of hand.old) (step_outcomes.Hear queue result) small.old small.new
         large.old large.new }
-    ensures same { IsSameHand hand.old hand.new × AreSameEnds small.old small.new × AreSameEnds large.old large.new }
+    ensures handle { IsSameHand hand.old hand.new × AreSameEnds small.old small.new × AreSameEnds large.old large.new }
 {
     let (readers, writers) = waits_of(&shared.plan, queue);
     let ticket = ticket_for(&shared.threads, hand, readers);
@@ -146,11 +146,11 @@ pub(crate) fn close_step<R: Wait, G: Watch>(
         (step_outcomes.Close queue result.was_open result.readers result.writers) (view_of hand.old) (view_of hand.new) }
     ensures acts { AddsOnly no_events (view_of hand.old) (view_of hand.new) }
     ensures shut { OnEnd queue (HasShut result.was_open) small.old small.new }
-    ensures did { queue_account small.new
+    ensures effect { queue_account small.new
         ≡ at_each both_queue (queue_account small.old) (at_one idle_queue queue (shut_if result.was_open)) }
-    ensures sound { StaySound small.old small.new }
+    ensures frame { StaySound small.old small.new }
     ensures order { SmallStood G.shown (count_of hand.old) small.old small.new queue }
-    ensures same { IsSameHand hand.old hand.new × AreSameEnds small.old small.new }
+    ensures handle { IsSameHand hand.old hand.new × AreSameEnds small.old small.new }
 {
     let (to_hear, to_say) = waits_of(&shared.plan, QueueIndex::Small(queue));
     show_small_end(gate, hand, shared.queues.small.as_slice(), small, queue);

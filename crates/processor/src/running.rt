@@ -46,7 +46,7 @@ pub(crate) fn run_step<R: Wait, G: Watch>(
     requires fits { Fits shared.now.queues (length shared.now.chains.items) step.now }
     requires empty { room.old.heard.items ≡ [] }
     ensures parts { ArePartsOf shared.now parts.new }
-    ensures same { AreSameParts parts.old parts.new }
+    ensures handle { AreSameParts parts.old parts.new }
     ensures held { has (view_of parts.new.hand) element ≡ true }
     ensures free { IsFree p (view_of parts.new.hand) }
     ensures hand { Stepped (call_of parts.old.hand) shared.now.plan p element result.step_outcome result.counted
@@ -63,7 +63,7 @@ pub(crate) fn run_step<R: Wait, G: Watch>(
     ensures on { (view_of parts.new.hand).own.on ≡ (view_of parts.old.hand).own.on }
     ensures heard { parts.new.heard ≡ parts.old.heard }
     ensures signals { parts.new.signals ≡ parts.old.signals }
-    ensures gate { GateSaw G.observes p (points_of result.step_outcome) gate.old gate.new }
+    ensures hook { GateSaw G.observes p (points_of result.step_outcome) gate.old gate.new }
     ensures order { InOrder G.shown shared.now.plan (one_more (count_of parts.old.hand)) result.step_outcome parts.old parts.new }
 {
     let threads = &shared.threads;
@@ -85,7 +85,7 @@ pub(crate) fn keep(
     requires room { is_heard step_outcome.now ≡ true → length lines.old.lines < lines.old.room }
     requires few { is_heard step_outcome.now ≡ true → length line.now ≤ lines.old.longest }
     requires low { number < 64 }
-    ensures lines { lines.new.lines ≡ lines.old.lines ++ heard_by step_outcome.now thread number line.now }
+    ensures effect { lines.new.lines ≡ lines.old.lines ++ heard_by step_outcome.now thread number line.now }
     ensures room { lines.new.room ≡ lines.old.room }
     ensures longest { lines.new.longest ≡ lines.old.longest }
 {

@@ -57,12 +57,12 @@ fn go_on<R: Wait>(
     requires table { IsHandOf threads.now hand.old }
     requires held { has (view_of hand.old) element ≡ true }
     requires ticket { option_copied ticket ≡ sleeps_on step_outcome.now }
-    ensures keeps { Keeps (view_of hand.old) (view_of hand.new) }
+    ensures frame { Keeps (view_of hand.old) (view_of hand.new) }
     ensures adds { AddsToTally (gone result element (done_at (view_of hand.old).seen.object element)) (view_of hand.old)
         (view_of hand.new) }
     ensures rises { NeverFalls (view_of hand.old) (view_of hand.new) }
     ensures goes { Goes (call_of hand.old) step_outcome.now last element result (view_of hand.old) (view_of hand.new) }
-    ensures same { IsSameHand hand.old hand.new }
+    ensures handle { IsSameHand hand.old hand.new }
 {
     if let Some(ticket) = ticket {
         return Moved::Ticketed(wait_with(rt, threads, hand, element, ticket));
@@ -89,13 +89,13 @@ fn move_on<R: Wait>(
 ) -> Moved
     requires table { IsHandOf threads.now hand.old }
     requires held { has (view_of hand.old) element ≡ true }
-    ensures keeps { Keeps (view_of hand.old) (view_of hand.new) }
+    ensures frame { Keeps (view_of hand.old) (view_of hand.new) }
     ensures adds { AddsToTally (gone result element (done_at (view_of hand.old).seen.object element)) (view_of hand.old)
         (view_of hand.new) }
     ensures rises { NeverFalls (view_of hand.old) (view_of hand.new) }
     ensures goes { Goes (call_of hand.old) tried.now.step_outcome last element result (view_of hand.old)
         (view_of hand.new) }
-    ensures same { IsSameHand hand.old hand.new }
+    ensures handle { IsSameHand hand.old hand.new }
 {
     let step_outcome = tried.step_outcome();
     match step_outcome {
@@ -139,13 +139,13 @@ pub(crate) fn send_on<R: Wait>(
     requires table { IsHandOf threads.now hand.old }
     requires held { has (view_of hand.old) element ≡ true }
     ensures tried { result.tried ≡ tried }
-    ensures keeps { Keeps (view_of hand.old) (view_of hand.new) }
+    ensures frame { Keeps (view_of hand.old) (view_of hand.new) }
     ensures adds { AddsToTally (gone result.moved element (done_at (view_of hand.old).seen.object element)) (view_of hand.old)
         (view_of hand.new) }
     ensures rises { NeverFalls (view_of hand.old) (view_of hand.new) }
     ensures goes { Goes (call_of hand.old) tried.step_outcome last element result.moved (view_of hand.old)
         (view_of hand.new) }
-    ensures same { IsSameHand hand.old hand.new }
+    ensures handle { IsSameHand hand.old hand.new }
 {
     let moved = move_on(rt, threads, hand, element, &tried, last);
     Rescheduled { tried, moved }

@@ -58,7 +58,7 @@ fn split_list<const N: usize>(
     requires ends { AreEndsOf queues.now ends.old.items }
     requires parts { All IsDivisible ends.old.items }
     requires room { (born.items ≡ []) × (length queues.now ≤ vec_capacity born) }
-    ensures same { AreSameEnds ends.old.items ends.new.items }
+    ensures handle { AreSameEnds ends.old.items ends.new.items }
     ensures ends { AreEndsOf queues.now ends.new.items }
     ensures born { AreEndsOf queues.now result.items }
     ensures split { splits.AreSplit ends.old.items ends.new.items result.items }
@@ -75,7 +75,7 @@ fn split_chain_list(
     requires ends { AreChainEndsOf chains.now ends.old.items }
     requires parts { All IsChainDivisible ends.old.items }
     requires room { (born.items ≡ []) × (length chains.now ≤ vec_capacity born) }
-    ensures same { AreSameChainEnds ends.old.items ends.new.items }
+    ensures handle { AreSameChainEnds ends.old.items ends.new.items }
     ensures ends { AreChainEndsOf chains.now ends.new.items }
     ensures born { AreChainEndsOf chains.now result.items }
     ensures split { splits.AreChainsSplit ends.old.items ends.new.items result.items }
@@ -89,12 +89,12 @@ fn split_parts(shared: &Shared, parts: &mut Parts, processors: u8, lists: Lists)
     requires divisible { AreDivisible parts.old }
     requires free { (p : ℕ) → p < 8 → is_in processors p ≡ true → IsFree p (view_of parts.old.hand) }
     requires room { HaveRoom shared.now lists }
-    ensures same { AreSameParts parts.old parts.new }
+    ensures handle { AreSameParts parts.old parts.new }
     ensures parts { ArePartsOf shared.now parts.new }
     ensures born { ArePartsOf shared.now result }
     ensures split { AreSplit processors parts.old parts.new result }
     ensures room { HasRoom shared.now.plan result }
-    ensures exact { HasNoMoreRoom shared.now.plan result }
+    ensures result { HasNoMoreRoom shared.now.plan result }
     ensures unused { IsUnused result }
 {
     let Lists {
@@ -143,16 +143,16 @@ impl Station {
         requires parts { ArePartsOf shared.now self.old.parts }
         requires divisible { AreDivisible self.old.parts }
         requires free { (p : ℕ) → p < 8 → is_in processors p ≡ true → IsFree p (view_of self.old.parts.hand) }
-        ensures same { AreSameParts self.old.parts self.new.parts }
+        ensures handle { AreSameParts self.old.parts self.new.parts }
         ensures parts { ArePartsOf shared.now self.new.parts }
         ensures born { IfOk result (λ s. ArePartsOf shared.now s.parts) }
         ensures split { IfOk result (λ s. AreSplit processors self.old.parts self.new.parts s.parts) }
-        ensures did { IfOk result (λ s. (account self.new.parts ≡ account self.old.parts)
+        ensures effect { IfOk result (λ s. (account self.new.parts ≡ account self.old.parts)
             × (account s.parts ≡ nothing)) }
         ensures shares { IfOk result (λ s. (shares self.new.parts ≡ each_share kept (shares self.old.parts))
             × (shares s.parts ≡ each_share given (shares self.old.parts))) }
         ensures room { IfOk result (λ s. HasRoom shared.now.plan s.parts) }
-        ensures exact { IfOk result (λ s. HasNoMoreRoom shared.now.plan s.parts) }
+        ensures result { IfOk result (λ s. HasNoMoreRoom shared.now.plan s.parts) }
         ensures fresh { IfOk result (λ s. IsFresh s.parts) }
         ensures refused { IfErr result (λ e. self.new ≡ self.old) }
     {
@@ -168,10 +168,10 @@ impl Station {
     pub fn join(&mut self, shared: &Shared, other: Station) -> HeardLines
         requires parts { ArePartsOf shared.now self.old.parts }
         requires other { ArePartsOf shared.now other.parts }
-        ensures same { AreSameParts self.old.parts self.new.parts }
+        ensures handle { AreSameParts self.old.parts self.new.parts }
         ensures parts { ArePartsOf shared.now self.new.parts }
         ensures joined { AreJoined self.old.parts other.parts self.new.parts }
-        ensures did { account self.new.parts ≡ account self.old.parts ⊕ unheard (account other.parts) }
+        ensures effect { account self.new.parts ≡ account self.old.parts ⊕ unheard (account other.parts) }
         ensures shares { shares self.new.parts ≡ both_shares (shares self.old.parts) (shares other.parts) }
         ensures heard { result ≡ other.parts.heard }
     {

@@ -51,7 +51,7 @@ impl Station {
             × (s.parts.chains ≡ chains) × (s.parts.meters ≡ meters)) }
         ensures unused { IfOk result (λ s. IsUnused s.parts) }
         ensures room { IfOk result (λ s. HasRoom shared.now.plan s.parts) }
-        ensures exact { IfOk result (λ s. HasNoMoreRoom shared.now.plan s.parts) }
+        ensures result { IfOk result (λ s. HasNoMoreRoom shared.now.plan s.parts) }
         ensures back { IfErr result (λ e. (e.0.hand ≡ hand) × (e.0.small ≡ small) × (e.0.large ≡ large)
             × (e.0.chains ≡ chains) × (e.0.meters ≡ meters) × IsUnused e.0) }
     {

@@ -39,7 +39,7 @@ pub(crate) fn try_step<R: Wait, G: Watch>(
     requires empty { room.old.heard.items ≡ [] }
     ensures step_outcome { IsOutcomeOf step.now result (line_in step.now room.new.heard.items) }
     ensures parts { ArePartsOf shared.now parts.new }
-    ensures same { AreSameParts parts.old parts.new }
+    ensures handle { AreSameParts parts.old parts.new }
     ensures hand { HandDid (call_of parts.old.hand) shared.now.plan result (view_of parts.old.hand)
         (view_of parts.new.hand) }
     ensures ends { EndsDid shared.now result (line_in step.now room.new.heard.items) parts.old parts.new }
@@ -47,7 +47,7 @@ pub(crate) fn try_step<R: Wait, G: Watch>(
     ensures acts { AddsOnly (raised_by result) (view_of parts.old.hand) (view_of parts.new.hand) }
     ensures heard { parts.new.heard ≡ parts.old.heard }
     ensures signals { parts.new.signals ≡ parts.old.signals }
-    ensures gate { GateSaw G.observes p (points_of result) gate.old gate.new }
+    ensures hook { GateSaw G.observes p (points_of result) gate.old gate.new }
     ensures order { InOrder G.shown shared.now.plan (count_of parts.old.hand) result parts.old parts.new }
 {
     let threads = &shared.threads;

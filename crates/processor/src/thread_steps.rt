@@ -18,7 +18,7 @@ pub(crate) fn wake_step<R: Wait>(
     wait: WaitNumber,
 ) -> Woken
     requires { IsHandOf threads.now hand.old }
-    ensures same { IsSameHand hand.old hand.new }
+    ensures handle { IsSameHand hand.old hand.new }
     ensures woken { Woke (call_of hand.old) wait result (view_of hand.old) (view_of hand.new) }
     ensures acts { AddsOnly no_events (view_of hand.old) (view_of hand.new) }
 {
@@ -33,7 +33,7 @@ pub(crate) fn signal_step(
     signal: Signal,
 ) -> Signalled
     requires { IsHandOf threads.now hand.old }
-    ensures same { IsSameHand hand.old hand.new }
+    ensures handle { IsSameHand hand.old hand.new }
     ensures raised { SignalAnswer (call_of hand.old) (view_of hand.old) thread signal result (view_of hand.new) }
     ensures acts { AddsOnly (one_signal thread signal) (view_of hand.old) (view_of hand.new) }
 {
@@ -44,7 +44,7 @@ pub(crate) fn signal_step(
 // Sets a stop bit.
 pub(crate) fn stop_step(threads: &ThreadTable, hand: &mut Hand, thread: Element) -> bool
     requires { IsHandOf threads.now hand.old }
-    ensures same { IsSameHand hand.old hand.new }
+    ensures handle { IsSameHand hand.old hand.new }
     ensures stopped { StoppedNow (call_of hand.old) (view_of hand.old) thread result (view_of hand.new) }
     ensures acts { AddsOnly no_events (view_of hand.old) (view_of hand.new) }
 {
@@ -60,7 +60,7 @@ pub(crate) fn start_step<R: Wait>(
     thread: Element,
 ) -> Result<Resumed, Lost>
     requires { IsHandOf threads.now hand.old }
-    ensures same { IsSameHand hand.old hand.new }
+    ensures handle { IsSameHand hand.old hand.new }
     ensures started { ResumeAnswer (call_of hand.old) thread result (view_of hand.old) (view_of hand.new) }
     ensures acts { AddsOnly no_events (view_of hand.old) (view_of hand.new) }
 {

@@ -32,7 +32,7 @@ pub(crate) fn ticket_for(
     wait: Option<WaitNumber>,
 ) -> Option<Ticket>
     requires { IsHandOf threads.now hand.old }
-    ensures same { IsSameHand hand.old hand.new }
+    ensures handle { IsSameHand hand.old hand.new }
     ensures ticket { TicketFor wait (view_of hand.old) result (view_of hand.new) }
     ensures its { IsTicketOf wait result }
     ensures count { count_of hand.new ≡ after_ticket wait (count_of hand.old) }
@@ -58,11 +58,11 @@ pub(crate) fn wait_with<R: Wait>(
 ) -> Waited
     requires table { IsHandOf threads.now hand.old }
     requires held { has (view_of hand.old) element ≡ true }
-    ensures keeps { Keeps (view_of hand.old) (view_of hand.new) }
+    ensures frame { Keeps (view_of hand.old) (view_of hand.new) }
     ensures adds { AddsToTally no_events (view_of hand.old) (view_of hand.new) }
     ensures waited { WaitedAt (call_of hand.old) ticket.now.wait element ticket.now.number result (view_of hand.old)
         (view_of hand.new) }
-    ensures same { IsSameHand hand.old hand.new }
+    ensures handle { IsSameHand hand.old hand.new }
 {
     wait_at(rt, threads, hand, element, ticket.wait, ticket.number)
 }

@@ -126,14 +126,14 @@ pub(crate) fn try_say<G: Gate>(
     requires large { AreEndsOf shared.now.queues.large.items large.old }
     requires there { IsThere shared.now.queues queue }
     requires ticket { IsTicketOf (writers_of (waits_at shared.now.plan queue)) ticket }
-    ensures same { AreSameEnds small.old small.new × AreSameEnds large.old large.new }
+    ensures handle { AreSameEnds small.old small.new × AreSameEnds large.old large.new }
     ensures small { AreEndsOf shared.now.queues.small.items small.new }
     ensures large { AreEndsOf shared.now.queues.large.items large.new }
     ensures said { SaidAt queue line.now (said result) small.old small.new large.old large.new }
     ensures refused { IsUnsaid ticket result }
-    ensures did { DidAt queue (put_if (said result) line.now) small.old small.new large.old large.new }
-    ensures sound { StaySound small.old small.new × StaySound large.old large.new }
-    ensures gate { HookSawSay G.observes p (said result) gate.old gate.new }
+    ensures effect { DidAt queue (put_if (said result) line.now) small.old small.new large.old large.new }
+    ensures frame { StaySound small.old small.new × StaySound large.old large.new }
+    ensures hook { HookSawSay G.observes p (said result) gate.old gate.new }
 {
     match say_at(&shared.queues, small, large, queue, line, p, gate) {
         Ok(()) => SayAnswer::Put(WakeDue(())),
@@ -163,14 +163,14 @@ pub(crate) fn try_hear<G: Gate>(
     requires there { IsThere shared.now.queues queue }
     requires empty { room.old.heard.items ≡ [] }
     requires ticket { IsTicketOf (readers_of (waits_at shared.now.plan queue)) ticket }
-    ensures same { AreSameEnds small.old small.new × AreSameEnds large.old large.new }
+    ensures handle { AreSameEnds small.old small.new × AreSameEnds large.old large.new }
     ensures small { AreEndsOf shared.now.queues.small.items small.new }
     ensures large { AreEndsOf shared.now.queues.large.items large.new }
     ensures heard { HeardAt queue room.new.heard.items (heard result) small.old small.new large.old large.new }
     ensures refused { IsUnheard ticket result }
-    ensures did { DidAt queue (taken_if (heard result) room.new.heard.items) small.old small.new large.old large.new }
-    ensures sound { StaySound small.old small.new × StaySound large.old large.new }
-    ensures gate { G.observes gate.old p TakeAnswered gate.new }
+    ensures effect { DidAt queue (taken_if (heard result) room.new.heard.items) small.old small.new large.old large.new }
+    ensures frame { StaySound small.old small.new × StaySound large.old large.new }
+    ensures hook { G.observes gate.old p TakeAnswered gate.new }
 {
     match hear_at(&shared.queues, small, large, queue, room, p, gate) {
         Ok(()) => HearAnswer::Taken(WakeDue(())),
@@ -188,12 +188,12 @@ pub(crate) fn try_hear<G: Gate>(
 pub(crate) fn shut_at(queues: &Queues, small: &mut [QueueEnd<64>], queue: usize) -> WasShut<WakeDue>
     requires small { AreEndsOf queues.now.small.items small.old }
     requires there { queue < length queues.now.small.items }
-    ensures same { AreSameEnds small.old small.new }
+    ensures handle { AreSameEnds small.old small.new }
     ensures small { AreEndsOf queues.now.small.items small.new }
     ensures shut { OnEnd queue (HasShut result.was_open) small.old small.new }
-    ensures did { queue_account small.new
+    ensures effect { queue_account small.new
         ≡ at_each both_queue (queue_account small.old) (at_one idle_queue queue (shut_if result.was_open)) }
-    ensures sound { StaySound small.old small.new }
+    ensures frame { StaySound small.old small.new }
 {
     let was_open = shut_queue(queues.small.as_slice(), small, queue);
     WasShut {

@@ -51,18 +51,18 @@ fn run_element<R: Wait, G: Watch>(
     room: &mut LineRoom,
     gate: &mut G,
 ) -> Rescheduled
-    requires manned { IsRunnable shared.now p parts.old }
+    requires station { IsRunnable shared.now p parts.old }
     requires held { has (view_of parts.old.hand) begun.now.element ≡ true }
     requires known { begun.now.number ≡ done_at (view_of parts.old.hand).seen.object begun.now.element }
     requires low { begun.now.number < 64 }
     requires its { step_of shared.now.plan begun.now.element begun.now.number ≡ Some step.now }
     requires all { steps ≡ length (program shared.now.plan begun.now.element) }
-    ensures manned { KeepsStation shared.now p parts.old parts.new }
+    ensures station { KeepsStation shared.now p parts.old parts.new }
     ensures ran { (line : List ℕ)
         × RanStep shared.now p begun.now.element begun.now.number result line parts.old parts.new
         × Went (FollowsStep shared.now.plan begun.now.element begun.now.number result line)
         (trying begun.now.element begun.now.number result line) (saw_shut result.tried.step_outcome) parts.old parts.new }
-    ensures gate { GateSaw G.observes p (points_of result.tried.step_outcome) gate.old gate.new }
+    ensures hook { GateSaw G.observes p (points_of result.tried.step_outcome) gate.old gate.new }
     ensures order { InOrder G.shown shared.now.plan (one_more (count_of parts.old.hand)) result.tried.step_outcome parts.old
         parts.new }
 {
@@ -90,8 +90,8 @@ fn begin_turn<R: Wait>(
     parts: &mut Parts,
     p: Processor,
 ) -> Result<Begun, Idle>
-    requires manned { IsRunnable shared.now p parts.old }
-    ensures manned { KeepsStation shared.now p parts.old parts.new }
+    requires station { IsRunnable shared.now p parts.old }
+    ensures station { KeepsStation shared.now p parts.old parts.new }
     ensures begun { MatchResult result (λ begun. BegunAt begun parts.old parts.new)
         (λ idle. IdleAt idle parts.old parts.new) }
     ensures held { IfOk result (λ begun. has (view_of parts.new.hand) begun.element ≡ true) }
@@ -110,13 +110,13 @@ fn retire_at<R: Wait>(
     p: Processor,
     element: Element,
 ) -> bool
-    requires manned { IsRunnable shared.now p parts.old }
+    requires station { IsRunnable shared.now p parts.old }
     requires held { has (view_of parts.old.hand) element ≡ true }
     requires over { length (program shared.now.plan element) ≤ done_at (view_of parts.old.hand).seen.object element }
-    ensures manned { KeepsStation shared.now p parts.old parts.new }
+    ensures station { KeepsStation shared.now p parts.old parts.new }
     ensures sent { Sent (call_of parts.old.hand) 1 element result (view_of parts.old.hand) (view_of parts.new.hand) }
     ensures rest { AreAtRest parts.old parts.new }
-    ensures others { (parts.new.meters ≡ parts.old.meters) × (parts.new.signals ≡ parts.old.signals) }
+    ensures frame { (parts.new.meters ≡ parts.old.meters) × (parts.new.signals ≡ parts.old.signals) }
     ensures done { HasDone (having element (done_at (view_of parts.old.hand).seen.object element) (hads.Retired result)
         []) parts.old parts.new }
 {
@@ -134,12 +134,12 @@ fn dispatch<R: Wait, G: Watch>(
     room: &mut LineRoom,
     gate: &mut G,
 ) -> TurnOutcome
-    requires manned { IsRunnable shared.now p parts.old }
-    ensures manned { KeepsStation shared.now p parts.old parts.new }
+    requires station { IsRunnable shared.now p parts.old }
+    ensures station { KeepsStation shared.now p parts.old parts.new }
     ensures came { (line : List ℕ) × CameInOrder G.shown shared.now p result line parts.old parts.new
         × Went (OutcomeFollows shared.now.plan result line) (outcome_account result line) (outcome_saw_shut result)
         parts.old parts.new }
-    ensures gate { GateSaw G.observes p (points_out result) gate.old gate.new }
+    ensures hook { GateSaw G.observes p (points_out result) gate.old gate.new }
 {
     steps_fit();
     match begin_turn(rt, shared, parts, p) {
@@ -161,8 +161,8 @@ fn dispatch<R: Wait, G: Watch>(
 
 // Processor 0 tends the alarms. The list is room for the alarms that are fired.
 fn tend(shared: &Shared, parts: &mut Parts, p: Processor, fired: &mut ArrayVec<Alarm, 16>)
-    requires manned { IsRunnable shared.now p parts.old }
-    ensures manned { KeepsStation shared.now p parts.old parts.new }
+    requires station { IsRunnable shared.now p parts.old }
+    ensures station { KeepsStation shared.now p parts.old parts.new }
     ensures tended { (tended : Option Tended) × TendedBy p tended parts.old parts.new
         × HasDone (tending tended) parts.old parts.new }
 {
@@ -189,8 +189,8 @@ fn turn<R: Wait, G: Watch>(
     room: &mut LineRoom,
     gate: &mut G,
 )
-    requires manned { IsRunnable shared.now p parts.old }
-    ensures manned { KeepsStation shared.now p parts.old parts.new }
+    requires station { IsRunnable shared.now p parts.old }
+    ensures station { KeepsStation shared.now p parts.old parts.new }
     ensures turn { (entry : LogEntry) × TurnInOrder G.shown shared.now p entry parts.old parts.new
         × Ran shared.now.plan (entry ∷ []) parts.old parts.new
         × GateSaw G.observes p (points_out entry.outcome) gate.old gate.new }
@@ -213,8 +213,8 @@ pub fn run<R: Wait, G: Watch>(
     turns: u32,
     gate: &mut G,
 ) -> Station
-    requires manned { IsRunnable shared.now p station.parts }
-    ensures manned { KeepsStation shared.now p station.parts result.parts }
+    requires station { IsRunnable shared.now p station.parts }
+    ensures station { KeepsStation shared.now p station.parts result.parts }
     ensures turned { RanTurnsInOrder G.shown G.observes shared.now p turns gate.old gate.new station.parts result.parts }
 {
     let Station { mut parts } = station;

@@ -29,7 +29,7 @@ pub(crate) fn wake_for<R: Wait>(
     owed: WakeDue,
 ) -> WakeDone
     requires { IsHandOf threads.now hand.old }
-    ensures same { IsSameHand hand.old hand.new }
+    ensures handle { IsSameHand hand.old hand.new }
     ensures woken { WokeFor (call_of hand.old) wait (view_of hand.old) result.woken (view_of hand.new) }
     ensures acts { AddsOnly no_events (view_of hand.old) (view_of hand.new) }
 {

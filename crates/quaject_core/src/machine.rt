@@ -31,7 +31,7 @@ impl Core {
 
     /// A core with no queues and no chains, and with sixteen thread elements, all of them free.
     pub fn new(alloc: Global) -> Result<Core, OutOfMemory>
-        ensures exact { IfOk result (λ core. state core ≡ first_state 16) }
+        ensures result { IfOk result (λ core. state core ≡ first_state 16) }
         ensures lawful { IfOk result (λ core. IsLawful (state core)) }
         ensures accounted { IfOk result (λ core. ∥ HasHistory (state core) ∥₁) }
     {
@@ -42,7 +42,7 @@ impl Core {
     pub fn with_elements(alloc: Global, elements: u8) -> Result<Core, OutOfMemory>
         requires some { 1 ≤ elements }
         requires within { elements ≤ 64 }
-        ensures exact { IfOk result (λ core. state core ≡ first_state elements) }
+        ensures result { IfOk result (λ core. state core ≡ first_state elements) }
         ensures lawful { IfOk result (λ core. IsLawful (state core)) }
         ensures accounted { IfOk result (λ core. ∥ HasHistory (state core) ∥₁) }
     {
@@ -53,7 +53,7 @@ impl Core {
 
     /// Applies one event. A refused event changes nothing.
     pub fn apply(&mut self, event: &Event) -> Result<(), Refusal>
-        ensures exact { Changes result (step event.now (state self.old)) (state self.old) (state self.new) }
+        ensures result { Changes result (step event.now (state self.old)) (state self.old) (state self.new) }
         ensures memory { may_grow event.now ≡ false → IsNotMemory result }
         ensures lawful { IsLawful (state self.new) }
         ensures accounted { ∥ HasHistory (state self.new) ∥₁ }
@@ -63,7 +63,7 @@ impl Core {
 
     /// Applies events in their order, up to the first that is refused, and returns the index and refusal of that event.
     pub fn run(&mut self, events: &[Event]) -> Result<(), (usize, Refusal)>
-        ensures exact { AppliesAll result events.now (state self.old) (state self.new) }
+        ensures result { AppliesAll result events.now (state self.old) (state self.new) }
         ensures memory { HadToGrow result events.now }
         ensures lawful { IsLawful (state self.new) }
         ensures accounted { ∥ HasHistory (state self.new) ∥₁ }

@@ -59,7 +59,7 @@ pub(crate) fn claim(
 ) -> Result<(), Refusal>
     ensures what { Changes result (change_at ring (claim 1 call items.now) (map queue rings.old.items))
         (map queue rings.old.items) (map queue rings.new.items) }
-    ensures same { vec_len rings.new ≡ vec_len rings.old }
+    ensures frame { vec_len rings.new ≡ vec_len rings.old }
 {
     if ring >= rings.len() {
         return Err(Refusal::UnknownName);
@@ -106,7 +106,7 @@ pub(crate) fn raise(
 ) -> Result<(), Refusal>
     ensures what { Changes result (change_at ring (raise call run index) (map queue rings.old.items))
         (map queue rings.old.items) (map queue rings.new.items) }
-    ensures same { vec_len rings.new ≡ vec_len rings.old }
+    ensures frame { vec_len rings.new ≡ vec_len rings.old }
 {
     if ring >= rings.len() {
         return Err(Refusal::UnknownName);
@@ -131,7 +131,7 @@ pub(crate) fn first_taken(rings: &Vec<StoredQueue>, ring: usize, count: u32) -> 
 pub(crate) fn take(rings: &mut Vec<StoredQueue>, ring: usize, count: u32) -> Result<(), Refusal>
     ensures what { Changes result (change_at ring (take_first 1 count) (map queue rings.old.items))
         (map queue rings.old.items) (map queue rings.new.items) }
-    ensures same { vec_len rings.new ≡ vec_len rings.old }
+    ensures frame { vec_len rings.new ≡ vec_len rings.old }
 {
     if ring >= rings.len() {
         return Err(Refusal::UnknownName);
@@ -141,7 +141,7 @@ pub(crate) fn take(rings: &mut Vec<StoredQueue>, ring: usize, count: u32) -> Res
 
 /// Gives the runs of the other call to the call.
 pub(crate) fn join(rings: &mut Vec<StoredQueue>, call: Call, other: Call)
-    ensures same { vec_len rings.new ≡ vec_len rings.old }
+    ensures frame { vec_len rings.new ≡ vec_len rings.old }
     ensures what { map queue rings.new.items ≡ map (join_queue call other) (map queue rings.old.items) }
 {
     for ring in rings.iter_mut() {

@@ -89,9 +89,9 @@ pub fn retire(chain: Chain, end: End) -> Result<Home, (Chain, End, OpenEnds)>
     requires turn { turn_of end ≡ false }
     ensures only { IsOnlyEnd end → MatchResult result (λ home. Unit {0}) (λ e. ⊥) }
     ensures home { IfOk result (λ home. CameHome (pact_of chain) (first_of chain) (view_of end) home) }
-    ensures steps { IfErr result (λ e. WereOpen (view_of end) e.2.others (view_of e.1)) }
+    ensures trace { IfErr result (λ e. WereOpen (view_of end) e.2.others (view_of e.1)) }
     ensures ends { IfErr result (λ e. IsEndOf chain e.1) }
-    ensures same { IfErr result (λ e. (e.0 ≡ chain) × IsSameEnd end e.1 × (turn_of e.1 ≡ false)) }
+    ensures handle { IfErr result (λ e. (e.0 ≡ chain) × IsSameEnd end e.1 × (turn_of e.1 ≡ false)) }
 {
     let closed = chain.close(end)?;
     Ok(home_of(closed.quaject, closed.put, closed.left.len()))

@@ -93,7 +93,7 @@ impl Pump {
         requires { IsEndAt queues.now self.old.source.index self.old.source.end }
         ensures rest { (self.new.target ≡ self.old.target) × (self.new.notes ≡ self.old.notes) }
         ensures at { IsEndAt queues.now self.new.source.index self.new.source.end }
-        ensures same { post_of self.new.source.index self.new.source.end
+        ensures handle { post_of self.new.source.index self.new.source.end
             ≡ post_of self.old.source.index self.old.source.end }
         ensures tried { Refilled 64 (view_of self.old.source.end) self.old.held.items
             result self.new.held.items (view_of self.new.source.end) }
@@ -106,7 +106,7 @@ impl Pump {
         requires { IsEndAt queues.now self.old.target.index self.old.target.end }
         ensures rest { (self.new.source ≡ self.old.source) × (self.new.notes ≡ self.old.notes) }
         ensures at { IsEndAt queues.now self.new.target.index self.new.target.end }
-        ensures same { post_of self.new.target.index self.new.target.end
+        ensures handle { post_of self.new.target.index self.new.target.end
             ≡ post_of self.old.target.index self.old.target.end }
         ensures tried { Flushed 64 (view_of self.old.target.end) self.old.held.items
             result self.new.held.items (view_of self.new.target.end) }

@@ -56,13 +56,13 @@ impl<const N: usize> Port<N> {
     /// Conditions: both are ends of this queue.
     pub fn join_into(self, queue: &ClaimQueue<N>, end: &mut QueueEnd<N>)
         requires { IsEndOf queue.now end.old × IsEndOf queue.now self.end }
-        ensures lines { (lines_put (view_of end.new) ≡ lines_put (view_of end.old)
+        ensures effect { (lines_put (view_of end.new) ≡ lines_put (view_of end.old)
             ++ lines_put (view_of self.entry.end))
             × (lines_taken (view_of end.new) ≡ lines_taken (view_of end.old) ++ lines_taken (view_of self.entry.end)) }
         ensures joined { JoinedBy (view_of end.old) (view_of self.entry.end) (view_of end.new) }
         ensures claims { KeepsClaims (view_of end.old) (view_of end.new)
             × KeepsClaims (view_of self.entry.end) (view_of end.new) }
-        ensures same { IsSameEnd end.old end.new }
+        ensures handle { IsSameEnd end.old end.new }
     {
         queue.join(end, self.end);
     }
@@ -100,10 +100,10 @@ impl<const N: usize> Intake<N> {
         requires at { IsEndAt queues.now self.old.index self.old.end }
         requires empty { line.old.items ≡ [] }
         ensures at { IsEndAt queues.now self.new.index self.new.end }
-        ensures same { post_of self.new.index self.new.end ≡ post_of self.old.index self.old.end }
+        ensures handle { post_of self.new.index self.new.end ≡ post_of self.old.index self.old.end }
         ensures tried { TriedTake N (view_of self.old.end) result line.new.items
             (view_of self.new.end) }
-        ensures lines { lines_taken (view_of self.new.end) ≡ lines_taken (view_of self.old.end)
+        ensures effect { lines_taken (view_of self.new.end) ≡ lines_taken (view_of self.old.end)
             ++ held_line line.new.items }
     {
         let source = &queues[self.index];
@@ -140,10 +140,10 @@ impl<const N: usize> Outlet<N> {
     pub(crate) fn try_line(&mut self, queues: &[ClaimQueue<N>], line: &[u64]) -> bool
         requires at { IsEndAt queues.now self.old.index self.old.end }
         ensures at { IsEndAt queues.now self.new.index self.new.end }
-        ensures same { post_of self.new.index self.new.end ≡ post_of self.old.index self.old.end }
+        ensures handle { post_of self.new.index self.new.end ≡ post_of self.old.index self.old.end }
         ensures tried { TriedPut N (view_of self.old.end) result line.now
             (view_of self.new.end) }
-        ensures lines { lines_put (view_of self.new.end) ≡ (if result then lines_put (view_of self.old.end)
+        ensures effect { lines_put (view_of self.new.end) ≡ (if result then lines_put (view_of self.old.end)
             ++ line.now ∷ [] else lines_put (view_of self.old.end)) }
     {
         let target = &queues[self.index];

@@ -45,7 +45,7 @@ fn tell<R: Wait>(
     ensures noted { Noted (makes MadeOf (pact_of chain.now)) (suits Fits (pact_of chain.now))
         (me_of end.old) note (me_of end.new) }
     ensures end { IsEndOf chain.now end.new }
-    ensures same { IsSameEnd end.old end.new }
+    ensures handle { IsSameEnd end.old end.new }
 {
     for _ in rt.forever() {
         match chain.try_chain(end, note) {
@@ -112,7 +112,7 @@ impl RawTty {
         requires fits { IsEndAt queues.now.small.items self.old.index (end_of self.old) }
         requires chain { IsEndOf chain.now self.old.chain }
         requires world { world_of chain.now ≡ queues.now }
-        ensures lines { MatchBool result
+        ensures effect { MatchBool result
             (PutLine (byte ∷ []) (claims.view_of (end_of self.old)) (claims.view_of (end_of self.new)))
             (SameLines (claims.view_of (end_of self.old)) (claims.view_of (end_of self.new))) }
         ensures overruns { overruns_of self.new ≡ (if result then overruns_of self.old else
@@ -123,7 +123,7 @@ impl RawTty {
             (me_of self.old.chain) 0 (me_of self.new.chain) }
         ensures chain { IsEndOf chain.now self.new.chain }
         ensures fits { IsEndAt queues.now.small.items self.new.index (end_of self.new) }
-        ensures same { (self.new.index ≡ self.old.index) × claims.IsSameEnd (end_of self.old) (end_of self.new)
+        ensures handle { (self.new.index ≡ self.old.index) × claims.IsSameEnd (end_of self.old) (end_of self.new)
             × IsSameEnd self.old.chain self.new.chain }
     {
         let item = [byte as u64];

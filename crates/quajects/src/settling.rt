@@ -12,7 +12,7 @@ fn join_all<const N: usize>(queue: &ClaimQueue<N>, end: &mut QueueEnd<N>, others
     requires end { IsEndOf queue.now end.old }
     requires others { All (IsEndOf queue.now) others.items }
     ensures joined { HasAll (views_of end.old others.entry.items) (view_of end.new) }
-    ensures same { IsSameEnd end.old end.new }
+    ensures handle { IsSameEnd end.old end.new }
 {
     for other in others {
         queue.join(end, other);
@@ -34,8 +34,8 @@ pub fn settle<const N: usize>(
         → MatchResult result (λ c. Unit {0}) (λ e. ⊥) }
     ensures closed { IfOk result (λ c. (c.first ≡ first_of queue.entry)
         × SettledNow (views_of end.entry others.entry.items) c.first c.put c.taken c.left.items) }
-    ensures steps { IfErr result (λ e. StillOpen (views_of end.entry others.entry.items) e.2.others (view_of e.1)) }
-    ensures same { IfErr result (λ e. (e.0 ≡ queue.entry) × IsSameEnd end.entry e.1) }
+    ensures trace { IfErr result (λ e. StillOpen (views_of end.entry others.entry.items) e.2.others (view_of e.1)) }
+    ensures handle { IfErr result (λ e. (e.0 ≡ queue.entry) × IsSameEnd end.entry e.1) }
 {
     let mut end = end;
     join_all(&queue, &mut end, others);

@@ -193,7 +193,7 @@ impl Switch {
         ensures rest { (self.new.other ≡ self.old.other) × (self.new.ways ≡ self.old.ways)
             × (self.new.notes ≡ self.old.notes) }
         ensures at { IsEndAt queues.now self.new.source.index self.new.source.end }
-        ensures same { post_of self.new.source.index self.new.source.end
+        ensures handle { post_of self.new.source.index self.new.source.end
             ≡ post_of self.old.source.index self.old.source.end }
         ensures tried { Refilled 64 (view_of self.old.source.end) self.old.held.items
             result self.new.held.items (view_of self.new.source.end) }
@@ -250,7 +250,7 @@ impl Switch {
         ensures rest { (self.new.source ≡ self.old.source) × (self.new.ways ≡ self.old.ways)
             × (self.new.notes ≡ self.old.notes) }
         ensures at { IsEndAt queues.now self.new.other.index self.new.other.end }
-        ensures same { post_of self.new.other.index self.new.other.end
+        ensures handle { post_of self.new.other.index self.new.other.end
             ≡ post_of self.old.other.index self.old.other.end }
         ensures tried { Flushed 64 (view_of self.old.other.end) self.old.held.items
             result self.new.held.items (view_of self.new.other.end) }
@@ -268,7 +268,7 @@ impl Switch {
         requires fit { WaysFit queues.now self.old.ways }
         ensures rest { (self.new.source ≡ self.old.source) × (self.new.notes ≡ self.old.notes) }
         ensures at { IsEndAt queues.now self.new.other.index self.new.other.end }
-        ensures same { post_of self.new.other.index self.new.other.end
+        ensures handle { post_of self.new.other.index self.new.other.end
             ≡ post_of self.old.other.index self.old.other.end }
         ensures fit { WaysFit queues.now self.new.ways }
         ensures posts { (map way_post self.new.ways ≡ map way_post self.old.ways)

@@ -123,7 +123,7 @@ impl CookedTty {
         ensures rest { (self.new.line ≡ self.old.line) × (self.new.screen ≡ self.old.screen)
             × (self.new.notes ≡ self.old.notes) × (self.new.in_line ≡ self.old.in_line) }
         ensures at { IsEndAt queues.now self.new.raw.index self.new.raw.end }
-        ensures same { post_of self.new.raw.index self.new.raw.end
+        ensures handle { post_of self.new.raw.index self.new.raw.end
             ≡ post_of self.old.raw.index self.old.raw.end }
         ensures tried { CookedRaw (view_of self.old.raw.end) self.old.held.items result
             self.new.held.items (view_of self.new.raw.end) }
@@ -145,7 +145,7 @@ impl CookedTty {
         ensures rest { (self.new.raw ≡ self.old.raw) × (self.new.screen ≡ self.old.screen)
             × (self.new.notes ≡ self.old.notes) × (self.new.held ≡ self.old.held) }
         ensures at { IsEndAt queues.now self.new.line.index self.new.line.end }
-        ensures same { post_of self.new.line.index self.new.line.end
+        ensures handle { post_of self.new.line.index self.new.line.end
             ≡ post_of self.old.line.index self.old.line.end }
         ensures tried { TriedLine (view_of self.old.line.end) self.old.held.items
             self.old.in_line result self.new.in_line (view_of self.new.line.end) }
@@ -166,7 +166,7 @@ impl CookedTty {
         ensures rest { (self.new.raw ≡ self.old.raw) × (self.new.line ≡ self.old.line)
             × (self.new.notes ≡ self.old.notes) }
         ensures at { IsEndAt queues.now self.new.screen.index self.new.screen.end }
-        ensures same { post_of self.new.screen.index self.new.screen.end
+        ensures handle { post_of self.new.screen.index self.new.screen.end
             ≡ post_of self.old.screen.index self.old.screen.end }
         ensures tried { TriedScreen (view_of self.old.screen.end) self.old.held.items
             self.old.in_line result self.new.held.items self.new.in_line (view_of self.new.screen.end) }

@@ -61,7 +61,7 @@ pub fn count<S, V, Key, P: CountRule<S, V, Key>, J: Caller>(
     requires allowed { Allows (P.holds words.now.key) words.now.table_id.slots seat.id seat.me word (λ n. n)
         (counts (P.tallied seat.id) (step words.now.table_id.slots word 0 0 none) seat.me) }
     ensures alone { IfOk result (λ last. IsSame seat last.seat × P.tallied seat.id seat.me.0 1 last.seat.me.0) }
-    ensures others { IfErr result (λ e. (e.1 ≢ 1) × IsSame seat e.0 × (e.0.me.1 ≡ seat.me.1)
+    ensures frame { IfErr result (λ e. (e.1 ≢ 1) × IsSame seat e.0 × (e.0.me.1 ≡ seat.me.1)
         × P.tallied seat.id seat.me.0 e.1 e.0.me.0) }
 {
     let mut seat = seat;

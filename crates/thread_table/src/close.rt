@@ -101,8 +101,8 @@ impl ThreadTable {
         ensures only { IsOnlyHand hand → MatchResult result (λ c. Unit {0}) (λ e. ⊥) }
         ensures closed { IfOk result
             (λ c. ClosedNow (call_of hand) (view_of hand) c.places c.pcs c.pending c.stops) }
-        ensures steps { IfErr result (λ e. WereOpen (view_of hand) e.2.others (view_of e.1)) }
-        ensures same { IfErr result (λ e. (e.0 ≡ self) × IsSameHand hand e.1) }
+        ensures trace { IfErr result (λ e. WereOpen (view_of hand) e.2.others (view_of e.1)) }
+        ensures handle { IfErr result (λ e. (e.0 ≡ self) × IsSameHand hand e.1) }
     {
         let Hand {
             seat,

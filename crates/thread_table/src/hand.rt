@@ -126,8 +126,8 @@ impl ThreadTable {
         requires empty { (p : ℕ) → p < PROCESSORS → is_in processors p ≡ true
             → (serves (view_of hand.old) p ≡ true) × (running (view_of hand.old) p ≡ None) }
         ensures born { IsNewEnd processors (view_of hand.old) (view_of hand.new) (view_of result) }
-        ensures steps { SplitBy processors (view_of hand.old) (view_of hand.new) }
-        ensures same { IsSameHand hand.old hand.new × AreOfOneTable hand.old result }
+        ensures trace { SplitBy processors (view_of hand.old) (view_of hand.new) }
+        ensures handle { IsSameHand hand.old hand.new × AreOfOneTable hand.old result }
     {
         let mask = marks_of(processors);
         // linearization point: the number of hands becomes one more, before the new hand is made, so it is never too
@@ -148,8 +148,8 @@ impl ThreadTable {
     /// that they made, and their parts of the table. No element was held, and no processor served, by both.
     pub fn join(&self, hand: &mut Hand, other: Hand)
         requires { IsHandOf self.now hand.old × IsHandOf self.now other }
-        ensures steps { JoinedBy (view_of hand.old) (view_of other) (view_of hand.new) }
-        ensures same { IsSameHand hand.old hand.new }
+        ensures trace { JoinedBy (view_of hand.old) (view_of other) (view_of hand.new) }
+        ensures handle { IsSameHand hand.old hand.new }
     {
         let Hand {
             seat,

@@ -250,7 +250,7 @@ pub fn answers_keep()
         → SignalAnswer call v element number r w → Keeps v w }
     ensures delivers { (call element : ℕ) (v w : View) (r : Result ℕ Lost) → DeliverAnswer call v element r w
         → Keeps v w }
-    ensures steps { (call element : ℕ) (v w : View) (r : Result ℕ Spent) → DoneAnswer call v element r w
+    ensures trace { (call element : ℕ) (v w : View) (r : Result ℕ Spent) → DoneAnswer call v element r w
         → Keeps v w }
     ensures wakes { (call wait mask : ℕ) (v w : View) → WokeAll call v wait mask w → Keeps v w }
     ensures notifies { (call wait head : ℕ) (v w : View) → NotifiedNow call v wait head w → Keeps v w }

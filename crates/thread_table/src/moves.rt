@@ -51,7 +51,7 @@ fn raise<J: EventOf>(
     requires claimed { HasClaimed seat.old.me.0 ring head element × (element < ELEMENTS) × (head < last_head) }
     ensures queue { IsSame seat.old seat.new × (seat.new.me.1 ≡ seat.old.me.1) }
     ensures stands { ∥ HasStood seat.new.id seat.new.me.0 ∥₁ }
-    ensures did { (found : ℕ) × HandDid J.call seat.old.me.0 (place_word ring head) found J.event seat.new.me.0 }
+    ensures effect { (found : ℕ) × HandDid J.call seat.old.me.0 (place_word ring head) found J.event seat.new.me.0 }
     ensures held { held.new ≡ slice_set held.old element false }
 {
     let place = PlaceWord {
@@ -73,8 +73,8 @@ impl ThreadTable {
     pub fn try_ready(&self, hand: &mut Hand, element: Element) -> Result<(), MoveRefusal>
         requires table { IsHandOf self.now hand.old }
         requires holds { has (view_of hand.old) element ≡ true }
-        ensures steps { MoveAnswer (call_of hand.old) (view_of hand.old) ready_ring element result (view_of hand.new) }
-        ensures same { IsSameHand hand.old hand.new }
+        ensures trace { MoveAnswer (call_of hand.old) (view_of hand.old) ready_ring element result (view_of hand.new) }
+        ensures handle { IsSameHand hand.old hand.new }
     {
         self.move_to(hand, READY, element)
     }
@@ -88,9 +88,9 @@ impl ThreadTable {
     ) -> Result<(), MoveRefusal>
         requires table { IsHandOf self.now hand.old }
         requires holds { has (view_of hand.old) element ≡ true }
-        ensures steps { MoveAnswer (call_of hand.old) (view_of hand.old) (wait_ring wait) element result
+        ensures trace { MoveAnswer (call_of hand.old) (view_of hand.old) (wait_ring wait) element result
             (view_of hand.new) }
-        ensures same { IsSameHand hand.old hand.new }
+        ensures handle { IsSameHand hand.old hand.new }
     {
         self.move_to(hand, wait_ring(wait.number()), element)
     }
@@ -99,8 +99,8 @@ impl ThreadTable {
     pub fn try_retire(&self, hand: &mut Hand, element: Element) -> Result<(), MoveRefusal>
         requires table { IsHandOf self.now hand.old }
         requires holds { has (view_of hand.old) element ≡ true }
-        ensures steps { MoveAnswer (call_of hand.old) (view_of hand.old) free_ring element result (view_of hand.new) }
-        ensures same { IsSameHand hand.old hand.new }
+        ensures trace { MoveAnswer (call_of hand.old) (view_of hand.old) free_ring element result (view_of hand.new) }
+        ensures handle { IsSameHand hand.old hand.new }
     {
         self.move_to(hand, FREE, element)
     }
@@ -109,8 +109,8 @@ impl ThreadTable {
     fn move_to(&self, hand: &mut Hand, ring: usize, element: Element) -> Result<(), MoveRefusal>
         requires table { IsHandOf self.now hand.old × (ring < RINGS) }
         requires holds { has (view_of hand.old) element ≡ true }
-        ensures steps { MoveAnswer (call_of hand.old) (view_of hand.old) ring element result (view_of hand.new) }
-        ensures same { IsSameHand hand.old hand.new }
+        ensures trace { MoveAnswer (call_of hand.old) (view_of hand.old) ring element result (view_of hand.new) }
+        ensures handle { IsSameHand hand.old hand.new }
     {
         let number = element.number();
         // linearization point of Spent: one load suffices, since the head never goes down; the tail need not be loaded,
@@ -140,8 +140,8 @@ impl ThreadTable {
     /// The wait queue's number of notifies, by one load of its head word: a ticket for a wait.
     pub fn ticket(&self, hand: &mut Hand, wait: WaitNumber) -> u32
         requires { IsHandOf self.now hand.old }
-        ensures steps { IsTicket (view_of hand.old) wait result (view_of hand.new) }
-        ensures same { IsSameHand hand.old hand.new }
+        ensures trace { IsTicket (view_of hand.old) wait result (view_of hand.new) }
+        ensures handle { IsSameHand hand.old hand.new }
     {
         // linearization point: the number of notifies is loaded
         HeadWord::of(load_head(&self.table.shared, &mut hand.seat, wait_ring(wait.number()))).mark
@@ -159,9 +159,9 @@ impl ThreadTable {
     ) -> Result<(), MoveRefusal>
         requires table { IsHandOf self.now hand.old }
         requires holds { has (view_of hand.old) element ≡ true }
-        ensures steps { WaitAnswer (call_of hand.old) (view_of hand.old) wait element ticket result
+        ensures trace { WaitAnswer (call_of hand.old) (view_of hand.old) wait element ticket result
             (view_of hand.new) }
-        ensures same { IsSameHand hand.old hand.new }
+        ensures handle { IsSameHand hand.old hand.new }
     {
         let (number, queue) = (element.number(), wait.number());
         let ring = wait_ring(queue);

@@ -31,11 +31,11 @@ impl ThreadTable {
     ) -> Result<(), ProcessorBusy>
         requires table { IsHandOf self.now hand.old }
         requires mine { (has (view_of hand.old) element ≡ true) × (serves (view_of hand.old) processor ≡ true) }
-        ensures steps { MatchResult result
+        ensures trace { MatchResult result
             (λ done. (running (view_of hand.old) processor ≡ None)
             × PutsOn (call_of hand.old) processor element (view_of hand.old) (view_of hand.new))
             (λ busy. (running (view_of hand.old) processor ≢ None) × (view_of hand.new ≡ view_of hand.old)) }
-        ensures same { IsSameHand hand.old hand.new }
+        ensures handle { IsSameHand hand.old hand.new }
     {
         if let Some(_) = hand.running[usize::from(processor.number())] {
             return Err(ProcessorBusy);
@@ -59,11 +59,11 @@ impl ThreadTable {
     pub fn off(&self, hand: &mut Hand, processor: Processor) -> Result<Element, ProcessorEmpty>
         requires table { IsHandOf self.now hand.old }
         requires mine { serves (view_of hand.old) processor ≡ true }
-        ensures steps { MatchResult result
+        ensures trace { MatchResult result
             (λ element. (running (view_of hand.old) processor ≡ Some element)
             × TakesOff (call_of hand.old) processor element (view_of hand.old) (view_of hand.new))
             (λ empty. (running (view_of hand.old) processor ≡ None) × (view_of hand.new ≡ view_of hand.old)) }
-        ensures same { IsSameHand hand.old hand.new }
+        ensures handle { IsSameHand hand.old hand.new }
     {
         let Some(element) = hand.running[usize::from(processor.number())] else {
             return Err(ProcessorEmpty);

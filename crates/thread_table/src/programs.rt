@@ -20,8 +20,8 @@ impl ThreadTable {
     /// count a step of it before this hand's next step, so `step_done` then counts from this number.
     pub fn pc(&self, hand: &mut Hand, element: Element) -> u64
         requires { IsHandOf self.now hand.old × MayStep (view_of hand.old) element }
-        ensures steps { ReadPc element (view_of hand.old) result (view_of hand.new) }
-        ensures same { IsSameHand hand.old hand.new }
+        ensures trace { ReadPc element (view_of hand.old) result (view_of hand.new) }
+        ensures handle { IsSameHand hand.old hand.new }
     {
         // linearization point: the number of steps is loaded
         load_done::<Brand>(&self.table.shared, &mut hand.seat, element.number())
@@ -31,8 +31,8 @@ impl ThreadTable {
     /// if the element has done 4,294,967,295 steps.
     pub fn step_done(&self, hand: &mut Hand, element: Element) -> Result<u64, Spent>
         requires { IsHandOf self.now hand.old × MayStep (view_of hand.old) element }
-        ensures steps { DoneAnswer (call_of hand.old) (view_of hand.old) element result (view_of hand.new) }
-        ensures same { IsSameHand hand.old hand.new }
+        ensures trace { DoneAnswer (call_of hand.old) (view_of hand.old) element result (view_of hand.new) }
+        ensures handle { IsSameHand hand.old hand.new }
     {
         let number = element.number();
         // linearization point of Spent; the number stays until the store, since no other hand may count a step of this

@@ -44,8 +44,8 @@ impl ThreadTable {
     /// Sets the stop bit of an element, wherever it is, by one step. True if the stop bit was clear.
     pub fn stop(&self, hand: &mut Hand, element: Element) -> bool
         requires { IsHandOf self.now hand.old }
-        ensures steps { StoppedNow (call_of hand.old) (view_of hand.old) element result (view_of hand.new) }
-        ensures same { IsSameHand hand.old hand.new }
+        ensures trace { StoppedNow (call_of hand.old) (view_of hand.old) element result (view_of hand.new) }
+        ensures handle { IsSameHand hand.old hand.new }
     {
         // linearization point: the stop bit is set; one fetch-and-or sets it and finds whether it was clear
         let word = or_stop::<Brand>(&self.table.shared, &mut hand.seat, element.number());
@@ -57,8 +57,8 @@ impl ThreadTable {
     /// element was in its stop cell, the hand then holds it.
     pub fn try_start(&self, hand: &mut Hand, element: Element) -> Result<Started, Lost>
         requires { IsHandOf self.now hand.old }
-        ensures steps { StartAnswer (call_of hand.old) (view_of hand.old) element result (view_of hand.new) }
-        ensures same { IsSameHand hand.old hand.new }
+        ensures trace { StartAnswer (call_of hand.old) (view_of hand.old) element result (view_of hand.new) }
+        ensures handle { IsSameHand hand.old hand.new }
     {
         let number = element.number();
         // linearization point of NotStopped: the stop bit is clear
@@ -87,8 +87,8 @@ impl ThreadTable {
     pub fn try_park(&self, hand: &mut Hand, element: Element) -> Result<bool, Lost>
         requires table { IsHandOf self.now hand.old }
         requires holds { has (view_of hand.old) element ≡ true }
-        ensures steps { ParkAnswer (call_of hand.old) (view_of hand.old) element result (view_of hand.new) }
-        ensures same { IsSameHand hand.old hand.new }
+        ensures trace { ParkAnswer (call_of hand.old) (view_of hand.old) element result (view_of hand.new) }
+        ensures handle { IsSameHand hand.old hand.new }
     {
         let number = element.number();
         // linearization point of false: the stop bit is clear
@@ -110,9 +110,9 @@ impl ThreadTable {
     /// Makes a signal of an element pending, wherever the element is, by one step.
     pub fn signal(&self, hand: &mut Hand, element: Element, signal: Signal) -> Signalled
         requires { IsHandOf self.now hand.old }
-        ensures steps { SignalAnswer (call_of hand.old) (view_of hand.old) element signal result
+        ensures trace { SignalAnswer (call_of hand.old) (view_of hand.old) element signal result
             (view_of hand.new) }
-        ensures same { IsSameHand hand.old hand.new }
+        ensures handle { IsSameHand hand.old hand.new }
     {
         let (number, bit) = (element.number(), signal.number());
         // linearization point: the signal is pending; one fetch-and-or sets it and finds whether it was pending
@@ -128,8 +128,8 @@ impl ThreadTable {
     /// nothing, and the signals stay pending.
     pub fn pending(&self, hand: &mut Hand, element: Element) -> u16
         requires { IsHandOf self.now hand.old }
-        ensures steps { IsPending (view_of hand.old) element result (view_of hand.new) }
-        ensures same { IsSameHand hand.old hand.new }
+        ensures trace { IsPending (view_of hand.old) element result (view_of hand.new) }
+        ensures handle { IsSameHand hand.old hand.new }
     {
         // linearization point: the pending signals are loaded, all from one word
         let word = load_state(&self.table.shared, &mut hand.seat, element.number());
@@ -143,8 +143,8 @@ impl ThreadTable {
     pub fn try_deliver(&self, hand: &mut Hand, element: Element) -> Result<u16, Lost>
         requires table { IsHandOf self.now hand.old }
         requires holds { has (view_of hand.old) element ≡ true }
-        ensures steps { DeliverAnswer (call_of hand.old) (view_of hand.old) element result (view_of hand.new) }
-        ensures same { IsSameHand hand.old hand.new }
+        ensures trace { DeliverAnswer (call_of hand.old) (view_of hand.old) element result (view_of hand.new) }
+        ensures handle { IsSameHand hand.old hand.new }
     {
         let number = element.number();
         // linearization point of 0: no signal is pending

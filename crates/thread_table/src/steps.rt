@@ -149,7 +149,7 @@ pub(crate) fn store_place<J: EventOf>(
     requires claimed { HasClaimed seat.old.me.0 ring position element × (new ≡ element + 256 * (position + 1)) }
     ensures queue { IsSame seat.old seat.new × (seat.new.me.1 ≡ seat.old.me.1) }
     ensures stands { ∥ HasStood seat.new.id seat.new.me.0 ∥₁ }
-    ensures did { (found : ℕ) × HandDid J.call seat.old.me.0 (place_word ring position) found J.event seat.new.me.0 }
+    ensures effect { (found : ℕ) × HandDid J.call seat.old.me.0 (place_word ring position) found J.event seat.new.me.0 }
 {
     let _ = element;
     // a store suffices: no other hand writes a place between its claim and its raise
@@ -184,7 +184,7 @@ pub(crate) fn add_notify<J: EventOf>(words: &Words, seat: &mut Seat<(), View>, w
     requires step_outcome { (J.call ≡ seat.old.id) × (J.event ≡ events.NotifyWait seat.old.id wait) }
     ensures queue { IsSame seat.old seat.new × (seat.new.me.1 ≡ seat.old.me.1) }
     ensures stands { ∥ HasStood seat.new.id seat.new.me.0 ∥₁ }
-    ensures did { HandDid J.call seat.old.me.0 (head_word (wait_ring wait)) result J.event seat.new.me.0 }
+    ensures effect { HandDid J.call seat.old.me.0 (head_word (wait_ring wait)) result J.event seat.new.me.0 }
 {
     // the addition changes only the upper half of the word, which wraps at 2^32, and leaves the head
     words.fetch_add::<Makes<J>>(seat, head_word(wait_ring(wait)), NOTIFY)
@@ -204,7 +204,7 @@ pub(crate) fn swap_on<J: EventOf>(
         × (running seat.old.me.0 processor ≡ None) }
     ensures queue { IsSame seat.old seat.new × (seat.new.me.1 ≡ seat.old.me.1) }
     ensures stands { ∥ HasStood seat.new.id seat.new.me.0 ∥₁ }
-    ensures did { (found : ℕ) × HandDid J.call seat.old.me.0 (processor_word processor) found J.event seat.new.me.0 }
+    ensures effect { (found : ℕ) × HandDid J.call seat.old.me.0 (processor_word processor) found J.event seat.new.me.0 }
 {
     // no comparison is needed: only the hand that serves the processor writes its word, which is 0
     words.swap::<Makes<J>>(seat, processor_word(processor), element as u64 + 1);
@@ -223,7 +223,7 @@ pub(crate) fn swap_off<J: EventOf>(
         × (running seat.old.me.0 processor ≡ Some element) }
     ensures queue { IsSame seat.old seat.new × (seat.new.me.1 ≡ seat.old.me.1) }
     ensures stands { ∥ HasStood seat.new.id seat.new.me.0 ∥₁ }
-    ensures did { (found : ℕ) × HandDid J.call seat.old.me.0 (processor_word processor) found J.event seat.new.me.0 }
+    ensures effect { (found : ℕ) × HandDid J.call seat.old.me.0 (processor_word processor) found J.event seat.new.me.0 }
 {
     let _ = element;
     // no comparison is needed: only the hand that serves the processor writes its word
@@ -249,7 +249,7 @@ pub(crate) fn or_stop<J: EventOf>(words: &Words, seat: &mut Seat<(), View>, elem
     requires step_outcome { (J.call ≡ seat.old.id) × (J.event ≡ events.Stop seat.old.id element) }
     ensures queue { IsSame seat.old seat.new × (seat.new.me.1 ≡ seat.old.me.1) }
     ensures stands { ∥ HasStood seat.new.id seat.new.me.0 ∥₁ }
-    ensures did { HandDid J.call seat.old.me.0 (state_word element) result J.event seat.new.me.0 }
+    ensures effect { HandDid J.call seat.old.me.0 (state_word element) result J.event seat.new.me.0 }
 {
     words.fetch_or::<Makes<J>>(seat, state_word(element), STOP)
 }
@@ -266,7 +266,7 @@ pub(crate) fn or_signal<J: EventOf>(
     requires step_outcome { (J.call ≡ seat.old.id) × (J.event ≡ events.Signal seat.old.id element signal) × (signal < 16) }
     ensures queue { IsSame seat.old seat.new × (seat.new.me.1 ≡ seat.old.me.1) }
     ensures stands { ∥ HasStood seat.new.id seat.new.me.0 ∥₁ }
-    ensures did { HandDid J.call seat.old.me.0 (state_word element) result J.event seat.new.me.0 }
+    ensures effect { HandDid J.call seat.old.me.0 (state_word element) result J.event seat.new.me.0 }
 {
     words.fetch_or::<Makes<J>>(seat, state_word(element), 1 << signal)
 }
@@ -320,7 +320,7 @@ pub(crate) fn store_done<J: EventOf>(
     requires counted { (seat.old.me.0.own.counted ≡ Some (count_of element done)) × (done < most_done) }
     ensures queue { IsSame seat.old seat.new × (seat.new.me.1 ≡ seat.old.me.1) }
     ensures stands { ∥ HasStood seat.new.id seat.new.me.0 ∥₁ }
-    ensures did { (found : ℕ) × HandDid J.call seat.old.me.0 (done_word element) found J.event seat.new.me.0 }
+    ensures effect { (found : ℕ) × HandDid J.call seat.old.me.0 (done_word element) found J.event seat.new.me.0 }
 {
     // a store suffices: no other hand may count a step of this element
     words.store::<Stores<J>>(seat, done_word(element), done + 1);

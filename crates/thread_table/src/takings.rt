@@ -30,8 +30,8 @@ impl ThreadTable {
     /// compare-and-swap. The hand then holds the element.
     pub fn try_next(&self, hand: &mut Hand) -> Result<Element, NextRefusal>
         requires { IsHandOf self.now hand.old }
-        ensures steps { TakeAnswer (call_of hand.old) (view_of hand.old) ready_ring result (view_of hand.new) }
-        ensures same { IsSameHand hand.old hand.new }
+        ensures trace { TakeAnswer (call_of hand.old) (view_of hand.old) ready_ring result (view_of hand.new) }
+        ensures handle { IsSameHand hand.old hand.new }
     {
         self.take_first(hand, READY)
     }
@@ -39,8 +39,8 @@ impl ThreadTable {
     /// Takes the oldest of the free elements, as `try_next` does from the ready ring.
     pub fn try_free(&self, hand: &mut Hand) -> Result<Element, NextRefusal>
         requires { IsHandOf self.now hand.old }
-        ensures steps { TakeAnswer (call_of hand.old) (view_of hand.old) free_ring result (view_of hand.new) }
-        ensures same { IsSameHand hand.old hand.new }
+        ensures trace { TakeAnswer (call_of hand.old) (view_of hand.old) free_ring result (view_of hand.new) }
+        ensures handle { IsSameHand hand.old hand.new }
     {
         self.take_first(hand, FREE)
     }
@@ -48,8 +48,8 @@ impl ThreadTable {
     /// Takes the oldest element of a wait queue, as `try_next` does from the ready ring.
     pub fn try_wake(&self, hand: &mut Hand, wait: WaitNumber) -> Result<Element, NextRefusal>
         requires { IsHandOf self.now hand.old }
-        ensures steps { TakeAnswer (call_of hand.old) (view_of hand.old) (wait_ring wait) result (view_of hand.new) }
-        ensures same { IsSameHand hand.old hand.new }
+        ensures trace { TakeAnswer (call_of hand.old) (view_of hand.old) (wait_ring wait) result (view_of hand.new) }
+        ensures handle { IsSameHand hand.old hand.new }
     {
         self.take_first(hand, wait_ring(wait.number()))
     }
@@ -57,8 +57,8 @@ impl ThreadTable {
     // Takes the first element of an element queue.
     pub(crate) fn take_first(&self, hand: &mut Hand, ring: usize) -> Result<Element, NextRefusal>
         requires { IsHandOf self.now hand.old × (ring < RINGS) }
-        ensures steps { TakeAnswer (call_of hand.old) (view_of hand.old) ring result (view_of hand.new) }
-        ensures same { IsSameHand hand.old hand.new }
+        ensures trace { TakeAnswer (call_of hand.old) (view_of hand.old) ring result (view_of hand.new) }
+        ensures handle { IsSameHand hand.old hand.new }
     {
         // the tail never goes down, so a tail that is found again has not changed in between
         let tail = load_tail(&self.table.shared, &mut hand.seat, ring);

@@ -22,8 +22,8 @@ impl ThreadTable {
     /// Waits for the hands that claimed a place before the notify and have not raised it.
     pub fn wake_all<R: Wait>(&self, rt: &R, hand: &mut Hand, wait: WaitNumber) -> u64
         requires { IsHandOf self.now hand.old }
-        ensures steps { WokeAll (call_of hand.old) (view_of hand.old) wait result (view_of hand.new) }
-        ensures same { IsSameHand hand.old hand.new }
+        ensures trace { WokeAll (call_of hand.old) (view_of hand.old) wait result (view_of hand.new) }
+        ensures handle { IsSameHand hand.old hand.new }
     {
         let ring = wait_ring(wait.number());
         // linearization point of the notify: head and number of notifies are in one word, so one fetch-and-add counts
@@ -53,8 +53,8 @@ impl ThreadTable {
     /// With `try_wake_before` it wakes all and never waits: a notify, and then tries until one returns None.
     pub fn notify(&self, hand: &mut Hand, wait: WaitNumber) -> u32
         requires { IsHandOf self.now hand.old }
-        ensures steps { NotifiedNow (call_of hand.old) (view_of hand.old) wait result (view_of hand.new) }
-        ensures same { IsSameHand hand.old hand.new }
+        ensures trace { NotifiedNow (call_of hand.old) (view_of hand.old) wait result (view_of hand.new) }
+        ensures handle { IsSameHand hand.old hand.new }
     {
         // linearization point: one fetch-and-add counts the notify and finds the head
         let found = add_notify::<Brand>(&self.table.shared, &mut hand.seat, wait.number());
@@ -73,9 +73,9 @@ impl ThreadTable {
         head: u32,
     ) -> Result<Option<Element>, NextRefusal>
         requires { IsHandOf self.now hand.old }
-        ensures steps { BeforeAnswer (call_of hand.old) (view_of hand.old) (wait_ring wait) head result
+        ensures trace { BeforeAnswer (call_of hand.old) (view_of hand.old) (wait_ring wait) head result
             (view_of hand.new) }
-        ensures same { IsSameHand hand.old hand.new }
+        ensures handle { IsSameHand hand.old hand.new }
     {
         let ring = wait_ring(wait.number());
         // linearization point of None: one load suffices, since the tail never goes down

@@ -15,7 +15,7 @@ use thread_table::{Hand, ThreadTable};
 fn raise_signals(threads: &ThreadTable, hand: &mut Hand, alarms: &[Alarm])
     requires table { IsHandOf threads.now hand.old }
     ensures raised { RaisedAll (call_of hand.old) alarms.now (view_of hand.old) (view_of hand.new) }
-    ensures same { IsSameHand hand.old hand.new }
+    ensures handle { IsSameHand hand.old hand.new }
 {
     for alarm in alarms {
         threads.signal(hand, alarm.element, alarm.signal);
@@ -34,11 +34,11 @@ pub fn tend_alarms(
 ) -> Result<u32, AdvanceRefusal>
     requires table { IsHandOf threads.now hand.old }
     requires meters { IsSeatOf meters.now seat.old }
-    ensures own { DidTend result fired.new.items (seats.view_of seat.old) (seats.view_of seat.new) }
+    ensures owns { DidTend result fired.new.items (seats.view_of seat.old) (seats.view_of seat.new) }
     ensures only { OnlyAdds (signals_for fired.new.items) (view_of hand.old) (view_of hand.new) }
     ensures fired { Fires result fired.new.items (seats.view_of seat.old) (seats.view_of seat.new) }
     ensures raised { RaisedAll (call_of hand.old) fired.new.items (view_of hand.old) (view_of hand.new) }
-    ensures same { IsSameHand hand.old hand.new × IsSameSeat seat.old seat.new }
+    ensures handle { IsSameHand hand.old hand.new × IsSameSeat seat.old seat.new }
 {
     let advanced = meters.advance(seat);
     meters.take_due(seat, fired);

@@ -25,14 +25,14 @@ pub enum Counted {
 pub fn count(threads: &ThreadTable, hand: &mut Hand, element: Element, done: bool) -> Counted
     requires table { IsHandOf threads.now hand.old }
     requires mine { MayStep (view_of hand.old) element }
-    ensures keeps { Keeps (view_of hand.old) (view_of hand.new) }
+    ensures frame { Keeps (view_of hand.old) (view_of hand.new) }
     ensures holds { HoldsSame (view_of hand.old) (view_of hand.new) }
     ensures adds { AddsToTally (counted_step result element (done_at (view_of hand.old).seen.object element))
         (view_of hand.old) (view_of hand.new) }
     ensures number { IsNumber result element (view_of hand.old) (view_of hand.new) }
     ensures steady { SteadyBut element (view_of hand.old) (view_of hand.new) }
     ensures counted { CountAnswer (call_of hand.old) element done (view_of hand.old) result (view_of hand.new) }
-    ensures same { IsSameHand hand.old hand.new }
+    ensures handle { IsSameHand hand.old hand.new }
 {
     if !done {
         return Counted::Undone;

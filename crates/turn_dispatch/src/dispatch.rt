@@ -48,7 +48,7 @@ fn awake<R: Wait>(rt: &R, threads: &ThreadTable, hand: &mut Hand) -> Result<Elem
     ensures woken { MatchResult result
         (λ element. Awake (call_of hand.old) element (view_of hand.old) (view_of hand.new))
         (λ idle. WasIdle (call_of hand.old) idle (view_of hand.old) (view_of hand.new)) }
-    ensures same { IsSameHand hand.old hand.new }
+    ensures handle { IsSameHand hand.old hand.new }
 {
     let element = match threads.try_next(hand) {
         Ok(element) => element,
@@ -80,7 +80,7 @@ fn deliver(
     ensures held { has (view_of hand.new) element ≡ true }
     ensures signals { Shows (delivery element (mask_of result)) signals.old signals.new }
     ensures delivered { DeliverAnswer (call_of hand.old) (view_of hand.old) element result (view_of hand.new) }
-    ensures same { IsSameHand hand.old hand.new }
+    ensures handle { IsSameHand hand.old hand.new }
 {
     let delivered = threads.try_deliver(hand, element);
     if let Ok(mask) = delivered {
@@ -101,7 +101,7 @@ pub fn begin<R: Wait>(
     signals: &mut [u16; 64],
 ) -> Result<Begun, Idle>
     requires table { IsHandOf threads.now hand.old }
-    ensures keeps { Keeps (view_of hand.old) (view_of hand.new) }
+    ensures frame { Keeps (view_of hand.old) (view_of hand.new) }
     ensures holds { MatchResult result (λ begun. HoldsMore begun.element (view_of hand.old) (view_of hand.new))
         (λ idle. IdleHolds idle (view_of hand.old) (view_of hand.new)) }
     ensures held { IfOk result (λ begun. has (view_of hand.new) begun.element ≡ true) }
@@ -116,7 +116,7 @@ pub fn begin<R: Wait>(
     ensures begun { MatchResult result
         (λ begun. Began (call_of hand.old) begun (view_of hand.old) (view_of hand.new))
         (λ idle. WasIdle (call_of hand.old) idle (view_of hand.old) (view_of hand.new)) }
-    ensures same { IsSameHand hand.old hand.new }
+    ensures handle { IsSameHand hand.old hand.new }
 {
     let element = match awake(rt, threads, hand) {
         Ok(element) => element,

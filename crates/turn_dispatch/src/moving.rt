@@ -44,7 +44,7 @@ fn try_send(
     requires held { has (view_of hand.old) element ≡ true }
     ensures moved { MoveAnswer (call_of hand.old) (view_of hand.old) (ring_of target.now) element result
         (view_of hand.new) }
-    ensures same { IsSameHand hand.old hand.new }
+    ensures handle { IsSameHand hand.old hand.new }
 {
     match target {
         Target::Ready => threads.try_ready(hand, element),
@@ -64,7 +64,7 @@ fn send<R: Wait>(
     requires table { IsHandOf threads.now hand.old }
     requires held { has (view_of hand.old) element ≡ true }
     ensures sent { Sent (call_of hand.old) (ring_of target.now) element result (view_of hand.old) (view_of hand.new) }
-    ensures same { IsSameHand hand.old hand.new }
+    ensures handle { IsSameHand hand.old hand.new }
 {
     for _ in rt.forever() {
         match try_send(threads, hand, target, element) {
@@ -84,12 +84,12 @@ fn send<R: Wait>(
 pub fn make_ready<R: Wait>(rt: &R, threads: &ThreadTable, hand: &mut Hand, element: Element) -> bool
     requires table { IsHandOf threads.now hand.old }
     requires held { has (view_of hand.old) element ≡ true }
-    ensures keeps { Keeps (view_of hand.old) (view_of hand.new) }
+    ensures frame { Keeps (view_of hand.old) (view_of hand.new) }
     ensures holds { HoldsUnless result element (view_of hand.old) (view_of hand.new) }
     ensures adds { AddsToTally no_events (view_of hand.old) (view_of hand.new) }
     ensures steady { Steady (view_of hand.old) (view_of hand.new) }
     ensures sent { Sent (call_of hand.old) ready_ring element result (view_of hand.old) (view_of hand.new) }
-    ensures same { IsSameHand hand.old hand.new }
+    ensures handle { IsSameHand hand.old hand.new }
 {
     send(rt, threads, hand, &Target::Ready, element)
 }
@@ -98,13 +98,13 @@ pub fn make_ready<R: Wait>(rt: &R, threads: &ThreadTable, hand: &mut Hand, eleme
 pub fn retire<R: Wait>(rt: &R, threads: &ThreadTable, hand: &mut Hand, element: Element) -> bool
     requires table { IsHandOf threads.now hand.old }
     requires held { has (view_of hand.old) element ≡ true }
-    ensures keeps { Keeps (view_of hand.old) (view_of hand.new) }
+    ensures frame { Keeps (view_of hand.old) (view_of hand.new) }
     ensures holds { HoldsUnless result element (view_of hand.old) (view_of hand.new) }
     ensures adds { AddsToTally (retired result element (done_at (view_of hand.old).seen.object element)) (view_of hand.old)
         (view_of hand.new) }
     ensures steady { Steady (view_of hand.old) (view_of hand.new) }
     ensures sent { Sent (call_of hand.old) free_ring element result (view_of hand.old) (view_of hand.new) }
-    ensures same { IsSameHand hand.old hand.new }
+    ensures handle { IsSameHand hand.old hand.new }
 {
     send(rt, threads, hand, &Target::Free, element)
 }
@@ -119,12 +119,12 @@ pub fn wait_in<R: Wait>(
 ) -> bool
     requires table { IsHandOf threads.now hand.old }
     requires held { has (view_of hand.old) element ≡ true }
-    ensures keeps { Keeps (view_of hand.old) (view_of hand.new) }
+    ensures frame { Keeps (view_of hand.old) (view_of hand.new) }
     ensures holds { HoldsUnless result element (view_of hand.old) (view_of hand.new) }
     ensures adds { AddsToTally no_events (view_of hand.old) (view_of hand.new) }
     ensures steady { Steady (view_of hand.old) (view_of hand.new) }
     ensures sent { Sent (call_of hand.old) (wait_ring wait) element result (view_of hand.old) (view_of hand.new) }
-    ensures same { IsSameHand hand.old hand.new }
+    ensures handle { IsSameHand hand.old hand.new }
 {
     send(rt, threads, hand, &Target::Wait(wait), element)
 }
@@ -141,7 +141,7 @@ fn wait_or_ready<R: Wait>(
     requires table { IsHandOf threads.now hand.old }
     requires held { has (view_of hand.old) element ≡ true }
     ensures waited { WaitedAt (call_of hand.old) wait element ticket result (view_of hand.old) (view_of hand.new) }
-    ensures same { IsSameHand hand.old hand.new }
+    ensures handle { IsSameHand hand.old hand.new }
 {
     for _ in rt.forever() {
         match threads.try_wait_at(hand, element, wait, ticket) {
@@ -169,12 +169,12 @@ pub fn wait_at<R: Wait>(
 ) -> Waited
     requires table { IsHandOf threads.now hand.old }
     requires held { has (view_of hand.old) element ≡ true }
-    ensures keeps { Keeps (view_of hand.old) (view_of hand.new) }
+    ensures frame { Keeps (view_of hand.old) (view_of hand.new) }
     ensures holds { HoldsUnless (has_gone result) element (view_of hand.old) (view_of hand.new) }
     ensures adds { AddsToTally no_events (view_of hand.old) (view_of hand.new) }
     ensures steady { Steady (view_of hand.old) (view_of hand.new) }
     ensures waited { WaitedAt (call_of hand.old) wait element ticket result (view_of hand.old) (view_of hand.new) }
-    ensures same { IsSameHand hand.old hand.new }
+    ensures handle { IsSameHand hand.old hand.new }
 {
     wait_or_ready(rt, threads, hand, element, wait, ticket)
 }

@@ -16,13 +16,13 @@ pub fn put_on(threads: &ThreadTable, hand: &mut Hand, processor: Processor, elem
     requires held { has (view_of hand.old) element ≡ true }
     requires free { IsFree processor (view_of hand.old) }
     ensures there { IsOn processor element (view_of hand.new) }
-    ensures keeps { KeepsBut (slice_set (view_of hand.old).own.on processor (Some element)) (view_of hand.old)
+    ensures frame { KeepsBut (slice_set (view_of hand.old).own.on processor (Some element)) (view_of hand.old)
         (view_of hand.new) }
     ensures holds { HoldsLess element (view_of hand.old) (view_of hand.new) }
     ensures adds { AddsToTally no_events (view_of hand.old) (view_of hand.new) }
     ensures steady { Steady (view_of hand.old) (view_of hand.new) }
     ensures put { PutsOn (call_of hand.old) processor element (view_of hand.old) (view_of hand.new) }
-    ensures same { IsSameHand hand.old hand.new }
+    ensures handle { IsSameHand hand.old hand.new }
 {
     let Ok(()) = threads.on(hand, processor, element) else {
         unreachable!()
@@ -36,13 +36,13 @@ pub fn take_off(threads: &ThreadTable, hand: &mut Hand, processor: Processor) ->
     requires busy { running (view_of hand.old) processor ≢ None }
     ensures stood { running (view_of hand.old) processor ≡ Some result }
     ensures free { IsFree processor (view_of hand.new) }
-    ensures keeps { KeepsBut (slice_set (view_of hand.old).own.on processor None) (view_of hand.old)
+    ensures frame { KeepsBut (slice_set (view_of hand.old).own.on processor None) (view_of hand.old)
         (view_of hand.new) }
     ensures holds { HoldsMore result (view_of hand.old) (view_of hand.new) }
     ensures adds { AddsToTally no_events (view_of hand.old) (view_of hand.new) }
     ensures steady { Steady (view_of hand.old) (view_of hand.new) }
     ensures taken { TakesOff (call_of hand.old) processor result (view_of hand.old) (view_of hand.new) }
-    ensures same { IsSameHand hand.old hand.new }
+    ensures handle { IsSameHand hand.old hand.new }
 {
     let Ok(element) = threads.off(hand, processor) else {
         unreachable!()

@@ -42,7 +42,7 @@ fn ready_all<R: Wait>(rt: &R, threads: &ThreadTable, hand: &mut Hand, taken: u64
     requires held { CanWake taken (view_of hand.old) }
     ensures sent { AllReady (call_of hand.old) (record { taken = taken; ready = result }) (view_of hand.old) ELEMENTS
         (view_of hand.new) }
-    ensures same { IsSameHand hand.old hand.new }
+    ensures handle { IsSameHand hand.old hand.new }
 {
     let mut ready = 0;
     for number in 0..64u8 {
@@ -61,12 +61,12 @@ fn ready_all<R: Wait>(rt: &R, threads: &ThreadTable, hand: &mut Hand, taken: u64
 /// Waits for the hands that claimed a place before the notify and have not raised it.
 pub fn wake<R: Wait>(rt: &R, threads: &ThreadTable, hand: &mut Hand, wait: WaitNumber) -> Woken
     requires table { IsHandOf threads.now hand.old }
-    ensures keeps { Keeps (view_of hand.old) (view_of hand.new) }
+    ensures frame { Keeps (view_of hand.old) (view_of hand.new) }
     ensures holds { HoldsWoken result (view_of hand.old) (view_of hand.new) }
     ensures adds { AddsToTally no_events (view_of hand.old) (view_of hand.new) }
     ensures steady { Steady (view_of hand.old) (view_of hand.new) }
     ensures woken { Woke (call_of hand.old) wait result (view_of hand.old) (view_of hand.new) }
-    ensures same { IsSameHand hand.old hand.new }
+    ensures handle { IsSameHand hand.old hand.new }
 {
     let taken = threads.wake_all(rt, hand, wait);
     let ready = ready_all(rt, threads, hand, taken);
@@ -82,7 +82,7 @@ fn resume<R: Wait>(
 ) -> Result<Resumed, Lost>
     requires table { IsHandOf threads.now hand.old }
     ensures started { ResumeAnswer (call_of hand.old) element result (view_of hand.old) (view_of hand.new) }
-    ensures same { IsSameHand hand.old hand.new }
+    ensures handle { IsSameHand hand.old hand.new }
 {
     match threads.try_start(hand, element) {
         Err(lost) => Err(lost),
@@ -107,12 +107,12 @@ pub fn start<R: Wait>(
     element: Element,
 ) -> Result<Resumed, Lost>
     requires table { IsHandOf threads.now hand.old }
-    ensures keeps { Keeps (view_of hand.old) (view_of hand.new) }
+    ensures frame { Keeps (view_of hand.old) (view_of hand.new) }
     ensures holds { ResumeHolds element result (view_of hand.old) (view_of hand.new) }
     ensures adds { AddsToTally no_events (view_of hand.old) (view_of hand.new) }
     ensures steady { Steady (view_of hand.old) (view_of hand.new) }
     ensures started { ResumeAnswer (call_of hand.old) element result (view_of hand.old) (view_of hand.new) }
-    ensures same { IsSameHand hand.old hand.new }
+    ensures handle { IsSameHand hand.old hand.new }
 {
     resume(rt, threads, hand, element)
 }

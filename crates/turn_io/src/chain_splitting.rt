@@ -25,12 +25,12 @@ pub fn split_chain_ends_into(
     requires ends { AreChainEndsOf chains.now ends.old }
     requires parts { All IsChainDivisible ends.old }
     requires room { (born.items ≡ []) × (length chains.now ≤ vec_capacity born) }
-    ensures did { (chain_stakes ends.new ≡ (λ q. keep (chain_stakes ends.old q)))
+    ensures effect { (chain_stakes ends.new ≡ (λ q. keep (chain_stakes ends.old q)))
         × (chain_stakes result.items ≡ (λ q. give idle_chain (chain_stakes ends.old q))) }
     ensures split { AreChainsSplit ends.old ends.new result.items }
     ensures born { AreChainEndsOf chains.now result.items }
     ensures ends { AreChainEndsOf chains.now ends.new }
-    ensures same { AreSameChainEnds ends.old ends.new }
+    ensures handle { AreSameChainEnds ends.old ends.new }
 {
     let mut born = born;
     for i in 0..chains.len() {
@@ -49,13 +49,13 @@ pub fn split_chain_ends(
 ) -> Result<Vec<ChainEnd<AnyQuaject>>, OutOfMemory>
     requires ends { AreChainEndsOf chains.now ends.old }
     requires parts { All IsChainDivisible ends.old }
-    ensures did { IfOk result (λ born. (chain_stakes ends.new ≡ (λ q. keep (chain_stakes ends.old q)))
+    ensures effect { IfOk result (λ born. (chain_stakes ends.new ≡ (λ q. keep (chain_stakes ends.old q)))
         × (chain_stakes born.items ≡ (λ q. give idle_chain (chain_stakes ends.old q)))) }
     ensures split { IfOk result (λ born. AreChainsSplit ends.old ends.new born.items) }
     ensures born { IfOk result (λ born. AreChainEndsOf chains.now born.items) }
     ensures refused { IfErr result (λ e. ends.new ≡ ends.old) }
     ensures ends { AreChainEndsOf chains.now ends.new }
-    ensures same { AreSameChainEnds ends.old ends.new }
+    ensures handle { AreSameChainEnds ends.old ends.new }
 {
     let born = Vec::with_capacity(alloc, chains.len())?;
     Ok(split_chain_ends_into(chains, ends, born))
@@ -72,11 +72,11 @@ pub fn join_chain_ends(
 )
     requires ends { AreChainEndsOf chains.now ends.old }
     requires others { AreChainEndsOf chains.now others.items }
-    ensures did { chain_stakes ends.new
+    ensures effect { chain_stakes ends.new
         ≡ at_each (both_stakes both_chain) (chain_stakes ends.old) (chain_stakes others.items) }
     ensures joined { AreChainsJoined ends.old others.items ends.new }
     ensures ends { AreChainEndsOf chains.now ends.new }
-    ensures same { AreSameChainEnds ends.old ends.new }
+    ensures handle { AreSameChainEnds ends.old ends.new }
 {
     let mut i = 0usize;
     for other in others {

@@ -22,10 +22,10 @@ fn hear_line<const N: usize, G: Gate>(
 ) -> Result<(), TakeRefusal>
     requires queue { IsEndOf queue.now end.old }
     requires empty { line.old.items ≡ [] }
-    ensures same { IsSameEnd end.old end.new }
+    ensures handle { IsSameEnd end.old end.new }
     ensures heard { Heard line.new.items result end.old end.new }
     ensures worked { EndWorked (taken_if result line.new.items) end.old end.new }
-    ensures gate { G.observes gate.old p TakeAnswered gate.new }
+    ensures hook { G.observes gate.old p TakeAnswered gate.new }
 {
     let answer = queue.try_take_line(end, line);
     gate.between(p, Point::TakeAnswered);
@@ -51,14 +51,14 @@ pub fn hear<const N: usize, G: Gate>(
     requires ends { AreEndsOf queues.now ends.old }
     requires known { index < length queues.now }
     requires empty { line.old.items ≡ [] }
-    ensures did { queue_account ends.new
+    ensures effect { queue_account ends.new
         ≡ at_each both_queue (queue_account ends.old) (at_one idle_queue index (taken_if result line.new.items)) }
-    ensures sound { StaySound ends.old ends.new }
+    ensures frame { StaySound ends.old ends.new }
     ensures long { IfOk result (λ done. (0 < length line.new.items) × (length line.new.items ≤ N)) }
-    ensures gate { G.observes gate.old p TakeAnswered gate.new }
+    ensures hook { G.observes gate.old p TakeAnswered gate.new }
     ensures heard { OnEnd index (Heard line.new.items result) ends.old ends.new }
     ensures ends { AreEndsOf queues.now ends.new }
-    ensures same { AreSameEnds ends.old ends.new }
+    ensures handle { AreSameEnds ends.old ends.new }
 {
     hear_line(&queues[index], item_at(ends, index), line, p, gate)
 }
@@ -66,7 +66,7 @@ pub fn hear<const N: usize, G: Gate>(
 // Shuts the queue at this end.
 fn shut_end<const N: usize>(queue: &ClaimQueue<N>, end: &mut QueueEnd<N>) -> bool
     requires { IsEndOf queue.now end.old }
-    ensures same { IsSameEnd end.old end.new }
+    ensures handle { IsSameEnd end.old end.new }
     ensures shut { HasShut result end.old end.new }
     ensures worked { EndWorked (shut_if result) end.old end.new }
 {
@@ -84,12 +84,12 @@ pub fn shut_queue<const N: usize>(
 ) -> bool
     requires ends { AreEndsOf queues.now ends.old }
     requires known { index < length queues.now }
-    ensures did { queue_account ends.new
+    ensures effect { queue_account ends.new
         ≡ at_each both_queue (queue_account ends.old) (at_one idle_queue index (shut_if result)) }
-    ensures sound { StaySound ends.old ends.new }
+    ensures frame { StaySound ends.old ends.new }
     ensures shut { OnEnd index (HasShut result) ends.old ends.new }
     ensures ends { AreEndsOf queues.now ends.new }
-    ensures same { AreSameEnds ends.old ends.new }
+    ensures handle { AreSameEnds ends.old ends.new }
 {
     shut_end(&queues[index], item_at(ends, index))
 }

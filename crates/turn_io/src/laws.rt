@@ -14,6 +14,6 @@ pub fn accounts_add()
     ensures chain { AddsUp idle_chain both_chain }
     ensures stakes { AddsUp (no_stake nothing_did) (both_stakes did_both) }
     ensures chain_stakes { AddsUp (no_stake idle_chain) (both_stakes both_chain) }
-    ensures lines { (a b : Stake QueueOps)
+    ensures effect { (a b : Stake QueueOps)
         → lines_of (both_stakes did_both a b).did ≡ both_queue (lines_of a.did) (lines_of b.did) }
 {}

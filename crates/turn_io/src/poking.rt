@@ -37,11 +37,11 @@ fn poke_end<R: Wait, G: Gate>(
     requires end { IsEndOf chain.now end.old }
     requires idle { IsIdle end.old }
     requires world { world_of chain.now ≡ world.now }
-    ensures same { IsSameEnd end.old end.new }
+    ensures handle { IsSameEnd end.old end.new }
     ensures idle { IsIdle end.new }
     ensures poked { HasPoked chain.now 0 result end.old end.new }
     ensures worked { ChainEndWorked (chained_if result 0) end.old end.new }
-    ensures gate { G.observes gate.old p points.Chained gate.new }
+    ensures hook { G.observes gate.old p points.Chained gate.new }
 {
     let answer = chain.try_chain(end, POKED);
     gate.between(p, Point::Chained);
@@ -75,13 +75,13 @@ pub fn poke<R: Wait, G: Gate>(
     requires ends { AreChainEndsOf chains.now ends.old }
     requires known { index < length chains.now }
     requires world { AreChainsOver world.now chains.now }
-    ensures did { chain_account ends.new
+    ensures effect { chain_account ends.new
         ≡ at_each both_chain (chain_account ends.old) (at_one idle_chain index (chained_if result 0)) }
     ensures shares { chain_shares ends.new ≡ chain_shares ends.old }
-    ensures gate { G.observes gate.old p points.Chained gate.new }
+    ensures hook { G.observes gate.old p points.Chained gate.new }
     ensures poked { PokedAt chains.now index 0 result ends.old ends.new }
     ensures ends { AreChainEndsOf chains.now ends.new }
-    ensures same { AreSameChainEnds ends.old ends.new }
+    ensures handle { AreSameChainEnds ends.old ends.new }
 {
     poke_end(rt, world, &chains[index], item_at(ends, index), p, gate)
 }

@@ -16,11 +16,11 @@ use claim_queue::{Claim, ClaimQueue, ClaimRefusal, QueueEnd};
 // Raises all items of a run that was just claimed.
 fn raise_all<const N: usize>(queue: &ClaimQueue<N>, end: &mut QueueEnd<N>, claim: &mut Claim<N>)
     requires queue { IsEndOf queue.now end.old }
-    requires own { Owns (view_of end.old) claim.old.start claim.old.items.items 0 × (claim.old.raised ≡ 0) }
-    ensures own { Owns (view_of end.new) claim.old.start claim.old.items.items (length claim.old.items.items) }
+    requires owns { Owns (view_of end.old) claim.old.start claim.old.items.items 0 × (claim.old.raised ≡ 0) }
+    ensures owns { Owns (view_of end.new) claim.old.start claim.old.items.items (length claim.old.items.items) }
     ensures raised { RaisedFrom N claim.old.start claim.old.items.items (view_of end.old) (view_of end.new)
         (length claim.old.items.items) }
-    ensures same { IsSameEnd end.old end.new }
+    ensures handle { IsSameEnd end.old end.new }
 {
     for i in 0..claim.items().len() {
         let _raised = queue.raise_next(end, claim);
@@ -36,10 +36,10 @@ fn say_line<const N: usize, G: Gate>(
     gate: &mut G,
 ) -> Result<(), ClaimRefusal>
     requires { IsEndOf queue.now end.old }
-    ensures same { IsSameEnd end.old end.new }
+    ensures handle { IsSameEnd end.old end.new }
     ensures said { Said line.now result end.old end.new }
     ensures worked { EndWorked (put_if result line.now) end.old end.new }
-    ensures gate { HookSawSay G.observes p result gate.old gate.new }
+    ensures hook { HookSawSay G.observes p result gate.old gate.new }
 {
     match queue.try_claim(end, line) {
         Ok(mut claim) => {
@@ -67,13 +67,13 @@ pub fn say<const N: usize, G: Gate>(
 ) -> Result<(), ClaimRefusal>
     requires ends { AreEndsOf queues.now ends.old }
     requires known { index < length queues.now }
-    ensures did { queue_account ends.new
+    ensures effect { queue_account ends.new
         ≡ at_each both_queue (queue_account ends.old) (at_one idle_queue index (put_if result line.now)) }
-    ensures sound { StaySound ends.old ends.new }
-    ensures gate { HookSawSay G.observes p result gate.old gate.new }
+    ensures frame { StaySound ends.old ends.new }
+    ensures hook { HookSawSay G.observes p result gate.old gate.new }
     ensures said { OnEnd index (Said line.now result) ends.old ends.new }
     ensures ends { AreEndsOf queues.now ends.new }
-    ensures same { AreSameEnds ends.old ends.new }
+    ensures handle { AreSameEnds ends.old ends.new }
 {
     say_line(&queues[index], item_at(ends, index), line, p, gate)
 }

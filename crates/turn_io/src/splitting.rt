@@ -24,12 +24,12 @@ pub fn split_ends_into<const N: usize>(
     requires ends { AreEndsOf queues.now ends.old }
     requires parts { All IsDivisible ends.old }
     requires room { (born.items ≡ []) × (length queues.now ≤ vec_capacity born) }
-    ensures did { (stakes ends.new ≡ (λ q. keep (stakes ends.old q)))
+    ensures effect { (stakes ends.new ≡ (λ q. keep (stakes ends.old q)))
         × (stakes result.items ≡ (λ q. give nothing_did (stakes ends.old q))) }
     ensures split { AreSplit ends.old ends.new result.items }
     ensures born { AreEndsOf queues.now result.items }
     ensures ends { AreEndsOf queues.now ends.new }
-    ensures same { AreSameEnds ends.old ends.new }
+    ensures handle { AreSameEnds ends.old ends.new }
 {
     let mut born = born;
     for i in 0..queues.len() {
@@ -48,13 +48,13 @@ pub fn split_ends<const N: usize>(
 ) -> Result<Vec<QueueEnd<N>>, OutOfMemory>
     requires ends { AreEndsOf queues.now ends.old }
     requires parts { All IsDivisible ends.old }
-    ensures did { IfOk result (λ born. (stakes ends.new ≡ (λ q. keep (stakes ends.old q)))
+    ensures effect { IfOk result (λ born. (stakes ends.new ≡ (λ q. keep (stakes ends.old q)))
         × (stakes born.items ≡ (λ q. give nothing_did (stakes ends.old q)))) }
     ensures split { IfOk result (λ born. AreSplit ends.old ends.new born.items) }
     ensures born { IfOk result (λ born. AreEndsOf queues.now born.items) }
     ensures refused { IfErr result (λ e. ends.new ≡ ends.old) }
     ensures ends { AreEndsOf queues.now ends.new }
-    ensures same { AreSameEnds ends.old ends.new }
+    ensures handle { AreSameEnds ends.old ends.new }
 {
     let born = Vec::with_capacity(alloc, queues.len())?;
     Ok(split_ends_into(queues, ends, born))
@@ -71,10 +71,10 @@ pub fn join_ends<const N: usize>(
 )
     requires ends { AreEndsOf queues.now ends.old }
     requires others { AreEndsOf queues.now others.items }
-    ensures did { stakes ends.new ≡ at_each (both_stakes did_both) (stakes ends.old) (stakes others.entry.items) }
+    ensures effect { stakes ends.new ≡ at_each (both_stakes did_both) (stakes ends.old) (stakes others.entry.items) }
     ensures joined { AreJoined ends.old others.entry.items ends.new }
     ensures ends { AreEndsOf queues.now ends.new }
-    ensures same { AreSameEnds ends.old ends.new }
+    ensures handle { AreSameEnds ends.old ends.new }
 {
     let mut i = 0usize;
     for other in others {

@@ -86,7 +86,7 @@ hear q
 
 /// The station, whose hand serves this processor, with no element on it.
 fn freed<R: Abort>(rt: &R, station: Station, p: Processor) -> Station
-    ensures same { result.parts ≡ station.parts }
+    ensures frame { result.parts ≡ station.parts }
     ensures free { IsFree p (view_of result.parts.hand) }
 {
     let parts = station.into_parts();

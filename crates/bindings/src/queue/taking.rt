@@ -39,7 +39,7 @@ pub fn take_up_to<const N: usize>(
     ensures number { result.0 ≤ length out.old }
     ensures rest { IsKeptFrom result.0 out.old out.new }
     ensures taken { TookSome N (view_of end.old) (take result.0 out.new) (length out.old) result.1 (view_of end.new) }
-    ensures same { IsSameEnd end.old end.new }
+    ensures handle { IsSameEnd end.old end.new }
 {
     for i in 0..out.len() {
         match queue.try_take(end) {

@@ -23,7 +23,7 @@ fn join_port<const N: usize>(
 )
     requires ends { AreEndsOf queues.now ends.old }
     requires fits { AllFit queues.now (port ∷ []) }
-    ensures same { AreSameEnds ends.old ends.new }
+    ensures handle { AreSameEnds ends.old ends.new }
     ensures gained { Gained (port.entry ∷ []) ends.old ends.new }
 {
     match port {
@@ -41,7 +41,7 @@ fn join_ports<const N: usize, const K: usize>(
     requires few { K ≤ 6 }
     requires ends { AreEndsOf queues.now ends.old }
     requires fits { AllFit queues.now ports }
-    ensures same { AreSameEnds ends.old ends.new }
+    ensures handle { AreSameEnds ends.old ends.new }
     ensures gained { Gained ports.entry ends.old ends.new }
 {
     for port in ports {
@@ -63,7 +63,7 @@ pub fn bring_home(
     requires small { AreEndsOf queues.now.small.items small.old }
     requires large { AreEndsOf queues.now.large.items large.old }
     requires fits { FitsHome queues.now home }
-    ensures same { AreSameEnds small.old small.new × AreSameEnds large.old large.new }
+    ensures handle { AreSameEnds small.old small.new × AreSameEnds large.old large.new }
     ensures small { AreEndsOf queues.now.small.items small.new }
     ensures large { AreEndsOf queues.now.large.items large.new }
     ensures small_gained { Gained home.small small.old small.new }
@@ -91,7 +91,7 @@ pub fn bring_all_home(
     requires large { AreEndsOf queues.now.large.items large.old }
     requires fits { All (FitsHome queues.now) homes.items }
     requires room { (counts.items ≡ []) × (length homes.items ≤ vec_capacity counts) }
-    ensures same { AreSameEnds small.old small.new × AreSameEnds large.old large.new }
+    ensures handle { AreSameEnds small.old small.new × AreSameEnds large.old large.new }
     ensures small { AreEndsOf queues.now.small.items small.new }
     ensures large { AreEndsOf queues.now.large.items large.new }
     ensures small_gained { Gained (small_ports homes.items) small.old small.new }
@@ -129,7 +129,7 @@ pub fn close_chains(
     requires counts_room { (counts.items ≡ []) × (length chains.items ≤ vec_capacity counts) }
     ensures homes { HaveRetired chains.items ends.items (homes_in result.items) }
     ensures few { All IsFew (homes_in result.items) }
-    ensures same { AreSameEnds small.old small.new × AreSameEnds large.old large.new }
+    ensures handle { AreSameEnds small.old small.new × AreSameEnds large.old large.new }
     ensures small { AreEndsOf queues.now.small.items small.new }
     ensures large { AreEndsOf queues.now.large.items large.new }
     ensures small_gained { Gained (small_ports (homes_in result.items)) small.old small.new }

@@ -25,7 +25,7 @@ pub fn join_at<const N: usize>(
 )
     requires ends { AreEndsOf queues.now ends.old }
     requires other { IsEndAt queues.now index other }
-    ensures same { AreSameEnds ends.old ends.new }
+    ensures handle { AreSameEnds ends.old ends.new }
     ensures ends { AreEndsOf queues.now ends.new }
     ensures joined { OnEnd index (λ old new. IsJoined old new other.entry) ends.old ends.new }
     ensures gained { Gained (Some (port_of index other.entry) ∷ []) ends.old ends.new }
@@ -43,7 +43,7 @@ fn join_port_in<const N: usize>(
 )
     requires ends { AreEndsOf queues.now ends.old }
     requires other { IsEndAt queues.now index port.end }
-    ensures same { AreSameEnds ends.old ends.new }
+    ensures handle { AreSameEnds ends.old ends.new }
     ensures ends { AreEndsOf queues.now ends.new }
     ensures joined { OnEnd index (λ old new. IsJoined old new port.entry.end) ends.old ends.new }
     ensures gained { Gained (Some (port_of index port.entry.end) ∷ []) ends.old ends.new }
@@ -61,7 +61,7 @@ pub fn join_port_at<const N: usize>(
 )
     requires ends { AreEndsOf queues.now ends.old }
     requires other { IsEndAt queues.now port.index port.end }
-    ensures same { AreSameEnds ends.old ends.new }
+    ensures handle { AreSameEnds ends.old ends.new }
     ensures ends { AreEndsOf queues.now ends.new }
     ensures joined { OnEnd port.entry.index (λ old new. IsJoined old new port.entry.end) ends.old ends.new }
     ensures gained { Gained (Some port.entry ∷ []) ends.old ends.new }
@@ -83,7 +83,7 @@ pub fn join_chain_at(
     requires ends { AreChainEndsOf chains.now ends.old }
     requires other { IsChainEndAt chains.now index other }
     requires idle { turn_of other ≡ false }
-    ensures same { AreSameChainEnds ends.old ends.new }
+    ensures handle { AreSameChainEnds ends.old ends.new }
     ensures ends { AreChainEndsOf chains.now ends.new }
     ensures joined { OnEnd index (λ old new. IsChainJoined old new other) ends.old ends.new }
     ensures gained { ChainsGained (at_one (no_stake idle_queue) index (note_stake other)) ends.old ends.new }

@@ -29,7 +29,7 @@ use std::alloc::Global;
 
 /// No word is left; else UnknownWord.
 pub(crate) fn no_more(words: &Words) -> Result<(), ScriptRefusal>
-    ensures exact { result ≡ no_more_of words.now }
+    ensures result { result ≡ no_more_of words.now }
     ensures refused { IfErr result (λ refusal. refusal ≡ ScriptRefusal.UnknownWord) }
 {
     if words.is_done() {

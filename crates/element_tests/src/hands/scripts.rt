@@ -46,7 +46,7 @@ pub(crate) enum Act {
 fn freed(threads: &ThreadTable, hand: &mut Hand) -> Option<Element>
     requires { IsHandOf threads.now hand.old }
     ensures held { IfSome result (λ element. has (view_of hand.new) element ≡ true) }
-    ensures same { IsSameHand hand.old hand.new }
+    ensures handle { IsSameHand hand.old hand.new }
 {
     let Ok(element) = threads.try_free(hand) else {
         return None;
@@ -62,7 +62,7 @@ fn freed(threads: &ThreadTable, hand: &mut Hand) -> Option<Element>
 fn begun<R: Wait>(rt: &R, threads: &ThreadTable, hand: &mut Hand) -> Option<(Element, u64)>
     requires { IsHandOf threads.now hand.old }
     ensures held { IfSome result (λ r. has (view_of hand.new) r.0 ≡ true) }
-    ensures same { IsSameHand hand.old hand.new }
+    ensures handle { IsSameHand hand.old hand.new }
 {
     let mut signals = [0; 64];
     match begin(rt, threads, hand, &mut signals) {

@@ -34,7 +34,7 @@ fn turn<R: Wait>(
         (λ r. AddsToTally (followed_by (one_delivery r.0.element (mask_of r.0.delivered)) (followed_by (one_signal r.0.element signal)
         (counted_step r.1 r.0.element r.0.number))) (view_of hand.old) (view_of hand.new))
         (λ idle. AddsToTally no_events (view_of hand.old) (view_of hand.new)) }
-    ensures same { IsSameHand hand.old hand.new }
+    ensures handle { IsSameHand hand.old hand.new }
 {
     let begun = match begin(rt, threads, hand, signals) {
         Ok(begun) => begun,

@@ -24,7 +24,7 @@ fn wake_and_take_off<R: Wait>(
     requires table { IsHandOf table.now hand.old }
     requires mine { serves (view_of hand.old) processor ≡ true }
     ensures stood { IfOk result.1 (λ element. running (view_of hand.old) processor ≡ Some element) }
-    ensures same { IsSameHand hand.old hand.new }
+    ensures handle { IsSameHand hand.old hand.new }
 {
     let woken = table.wake_all(rt, hand, wait);
     (woken, table.off(hand, processor))
@@ -41,7 +41,7 @@ fn look_and_take_off(
     requires table { IsHandOf table.now hand.old }
     requires mine { serves (view_of hand.old) processor ≡ true }
     ensures stood { IfOk result.1 (λ element. running (view_of hand.old) processor ≡ Some element) }
-    ensures same { IsSameHand hand.old hand.new }
+    ensures handle { IsSameHand hand.old hand.new }
 {
     let pending = table.pending(hand, element);
     (pending, table.off(hand, processor))
@@ -56,7 +56,7 @@ fn notify_and_try(
     requires table { IsHandOf table.now hand.old }
     ensures taken { IfOk result (λ woken. IfSome woken (λ element. (has (view_of hand.old) element ≡ false)
         × (has (view_of hand.new) element ≡ true))) }
-    ensures same { IsSameHand hand.old hand.new }
+    ensures handle { IsSameHand hand.old hand.new }
 {
     let head = table.notify(hand, wait);
     table.try_wake_before(hand, wait, head)
@@ -67,7 +67,7 @@ fn count_on(table: &ThreadTable, hand: &mut Hand, element: Element) -> (u64, Res
     requires table { IsHandOf table.now hand.old }
     requires mine { has (view_of hand.old) element ≡ true }
     ensures counted { IfOk result.1 (λ number. number ≡ result.0 + 1) }
-    ensures same { IsSameHand hand.old hand.new }
+    ensures handle { IsSameHand hand.old hand.new }
 {
     let count = table.pc(hand, element);
     (count, table.step_done(hand, element))

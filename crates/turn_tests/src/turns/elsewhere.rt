@@ -74,7 +74,7 @@ fn run_beside<R: Abort + Wait>(
     turns: u32,
     shuts: bool,
 ) -> (Station, Station)
-    requires manned { IsRunnable shared.now one.1 one.0.parts }
+    requires station { IsRunnable shared.now one.1 one.0.parts }
     requires parts { ArePartsOf shared.now other.parts }
     ensures { ArePartsOf shared.now result.0.parts × ArePartsOf shared.now result.1.parts }
 {

@@ -46,7 +46,7 @@ fn stand_pumped<R: Abort + Wait>(
     p: Processor,
     at: u32,
 ) -> (Shared, Station, ChainEnd<AnyQuaject>)
-    ensures manned { IsRunnable result.0 p result.1.parts }
+    ensures station { IsRunnable result.0 p result.1.parts }
     ensures one { length result.0.chains.items ≡ 1 }
     ensures other { All (λ chain. chain_end_table result.2 ≡ chain_table chain) result.0.chains.items
         × IsIdle result.2 }

@@ -21,7 +21,7 @@ fn split_for<R: Abort>(
     requires divisible { AreDivisible station.parts }
     ensures heard { result.0.parts.heard ≡ station.parts.heard }
     ensures parts { ArePartsOf shared.now result.0.parts }
-    ensures manned { IsRunnable shared.now q result.1.parts }
+    ensures station { IsRunnable shared.now q result.1.parts }
 {
     let mut station = freed(rt, station, q);
     let Ok(other) = station.split(alloc, shared, 1 << q.number()) else {

@@ -26,7 +26,7 @@ returns-then-look-clause-refused c = let is : c.min-most.result ≡ min (length 
 
 pub returns-then-end-head-clause-error : goal.returns-then-end-head-clause-error
 returns-then-end-head-clause-error c = let is : c.min-most.result ≡ min (length c.args.items.now) c.args.room = search rules in let h = c.if-head-ge-SHUT.false in let p = c.if-new-ge-POSITIONS.false in let f = c.load_head-head.ensures.found in let l = c.look_free-look.ensures in let y = subst (λ (z : ℕ). LookedFree c.args.room (c.load_head-head.result + z) c.look_free-look.result.free c.look_free-look.result.moved c.load_head-head.new.seat.me.0 c.look_free-look.new.seat.me.0) is l.trace in let least = c.requires.least in let some = least.0 in let few = least.1 in let e : c.min-end.result ≡ min (c.load_head-head.result + c.min-most.result) (c.look_free-look.result.free + c.args.room) = search rules in let over = c.if-end-head.true in
-    (omega arith, was_full c.args.room _ c.args.least _ _ _ _ _ _ f y (omega arith) (omega arith) (l.exact c.if-look.false (omega arith) (let n = near c.args.room _ c.args.least _ _ _ _ _ _ f y (omega arith) (omega arith) (omega arith) c.requires.queue.rooms in omega arith)))
+    (omega arith, was_full c.args.room _ c.args.least _ _ _ _ _ _ f y (omega arith) (omega arith) (l.result c.if-look.false (omega arith) (let n = near c.args.room _ c.args.least _ _ _ _ _ _ f y (omega arith) (omega arith) (omega arith) c.requires.queue.rooms in omega arith)))
 
 pub returns-then-end-head-clause-shut : goal.returns-then-end-head-clause-shut
 returns-then-end-head-clause-shut c = let h = c.if-head-ge-SHUT.false in λ shut. still_shut _ _ _ c.load_head-head.ensures.found (omega arith) shut

@@ -14,8 +14,8 @@ returns-then-found-free-clause-trace c = helped_by _ _ _ _ _ _ _ c.walk-to.ensur
 pub returns-clause-trace : goal.returns-clause-trace
 returns-clause-trace c = overtaken_by _ _ _ _ _ _ _ c.walk-to.ensures.trace c.move_free-found.ensures.trace (c.move_free-found.ensures.miss c.if-found-free.false).0
 
-pub returns-then-found-free-clause-exact : goal.returns-then-found-free-clause-exact
-returns-then-found-free-clause-exact c = let w = c.walk-to.ensures in let m = c.move_free-found.ensures in
+pub returns-then-found-free-clause-result : goal.returns-then-found-free-clause-result
+returns-then-found-free-clause-result c = let w = c.walk-to.ensures in let m = c.move_free-found.ensures in
     λ still below. exact_help c.args.room c.args.free c.walk-to.result _ _ _ _ _ w.trace.made (subst (λ (z : EndRecord). Performed c.walk-to.new.seat.me.0 (m.trace.last ∷ []) z c.move_free-found.new.seat.me.0) w.trace.made.did m.trace.made) (m.hit c.if-found-free.true).0 (w.stopped refl refl below)
 
 pub returns-clause-passed : goal.returns-clause-passed

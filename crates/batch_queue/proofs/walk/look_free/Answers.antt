@@ -9,8 +9,8 @@ returns-then-new-free-clause-trace c = looked_once _ _ _ _ _ c.load_free-free.en
 pub returns-clause-trace : goal.returns-clause-trace
 returns-clause-trace c = let f = c.if-new-free.false in looked_help _ _ _ _ _ _ _ _ c.load_free-free.ensures.found (omega arith) c.help.ensures.trace
 
-pub returns-clause-exact : goal.returns-clause-exact
-returns-clause-exact c = let f = c.load_free-free.ensures in let g = f.found.grows.freed in let is = f.free.0 in λ still full near. exact_look c.args.room c.args.new _ _ false _ _ _ f.found (c.help.ensures.exact still (omega arith))
+pub returns-clause-result : goal.returns-clause-result
+returns-clause-result c = let f = c.load_free-free.ensures in let g = f.found.grows.freed in let is = f.free.0 in λ still full near. exact_look c.args.room c.args.new _ _ false _ _ _ f.found (c.help.ensures.result still (omega arith))
 
 pub help-requires-clause-started : goal.help-requires-clause-started
 help-requires-clause-started c = none_given _ _ _ c.load_free-free.ensures.found

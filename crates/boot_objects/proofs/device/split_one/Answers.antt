@@ -7,8 +7,8 @@ returns-clause-idle c = let s = c.split.ensures in let was = c.requires.idle in 
   record {
     its = s.ends.0;
     idle = (s.turns.0.0 ∙ was.idle.0, s.turns.0.1 ∙ was.idle.1);
-    puts = s.notes.puts ∙ was.puts;
-    takes = s.notes.takes ∙ was.takes;
+    puts = s.effect.puts ∙ was.puts;
+    takes = s.effect.takes ∙ was.takes;
   },
   record {
     its = s.ends.1;

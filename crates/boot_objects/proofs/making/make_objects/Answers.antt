@@ -18,8 +18,8 @@ returns-in-Ok-clause-parts c = let e = c.in-Ok.ensures.ends in let s = c.in_ok-q
 pub returns-in-Ok-clause-hand : goal.returns-in-Ok-clause-hand
 returns-in-Ok-clause-hand c = let n = c.in_ok-threads.ensures in subst (λ (z : Hand). IsFirstHand c.in_ok-threads.threads z) (sym c.in-Ok.ensures.ends.0) (first_hand c.in_ok-threads.threads c.in_ok-threads.hand n.1 n.2)
 
-pub returns-in-Ok-clause-did : goal.returns-in-Ok-clause-did
-returns-in-Ok-clause-did c = let e = c.in-Ok.ensures.ends in let s = c.in_ok-queues.ensures in let made = c.in_ok-queues.field-0 in let n = c.in_ok-threads.ensures in let m = c.in_ok-meters.ensures in
+pub returns-in-Ok-clause-effect : goal.returns-in-Ok-clause-effect
+returns-in-Ok-clause-effect c = let e = c.in-Ok.ensures.ends in let s = c.in_ok-queues.ensures in let made = c.in_ok-queues.field-0 in let n = c.in_ok-threads.ensures in let m = c.in_ok-meters.ensures in
     did_nothing made.queues made.chains.items c.in_ok-threads.threads c.in_ok-meters.meters c.in-Ok.station.parts
     (subst (λ z. IsStock made.queues.small.items z.items) (sym e.1) s.small_stock) (subst (λ z. IsStock made.queues.large.items z.items) (sym e.2) s.large_stock) (subst (λ z. IsChainStock made.chains.items z.items) (sym e.3) s.chain_stock)
     (subst (λ (z : Hand). IsFirstHand c.in_ok-threads.threads z) (sym e.0) (first_hand c.in_ok-threads.threads c.in_ok-threads.hand n.1 n.2))

@@ -12,13 +12,13 @@ loop-known-preserved c =
     let other = ap (bytes_eq c.args.word.now) (sym w) ∙ (sym c.same_word.ensures ∙ c.if-same_word.false) in
     sym (word_more c.args.word.now boot_words c.loop-known.known-index Queue c.loop-known-test.true other) ∙ c.loop-known.invariant
 
-pub returns-then-same_word-clause-exact : goal.returns-then-same_word-clause-exact
+pub returns-then-same_word-clause-result : goal.returns-then-same_word-clause-result
 unfolding boot_words
-returns-then-same_word-clause-exact c =
+returns-then-same_word-clause-result c =
     let w : c.word.result.now ≡ boot_word (get_or boot_words c.loop-known.known-index Queue) = c.word.ensures in
     let same = ap (bytes_eq c.args.word.now) (sym w) ∙ (sym c.same_word.ensures ∙ c.if-same_word.true) in
     sym (word_here c.args.word.now boot_words c.loop-known.known-index Queue c.loop-known-test.true same) ∙ c.loop-known.invariant
 
-pub returns-clause-exact : goal.returns-clause-exact
+pub returns-clause-result : goal.returns-clause-result
 unfolding boot_words
-returns-clause-exact c = sym (word_nowhere c.args.word.now boot_words c.loop-known.known-index c.loop-known-test.false) ∙ c.loop-known.invariant
+returns-clause-result c = sym (word_nowhere c.args.word.now boot_words c.loop-known.known-index c.loop-known-test.false) ∙ c.loop-known.invariant

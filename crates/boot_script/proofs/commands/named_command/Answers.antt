@@ -12,13 +12,13 @@ loop-command-preserved c =
     let other = ap (bytes_eq c.args.word.now) (sym w) ∙ (sym c.eq.ensures ∙ c.if-eq.false) in
     sym (named_more c.args.word.now commands c.loop-command.command-index Queue c.loop-command-test.true other) ∙ c.loop-command.invariant
 
-pub returns-then-eq-clause-exact : goal.returns-then-eq-clause-exact
+pub returns-then-eq-clause-result : goal.returns-then-eq-clause-result
 unfolding commands
-returns-then-eq-clause-exact c =
+returns-then-eq-clause-result c =
     let w : c.word.result.now ≡ command_word (get_or commands c.loop-command.command-index Queue) = c.word.ensures in
     let same = ap (bytes_eq c.args.word.now) (sym w) ∙ (sym c.eq.ensures ∙ c.if-eq.true) in
     sym (named_here c.args.word.now commands c.loop-command.command-index Queue c.loop-command-test.true same) ∙ c.loop-command.invariant
 
-pub returns-clause-exact : goal.returns-clause-exact
+pub returns-clause-result : goal.returns-clause-result
 unfolding commands
-returns-clause-exact c = sym (named_nowhere c.args.word.now commands c.loop-command.command-index c.loop-command-test.false) ∙ c.loop-command.invariant
+returns-clause-result c = sym (named_nowhere c.args.word.now commands c.loop-command.command-index c.loop-command-test.false) ∙ c.loop-command.invariant

@@ -18,5 +18,5 @@ loop-served-preserved g c = record {
   fits = search rules;
   chained = search rules;
   done = served_more c.args.chain.now c.args.line c.args.tty c.loop-served._served c.next_byte-byte.result c.interrupt-put.result c.loop-served.line c.next_byte-byte.new.line c.loop-served.tty c.interrupt-put.new.self
-      c.loop-served.invariant.done c.next_byte-byte.ensures.received.0 c.interrupt-put.ensures.same.1 c.interrupt-put.ensures.put c.interrupt-put.ensures.lines c.interrupt-put.ensures.overruns c.interrupt-put.ensures.same.2 c.interrupt-put.ensures.noted;
+      c.loop-served.invariant.done c.next_byte-byte.ensures.received.0 c.interrupt-put.ensures.handle.1 c.interrupt-put.ensures.put c.interrupt-put.ensures.effect c.interrupt-put.ensures.overruns c.interrupt-put.ensures.handle.2 c.interrupt-put.ensures.noted;
 }

@@ -43,7 +43,7 @@ loop-gate-preserved g c =
       rest = let r = v.rest in grind rules;
       few = grind rules;
       parts = c.post.ensures.parts;
-      split = can_split (into_iter_len c.next.new.self) c.loop-gate.station.parts c.post.new.station.parts post.kept_are c.post.ensures.same (subst (λ (k : ℕ). CanSplit k c.loop-gate.station.parts) one v.split);
+      split = can_split (into_iter_len c.next.new.self) c.loop-gate.station.parts c.post.new.station.parts post.kept_are c.post.ensures.handle (subst (λ (k : ℕ). CanSplit k c.loop-gate.station.parts) one v.split);
       free = λ k past. still_free c.loop-gate.number c.loop-gate.station.parts c.post.new.station.parts post.station.parts post.split v.free k (omega arith);
       none_on = λ none. ap (λ (w : View). w.own.on) post.split.hand.acts.has ∙ v.none_on none;
       prepared = λ plan h. still_prepared c.loop-gate.number c.loop-gate.station.parts c.post.new.station.parts post.station.parts post.split post.did plan (v.prepared plan h);

@@ -7,7 +7,7 @@ returns-clause-heard g c =
     subst (λ (z : List ℕ). OnEnd c.args.at (Heard z c.hear-answer.result) c.args.small.now c.hear-answer.new.ends)
     (sym (c.copy.ensures ∙ c.as_slice-2.ensures.value)) c.hear-answer.ensures.heard
 
-pub returns-clause-did : goal.returns-clause-did
-returns-clause-did g c =
+pub returns-clause-effect : goal.returns-clause-effect
+returns-clause-effect g c =
     subst (λ (z : List ℕ). queue_account c.hear-answer.new.ends ≡ at_each both_queue (queue_account c.args.small.now) (at_one idle_queue c.args.at (taken_if c.hear-answer.result z)))
-    (sym (c.copy.ensures ∙ c.as_slice-2.ensures.value)) c.hear-answer.ensures.did
+    (sym (c.copy.ensures ∙ c.as_slice-2.ensures.value)) c.hear-answer.ensures.effect

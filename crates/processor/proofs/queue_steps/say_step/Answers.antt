@@ -11,8 +11,8 @@ returns-in-Put-clause-queues g c = (
       (c.as_slice.ensures.value ∙ c.write_line.ensures) c.in-Put.ensures.said,
 )
 
-pub returns-in-Put-clause-did : goal.returns-in-Put-clause-did
-returns-in-Put-clause-did g c =
+pub returns-in-Put-clause-effect : goal.returns-in-Put-clause-effect
+returns-in-Put-clause-effect g c =
     subst (λ (z : List ℕ). DidAt c.args.queue (put_if {A = Unit {0}} {E = ClaimRefusal} (Ok tt) z) c.args.small.now c.try_say-answer.new.small c.args.large.now c.try_say-answer.new.large)
     (c.as_slice.ensures.value ∙ c.write_line.ensures) c.in-Put.ensures.did
 

@@ -18,7 +18,7 @@ returns-clause-held g c =
     let e = c.args.element in
     let after = view_of c.count_step-tried.new.hand in
     let w = view_of c.take_off.new.hand in
-    let runs : running after p ≡ Some e = ap (λ xs. get_or xs p None) (c.count_step-tried.ensures.keeps.on ∙ c.do_step-attempt.ensures.acts.keeps.on) ∙ c.seat-seated.ensures.there.1 in
+    let runs : running after p ≡ Some e = ap (λ xs. get_or xs p None) (c.count_step-tried.ensures.frame.on ∙ c.do_step-attempt.ensures.acts.keeps.on) ∙ c.seat-seated.ensures.there.1 in
     let same : c.take_off.result ≡ e = some_same c.take_off.result e (sym c.take_off.ensures.stood ∙ runs) in
     subst (λ (z : ℕ). has w z ≡ true) same (more_has c.take_off.result after w c.take_off.ensures.holds)
 
@@ -27,7 +27,7 @@ returns-clause-hand g c =
     let p = c.args.p in
     let e = c.args.element in
     let after = view_of c.count_step-tried.new.hand in
-    let runs : running after p ≡ Some e = ap (λ xs. get_or xs p None) (c.count_step-tried.ensures.keeps.on ∙ c.do_step-attempt.ensures.acts.keeps.on) ∙ c.seat-seated.ensures.there.1 in
+    let runs : running after p ≡ Some e = ap (λ xs. get_or xs p None) (c.count_step-tried.ensures.frame.on ∙ c.do_step-attempt.ensures.acts.keeps.on) ∙ c.seat-seated.ensures.there.1 in
     let same : c.take_off.result ≡ e = some_same c.take_off.result e (sym c.take_off.ensures.stood ∙ runs) in
     record {
       on = view_of c.seat-seated.new.hand;
@@ -50,8 +50,8 @@ returns-clause-number g c =
     let after = view_of c.count_step-tried.new.hand in
     let w = view_of c.take_off.new.hand in
     let there = c.seat-seated.ensures.there in
-    let runs : running after p ≡ Some e = ap (λ xs. get_or xs p None) (c.count_step-tried.ensures.keeps.on ∙ c.do_step-attempt.ensures.acts.keeps.on) ∙ there.1 in
-    let mine : serves after p ≡ true = ap (λ xs. get_or xs p false) (c.count_step-tried.ensures.keeps.serves ∙ c.do_step-attempt.ensures.acts.keeps.serves) ∙ there.0 in
+    let runs : running after p ≡ Some e = ap (λ xs. get_or xs p None) (c.count_step-tried.ensures.frame.on ∙ c.do_step-attempt.ensures.acts.keeps.on) ∙ there.1 in
+    let mine : serves after p ≡ true = ap (λ xs. get_or xs p false) (c.count_step-tried.ensures.frame.serves ∙ c.do_step-attempt.ensures.acts.keeps.serves) ∙ there.0 in
     let same : c.take_off.result ≡ e = some_same c.take_off.result e (sym c.take_off.ensures.stood ∙ runs) in
     let held : has w e ≡ true = subst (λ (z : ℕ). has w z ≡ true) same (more_has c.take_off.result after w c.take_off.ensures.holds) in
     let before = c.do_step-attempt.ensures.acts.steady p e low there.0 there.1 ∙ c.seat-seated.ensures.steady e low (inl c.requires.held) (inr (p, there.0, there.1)) in
@@ -73,8 +73,8 @@ pub returns-clause-on : goal.returns-clause-on
 returns-clause-on g c =
     let p = c.args.p in
     let v = view_of c.args.parts.now.hand in
-    c.take_off.ensures.keeps.on_are
-    ∙ ap (λ (z : List (Option ℕ)). set z p None) (c.count_step-tried.ensures.keeps.on ∙ c.do_step-attempt.ensures.acts.keeps.on ∙ c.seat-seated.ensures.keeps.on_are)
+    c.take_off.ensures.frame.on_are
+    ∙ ap (λ (z : List (Option ℕ)). set z p None) (c.count_step-tried.ensures.frame.on ∙ c.do_step-attempt.ensures.acts.keeps.on ∙ c.seat-seated.ensures.frame.on_are)
     ∙ on_back v.own.on p c.args.element c.requires.free.1
 
 pub returns-clause-adds : goal.returns-clause-adds
@@ -113,6 +113,6 @@ returns-clause-order g c =
     let o = c.do_step-attempt.ensures.order in
     let step_outcome = c.do_step-attempt.result.step_outcome in
     let start = one_more (count_of old.hand) in
-    let tried : InOrder S plan start step_outcome old new = subst (λ (z : Count). InOrder S plan z step_outcome old new) (put_counts _ _ _ old.hand c.seat-seated.new.hand c.seat-seated.ensures.put c.seat-seated.ensures.same)
+    let tried : InOrder S plan start step_outcome old new = subst (λ (z : Count). InOrder S plan z step_outcome old new) (put_counts _ _ _ old.hand c.seat-seated.new.hand c.seat-seated.ensures.put c.seat-seated.ensures.handle)
     (record { queues = o.queues; chains = o.chains; seat = o.seat }) in
     subst (λ (z : StepOutcome). InOrder S plan start z old new) (sym c.count_step-tried.ensures.step_outcome) tried

@@ -12,13 +12,13 @@ pub returns-in-Say-clause-worked : goal.returns-in-Say-clause-worked
 returns-in-Say-clause-worked g c = at_queues (step_outcomes.Say c.in-Say.queue c.say_step.result) _ _ c.args.parts.now _ _ _ _ _ (sym (ap (λ (z : Step). line_in z c.args.room.now.heard.items) c.in-Say.is))
     c.as_mut_slice.ensures.value (sym (with_items_is c.args.parts.now.small c.say_step.new.small (search rules)))
     c.as_mut_slice-in-Say.ensures.value (sym (with_items_is c.args.parts.now.large c.say_step.new.large (search rules)))
-    c.say_step.ensures.did c.say_step.ensures.sound.0 c.say_step.ensures.sound.1 refl refl refl refl
+    c.say_step.ensures.effect c.say_step.ensures.frame.0 c.say_step.ensures.frame.1 refl refl refl refl
 
 pub returns-in-Hear-clause-worked : goal.returns-in-Hear-clause-worked
 returns-in-Hear-clause-worked g c = at_queues (step_outcomes.Hear c.in-Hear.queue c.hear_step.result) _ _ c.args.parts.now _ _ _ _ _ (sym (ap (λ (z : Step). line_in z c.hear_step.new.room.heard.items) c.in-Hear.is))
     c.as_mut_slice-in-Hear.ensures.value (sym (with_items_is c.args.parts.now.small c.hear_step.new.small (search rules)))
     c.as_mut_slice-in-Hear-2.ensures.value (sym (with_items_is c.args.parts.now.large c.hear_step.new.large (search rules)))
-    c.hear_step.ensures.did c.hear_step.ensures.sound.0 c.hear_step.ensures.sound.1 refl refl refl refl
+    c.hear_step.ensures.effect c.hear_step.ensures.frame.0 c.hear_step.ensures.frame.1 refl refl refl refl
 
 pub returns-in-Poke-clause-ends : goal.returns-in-Poke-clause-ends
 returns-in-Poke-clause-ends g c = record {
@@ -30,7 +30,7 @@ returns-in-Poke-clause-ends g c = record {
 
 pub returns-in-Poke-clause-worked : goal.returns-in-Poke-clause-worked
 returns-in-Poke-clause-worked g c = at_chains (step_outcomes.Poke c.in-Poke.mover c.poke-answer.result) _ c.args.parts.now _ _ _ c.as_mut_slice-ends.ensures.value (sym (with_items_is c.args.parts.now.chains c.poke-answer.new.ends (search rules)))
-    c.poke-answer.ensures.did c.poke-answer.ensures.shares refl refl refl refl refl
+    c.poke-answer.ensures.effect c.poke-answer.ensures.shares refl refl refl refl refl
 
 pub returns-in-Close-clause-ends : goal.returns-in-Close-clause-ends
 returns-in-Close-clause-ends g c = record {
@@ -46,7 +46,7 @@ returns-in-Close-clause-ends g c = record {
 pub returns-in-Close-clause-worked : goal.returns-in-Close-clause-worked
 returns-in-Close-clause-worked g c = at_queues (step_outcomes.Close c.in-Close.queue c.close_step-was_open.result.was_open c.close_step-was_open.result.readers c.close_step-was_open.result.writers) _ _ c.args.parts.now _ _ _ c.args.parts.now.large.items _ refl
     c.as_mut_slice-small.ensures.value (sym (with_items_is c.args.parts.now.small c.close_step-was_open.new.small (search rules))) refl refl
-    (did_small c.in-Close.queue _ _ c.close_step-was_open.new.small c.args.parts.now.large.items c.close_step-was_open.ensures.did) c.close_step-was_open.ensures.sound (sound_still _ _ refl) refl refl refl refl
+    (did_small c.in-Close.queue _ _ c.close_step-was_open.new.small c.args.parts.now.large.items c.close_step-was_open.ensures.effect) c.close_step-was_open.ensures.frame (sound_still _ _ refl) refl refl refl refl
 
 pub returns-in-Say-clause-order : goal.returns-in-Say-clause-order
 returns-in-Say-clause-order g c = record {

@@ -18,7 +18,7 @@ returns-then-number-steps-clause-came g c =
     let ended = hads.Retired c.retire_at-moved.result in
     let over = subst (λ (z : List Step). length z ≤ begun.number) c.program_of-steps.ensures c.if-number-steps.true in (
       [],
-      (mid, c.in-Ok.ensures.begun, (over, e.sent, e.rest, e.others.0, e.others.1, refl), tt),
+      (mid, c.in-Ok.ensures.begun, (over, e.sent, e.rest, e.frame.0, e.frame.1, refl), tt),
       record {
         planned = (over, refl);
         done = done_on (beginning begun) (having begun.element begun.number ended []) c.args.parts.now mid c.retire_at-moved.new.parts c.in-Ok.ensures.done

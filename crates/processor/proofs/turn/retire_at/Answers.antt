@@ -4,8 +4,8 @@ use Rattle.processor.proofs.Logging.{retired_done}
 use Rattle.processor.proofs.Rising.{fallen, sending}
 use Rattle.processor.proofs.turn.retire_at.Goals as goal
 
-pub returns-clause-manned : goal.returns-clause-manned
-returns-clause-manned g c = rest_stays c.args.shared.now c.args.p c.args.parts.now _ c.requires.manned (record { small = refl; large = refl; chains = refl; heard = refl }) c.retire.ensures.same c.retire.ensures.keeps
+pub returns-clause-station : goal.returns-clause-station
+returns-clause-station g c = rest_stays c.args.shared.now c.args.p c.args.parts.now _ c.requires.station (record { small = refl; large = refl; chains = refl; heard = refl }) c.retire.ensures.handle c.retire.ensures.frame
     (fallen c.args.parts.now.hand c.retire.new.hand (sending _ _ _ _ _ _ c.retire.ensures.sent)) (refl, refl) refl refl
 
 pub returns-clause-done : goal.returns-clause-done

@@ -13,7 +13,7 @@ loop-number-preserved g c =
     let log = i.1 in
     let entry = e.turn.0 in
     let said = subst (λ (q : ℕ). g.G.Gate.observes c.loop-number.gate q (Turn c.loop-number.number) c.between.new.self) c.number.ensures.value c.between.ensures in (
-      stays_on c.args.shared.now c.args.p c.args.station.parts c.loop-number.parts c.turn.new.parts i.0 e.manned,
+      stays_on c.args.shared.now c.args.p c.args.station.parts c.loop-number.parts c.turn.new.parts i.0 e.station,
       log ++ entry ∷ [],
       length-append log (entry ∷ []) ∙ ap (λ n. n + 1) i.2,
       turns_more g.G.Watch.shown g.G.Gate.observes c.args.shared.now c.args.p 0 log entry c.args.station.parts c.loop-number.parts c.turn.new.parts c.args.gate.now c.loop-number.gate c.turn.new.gate i.3 e.turn.1
@@ -22,7 +22,7 @@ loop-number-preserved g c =
     )
 
 pub loop-number-init : goal.loop-number-init
-loop-number-init g c = (stays_still c.args.shared.now c.args.p c.args.station.parts c.requires.manned, [], refl, (refl, refl), none_ran c.args.shared.now.plan c.args.station.parts)
+loop-number-init g c = (stays_still c.args.shared.now c.args.p c.args.station.parts c.requires.station, [], refl, (refl, refl), none_ran c.args.shared.now.plan c.args.station.parts)
 
 pub returns-clause-turned : goal.returns-clause-turned
 returns-clause-turned g c =

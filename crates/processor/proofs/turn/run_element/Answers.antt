@@ -16,7 +16,7 @@ keep-requires-clause-room g c is =
     let plan = c.args.shared.now.plan in
     let heard = c.args.parts.now.heard in
     let r = c.run_step-tried.ensures in
-    let had = c.requires.manned.room in
+    let had = c.requires.station.room in
     let keys : List Key = map key_of heard.lines in
     let more = hears_more c.args.begun.now.element c.args.begun.now.number plan c.args.step.now c.run_step-tried.result.step_outcome _ (view_of c.args.parts.now.hand) keys c.requires.its r.step_outcome c.requires.known had.hears had.past in
     let it = subst (λ (z : StepOutcome). is_heard z ≡ true) c.step_outcome.ensures is in
@@ -29,22 +29,22 @@ pub keep-requires-clause-few : goal.keep-requires-clause-few
 keep-requires-clause-few g c is =
     let plan = c.args.shared.now.plan in
     let r = c.run_step-tried.ensures in
-    let had = c.requires.manned.room in
+    let had = c.requires.station.room in
     let text = c.run_step-tried.new.room.heard.items in
     let it = subst (λ (z : StepOutcome). is_heard z ≡ true) c.step_outcome.ensures is in
     let short : length text ≤ longest_line plan = heard_within plan c.args.begun.now.element c.args.begun.now.number c.args.step.now c.run_step-tried.result.step_outcome text _ _ _ _ c.requires.its r.step_outcome r.ends.queues it in
     let long : length text ≤ c.args.parts.now.heard.longest = let most = had.longest in omega arith in
     subst (λ (z : Heard). length c.as_slice.result.now ≤ z.longest) (sym r.heard) (subst (λ (z : List ℕ). length z ≤ c.args.parts.now.heard.longest) (sym c.as_slice.ensures.value) long)
 
-pub returns-clause-manned : goal.returns-clause-manned
-returns-clause-manned g c =
+pub returns-clause-station : goal.returns-clause-station
+returns-clause-station g c =
     let plan = c.args.shared.now.plan in
     let heard = c.args.parts.now.heard in
     let e = c.args.begun.now.element in
     let n = c.args.begun.now.number in
     let r = c.run_step-tried.ensures in
     let s = c.send_on.ensures in
-    let had = c.requires.manned.room in
+    let had = c.requires.station.room in
     let step_outcome = c.run_step-tried.result.step_outcome in
     let v = view_of c.args.parts.now.hand in
     let u = view_of c.run_step-tried.new.parts.hand in
@@ -54,14 +54,14 @@ returns-clause-manned g c =
     let past = past_more _ _ e n plan step_outcome c.run_step-tried.result.counted v u w keys r.hand r.number c.requires.known c.requires.low r.rises s.rises had.past in
     let are : map key_of c.keep.new.lines.lines ≡ keys ++ key_in step_outcome e n =
     keys_more c.run_step-tried.new.parts.heard.lines c.keep.new.lines.lines step_outcome e n _
-    (subst (λ (z : StepOutcome). c.keep.new.lines.lines ≡ c.run_step-tried.new.parts.heard.lines ++ heard_by z e n c.as_slice.result.now) c.step_outcome.ensures c.keep.ensures.lines) ∙ ap (λ z. map key_of z.lines ++ key_in step_outcome e n) r.heard in
+    (subst (λ (z : StepOutcome). c.keep.new.lines.lines ≡ c.run_step-tried.new.parts.heard.lines ++ heard_by z e n c.as_slice.result.now) c.step_outcome.ensures c.keep.ensures.effect) ∙ ap (λ z. map key_of z.lines ++ key_in step_outcome e n) r.heard in
     let sized : c.keep.new.lines.room ≡ heard.room = c.keep.ensures.room ∙ ap (λ z. z.room) r.heard in
-    let on = s.keeps.on ∙ r.on in
-    let serves = s.keeps.serves ∙ r.serves in
+    let on = s.frame.on ∙ r.on in
+    let serves = s.frame.serves ∙ r.serves in
     record {
       manned = record {
         parts_are = search rules;
-        free = free_still c.args.p v w serves on c.requires.manned.free;
+        free = free_still c.args.p v w serves on c.requires.station.free;
         room = record {
           room = subst (λ (z : ℕ). hear_count plan ≤ z) (sym sized) had.room;
           longest = subst (λ (z : ℕ). longest_line plan ≤ z) (sym (c.keep.ensures.longest ∙ ap (λ z. z.longest) r.heard)) had.longest;
@@ -75,7 +75,7 @@ returns-clause-manned g c =
       shares_are = λ i. record {
         queues = by_index (r.worked.small.shares i) (r.worked.large.shares i);
         chains = r.worked.chains_kept i;
-        hand = (s.keeps.share ∙ r.share) i;
+        hand = (s.frame.share ∙ r.share) i;
         meters = r.worked.seat_kept i;
       };
       seat = r.worked.seat;
@@ -95,11 +95,11 @@ returns-clause-ran g c =
     let sent : Rescheduled = record { tried = tried; moved = c.send_on.result.moved } in
     let text = c.run_step-tried.new.room.heard.items in
     let line = line_in c.args.step.now text in
-    let kept = subst (λ (z : StepOutcome). c.keep.new.lines.lines ≡ mid.heard.lines ++ heard_by z e n c.as_slice.result.now) c.step_outcome.ensures c.keep.ensures.lines in
+    let kept = subst (λ (z : StepOutcome). c.keep.new.lines.lines ≡ mid.heard.lines ++ heard_by z e n c.as_slice.result.now) c.step_outcome.ensures c.keep.ensures.effect in
     let bytes = ap (λ (z : List ℕ). mid.heard.lines ++ heard_by tried.step_outcome e n z) c.as_slice.ensures.value in
     let lines = kept ∙ bytes ∙ (ap (λ z. z.lines ++ heard_by tried.step_outcome e n text) r.heard ∙ ap (λ z. old.heard.lines ++ z) (heard_line c.args.step.now tried.step_outcome e n text r.step_outcome)) in
     let last : c.is_last-last.result ≡ is_last (is_done tried.step_outcome) n (length (program shared.plan e)) = search rules in
-    let goes = subst (λ k. Goes k tried.step_outcome (is_last (is_done tried.step_outcome) n (length (program shared.plan e))) e sent.moved (view_of mid.hand) (view_of new.hand)) r.same.hand.1
+    let goes = subst (λ k. Goes k tried.step_outcome (is_last (is_done tried.step_outcome) n (length (program shared.plan e))) e sent.moved (view_of mid.hand) (view_of new.hand)) r.handle.hand.1
     (subst (λ b. Goes (call_of mid.hand) tried.step_outcome b e sent.moved (view_of mid.hand) (view_of new.hand)) last s.goes) in
     let both = subst (λ (z : StepCounted). RanStep shared c.args.p e n (record { tried = z; moved = c.send_on.result.moved }) line old new
     × Went (FollowsStep shared.plan e n (record { tried = z; moved = c.send_on.result.moved }) line) (trying e n (record { tried = z; moved = c.send_on.result.moved }) line) (saw_shut z.step_outcome) old new)

@@ -9,12 +9,12 @@ use Rattle.processor.proofs.Summing.{none_shows}
 use Rattle.processor.proofs.Ticking.{tended_ticks, tended_remains}
 use Rattle.processor.proofs.turn.tend.Goals as goal
 
-pub returns-clause-manned : goal.returns-clause-manned
-returns-clause-manned c =
+pub returns-clause-station : goal.returns-clause-station
+returns-clause-station c =
     let e = c.tend_alarms.ensures in
-    let still = tended_remains c.tend_alarms.result c.tend_alarms.new.fired.items (seats.view_of c.args.parts.now.meters) (seats.view_of c.tend_alarms.new.seat) e.own in
-    rest_stays c.args.shared.now c.args.p c.args.parts.now _ c.requires.manned (record { small = refl; large = refl; chains = refl; heard = refl }) e.same.0 e.only.keeps
-    (fallen c.args.parts.now.hand c.tend_alarms.new.hand (raising _ _ _ _ e.raised)) e.same.1 still.share still.parted
+    let still = tended_remains c.tend_alarms.result c.tend_alarms.new.fired.items (seats.view_of c.args.parts.now.meters) (seats.view_of c.tend_alarms.new.seat) e.owns in
+    rest_stays c.args.shared.now c.args.p c.args.parts.now _ c.requires.station (record { small = refl; large = refl; chains = refl; heard = refl }) e.handle.0 e.only.keeps
+    (fallen c.args.parts.now.hand c.tend_alarms.new.hand (raising _ _ _ _ e.raised)) e.handle.1 still.share still.parted
 
 pub returns-clause-tended : goal.returns-clause-tended
 returns-clause-tended c =
@@ -25,6 +25,6 @@ returns-clause-tended c =
       Some (record { advanced = advanced; fired = fired }),
       (search rules, e.fired, e.raised, rest, refl),
       hand_done (signals_for fired) (record nothing_did { advances = tick_to advanced; fired = fired }) nothing.shown c.args.parts.now _ rest e.only.adds
-          (tended_ticks _ _ (seats.view_of c.args.parts.now.meters) (seats.view_of c.tend_alarms.new.seat) e.own) (none_shows (shown_in c.args.parts.now.signals))
+          (tended_ticks _ _ (seats.view_of c.args.parts.now.meters) (seats.view_of c.tend_alarms.new.seat) e.owns) (none_shows (shown_in c.args.parts.now.signals))
           (fallen c.args.parts.now.hand c.tend_alarms.new.hand (raising _ _ _ _ e.raised)),
     )

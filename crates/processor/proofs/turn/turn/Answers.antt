@@ -10,5 +10,5 @@ returns-clause-turn g c =
       entry,
       (c.tend.new.parts, tended.1, came.1),
       turn_ran c.args.shared.now.plan entry c.args.parts.now c.tend.new.parts c.dispatch.new.parts tended.2 came.2,
-      c.dispatch.ensures.gate,
+      c.dispatch.ensures.hook,
     )

@@ -9,5 +9,5 @@ loop-other-init g c = record { same = (refl, refl); joined = alone_has (view_of 
 pub loop-other-preserved : goal.loop-other-preserved
 loop-other-preserved g c = record {
   same = search rules;
-  joined = join_more c.args.end.now c.loop-other.yielded c.in-Some.other c.loop-other.end c.join.new.end c.loop-other.invariant.joined c.join.ensures.steps c.join.ensures.lines;
+  joined = join_more c.args.end.now c.loop-other.yielded c.in-Some.other c.loop-other.end c.join.new.end c.loop-other.invariant.joined c.join.ensures.trace c.join.ensures.effect;
 }

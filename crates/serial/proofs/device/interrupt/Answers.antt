@@ -5,7 +5,7 @@ use Rattle.serial.proofs.device.interrupt.Goals as goal
 
 pub returns-in-Ok-Run-clause-sent : goal.returns-in-Ok-Run-clause-sent
 returns-in-Ok-Run-clause-sent g c = sent_after (view_of c.args.end.now) (view_of c.loop.end) (view_of c.serve_all-ran.new.end) (c.args.note ∷ []) c.loop.invariant.stays
-    (sent_run (view_of c.loop.end) (view_of c.try_chain.new.end) (view_of c.serve_all-ran.new.end) c.args.note _ _ _ c.in-Ok-Run.field-0-is c.in-Ok-Run.ensures.steps c.in-Ok-Run.ensures.notes c.serve_all-ran.ensures.steps)
+    (sent_run (view_of c.loop.end) (view_of c.try_chain.new.end) (view_of c.serve_all-ran.new.end) c.args.note _ _ _ c.in-Ok-Run.field-0-is c.in-Ok-Run.ensures.steps c.in-Ok-Run.ensures.notes c.serve_all-ran.ensures.trace)
 
 pub returns-in-Ok-Left-clause-sent : goal.returns-in-Ok-Left-clause-sent
 returns-in-Ok-Left-clause-sent g c = sent_after (view_of c.args.end.now) (view_of c.loop.end) (view_of c.try_chain.new.end) (c.args.note ∷ []) c.loop.invariant.stays

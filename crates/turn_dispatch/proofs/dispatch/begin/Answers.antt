@@ -5,8 +5,8 @@ use Rattle.turn_dispatch.proofs.Calm.{steady}
 use Rattle.turn_dispatch.proofs.Stepped.{found_steps}
 use Rattle.turn_dispatch.proofs.dispatch.begin.Goals as goal
 
-pub returns-in-Err-clause-keeps : goal.returns-in-Err-clause-keeps
-returns-in-Err-clause-keeps g c = let h = c.args.hand.now in (idle_is (call_of h) c.in-Err.idle (view_of h) (view_of c.awake.new.hand) c.in-Err.ensures.woken).0.keeps
+pub returns-in-Err-clause-frame : goal.returns-in-Err-clause-frame
+returns-in-Err-clause-frame g c = let h = c.args.hand.now in (idle_is (call_of h) c.in-Err.idle (view_of h) (view_of c.awake.new.hand) c.in-Err.ensures.woken).0.keeps
 
 pub returns-in-Err-clause-holds : goal.returns-in-Err-clause-holds
 returns-in-Err-clause-holds g c = let h = c.args.hand.now in (idle_is (call_of h) c.in-Err.idle (view_of h) (view_of c.awake.new.hand) c.in-Err.ensures.woken).1
@@ -33,4 +33,4 @@ returns-clause-steady g c = let h = c.args.hand.now in let n = c.pc-number.new.h
     let k : Began (call_of h) b (view_of h) (view_of n) = search rules in steady (one_delivery b.element (mask_of b.delivered)) (view_of h) (view_of n) (λ e. refl) h.fresh h.reported n.reported (began_is (call_of h) b (view_of h) (view_of n) k).0
 
 pub returns-clause-number : goal.returns-clause-number
-returns-clause-number g c = let n = c.pc-number.new.hand in found_steps c.in-Ok.element c.pc-number.result (view_of c.deliver-delivered.new.hand) (view_of n) n.reported c.pc-number.ensures.steps
+returns-clause-number g c = let n = c.pc-number.new.hand in found_steps c.in-Ok.element c.pc-number.result (view_of c.deliver-delivered.new.hand) (view_of n) n.reported c.pc-number.ensures.trace

@@ -3,8 +3,8 @@ use Rattle.turn_dispatch.proofs.Calm.{steady}
 use Rattle.turn_dispatch.proofs.Sends.{retired_goes, retires_none, sent_holds}
 use Rattle.turn_dispatch.proofs.moving.retire.Goals as goal
 
-pub returns-clause-keeps : goal.returns-clause-keeps
-returns-clause-keeps g c = let h = c.args.hand.now in let n = c.send.new.hand in (retired_goes (call_of h) c.args.element c.send.result (view_of h) (view_of n) (search rules) h.fresh c.requires.held h.reported n.reported c.send.ensures.sent).keeps
+pub returns-clause-frame : goal.returns-clause-frame
+returns-clause-frame g c = let h = c.args.hand.now in let n = c.send.new.hand in (retired_goes (call_of h) c.args.element c.send.result (view_of h) (view_of n) (search rules) h.fresh c.requires.held h.reported n.reported c.send.ensures.sent).keeps
 
 pub returns-clause-holds : goal.returns-clause-holds
 returns-clause-holds g c = let h = c.args.hand.now in let n = c.send.new.hand in sent_holds (call_of h) 1 c.args.element c.send.result (view_of h) (view_of n) h.fresh c.send.ensures.sent

@@ -4,8 +4,8 @@ use Rattle.turn_dispatch.proofs.Calm.{steady}
 use Rattle.turn_dispatch.proofs.Sends.{waited_goes}
 use Rattle.turn_dispatch.proofs.moving.wait_at.Goals as goal
 
-pub returns-clause-keeps : goal.returns-clause-keeps
-returns-clause-keeps g c = let h = c.args.hand.now in let n = c.wait_or_ready.new.hand in
+pub returns-clause-frame : goal.returns-clause-frame
+returns-clause-frame g c = let h = c.args.hand.now in let n = c.wait_or_ready.new.hand in
     (waited_goes (call_of h) c.args.wait c.args.element c.args.ticket c.wait_or_ready.result (view_of h) (view_of n) h.fresh c.wait_or_ready.ensures.waited).0.keeps
 
 pub returns-clause-holds : goal.returns-clause-holds

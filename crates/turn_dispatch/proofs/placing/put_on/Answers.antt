@@ -7,8 +7,8 @@ pub returns-clause-there : goal.returns-clause-there
 returns-clause-there c = let h = c.args.hand.now in let n = c.on.new.hand in
     (ap (λ xs. get_or xs c.args.processor false) (put_is (call_of h) c.args.processor c.args.element (view_of h) (view_of n) h.fresh h.reported n.reported c.in-Ok.ensures.steps.1).keeps.serves ∙ c.requires.free.0, c.in-Ok.ensures.steps.1.1)
 
-pub returns-clause-keeps : goal.returns-clause-keeps
-returns-clause-keeps c = let h = c.args.hand.now in let n = c.on.new.hand in (put_is (call_of h) c.args.processor c.args.element (view_of h) (view_of n) h.fresh h.reported n.reported c.in-Ok.ensures.steps.1).keeps
+pub returns-clause-frame : goal.returns-clause-frame
+returns-clause-frame c = let h = c.args.hand.now in let n = c.on.new.hand in (put_is (call_of h) c.args.processor c.args.element (view_of h) (view_of n) h.fresh h.reported n.reported c.in-Ok.ensures.steps.1).keeps
 
 pub returns-clause-holds : goal.returns-clause-holds
 returns-clause-holds c = let h = c.args.hand.now in let n = c.on.new.hand in c.in-Ok.ensures.steps.1.2

@@ -7,8 +7,8 @@ pub returns-clause-free : goal.returns-clause-free
 returns-clause-free c = let h = c.args.hand.now in let n = c.off.new.hand in
     (ap (λ xs. get_or xs c.args.processor false) (off_is (call_of h) c.args.processor c.in-Ok.element (view_of h) (view_of n) h.fresh h.reported n.reported c.in-Ok.ensures.steps.1).keeps.serves ∙ c.requires.mine, c.in-Ok.ensures.steps.1.1)
 
-pub returns-clause-keeps : goal.returns-clause-keeps
-returns-clause-keeps c = let h = c.args.hand.now in let n = c.off.new.hand in (off_is (call_of h) c.args.processor c.in-Ok.element (view_of h) (view_of n) h.fresh h.reported n.reported c.in-Ok.ensures.steps.1).keeps
+pub returns-clause-frame : goal.returns-clause-frame
+returns-clause-frame c = let h = c.args.hand.now in let n = c.off.new.hand in (off_is (call_of h) c.args.processor c.in-Ok.element (view_of h) (view_of n) h.fresh h.reported n.reported c.in-Ok.ensures.steps.1).keeps
 
 pub returns-clause-holds : goal.returns-clause-holds
 returns-clause-holds c = let h = c.args.hand.now in let n = c.off.new.hand in c.in-Ok.ensures.steps.1.2

@@ -27,7 +27,7 @@ loop-number-preserved g c =
       | in-Some+then-make_ready w ↦
           let m = w.in-Some.ensures in
           let x = w.make_ready.new.hand in
-          let same = w.make_ready.ensures.same in
+          let same = w.make_ready.ensures.handle in
           let sent : Sent (call_of l.hand) 0 n true (view_of l.hand) (view_of x) =
           subst (λ (e : ℕ). Sent (call_of l.hand) 0 e true (view_of l.hand) (view_of x)) m.1
           (subst (λ (b : Bool). Sent (call_of l.hand) 0 w.in-Some.element b (view_of l.hand) (view_of x)) w.if-make_ready.true w.make_ready.ensures.sent) in
@@ -36,7 +36,7 @@ loop-number-preserved g c =
       | in-Some+else-make_ready w ↦
           let m = w.in-Some.ensures in
           let x = w.make_ready.new.hand in
-          let same = w.make_ready.ensures.same in
+          let same = w.make_ready.ensures.handle in
           let sent : Sent (call_of l.hand) 0 n false (view_of l.hand) (view_of x) =
           subst (λ (e : ℕ). Sent (call_of l.hand) 0 e false (view_of l.hand) (view_of x)) m.1
           (subst (λ (b : Bool). Sent (call_of l.hand) 0 w.in-Some.element b (view_of l.hand) (view_of x)) w.if-make_ready.false w.make_ready.ensures.sent) in

@@ -4,8 +4,8 @@ use Rattle.turn_dispatch.proofs.Calm.{steady}
 use Rattle.turn_dispatch.proofs.Wakes.{resumed_is}
 use Rattle.turn_dispatch.proofs.waking.start.Goals as goal
 
-pub returns-clause-keeps : goal.returns-clause-keeps
-returns-clause-keeps g c = let h = c.args.hand.now in let n = c.resume.new.hand in (resumed_is (call_of h) c.args.element c.resume.result (view_of h) (view_of n) c.resume.ensures.started).0.keeps
+pub returns-clause-frame : goal.returns-clause-frame
+returns-clause-frame g c = let h = c.args.hand.now in let n = c.resume.new.hand in (resumed_is (call_of h) c.args.element c.resume.result (view_of h) (view_of n) c.resume.ensures.started).0.keeps
 
 pub returns-clause-holds : goal.returns-clause-holds
 returns-clause-holds g c = let h = c.args.hand.now in let n = c.resume.new.hand in (resumed_is (call_of h) c.args.element c.resume.result (view_of h) (view_of n) c.resume.ensures.started).1

@@ -31,7 +31,7 @@ loop-other-preserved c = let v = c.loop-other.invariant in
     let here = in_ends c.args.chains.now c.loop-other.ends c.loop-other.i v.ends below in let value = c.item_at.ensures.value in
     let idle = is_idle c.args.chains.now c.loop-other.ends c.loop-other.i _ v.ends below value in
     let idle' = is_idle c.args.chains.now c.args.others.items c.loop-other.i c.in-Some.other c.requires.others below (next.0 ∙ ap (λ z. slice_index_or c.args.others.items z c.in-Some.other) (sym number)) in
-    let j = c.join.ensures in let took = took_in c.item_at.result.now c.in-Some.other c.join.new.end idle' j.steps in let same = (j.same idle'.0).0 in record {
+    let j = c.join.ensures in let took = took_in c.item_at.result.now c.in-Some.other c.join.new.end idle' j.trace in let same = (j.handle idle'.0).0 in record {
       walk = walk_on IsChainJoined c.args.ends.now c.loop-other.ends c.loop-other.yielded c.loop-other.i _ c.join.new.end c.in-Some.other here value took.0 v.walk;
       same = same_on chain_end_table chain_end_call c.args.ends.now c.loop-other.ends (set c.loop-other.ends c.loop-other.i c.join.new.end) v.same (ends_same c.args.chains.now c.loop-other.ends c.loop-other.i _ c.join.new.end v.ends below value same);
       ends = ends_fit c.args.chains.now c.loop-other.ends c.loop-other.i _ c.join.new.end v.ends below value same (still_idle c.item_at.result.now c.in-Some.other c.join.new.end idle idle' j.turn took.1);
@@ -49,5 +49,5 @@ returns-clause-joined c = let v = c.loop-other.invariant in let none = c.in-None
     subst (λ z. AreChainsJoined c.args.ends.now z c.loop-other.ends) all
     (walked IsChainJoined c.args.ends.now c.loop-other.ends c.loop-other.yielded c.loop-other.i (omega arith) v.walk)
 
-pub returns-clause-did : goal.returns-clause-did
-returns-clause-did c = chain_joined_at c.args.ends.now c.loop-other.ends c.args.others.items (returns-clause-joined c)
+pub returns-clause-effect : goal.returns-clause-effect
+returns-clause-effect c = chain_joined_at c.args.ends.now c.loop-other.ends c.args.others.items (returns-clause-joined c)

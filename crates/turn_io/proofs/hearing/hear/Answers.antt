@@ -7,11 +7,11 @@ use Rattle.turn_io.proofs.hearing.hear.Goals as goal
 pub hear_line-requires : goal.hear_line-requires
 hear_line-requires g c = (search rules, (search rules, (search rules, (its_end c.args.queues.now c.args.ends.now c.args.index _ _ c.requires.ends c.requires.known c.item_at.ensures.value c.index-queues-index.is, c.requires.empty))))
 
-pub returns-clause-same : goal.returns-clause-same
-returns-clause-same g c = ends_same c.args.queues.now c.args.ends.now c.args.index _ _ c.requires.ends c.item_at.ensures.value c.hear_line.ensures.same
+pub returns-clause-handle : goal.returns-clause-handle
+returns-clause-handle g c = ends_same c.args.queues.now c.args.ends.now c.args.index _ _ c.requires.ends c.item_at.ensures.value c.hear_line.ensures.handle
 
 pub returns-clause-ends : goal.returns-clause-ends
-returns-clause-ends g c = ends_fit c.args.queues.now c.args.ends.now c.args.index _ _ c.requires.ends c.item_at.ensures.value c.hear_line.ensures.same
+returns-clause-ends g c = ends_fit c.args.queues.now c.args.ends.now c.args.index _ _ c.requires.ends c.item_at.ensures.value c.hear_line.ensures.handle
 
 pub returns-clause-heard : goal.returns-clause-heard
 returns-clause-heard g c = used_at c.args.queues.now c.args.ends.now c.args.index _ _ c.requires.ends c.item_at.ensures.value (Heard c.hear_line.new.line.items c.hear_line.result) c.requires.known c.hear_line.ensures.heard
@@ -19,8 +19,8 @@ returns-clause-heard g c = used_at c.args.queues.now c.args.ends.now c.args.inde
 pub returns-clause-long : goal.returns-clause-long
 returns-clause-long g c = heard_long _ _ c.hear_line.new.line.items c.hear_line.result c.hear_line.ensures.heard
 
-pub returns-clause-did : goal.returns-clause-did
-returns-clause-did g c = did_at c.args.ends.now c.args.index _ _ _ (in_ends c.args.queues.now c.args.ends.now c.args.index c.requires.ends c.requires.known) c.item_at.ensures.value c.hear_line.ensures.worked
+pub returns-clause-effect : goal.returns-clause-effect
+returns-clause-effect g c = did_at c.args.ends.now c.args.index _ _ _ (in_ends c.args.queues.now c.args.ends.now c.args.index c.requires.ends c.requires.known) c.item_at.ensures.value c.hear_line.ensures.worked
 
-pub returns-clause-sound : goal.returns-clause-sound
-returns-clause-sound g c = sound_at c.args.ends.now c.args.index _ _ _ (in_ends c.args.queues.now c.args.ends.now c.args.index c.requires.ends c.requires.known) c.item_at.ensures.value c.hear_line.ensures.worked
+pub returns-clause-frame : goal.returns-clause-frame
+returns-clause-frame g c = sound_at c.args.ends.now c.args.index _ _ _ (in_ends c.args.queues.now c.args.ends.now c.args.index c.requires.ends c.requires.known) c.item_at.ensures.value c.hear_line.ensures.worked

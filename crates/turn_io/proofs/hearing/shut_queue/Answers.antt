@@ -7,17 +7,17 @@ use Rattle.turn_io.proofs.hearing.shut_queue.Goals as goal
 pub shut_end-requires : goal.shut_end-requires
 shut_end-requires g c = (omega arith, (omega arith, its_end c.args.queues.now c.args.ends.now c.args.index _ _ c.requires.ends c.requires.known c.item_at.ensures.value c.index-queues-index.is))
 
-pub returns-clause-same : goal.returns-clause-same
-returns-clause-same g c = ends_same c.args.queues.now c.args.ends.now c.args.index _ _ c.requires.ends c.item_at.ensures.value c.shut_end.ensures.same
+pub returns-clause-handle : goal.returns-clause-handle
+returns-clause-handle g c = ends_same c.args.queues.now c.args.ends.now c.args.index _ _ c.requires.ends c.item_at.ensures.value c.shut_end.ensures.handle
 
 pub returns-clause-ends : goal.returns-clause-ends
-returns-clause-ends g c = ends_fit c.args.queues.now c.args.ends.now c.args.index _ _ c.requires.ends c.item_at.ensures.value c.shut_end.ensures.same
+returns-clause-ends g c = ends_fit c.args.queues.now c.args.ends.now c.args.index _ _ c.requires.ends c.item_at.ensures.value c.shut_end.ensures.handle
 
 pub returns-clause-shut : goal.returns-clause-shut
 returns-clause-shut g c = used_at c.args.queues.now c.args.ends.now c.args.index _ _ c.requires.ends c.item_at.ensures.value (HasShut c.shut_end.result) c.requires.known c.shut_end.ensures.shut
 
-pub returns-clause-did : goal.returns-clause-did
-returns-clause-did g c = did_at c.args.ends.now c.args.index _ _ _ (in_ends c.args.queues.now c.args.ends.now c.args.index c.requires.ends c.requires.known) c.item_at.ensures.value c.shut_end.ensures.worked
+pub returns-clause-effect : goal.returns-clause-effect
+returns-clause-effect g c = did_at c.args.ends.now c.args.index _ _ _ (in_ends c.args.queues.now c.args.ends.now c.args.index c.requires.ends c.requires.known) c.item_at.ensures.value c.shut_end.ensures.worked
 
-pub returns-clause-sound : goal.returns-clause-sound
-returns-clause-sound g c = sound_at c.args.ends.now c.args.index _ _ _ (in_ends c.args.queues.now c.args.ends.now c.args.index c.requires.ends c.requires.known) c.item_at.ensures.value c.shut_end.ensures.worked
+pub returns-clause-frame : goal.returns-clause-frame
+returns-clause-frame g c = sound_at c.args.ends.now c.args.index _ _ _ (in_ends c.args.queues.now c.args.ends.now c.args.index c.requires.ends c.requires.known) c.item_at.ensures.value c.shut_end.ensures.worked

@@ -16,5 +16,5 @@ returns-clause-stakes c = stakes_add dids_add
 pub returns-clause-chain_stakes : goal.returns-clause-chain_stakes
 returns-clause-chain_stakes c = stakes_add chains_add
 
-pub returns-clause-lines : goal.returns-clause-lines
-returns-clause-lines c a b = lines_add a.did b.did
+pub returns-clause-effect : goal.returns-clause-effect
+returns-clause-effect c a b = lines_add a.did b.did

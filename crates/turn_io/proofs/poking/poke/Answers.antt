@@ -11,17 +11,17 @@ poke_end-requires-clause-idle g c = is_idle c.args.chains.now c.args.ends.now c.
 pub poke_end-requires-clause-world : goal.poke_end-requires-clause-world
 poke_end-requires-clause-world g c = its_world c.args.world.now c.args.chains.now c.args.index _ c.requires.world c.requires.known c.index-chains-index.is
 
-pub returns-clause-same : goal.returns-clause-same
-returns-clause-same g c = ends_same c.args.chains.now c.args.ends.now c.args.index _ _ c.requires.ends c.requires.known c.item_at.ensures.value c.poke_end.ensures.same
+pub returns-clause-handle : goal.returns-clause-handle
+returns-clause-handle g c = ends_same c.args.chains.now c.args.ends.now c.args.index _ _ c.requires.ends c.requires.known c.item_at.ensures.value c.poke_end.ensures.handle
 
 pub returns-clause-ends : goal.returns-clause-ends
-returns-clause-ends g c = ends_fit c.args.chains.now c.args.ends.now c.args.index _ _ c.requires.ends c.requires.known c.item_at.ensures.value c.poke_end.ensures.same c.poke_end.ensures.idle
+returns-clause-ends g c = ends_fit c.args.chains.now c.args.ends.now c.args.index _ _ c.requires.ends c.requires.known c.item_at.ensures.value c.poke_end.ensures.handle c.poke_end.ensures.idle
 
 pub returns-clause-poked : goal.returns-clause-poked
 returns-clause-poked g c = poked_at c.args.chains.now c.args.ends.now c.args.index _ _ c.requires.ends c.requires.known c.item_at.ensures.value _ _ _ c.index-chains-index.is c.poke_end.ensures.poked
 
-pub returns-clause-did : goal.returns-clause-did
-returns-clause-did g c = chain_did_at c.args.ends.now c.args.index _ _ _ (in_ends c.args.chains.now c.args.ends.now c.args.index c.requires.ends c.requires.known) c.item_at.ensures.value c.poke_end.ensures.worked
+pub returns-clause-effect : goal.returns-clause-effect
+returns-clause-effect g c = chain_did_at c.args.ends.now c.args.index _ _ _ (in_ends c.args.chains.now c.args.ends.now c.args.index c.requires.ends c.requires.known) c.item_at.ensures.value c.poke_end.ensures.worked
 
 pub returns-clause-shares : goal.returns-clause-shares
 returns-clause-shares g c = chain_shares_at c.args.ends.now c.args.index _ _ _ (in_ends c.args.chains.now c.args.ends.now c.args.index c.requires.ends c.requires.known) c.item_at.ensures.value c.poke_end.ensures.worked

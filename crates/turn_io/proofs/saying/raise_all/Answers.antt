@@ -9,7 +9,7 @@ loop-i-init g c = record {
   same = search rules;
   own = search rules;
   raised = search rules;
-  done = none_raised _ _ _ _ c.requires.own.0;
+  done = none_raised _ _ _ _ c.requires.owns.0;
 }
 
 pub loop-i-preserved : goal.loop-i-preserved
@@ -19,5 +19,5 @@ loop-i-preserved g c = let l = c.loop-i.invariant in
       same = search rules;
       own = search rules;
       raised = search rules;
-      done = raised_more _ _ _ _ _ _ _ below c.requires.own.0 l.done (raised_next _ _ _ _ _ _ _ _ _ _ _ _ c.raise_next-raised.ensures.raised c.raise_next-raised.ensures.steps l.same.0 l.same.1 l.raised below);
+      done = raised_more _ _ _ _ _ _ _ below c.requires.owns.0 l.done (raised_next _ _ _ _ _ _ _ _ _ _ _ _ c.raise_next-raised.ensures.raised c.raise_next-raised.ensures.trace l.same.0 l.same.1 l.raised below);
     }

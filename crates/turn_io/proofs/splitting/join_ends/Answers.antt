@@ -32,8 +32,8 @@ loop-other-preserved g c = let v = c.loop-other.invariant in let fit = v.same.ta
     let long = as_long end_table queue_table c.args.others.items c.args.queues.now c.requires.others in let number = v.number in
     let inside = next.1 in let below : c.loop-other.i < length c.args.queues.now = omega arith in
     let here = in_ends c.args.queues.now c.loop-other.ends c.loop-other.i fit below in let value = c.item_at.ensures.value in record {
-      walk = walk_on IsJoined c.args.ends.now c.loop-other.ends c.loop-other.yielded c.loop-other.i _ c.join.new.end c.in-Some.other here value c.join.ensures.steps v.walk;
-      same = same_on end_table end_call c.args.ends.now c.loop-other.ends (set c.loop-other.ends c.loop-other.i c.join.new.end) v.same (ends_same c.args.queues.now c.loop-other.ends c.loop-other.i _ c.join.new.end fit value c.join.ensures.same);
+      walk = walk_on IsJoined c.args.ends.now c.loop-other.ends c.loop-other.yielded c.loop-other.i _ c.join.new.end c.in-Some.other here value c.join.ensures.trace v.walk;
+      same = same_on end_table end_call c.args.ends.now c.loop-other.ends (set c.loop-other.ends c.loop-other.i c.join.new.end) v.same (ends_same c.args.queues.now c.loop-other.ends c.loop-other.i _ c.join.new.end fit value c.join.ensures.handle);
       number = let more = length_push c.loop-other.yielded c.in-Some.other in omega arith;
       parts = append_assoc c.loop-other.yielded (c.in-Some.other ∷ []) _ ∙ (ap (λ z. c.loop-other.yielded ++ z) (sym steps) ∙ v.parts);
       left = let was = v.left in let gone = c.in-Some.ensures.steps.1 in let short = ap length steps in omega arith;
@@ -48,5 +48,5 @@ returns-clause-joined g c = let v = c.loop-other.invariant in let none = c.in-No
     subst (λ (z : List (QueueEnd g.row.N)). AreJoined c.args.ends.now z c.loop-other.ends) all
     (are_joined c.args.ends.now c.loop-other.ends c.loop-other.yielded (walked IsJoined c.args.ends.now c.loop-other.ends c.loop-other.yielded c.loop-other.i (omega arith) v.walk))
 
-pub returns-clause-did : goal.returns-clause-did
-returns-clause-did g c = joined_at c.args.ends.now c.loop-other.ends c.args.others.items (returns-clause-joined g c).each
+pub returns-clause-effect : goal.returns-clause-effect
+returns-clause-effect g c = joined_at c.args.ends.now c.loop-other.ends c.args.others.items (returns-clause-joined g c).each

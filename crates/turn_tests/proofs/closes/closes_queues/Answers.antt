@@ -15,11 +15,11 @@ use Rattle.turn_tests.proofs.closes.closes_queues.Goals as goal
 pub close_queues-closed-requires : goal.close_queues-closed-requires
 close_queues-closed-requires g c =
     let made = c.in_ok-queues.field-0 in let lent = c.as_mut_slice-mine in let new = c.join_at.new.ends in
-    let tables = c.join_at.ensures.same.tables ∙ (c.shut_queue.ensures.same.tables ∙ (c.hear.ensures.same.tables ∙ (c.say-2.ensures.same.tables ∙ c.say.ensures.same.tables))) in
+    let tables = c.join_at.ensures.handle.tables ∙ (c.shut_queue.ensures.handle.tables ∙ (c.hear.ensures.handle.tables ∙ (c.say-2.ensures.handle.tables ∙ c.say.ensures.handle.tables))) in
     let back = came_back end_table made.ends lent.result.now new tables lent.ensures.len in
     let fit : map end_table new ≡ map queue_table made.queues.items = c.join_at.ensures.ends ∙ ap (map queue_table) c.as_slice-list.ensures.value in
     let long = as_long end_table queue_table new made.queues.items fit in let one = made.one in
-    let shares = c.shut_queue.ensures.sound.shares ∙ (c.hear.ensures.sound.shares ∙ (c.say-2.ensures.sound.shares ∙ (c.say.ensures.sound.shares ∙ ap queue_shares lent.ensures.value))) in
+    let shares = c.shut_queue.ensures.frame.shares ∙ (c.hear.ensures.frame.shares ∙ (c.say-2.ensures.frame.shares ∙ (c.say.ensures.frame.shares ∙ ap queue_shares lent.ensures.value))) in
     let same : queue_shares c.shut_queue.new.ends 0 ≡ share_at made.ends.items 0 = ap (λ (f : ℕ → ℕ). f 0) shares ∙ share_is made.ends.items 0 in
     let sum : share_at new 0 ≡ queue_shares c.shut_queue.new.ends 0 + (end_share made.other + 0) = sym (share_is new 0) ∙ ap (λ (f : ℕ → Stake QueueOps). (f 0).share) c.join_at.ensures.gained.stakes_are in
     let whole = only_one new (omega arith) (sum ∙ ((λ i. same i + add-zero (end_share made.other) i) ∙ made.whole)) in (

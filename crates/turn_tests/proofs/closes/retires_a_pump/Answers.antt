@@ -20,8 +20,8 @@ only_still (x ∷ xs) (y ∷ ys) e s h (suc k) d l = only_still xs ys (omega ari
 
 pub retire_all-homes-requires-clause-whole : goal.retire_all-homes-requires-clause-whole
 retire_all-homes-requires-clause-whole g c = let made = c.in_ok-world.field-0 in let lent = c.deref_mut-2 in let poked = c.poke-poked in
-    let back = came_back chain_end_table made.chain_ends lent.result.now poked.new.ends poked.ensures.same.tables lent.ensures.len in
-    subst (λ z. All IsOnlyEnd z) (sym back) (only_still made.chain_ends.items poked.new.ends (as_long chain_end_table chain_end_table poked.new.ends made.chain_ends.items (poked.ensures.same.tables ∙ ap (map chain_end_table) lent.ensures.value))
+    let back = came_back chain_end_table made.chain_ends lent.result.now poked.new.ends poked.ensures.handle.tables lent.ensures.len in
+    subst (λ z. All IsOnlyEnd z) (sym back) (only_still made.chain_ends.items poked.new.ends (as_long chain_end_table chain_end_table poked.new.ends made.chain_ends.items (poked.ensures.handle.tables ∙ ap (map chain_end_table) lent.ensures.value))
     (λ q. ap (λ (f : ℕ → ℕ). f q) (poked.ensures.shares ∙ ap chain_shares lent.ensures.value)) made.whole)
 
 pub bring_all_home-counts-requires-clause-fits : goal.bring_all_home-counts-requires-clause-fits

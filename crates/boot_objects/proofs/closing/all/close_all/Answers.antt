@@ -11,7 +11,7 @@ close_chains-counts-requires-clause-whole c = only_chains c.args.shared c.args.p
 
 pub close_queues-requires : goal.close_queues-requires
 close_queues-requires c = let all = c.close_chains-counts.ensures in let new = c.close_chains-counts.new.small in
-    let back = came_back end_table c.args.parts.small c.as_mut_slice.result.now new all.same.0.tables c.as_mut_slice.ensures.len in (
+    let back = came_back end_table c.args.parts.small c.as_mut_slice.result.now new all.handle.0.tables c.as_mut_slice.ensures.len in (
       omega arith,
       (
         omega arith,
@@ -31,7 +31,7 @@ close_queues-requires c = let all = c.close_chains-counts.ensures in let new = c
 
 pub close_queues-requires-2 : goal.close_queues-requires-2
 close_queues-requires-2 c = let all = c.close_chains-counts.ensures in let new = c.close_chains-counts.new.large in
-    let back = came_back end_table c.args.parts.large c.as_mut_slice-2.result.now new all.same.1.tables c.as_mut_slice-2.ensures.len in (
+    let back = came_back end_table c.args.parts.large c.as_mut_slice-2.result.now new all.handle.1.tables c.as_mut_slice-2.ensures.len in (
       omega arith,
       (
         omega arith,
@@ -58,8 +58,8 @@ close_meters-requires-clause-whole c = only_seat c.args.shared c.args.parts c.re
 pub returns : goal.returns
 returns c = let all = c.close_chains-counts.ensures in let homes = homes_in c.close_chains-counts.result.items in
     let up = homes_up c.args.shared.chains.items c.args.parts.chains.items homes all.homes in
-    let small_back = came_back end_table c.args.parts.small c.as_mut_slice.result.now c.close_chains-counts.new.small all.same.0.tables c.as_mut_slice.ensures.len in
-    let large_back = came_back end_table c.args.parts.large c.as_mut_slice-2.result.now c.close_chains-counts.new.large all.same.1.tables c.as_mut_slice-2.ensures.len in
+    let small_back = came_back end_table c.args.parts.small c.as_mut_slice.result.now c.close_chains-counts.new.small all.handle.0.tables c.as_mut_slice.ensures.len in
+    let large_back = came_back end_table c.args.parts.large c.as_mut_slice-2.result.now c.close_chains-counts.new.large all.handle.1.tables c.as_mut_slice-2.ensures.len in
     let small_had : Gained (small_ports homes) c.args.parts.small.items c.of-small_ends.result.value.items = subst (λ (z : Vec (QueueEnd 64)). Gained (small_ports homes) c.args.parts.small.items z.items) (sym c.of-small_ends.ensures)
     (subst (λ (z : List (QueueEnd 64)). Gained (small_ports homes) c.args.parts.small.items z) (sym small_back) (subst (λ (z : List (QueueEnd 64)). Gained (small_ports homes) z c.close_chains-counts.new.small) c.as_mut_slice.ensures.value all.small_gained)) in
     let large_had : Gained (large_ports homes) c.args.parts.large.items c.of-large_ends.result.value.items = subst (λ (z : Vec (QueueEnd 256)). Gained (large_ports homes) c.args.parts.large.items z.items) (sym c.of-large_ends.ensures)

@@ -7,8 +7,8 @@ pub loop-home-preserved : goal.loop-home-preserved
 loop-home-preserved c = let v = c.loop-home.invariant in let b = c.bring_home.ensures in record {
   small = home_more (λ (home : Home). home.small) c.loop-home.yielded c.in-Some.home c.args.small.now c.loop-home.small c.bring_home.new.small v.small b.small_gained;
   large = home_more (λ (home : Home). home.large) c.loop-home.yielded c.in-Some.home c.args.large.now c.loop-home.large c.bring_home.new.large v.large b.large_gained;
-  same = same_on end_table end_call c.args.small.now c.loop-home.small c.bring_home.new.small v.same b.same.0;
-  same_large = same_on end_table end_call c.args.large.now c.loop-home.large c.bring_home.new.large v.same_large b.same.1;
+  same = same_on end_table end_call c.args.small.now c.loop-home.small c.bring_home.new.small v.same b.handle.0;
+  same_large = same_on end_table end_call c.args.large.now c.loop-home.large c.bring_home.new.large v.same_large b.handle.1;
   parts = append_assoc c.loop-home.yielded (c.in-Some.home ∷ []) (into_iter_items c.next.new.self) ∙ (ap (λ z. c.loop-home.yielded ++ z) (sym c.in-Some.ensures.steps.0) ∙ v.parts);
   left = let was = v.left in let gone = c.in-Some.ensures.steps.1 in let short = ap length c.in-Some.ensures.steps.0 in omega arith;
   counts = ap homes_in c.push_reserved.ensures.items ∙ (map-append home_in c.loop-home.counts.items (c.bring_home.result ∷ []) ∙ (λ i. v.counts i ++ b.came i ∷ []));

@@ -21,6 +21,6 @@ join_port-requires g c = let v = c.loop-port.invariant in (
 pub loop-port-preserved : goal.loop-port-preserved
 loop-port-preserved g c = let v = c.loop-port.invariant in record {
   gained = gained_both c.loop-port.yielded (c.in-Some.port ∷ []) c.args.ends.now c.loop-port.ends c.join_port.new.ends v.gained c.join_port.ensures.gained;
-  same = same_on end_table end_call c.args.ends.now c.loop-port.ends c.join_port.new.ends v.same c.join_port.ensures.same;
+  same = same_on end_table end_call c.args.ends.now c.loop-port.ends c.join_port.new.ends v.same c.join_port.ensures.handle;
   parts = append_assoc c.loop-port.yielded (c.in-Some.port ∷ []) (array_into_iter_items c.next.new.self) ∙ (ap (λ z. c.loop-port.yielded ++ z) (sym c.in-Some.ensures.steps) ∙ v.parts);
 }

@@ -18,15 +18,15 @@ other_rests : (c : goal.After-ends-2-1) → IsIdle c.args.other
 other_rests c = rests c.index-chains-index.result c.args.other (its_own (λ chain. IsEndOf chain c.args.other) c.args.chains.now c.args.index c.index-chains-index.result c.requires.other.named c.requires.other.its c.index-chains-index.is) c.requires.idle
 
 took : (c : goal.After-ends-2-1) → IsChainJoined c.item_at.result.now c.join.new.end c.args.other
-took c = (took_in c.item_at.result.now c.args.other c.join.new.end (other_rests c) c.join.ensures.steps).0
+took c = (took_in c.item_at.result.now c.args.other c.join.new.end (other_rests c) c.join.ensures.trace).0
 
-pub returns-clause-same : goal.returns-clause-same
-returns-clause-same c = ends_same c.args.chains.now c.args.ends.now c.args.index _ c.join.new.end c.requires.ends c.requires.other.named c.item_at.ensures.value ((c.join.ensures.same c.requires.idle).0)
+pub returns-clause-handle : goal.returns-clause-handle
+returns-clause-handle c = ends_same c.args.chains.now c.args.ends.now c.args.index _ c.join.new.end c.requires.ends c.requires.other.named c.item_at.ensures.value ((c.join.ensures.handle c.requires.idle).0)
 
 pub returns-clause-ends : goal.returns-clause-ends
 returns-clause-ends c = let idle = is_idle c.args.chains.now c.args.ends.now c.args.index c.item_at.result.now c.requires.ends c.requires.other.named c.item_at.ensures.value in
-    let idle' = other_rests c in let both = took_in c.item_at.result.now c.args.other c.join.new.end idle' c.join.ensures.steps in
-    ends_fit c.args.chains.now c.args.ends.now c.args.index _ c.join.new.end c.requires.ends c.requires.other.named c.item_at.ensures.value ((c.join.ensures.same c.requires.idle).0)
+    let idle' = other_rests c in let both = took_in c.item_at.result.now c.args.other c.join.new.end idle' c.join.ensures.trace in
+    ends_fit c.args.chains.now c.args.ends.now c.args.index _ c.join.new.end c.requires.ends c.requires.other.named c.item_at.ensures.value ((c.join.ensures.handle c.requires.idle).0)
     (still_idle c.item_at.result.now c.args.other c.join.new.end idle idle' c.join.ensures.turn both.1)
 
 pub returns-clause-joined : goal.returns-clause-joined

@@ -19,11 +19,11 @@ join_into-requires g c = (
   ),
 )
 
-pub returns-clause-same : goal.returns-clause-same
-returns-clause-same g c = ends_same c.args.queues.now c.args.ends.now c.args.index _ c.join_into.new.end c.requires.ends c.item_at.ensures.value c.join_into.ensures.same
+pub returns-clause-handle : goal.returns-clause-handle
+returns-clause-handle g c = ends_same c.args.queues.now c.args.ends.now c.args.index _ c.join_into.new.end c.requires.ends c.item_at.ensures.value c.join_into.ensures.handle
 
 pub returns-clause-ends : goal.returns-clause-ends
-returns-clause-ends g c = ends_fit c.args.queues.now c.args.ends.now c.args.index _ c.join_into.new.end c.requires.ends c.item_at.ensures.value c.join_into.ensures.same
+returns-clause-ends g c = ends_fit c.args.queues.now c.args.ends.now c.args.index _ c.join_into.new.end c.requires.ends c.item_at.ensures.value c.join_into.ensures.handle
 
 pub returns-clause-joined : goal.returns-clause-joined
 returns-clause-joined g c = used_at c.args.queues.now c.args.ends.now c.args.index _ c.join_into.new.end c.requires.ends c.item_at.ensures.value (λ old new. IsJoined old new c.args.port.end) c.requires.other.named c.join_into.ensures.joined

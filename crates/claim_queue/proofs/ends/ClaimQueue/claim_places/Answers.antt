@@ -3,21 +3,21 @@ use Rattle.claim_queue.proofs.Following.{shut_meanwhile, was_lost, claimed_items
 use Rattle.claim_queue.proofs.Raising.{owns_claimed}
 use Rattle.claim_queue.proofs.ends.ClaimQueue.claim_places.Goals as goal
 
-pub returns-clause-steps : goal.returns-clause-steps
-returns-clause-steps g c = let fits : Fits g.row.N (length c.args.items.now) = search rules in let m = c.if-new-ge-SHUT.false in let room = c.if-new-tail.false in
+pub returns-clause-trace : goal.returns-clause-trace
+returns-clause-trace g c = let fits : Fits g.row.N (length c.args.items.now) = search rules in let m = c.if-new-ge-SHUT.false in let room = c.if-new-tail.false in
     was_lost g.row.N c.args.items.now _ _ _ _ _ c.load_head-head.ensures.found c.load_tail-tail.ensures.found (omega arith) (omega arith) _ _ fits (c.exchange_head-found.ensures.miss c.if-found-head.false) c.if-found-ge-SHUT.false c.if-found-head.false
 
-pub returns-then-found-ge-SHUT-clause-steps : goal.returns-then-found-ge-SHUT-clause-steps
-returns-then-found-ge-SHUT-clause-steps g c = let fits : Fits g.row.N (length c.args.items.now) = search rules in let m = c.if-new-ge-SHUT.false in let room = c.if-new-tail.false in
+pub returns-then-found-ge-SHUT-clause-trace : goal.returns-then-found-ge-SHUT-clause-trace
+returns-then-found-ge-SHUT-clause-trace g c = let fits : Fits g.row.N (length c.args.items.now) = search rules in let m = c.if-new-ge-SHUT.false in let room = c.if-new-tail.false in
     (fits, inr (shut_meanwhile g.row.N c.args.items.now _ _ _ _ _ c.load_head-head.ensures.found c.load_tail-tail.ensures.found (omega arith) (omega arith) _ _ (c.exchange_head-found.ensures.miss c.if-found-head.false) c.if-found-ge-SHUT.true))
 
-pub returns-then-found-ge-SHUT-clause-paused : goal.returns-then-found-ge-SHUT-clause-paused
-returns-then-found-ge-SHUT-clause-paused g c = let m = c.if-new-ge-SHUT.false in let room = c.if-new-tail.false in
+pub returns-then-found-ge-SHUT-clause-hook : goal.returns-then-found-ge-SHUT-clause-hook
+returns-then-found-ge-SHUT-clause-hook g c = let m = c.if-new-ge-SHUT.false in let room = c.if-new-tail.false in
     inr (shut_meanwhile g.row.N c.args.items.now _ _ _ _ _ c.load_head-head.ensures.found c.load_tail-tail.ensures.found (omega arith) (omega arith) _ _ (c.exchange_head-found.ensures.miss c.if-found-head.false) c.if-found-ge-SHUT.true, search rules)
 
-pub returns-then-found-head-clause-steps : goal.returns-then-found-head-clause-steps
-returns-then-found-head-clause-steps g c = let fits : Fits g.row.N (length c.args.items.now) = search rules in let m = c.if-new-ge-SHUT.false in let room = c.if-new-tail.false in
+pub returns-then-found-head-clause-trace : goal.returns-then-found-head-clause-trace
+returns-then-found-head-clause-trace g c = let fits : Fits g.row.N (length c.args.items.now) = search rules in let m = c.if-new-ge-SHUT.false in let room = c.if-new-tail.false in
     claimed_items g.row.N c.args.items.now _ _ _ _ _ c.load_head-head.ensures.found c.load_tail-tail.ensures.found (omega arith) (omega arith) _ fits (c.exchange_head-found.ensures.hit c.if-found-head.true)
 
-pub returns-then-found-head-clause-own : goal.returns-then-found-head-clause-own
-returns-then-found-head-clause-own g c = (owns_claimed _ _ _ _ (c.exchange_head-found.ensures.hit c.if-found-head.true), search rules)
+pub returns-then-found-head-clause-owns : goal.returns-then-found-head-clause-owns
+returns-then-found-head-clause-owns g c = (owns_claimed _ _ _ _ (c.exchange_head-found.ensures.hit c.if-found-head.true), search rules)

@@ -6,8 +6,8 @@ use Rattle.claim_queue.proofs.ends.ClaimQueue.count_raised.Goals as goal
 pub loop-i-init : goal.loop-i-init
 loop-i-init g c = let t = c.requires.tail in record { same = search rules; grows = grows_refl _; first = t.0; started = t.1; raised = λ i h. absurd (omega arith); walking = none_walked g.row.N _ _ }
 
-pub returns-then-flag-position-clause-steps : goal.returns-then-flag-position-clause-steps
-returns-then-flag-position-clause-steps g c = walked_to_gap g.row.N _ _ _ _ _ _ _ c.loop-i.invariant.walking c.loop-i-test.true c.load_flag-flag.ensures.found c.if-flag-position.true
+pub returns-then-flag-position-clause-trace : goal.returns-then-flag-position-clause-trace
+returns-then-flag-position-clause-trace g c = walked_to_gap g.row.N _ _ _ _ _ _ _ c.loop-i.invariant.walking c.loop-i-test.true c.load_flag-flag.ensures.found c.if-flag-position.true
 
 pub returns-then-flag-position-clause-grows : goal.returns-then-flag-position-clause-grows
 returns-then-flag-position-clause-grows g c = grows_trans _ _ _ c.loop-i.invariant.grows c.load_flag-flag.ensures.found.grows

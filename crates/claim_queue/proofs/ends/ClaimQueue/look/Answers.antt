@@ -7,5 +7,5 @@ overflow_sub-head g c = head_past _ _ _ _ _ c.load_tail-tail.ensures.found c.loa
 pub returns-clause-result : goal.returns-clause-result
 returns-clause-result g c = let r = c.count_raised-raised.ensures in says_of _ _ _ _ _ c.load_tail-tail.ensures.found c.load_head-word.ensures.found g.row.N _ _ c.count_raised-raised.new.end.seat.me.0 c.min-most.ensures r.grows r.most r.raised r.next
 
-pub returns-clause-steps : goal.returns-clause-steps
-returns-clause-steps g c = looked_at _ _ _ _ _ c.load_tail-tail.ensures.found c.load_head-word.ensures.found g.row.N _ _ _ c.min-most.ensures c.count_raised-raised.ensures.steps
+pub returns-clause-trace : goal.returns-clause-trace
+returns-clause-trace g c = looked_at _ _ _ _ _ c.load_tail-tail.ensures.found c.load_head-word.ensures.found g.row.N _ _ _ c.min-most.ensures c.count_raised-raised.ensures.trace

@@ -3,12 +3,12 @@ use Rattle.claim_queue.proofs.Putting.{tried_more, lost_by, lost_not_shut, answe
 use Rattle.claim_queue.proofs.ends.ClaimQueue.put.Goals as goal
 
 pub loop-preserved : goal.loop-preserved
-loop-preserved g c = let l = c.loop.invariant in let is = sym c.was_lost.ensures ∙ c.if-not-was_lost.false in let lost = lost_by _ _ _ _ _ is c.try_put-answer.ensures.steps in record {
+loop-preserved g c = let l = c.loop.invariant in let is = sym c.was_lost.ensures ∙ c.if-not-was_lost.false in let lost = lost_by _ _ _ _ _ is c.try_put-answer.ensures.trace in record {
   steps = search rules;
   same = search rules;
   tried = tried_more _ _ _ _ _ l.tried lost.0 lost.1 lost.2;
   shut = λ shut some_items fits. lost_not_shut _ is (c.try_put-answer.ensures.shut (l.shut shut some_items fits) some_items fits);
 }
 
-pub returns-then-not-was_lost-clause-steps : goal.returns-then-not-was_lost-clause-steps
-returns-then-not-was_lost-clause-steps g c = answered _ _ _ _ _ _ (sym c.was_lost.ensures ∙ c.if-not-was_lost.true) c.loop.invariant.tried c.try_put-answer.ensures.steps
+pub returns-then-not-was_lost-clause-trace : goal.returns-then-not-was_lost-clause-trace
+returns-then-not-was_lost-clause-trace g c = answered _ _ _ _ _ _ (sym c.was_lost.ensures ∙ c.if-not-was_lost.true) c.loop.invariant.tried c.try_put-answer.ensures.trace

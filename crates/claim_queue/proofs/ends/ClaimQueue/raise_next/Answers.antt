@@ -2,6 +2,6 @@ use Rattle.claim_queue.proofs.Common.{rules, ◌≡◌, ℕ, List, subst, Raised
 use Rattle.claim_queue.proofs.Lining.{raised_lines}
 use Rattle.claim_queue.proofs.ends.ClaimQueue.raise_next.Goals as goal
 
-pub returns-clause-lines : goal.returns-clause-lines
-returns-clause-lines g c = let same : c.as_slice.result.now ≡ c.args.claim.now.items.items = search rules in
-    raised_lines _ _ _ _ _ _ c.requires.own (subst (λ (z : List ℕ). Raised g.row.N c.args.end.now.seat.me.0 c.args.claim.now.start z c.args.claim.now.raised c.raise_place.new.end.seat.me.0) same c.raise_place.ensures.steps)
+pub returns-clause-effect : goal.returns-clause-effect
+returns-clause-effect g c = let same : c.as_slice.result.now ≡ c.args.claim.now.items.items = search rules in
+    raised_lines _ _ _ _ _ _ c.requires.owns (subst (λ (z : List ℕ). Raised g.row.N c.args.end.now.seat.me.0 c.args.claim.now.start z c.args.claim.now.raised c.raise_place.new.end.seat.me.0) same c.raise_place.ensures.trace)

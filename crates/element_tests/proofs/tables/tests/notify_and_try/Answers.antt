@@ -18,4 +18,4 @@ new_now call call' wait line head v u w (Err r) n a = tt
 
 pub returns-clause-taken : goal.returns-clause-taken
 returns-clause-taken c = let h = c.args.hand.now in let u = c.notify-head.new.hand in
-    new_now (call_of h) (call_of u) c.args.wait (c.args.wait + 2) c.notify-head.result (view_of h) (view_of u) (view_of c.try_wake_before.new.hand) c.try_wake_before.result c.notify-head.ensures.steps c.try_wake_before.ensures.steps
+    new_now (call_of h) (call_of u) c.args.wait (c.args.wait + 2) c.notify-head.result (view_of h) (view_of u) (view_of c.try_wake_before.new.hand) c.try_wake_before.result c.notify-head.ensures.trace c.try_wake_before.ensures.trace

@@ -5,5 +5,5 @@ use Rattle.element_tests.proofs.timing.tests.alone.Goals as goal
 
 pub returns-clause-alarms : goal.returns-clause-alarms
 returns-clause-alarms c = λ a. let once = c.in-Ok.ensures.closed.all.once a in let set = λ (o : Own). o.set in
-    let none : c.due-fired.new.seat.seat.me.0.own.set ≡ [] = ap set c.due-fired.ensures.own ∙ (ap set c.tick-2.ensures.own ∙ (ap set c.tick.ensures.own ∙ ap (λ (v : SeatView). v.own.set) c.in_ok-meters.ensures.2)) in
+    let none : c.due-fired.new.seat.seat.me.0.own.set ≡ [] = ap set c.due-fired.ensures.owns ∙ (ap set c.tick-2.ensures.owns ∙ (ap set c.tick.ensures.owns ∙ ap (λ (v : SeatView). v.own.set) c.in_ok-meters.ensures.2)) in
     let few = ap (times a) none in omega arith

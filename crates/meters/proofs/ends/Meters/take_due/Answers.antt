@@ -31,7 +31,7 @@ loop-slot-preserved c =
           let fire = w.fire.ensures in
           let got = fire.gave v load.found.0 load.found.1 load.found.2 in
           let g = subst (λ (z : MeterSeat). Gave v clock slot got.0 z.seat.me.0) (sym w.seat-is) got.1 in record {
-            same = ((λ i. (w.seat-is i).seat.table_id) ∙ (fire.same.0 ∙ (load.seat.0.0 ∙ old.same.0)), (λ i. (w.seat-is i).seat.id) ∙ (fire.same.1 ∙ (load.seat.0.1 ∙ old.same.1)));
+            same = ((λ i. (w.seat-is i).seat.table_id) ∙ (fire.handle.0 ∙ (load.seat.0.0 ∙ old.same.0)), (λ i. (w.seat-is i).seat.id) ∙ (fire.handle.1 ∙ (load.seat.0.1 ∙ old.same.1)));
             valid = clock_on v _ clock slot got.0 c.loop-slot.seat.valid c.if-not-is_empty.seat.valid old.valid g;
             swept = swept_more _ v _ clock slot items c.if-not-is_empty.fired.items got.0 old.swept g ((λ i. (w.fired-is i).items) ∙ got.2);
           }
@@ -44,8 +44,8 @@ loop-slot-preserved c =
           }
     ]
 
-pub returns-clause-steps : goal.returns-clause-steps
-returns-clause-steps c = let past = c.loop-slot-test.false in let end = c.loop-slot.auto.slot-end in (fired_now _ _ _ _ c.loop-slot.slot _ (omega arith) c.load_clock-clock.ensures.found c.loop-slot.invariant.swept).0
+pub returns-clause-trace : goal.returns-clause-trace
+returns-clause-trace c = let past = c.loop-slot-test.false in let end = c.loop-slot.auto.slot-end in (fired_now _ _ _ _ c.loop-slot.slot _ (omega arith) c.load_clock-clock.ensures.found c.loop-slot.invariant.swept).0
 
-pub returns-clause-own : goal.returns-clause-own
-returns-clause-own c = let past = c.loop-slot-test.false in let end = c.loop-slot.auto.slot-end in (fired_now _ _ _ _ c.loop-slot.slot _ (omega arith) c.load_clock-clock.ensures.found c.loop-slot.invariant.swept).1
+pub returns-clause-owns : goal.returns-clause-owns
+returns-clause-owns c = let past = c.loop-slot-test.false in let end = c.loop-slot.auto.slot-end in (fired_now _ _ _ _ c.loop-slot.slot _ (omega arith) c.load_clock-clock.ensures.found c.loop-slot.invariant.swept).1

@@ -5,17 +5,17 @@ use Rattle.meters.proofs.ends.Meters.try_set.Goals as goal
 pub loop-slot-init : goal.loop-slot-init
 loop-slot-init c = record { same = (refl, refl); searched = searched_none _ }
 
-pub returns-then-exchange_in-clause-steps : goal.returns-then-exchange_in-clause-steps
-returns-then-exchange_in-clause-steps c = (set_now _ _ _ _ c.loop-slot.slot _ c.loop-slot-test.true c.loop-slot.invariant.searched c.load_alarm.ensures.found c.if-is_none.ensures c.args.alarm (c.exchange_in.ensures.hit c.if-exchange_in.true)).0
+pub returns-then-exchange_in-clause-trace : goal.returns-then-exchange_in-clause-trace
+returns-then-exchange_in-clause-trace c = (set_now _ _ _ _ c.loop-slot.slot _ c.loop-slot-test.true c.loop-slot.invariant.searched c.load_alarm.ensures.found c.if-is_none.ensures c.args.alarm (c.exchange_in.ensures.hit c.if-exchange_in.true)).0
 
-pub returns-then-exchange_in-clause-own : goal.returns-then-exchange_in-clause-own
-returns-then-exchange_in-clause-own c = (set_now _ _ _ _ c.loop-slot.slot _ c.loop-slot-test.true c.loop-slot.invariant.searched c.load_alarm.ensures.found c.if-is_none.ensures c.args.alarm (c.exchange_in.ensures.hit c.if-exchange_in.true)).1
+pub returns-then-exchange_in-clause-owns : goal.returns-then-exchange_in-clause-owns
+returns-then-exchange_in-clause-owns c = (set_now _ _ _ _ c.loop-slot.slot _ c.loop-slot-test.true c.loop-slot.invariant.searched c.load_alarm.ensures.found c.if-is_none.ensures c.args.alarm (c.exchange_in.ensures.hit c.if-exchange_in.true)).1
 
-pub returns-then-is_none-clause-steps : goal.returns-then-is_none-clause-steps
-returns-then-is_none-clause-steps c = (lost_slot _ _ _ _ c.loop-slot.slot _ c.loop-slot-test.true c.loop-slot.invariant.searched c.load_alarm.ensures.found c.if-is_none.ensures (c.exchange_in.ensures.miss c.if-exchange_in.false)).0
+pub returns-then-is_none-clause-trace : goal.returns-then-is_none-clause-trace
+returns-then-is_none-clause-trace c = (lost_slot _ _ _ _ c.loop-slot.slot _ c.loop-slot-test.true c.loop-slot.invariant.searched c.load_alarm.ensures.found c.if-is_none.ensures (c.exchange_in.ensures.miss c.if-exchange_in.false)).0
 
-pub returns-then-is_none-clause-own : goal.returns-then-is_none-clause-own
-returns-then-is_none-clause-own c = (lost_slot _ _ _ _ c.loop-slot.slot _ c.loop-slot-test.true c.loop-slot.invariant.searched c.load_alarm.ensures.found c.if-is_none.ensures (c.exchange_in.ensures.miss c.if-exchange_in.false)).1
+pub returns-then-is_none-clause-owns : goal.returns-then-is_none-clause-owns
+returns-then-is_none-clause-owns c = (lost_slot _ _ _ _ c.loop-slot.slot _ c.loop-slot-test.true c.loop-slot.invariant.searched c.load_alarm.ensures.found c.if-is_none.ensures (c.exchange_in.ensures.miss c.if-exchange_in.false)).1
 
 pub loop-slot-preserved : goal.loop-slot-preserved
 loop-slot-preserved c = let load = c.load_alarm.ensures in let old = c.loop-slot.invariant in record {
@@ -23,8 +23,8 @@ loop-slot-preserved c = let load = c.load_alarm.ensures in let old = c.loop-slot
   searched = searched_more _ _ _ _ _ old.searched load.found c.if-is_none.ensures;
 }
 
-pub returns-clause-steps : goal.returns-clause-steps
-returns-clause-steps c = let past = c.loop-slot-test.false in let end = c.loop-slot.auto.slot-end in (no_room _ _ c.loop-slot.slot (omega arith) c.loop-slot.invariant.searched).0
+pub returns-clause-trace : goal.returns-clause-trace
+returns-clause-trace c = let past = c.loop-slot-test.false in let end = c.loop-slot.auto.slot-end in (no_room _ _ c.loop-slot.slot (omega arith) c.loop-slot.invariant.searched).0
 
-pub returns-clause-own : goal.returns-clause-own
-returns-clause-own c = let past = c.loop-slot-test.false in let end = c.loop-slot.auto.slot-end in (no_room _ _ c.loop-slot.slot (omega arith) c.loop-slot.invariant.searched).1
+pub returns-clause-owns : goal.returns-clause-owns
+returns-clause-owns c = let past = c.loop-slot-test.false in let end = c.loop-slot.auto.slot-end in (no_room _ _ c.loop-slot.slot (omega arith) c.loop-slot.invariant.searched).1

@@ -2,8 +2,8 @@ use Rattle.proc_chain.proofs.Common.{◌∙◌}
 use Rattle.proc_chain.proofs.ends.ProcChain.join.Goals as goal
 use Rattle.proc_chain.proofs.ends.ProcChain.join.Goals.{then-other, else-other}
 
-pub returns-clause-steps : goal.returns-clause-steps
-returns-clause-steps g c = elim c.if-other.branch [
+pub returns-clause-trace : goal.returns-clause-trace
+returns-clause-trace g c = elim c.if-other.branch [
   | then-other w ↦ rw w.if-other.true (rw (w.end-is ∙ w.swap.ensures.x_after) at (rw (w.other-is ∙ w.swap.ensures.y_after) at c.take_over.ensures.joined))
   | else-other w ↦ rw w.if-other.false (rw w.end-is at (rw w.other-is at c.take_over.ensures.joined))
 ]

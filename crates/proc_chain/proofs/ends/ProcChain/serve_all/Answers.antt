@@ -14,13 +14,13 @@ loop-init g c = record {
   since = since_still (makes g.Q.Quaject.made_by c.args.self.now.table.shared.key.pact) (suits g.Q.Quaject.fits c.args.self.now.table.shared.key.pact) c.args.end.now.seat.me.0 c.args.end.now.seat.me.1 (reported_after c.args.end.now.seat.me.0 c.args.end.now.valid) (c.requires.ends.1.0 (c.args.end.now.turned ∙ c.requires.turn));
 }
 
-pub returns-in-Done-clause-steps : goal.returns-in-Done-clause-steps
-returns-in-Done-clause-steps g c = let l = c.loop.invariant in let s = c.in-Done.ensures.steps in all_done _ _ _ l.servings s.0 s.1 c.loop.total c.in-Done.ran l.rounds s.2 s.3
+pub returns-in-Done-clause-trace : goal.returns-in-Done-clause-trace
+returns-in-Done-clause-trace g c = let l = c.loop.invariant in let s = c.in-Done.ensures.steps in all_done _ _ _ l.servings s.0 s.1 c.loop.total c.in-Done.ran l.rounds s.2 s.3
 
 pub loop-preserved : goal.loop-preserved
 loop-preserved g c = let l = c.loop.invariant in let s = c.in-More.ensures.steps in record {
   steps = search rules;
-  same = (c.serve.ensures.same.0 ∙ l.same.0, c.serve.ensures.same.1 ∙ l.same.1);
+  same = (c.serve.ensures.handle.0 ∙ l.same.0, c.serve.ensures.handle.1 ∙ l.same.1);
   slot = c.serve.ensures.ends.1;
   turn = c.in-More.ensures.turn;
   servings = l.servings ++ s.0 ∷ [];

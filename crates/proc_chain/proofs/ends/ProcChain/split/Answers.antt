@@ -6,18 +6,18 @@ use Rattle.proc_chain.proofs.Opening.{split_parted, born_known}
 use Rattle.proc_chain.proofs.ends.ProcChain.split.Goals as goal
 
 pub returns : goal.returns
-returns g c = let end = c.args.end.now in let n = c.count_up.ensures in let s = c.split_off-seat.ensures in let p = split_parted _ _ n.counted.0 n.counted.1 n.stays.1.1 _ (λ i. (s.split.0 i).0) end.rests end.valid in let held = (λ i. (s.split.0 i).1) ∙ n.stays.1.0 in
+returns g c = let end = c.args.end.now in let n = c.count_up.ensures in let s = c.split_off-seat.ensures in let p = split_parted _ _ n.counted.0 n.counted.1 n.frame.1.1 _ (λ i. (s.split.0 i).0) end.rests end.valid in let held = (λ i. (s.split.0 i).1) ∙ n.frame.1.0 in
     let views = split_views nothing_did did_both ends_word _ _ _ _ _ _ n.counted.0 s.split.0 s.split.1 in let pact = c.args.self.now.table.shared.key.pact in record {
-      notes = same_notes _ _ ((λ i. (s.split.0 i).0.own) ∙ n.counted.0.own);
+      effect = same_notes _ _ ((λ i. (s.split.0 i).0.own) ∙ n.counted.0.own);
       turns = ((refl, held), refl);
       born = views.1;
-      steps = views.0;
-      ends = ((s.queue.0.0 ∙ (n.stays.0.0 ∙ c.requires.ends.0), slot_on (makes g.Q.Quaject.made_by pact) (suits g.Q.Quaject.fits pact) end.seat.me.0 c.split_off-seat.new.seat.me.0 _ _ p.notes p.runner held c.requires.ends.1), (s.queue.1 ∙ (n.stays.0.0 ∙ c.requires.ends.0), slot_down (makes g.Q.Quaject.made_by pact) (suits g.Q.Quaject.fits pact) c.split_off-seat.result.me (λ i. (s.split.1 i).0.own.runner) (λ i. (s.split.1 i).1)));
-      same = ((s.queue.0.0 ∙ n.stays.0.0, s.queue.0.1 ∙ n.stays.0.1), p.taken);
+      trace = views.0;
+      ends = ((s.queue.0.0 ∙ (n.frame.0.0 ∙ c.requires.ends.0), slot_on (makes g.Q.Quaject.made_by pact) (suits g.Q.Quaject.fits pact) end.seat.me.0 c.split_off-seat.new.seat.me.0 _ _ p.notes p.runner held c.requires.ends.1), (s.queue.1 ∙ (n.frame.0.0 ∙ c.requires.ends.0), slot_down (makes g.Q.Quaject.made_by pact) (suits g.Q.Quaject.fits pact) c.split_off-seat.result.me (λ i. (s.split.1 i).0.own.runner) (λ i. (s.split.1 i).1)));
+      handle = ((s.queue.0.0 ∙ n.frame.0.0, s.queue.0.1 ∙ n.frame.0.1), p.taken);
     }
 
 pub invariant_of-end : goal.invariant_of-end
-invariant_of-end g c = let end = c.args.end.now in let n = c.count_up.ensures in let p = split_parted _ _ n.counted.0 n.counted.1 n.stays.1.1 _ (λ i. (c.split_off-seat.ensures.split.0 i).0) end.rests end.valid in record { turned = p.runner ∙ end.turned; rests = p.rests; valid = ∣ p.valid ∣₁ }
+invariant_of-end g c = let end = c.args.end.now in let n = c.count_up.ensures in let p = split_parted _ _ n.counted.0 n.counted.1 n.frame.1.1 _ (λ i. (c.split_off-seat.ensures.split.0 i).0) end.rests end.valid in record { turned = p.runner ∙ end.turned; rests = p.rests; valid = ∣ p.valid ∣₁ }
 
 pub invariant_of-result : goal.invariant_of-result
-invariant_of-result g c = let n = c.count_up.ensures in let s = c.split_off-seat.ensures in let k = born_known _ _ n.counted.0 n.counted.1 n.stays.1.1 _ (λ i. (s.split.1 i).0) in record { turned = λ i. (s.split.1 i).0.own.runner; rests = k.0; valid = ∣ k.1 ∣₁ }
+invariant_of-result g c = let n = c.count_up.ensures in let s = c.split_off-seat.ensures in let k = born_known _ _ n.counted.0 n.counted.1 n.frame.1.1 _ (λ i. (s.split.1 i).0) in record { turned = λ i. (s.split.1 i).0.own.runner; rests = k.0; valid = ∣ k.1 ∣₁ }

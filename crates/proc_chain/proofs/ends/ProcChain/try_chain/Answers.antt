@@ -7,22 +7,22 @@ use Rattle.proc_chain.proofs.ends.ProcChain.try_chain.Goals as goal
 
 pub returns-then-head-ge-POSITIONS-clause-ends : goal.returns-then-head-ge-POSITIONS-clause-ends
 returns-then-head-ge-POSITIONS-clause-ends g c = let end = c.args.end.now in let a = c.load-head.ensures in let s = looks_found _ _ _ _ a.found in let pact = c.args.self.now.table.shared.key.pact in
-    (a.stays.0.0 ∙ c.requires.0, slot_on (makes g.Q.Quaject.made_by pact) (suits g.Q.Quaject.fits pact) end.seat.me.0 c.load-head.new.seat.me.0 _ _ (seen_notes _ _ s.seen (reported_after _ end.valid)) (λ i. (s.own i).runner) a.stays.1.0 c.requires.1)
+    (a.frame.0.0 ∙ c.requires.0, slot_on (makes g.Q.Quaject.made_by pact) (suits g.Q.Quaject.fits pact) end.seat.me.0 c.load-head.new.seat.me.0 _ _ (seen_notes _ _ s.seen (reported_after _ end.valid)) (λ i. (s.own i).runner) a.frame.1.0 c.requires.1)
 
 pub returns-then-head-tail-clause-ends : goal.returns-then-head-tail-clause-ends
 returns-then-head-tail-clause-ends g c = let end = c.args.end.now in let a = c.load-head.ensures in let b = c.load-tail.ensures in let s = looks_on _ _ _ (looks_found _ _ _ _ a.found) (looks_found _ _ _ _ b.found) in let pact = c.args.self.now.table.shared.key.pact in
-    (b.stays.0.0 ∙ (a.stays.0.0 ∙ c.requires.0), slot_on (makes g.Q.Quaject.made_by pact) (suits g.Q.Quaject.fits pact) end.seat.me.0 c.load-tail.new.seat.me.0 _ _ (seen_notes _ _ s.seen (reported_after _ end.valid)) (λ i. (s.own i).runner) (b.stays.1.0 ∙ a.stays.1.0) c.requires.1)
+    (b.frame.0.0 ∙ (a.frame.0.0 ∙ c.requires.0), slot_on (makes g.Q.Quaject.made_by pact) (suits g.Q.Quaject.fits pact) end.seat.me.0 c.load-tail.new.seat.me.0 _ _ (seen_notes _ _ s.seen (reported_after _ end.valid)) (λ i. (s.own i).runner) (b.frame.1.0 ∙ a.frame.1.0) c.requires.1)
 
 pub returns-then-found-head-clause-ends : goal.returns-then-found-head-clause-ends
 returns-then-found-head-clause-ends g c = let end = c.args.end.now in let a = c.load-head.ensures in let b = c.load-tail.ensures in let e = c.exchange_head-found.ensures in let s = looks_on _ _ _ (looks_on _ _ _ (looks_found _ _ _ _ a.found) (looks_found _ _ _ _ b.found)) (looks_found _ _ _ _ (e.miss c.if-found-head.true)) in let pact = c.args.self.now.table.shared.key.pact in
-    (e.stays.0.0 ∙ (b.stays.0.0 ∙ (a.stays.0.0 ∙ c.requires.0)), slot_on (makes g.Q.Quaject.made_by pact) (suits g.Q.Quaject.fits pact) end.seat.me.0 c.exchange_head-found.new.seat.me.0 _ _ (seen_notes _ _ s.seen (reported_after _ end.valid)) (λ i. (s.own i).runner) (e.stays.1.0 ∙ (b.stays.1.0 ∙ a.stays.1.0)) c.requires.1)
+    (e.frame.0.0 ∙ (b.frame.0.0 ∙ (a.frame.0.0 ∙ c.requires.0)), slot_on (makes g.Q.Quaject.made_by pact) (suits g.Q.Quaject.fits pact) end.seat.me.0 c.exchange_head-found.new.seat.me.0 _ _ (seen_notes _ _ s.seen (reported_after _ end.valid)) (λ i. (s.own i).runner) (e.frame.1.0 ∙ (b.frame.1.0 ∙ a.frame.1.0)) c.requires.1)
 
 pub invariant_of-end-then-found-head : goal.invariant_of-end-then-found-head
 invariant_of-end-then-found-head g c = let end = c.args.end.now in let a = c.load-head.ensures in let b = c.load-tail.ensures in let e = c.exchange_head-found.ensures in let s = looks_on _ _ _ (looks_on _ _ _ (looks_found _ _ _ _ a.found) (looks_found _ _ _ _ b.found)) (looks_found _ _ _ _ (e.miss c.if-found-head.true)) in
-    record { turned = (λ i. (s.own i).runner) ∙ end.turned; rests = rests_on _ _ (λ i. (s.seen.member i).ends) (λ i. (s.own i).runs) (λ i. (s.own i).owes) end.rests; valid = ∣ e.stays.1.1 ∣₁ }
+    record { turned = (λ i. (s.own i).runner) ∙ end.turned; rests = rests_on _ _ (λ i. (s.seen.member i).ends) (λ i. (s.own i).runs) (λ i. (s.own i).owes) end.rests; valid = ∣ e.frame.1.1 ∣₁ }
 
-pub returns-then-found-head-clause-steps : goal.returns-then-found-head-clause-steps
-returns-then-found-head-clause-steps g c = was_lost _ _ _ _ _ _ _ c.load-head.ensures.found c.load-tail.ensures.found (c.exchange_head-found.ensures.miss c.if-found-head.true) c.if-head-ge-POSITIONS.false c.if-head-tail.false c.if-found-head.true
+pub returns-then-found-head-clause-trace : goal.returns-then-found-head-clause-trace
+returns-then-found-head-clause-trace g c = was_lost _ _ _ _ _ _ _ c.load-head.ensures.found c.load-tail.ensures.found (c.exchange_head-found.ensures.miss c.if-found-head.true) c.if-head-ge-POSITIONS.false c.if-head-tail.false c.if-found-head.true
 
 -- the claim, the raise and the notify
 
@@ -34,32 +34,32 @@ swap_more-requires-clause-live g c = let end = c.args.end.now in let a = c.load-
 
 pub invariant_of-end-in-Some : goal.invariant_of-end-in-Some
 invariant_of-end-in-Some g c = let end = c.args.end.now in let a = c.load-head.ensures in let b = c.load-tail.ensures in let e = c.exchange_head-found.ensures in let h = e.hit c.if-found-head.false in let r = c.store_place.ensures.raised (run c.load-head.result c.args.note) (claimed_at _ _ _ _ h) in let w = c.in-Some.ensures.notified in let then = with_turn w.1.0.object.queue.taken in let d = chained _ _ _ _ _ _ _ c.args.note a.found b.found h r _ 0 w.1.0 then w.1.1 c.if-head-ge-POSITIONS.false (omega (arith, c.if-head-tail.false)) in
-    record { turned = λ i. (d.1.did i).runner; rests = chained_rests _ _ c.args.note _ then d (λ d. refl) (λ d. refl) end.rests; valid = ∣ c.swap_more.ensures.stays.1 ∣₁ }
+    record { turned = λ i. (d.1.did i).runner; rests = chained_rests _ _ c.args.note _ then d (λ d. refl) (λ d. refl) end.rests; valid = ∣ c.swap_more.ensures.frame.1 ∣₁ }
 
 pub returns-in-Some : goal.returns-in-Some
-returns-in-Some g c = let end = c.args.end.now in let a = c.load-head.ensures in let b = c.load-tail.ensures in let e = c.exchange_head-found.ensures in let h = e.hit c.if-found-head.false in let r = c.store_place.ensures.raised (run c.load-head.result c.args.note) (claimed_at _ _ _ _ h) in let w = c.in-Some.ensures.notified in let then = with_turn w.1.0.object.queue.taken in let d = chained _ _ _ _ _ _ _ c.args.note a.found b.found h r _ 0 w.1.0 then w.1.1 c.if-head-ge-POSITIONS.false (omega (arith, c.if-head-tail.false)) in let x = c.store_place.ensures.stays.0 in let y = c.swap_more.ensures.stays.0 in let pact = c.args.self.now.table.shared.key.pact in let down = sym (λ i. ((link _ _ _ _ _ _ _ c.args.note a.found b.found h r).did i).runner) ∙ w.0 in record {
+returns-in-Some g c = let end = c.args.end.now in let a = c.load-head.ensures in let b = c.load-tail.ensures in let e = c.exchange_head-found.ensures in let h = e.hit c.if-found-head.false in let r = c.store_place.ensures.raised (run c.load-head.result c.args.note) (claimed_at _ _ _ _ h) in let w = c.in-Some.ensures.notified in let then = with_turn w.1.0.object.queue.taken in let d = chained _ _ _ _ _ _ _ c.args.note a.found b.found h r _ 0 w.1.0 then w.1.1 c.if-head-ge-POSITIONS.false (omega (arith, c.if-head-tail.false)) in let x = c.store_place.ensures.frame.0 in let y = c.swap_more.ensures.frame.0 in let pact = c.args.self.now.table.shared.key.pact in let down = sym (λ i. ((link _ _ _ _ _ _ _ c.args.note a.found b.found h r).did i).runner) ∙ w.0 in record {
   notes = put_note _ _ _ _ then (λ d. refl) (λ d. refl) d.1.did;
   turn = λ _. (sym end.turned ∙ down, refl);
   kept = λ (is : true ≡ false). absurd (true≢false is);
   steps = (_, refl, d);
-  ends = (y.0 ∙ (x.0 ∙ (e.stays.0.0 ∙ (b.stays.0.0 ∙ (a.stays.0.0 ∙ c.requires.0)))), slot_up (makes g.Q.Quaject.made_by pact) (suits g.Q.Quaject.fits pact) c.swap_more.new.seat.me (λ i. (d.1.did i).runner) (won_slot (makes g.Q.Quaject.made_by pact) (suits g.Q.Quaject.fits pact) _ _ _ _ _ _ w.1.1 ((c.store_place.ensures.stays.1.0 ∙ (e.stays.1.0 ∙ (b.stays.1.0 ∙ a.stays.1.0))) ∙ c.requires.1.1 down) w.1.2));
-  same = ((y.0 ∙ (x.0 ∙ (e.stays.0.0 ∙ (b.stays.0.0 ∙ a.stays.0.0))), y.1 ∙ (x.1 ∙ (e.stays.0.1 ∙ (b.stays.0.1 ∙ a.stays.0.1)))), (chained_seen _ _ _ _ _ _ _ c.args.note a.found b.found h r _ 0 w.1.0 then w.1.1).taken);
+  ends = (y.0 ∙ (x.0 ∙ (e.frame.0.0 ∙ (b.frame.0.0 ∙ (a.frame.0.0 ∙ c.requires.0)))), slot_up (makes g.Q.Quaject.made_by pact) (suits g.Q.Quaject.fits pact) c.swap_more.new.seat.me (λ i. (d.1.did i).runner) (won_slot (makes g.Q.Quaject.made_by pact) (suits g.Q.Quaject.fits pact) _ _ _ _ _ _ w.1.1 ((c.store_place.ensures.frame.1.0 ∙ (e.frame.1.0 ∙ (b.frame.1.0 ∙ a.frame.1.0))) ∙ c.requires.1.1 down) w.1.2));
+  same = ((y.0 ∙ (x.0 ∙ (e.frame.0.0 ∙ (b.frame.0.0 ∙ a.frame.0.0))), y.1 ∙ (x.1 ∙ (e.frame.0.1 ∙ (b.frame.0.1 ∙ a.frame.0.1)))), (chained_seen _ _ _ _ _ _ _ c.args.note a.found b.found h r _ 0 w.1.0 then w.1.1).taken);
 }
 
 pub invariant_of-end-in-None : goal.invariant_of-end-in-None
 invariant_of-end-in-None g c = let end = c.args.end.now in let a = c.load-head.ensures in let b = c.load-tail.ensures in let e = c.exchange_head-found.ensures in let h = e.hit c.if-found-head.false in let r = c.store_place.ensures.raised (run c.load-head.result c.args.note) (claimed_at _ _ _ _ h) in let w = c.in-None.ensures.notified in let then : ChainOps → ChainOps = λ d. d in let d = chained _ _ _ _ _ _ _ c.args.note a.found b.found h r _ _ w.2.1.0 then w.2.1.1 c.if-head-ge-POSITIONS.false (omega (arith, c.if-head-tail.false)) in
-    record { turned = (λ i. (d.1.did i).runner) ∙ end.turned; rests = chained_rests _ _ c.args.note _ then d (λ d. refl) (λ d. refl) end.rests; valid = ∣ c.swap_more.ensures.stays.1 ∣₁ }
+    record { turned = (λ i. (d.1.did i).runner) ∙ end.turned; rests = chained_rests _ _ c.args.note _ then d (λ d. refl) (λ d. refl) end.rests; valid = ∣ c.swap_more.ensures.frame.1 ∣₁ }
 
-pub returns-in-None-clause-notes : goal.returns-in-None-clause-notes
-returns-in-None-clause-notes g c = let end = c.args.end.now in let a = c.load-head.ensures in let b = c.load-tail.ensures in let e = c.exchange_head-found.ensures in let h = e.hit c.if-found-head.false in let r = c.store_place.ensures.raised (run c.load-head.result c.args.note) (claimed_at _ _ _ _ h) in let w = c.in-None.ensures.notified in let then : ChainOps → ChainOps = λ d. d in let d = chained _ _ _ _ _ _ _ c.args.note a.found b.found h r _ _ w.2.1.0 then w.2.1.1 c.if-head-ge-POSITIONS.false (omega (arith, c.if-head-tail.false)) in put_note _ _ _ _ then (λ d. refl) (λ d. refl) d.1.did
+pub returns-in-None-clause-effect : goal.returns-in-None-clause-effect
+returns-in-None-clause-effect g c = let end = c.args.end.now in let a = c.load-head.ensures in let b = c.load-tail.ensures in let e = c.exchange_head-found.ensures in let h = e.hit c.if-found-head.false in let r = c.store_place.ensures.raised (run c.load-head.result c.args.note) (claimed_at _ _ _ _ h) in let w = c.in-None.ensures.notified in let then : ChainOps → ChainOps = λ d. d in let d = chained _ _ _ _ _ _ _ c.args.note a.found b.found h r _ _ w.2.1.0 then w.2.1.1 c.if-head-ge-POSITIONS.false (omega (arith, c.if-head-tail.false)) in put_note _ _ _ _ then (λ d. refl) (λ d. refl) d.1.did
 
-pub returns-in-None-clause-steps : goal.returns-in-None-clause-steps
-returns-in-None-clause-steps g c = let end = c.args.end.now in let a = c.load-head.ensures in let b = c.load-tail.ensures in let e = c.exchange_head-found.ensures in let h = e.hit c.if-found-head.false in let r = c.store_place.ensures.raised (run c.load-head.result c.args.note) (claimed_at _ _ _ _ h) in let w = c.in-None.ensures.notified in let then : ChainOps → ChainOps = λ d. d in let d = chained _ _ _ _ _ _ _ c.args.note a.found b.found h r _ _ w.2.1.0 then w.2.1.1 c.if-head-ge-POSITIONS.false (omega (arith, c.if-head-tail.false)) in (_, w.2.0, d)
+pub returns-in-None-clause-trace : goal.returns-in-None-clause-trace
+returns-in-None-clause-trace g c = let end = c.args.end.now in let a = c.load-head.ensures in let b = c.load-tail.ensures in let e = c.exchange_head-found.ensures in let h = e.hit c.if-found-head.false in let r = c.store_place.ensures.raised (run c.load-head.result c.args.note) (claimed_at _ _ _ _ h) in let w = c.in-None.ensures.notified in let then : ChainOps → ChainOps = λ d. d in let d = chained _ _ _ _ _ _ _ c.args.note a.found b.found h r _ _ w.2.1.0 then w.2.1.1 c.if-head-ge-POSITIONS.false (omega (arith, c.if-head-tail.false)) in (_, w.2.0, d)
 
 pub returns-in-None-clause-ends : goal.returns-in-None-clause-ends
-returns-in-None-clause-ends g c = let end = c.args.end.now in let a = c.load-head.ensures in let b = c.load-tail.ensures in let e = c.exchange_head-found.ensures in let h = e.hit c.if-found-head.false in let r = c.store_place.ensures.raised (run c.load-head.result c.args.note) (claimed_at _ _ _ _ h) in let w = c.in-None.ensures.notified in let then : ChainOps → ChainOps = λ d. d in let d = chained _ _ _ _ _ _ _ c.args.note a.found b.found h r _ _ w.2.1.0 then w.2.1.1 c.if-head-ge-POSITIONS.false (omega (arith, c.if-head-tail.false)) in let s = chained_seen _ _ _ _ _ _ _ c.args.note a.found b.found h r _ _ w.2.1.0 then w.2.1.1 in let x = c.store_place.ensures.stays.0 in let y = c.swap_more.ensures.stays.0 in let pact = c.args.self.now.table.shared.key.pact in
-    (y.0 ∙ (x.0 ∙ (e.stays.0.0 ∙ (b.stays.0.0 ∙ (a.stays.0.0 ∙ c.requires.0)))), slot_on (makes g.Q.Quaject.made_by pact) (suits g.Q.Quaject.fits pact) end.seat.me.0 c.swap_more.new.seat.me.0 _ _ (seen_notes _ _ s (reported_after _ end.valid)) (λ i. (d.1.did i).runner) (w.1 ∙ (c.store_place.ensures.stays.1.0 ∙ (e.stays.1.0 ∙ (b.stays.1.0 ∙ a.stays.1.0)))) c.requires.1)
+returns-in-None-clause-ends g c = let end = c.args.end.now in let a = c.load-head.ensures in let b = c.load-tail.ensures in let e = c.exchange_head-found.ensures in let h = e.hit c.if-found-head.false in let r = c.store_place.ensures.raised (run c.load-head.result c.args.note) (claimed_at _ _ _ _ h) in let w = c.in-None.ensures.notified in let then : ChainOps → ChainOps = λ d. d in let d = chained _ _ _ _ _ _ _ c.args.note a.found b.found h r _ _ w.2.1.0 then w.2.1.1 c.if-head-ge-POSITIONS.false (omega (arith, c.if-head-tail.false)) in let s = chained_seen _ _ _ _ _ _ _ c.args.note a.found b.found h r _ _ w.2.1.0 then w.2.1.1 in let x = c.store_place.ensures.frame.0 in let y = c.swap_more.ensures.frame.0 in let pact = c.args.self.now.table.shared.key.pact in
+    (y.0 ∙ (x.0 ∙ (e.frame.0.0 ∙ (b.frame.0.0 ∙ (a.frame.0.0 ∙ c.requires.0)))), slot_on (makes g.Q.Quaject.made_by pact) (suits g.Q.Quaject.fits pact) end.seat.me.0 c.swap_more.new.seat.me.0 _ _ (seen_notes _ _ s (reported_after _ end.valid)) (λ i. (d.1.did i).runner) (w.1 ∙ (c.store_place.ensures.frame.1.0 ∙ (e.frame.1.0 ∙ (b.frame.1.0 ∙ a.frame.1.0)))) c.requires.1)
 
-pub returns-in-None-clause-same : goal.returns-in-None-clause-same
-returns-in-None-clause-same g c = let end = c.args.end.now in let a = c.load-head.ensures in let b = c.load-tail.ensures in let e = c.exchange_head-found.ensures in let h = e.hit c.if-found-head.false in let r = c.store_place.ensures.raised (run c.load-head.result c.args.note) (claimed_at _ _ _ _ h) in let w = c.in-None.ensures.notified in let then : ChainOps → ChainOps = λ d. d in let s = chained_seen _ _ _ _ _ _ _ c.args.note a.found b.found h r _ _ w.2.1.0 then w.2.1.1 in let x = c.store_place.ensures.stays.0 in let y = c.swap_more.ensures.stays.0 in
-    ((y.0 ∙ (x.0 ∙ (e.stays.0.0 ∙ (b.stays.0.0 ∙ a.stays.0.0))), y.1 ∙ (x.1 ∙ (e.stays.0.1 ∙ (b.stays.0.1 ∙ a.stays.0.1)))), s.taken)
+pub returns-in-None-clause-handle : goal.returns-in-None-clause-handle
+returns-in-None-clause-handle g c = let end = c.args.end.now in let a = c.load-head.ensures in let b = c.load-tail.ensures in let e = c.exchange_head-found.ensures in let h = e.hit c.if-found-head.false in let r = c.store_place.ensures.raised (run c.load-head.result c.args.note) (claimed_at _ _ _ _ h) in let w = c.in-None.ensures.notified in let then : ChainOps → ChainOps = λ d. d in let s = chained_seen _ _ _ _ _ _ _ c.args.note a.found b.found h r _ _ w.2.1.0 then w.2.1.1 in let x = c.store_place.ensures.frame.0 in let y = c.swap_more.ensures.frame.0 in
+    ((y.0 ∙ (x.0 ∙ (e.frame.0.0 ∙ (b.frame.0.0 ∙ a.frame.0.0))), y.1 ∙ (x.1 ∙ (e.frame.0.1 ∙ (b.frame.0.1 ∙ a.frame.0.1)))), s.taken)

@@ -19,8 +19,8 @@ returns-clause-joined c = record {
   signals = search rules;
 }
 
-pub returns-clause-did : goal.returns-clause-did
-returns-clause-did c = joined_account c.args.self.now.parts c.args.other.parts _ (returns-clause-joined c)
+pub returns-clause-effect : goal.returns-clause-effect
+returns-clause-effect c = joined_account c.args.self.now.parts c.args.other.parts _ (returns-clause-joined c)
 
 pub returns-clause-shares : goal.returns-clause-shares
 returns-clause-shares c = joined_shares c.args.self.now.parts c.args.other.parts _ (returns-clause-joined c)

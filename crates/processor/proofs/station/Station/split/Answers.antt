@@ -1,8 +1,8 @@
 use Rattle.processor.proofs.Summing.{kept_account, born_account, born_seat, kept_shares, given_shares}
 use Rattle.processor.proofs.station.Station.split.Goals as goal
 
-pub returns-clause-did : goal.returns-clause-did
-returns-clause-did c = let s = c.split_parts-parts.ensures.split in (kept_account _ _ _ _ s, born_account _ _ _ _ s c.split_parts-parts.ensures.unused)
+pub returns-clause-effect : goal.returns-clause-effect
+returns-clause-effect c = let s = c.split_parts-parts.ensures.split in (kept_account _ _ _ _ s, born_account _ _ _ _ s c.split_parts-parts.ensures.unused)
 
 pub returns-clause-shares : goal.returns-clause-shares
 returns-clause-shares c = let s = c.split_parts-parts.ensures.split in (kept_shares _ _ _ _ s, given_shares _ _ _ _ s)

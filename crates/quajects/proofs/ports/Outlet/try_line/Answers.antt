@@ -5,14 +5,14 @@ use Rattle.quajects.proofs.Staying.{put_post}
 use Rattle.quajects.proofs.ports.Outlet.try_line.Goals as goal
 
 pub invariant_of-self : goal.invariant_of-self
-invariant_of-self g c = let t = put_answered _ _ _ _ _ c.is_ok-put.ensures.value c.try_put.ensures.lines in record {
+invariant_of-self g c = let t = put_answered _ _ _ _ _ c.is_ok-put.ensures.value c.try_put.ensures.effect in record {
   number = counted_more _ _ _ _ _ c.args.self.now.number c.if-put.true t.0;
   only = t.1 ∙ c.args.self.now.only;
   raised = c.try_put.ensures.raised c.args.self.now.raised;
 }
 
-pub returns-then-put-clause-same : goal.returns-then-put-clause-same
-returns-then-put-clause-same g c = put_post _ _ c.args.self.now.end c.try_put.new.end _ _ refl c.try_put.ensures.same c.try_put.ensures.steps
+pub returns-then-put-clause-handle : goal.returns-then-put-clause-handle
+returns-then-put-clause-handle g c = put_post _ _ c.args.self.now.end c.try_put.new.end _ _ refl c.try_put.ensures.handle c.try_put.ensures.trace
 
-pub returns-else-put-clause-same : goal.returns-else-put-clause-same
-returns-else-put-clause-same g c = put_post _ _ c.args.self.now.end c.try_put.new.end _ _ refl c.try_put.ensures.same c.try_put.ensures.steps
+pub returns-else-put-clause-handle : goal.returns-else-put-clause-handle
+returns-else-put-clause-handle g c = put_post _ _ c.args.self.now.end c.try_put.new.end _ _ refl c.try_put.ensures.handle c.try_put.ensures.trace

@@ -11,8 +11,8 @@ invariant_of-self-2 c =
     let is : c.cooked_line-self.result.items ≡ cooked c.try_line.new.line.items = c.cooked_line-self.ensures ∙ ap cooked c.as_slice.ensures.value in
     let out : tty.in_line ≡ false = not_in tty.in_line tty.held.items none tty.full in
     record {
-      lines = as_not_in tty.in_line _ _ _ out (cooked_more _ _ _ _ _ (nothing_held_if _ _ _ _ none tty.lines) c.try_line.ensures.lines some is);
-      screens = cooked_more _ _ _ _ _ (nothing_held _ _ _ none tty.screens) c.try_line.ensures.lines some is;
+      lines = as_not_in tty.in_line _ _ _ out (cooked_more _ _ _ _ _ (nothing_held_if _ _ _ _ none tty.lines) c.try_line.ensures.effect some is);
+      screens = cooked_more _ _ _ _ _ (nothing_held _ _ _ none tty.screens) c.try_line.ensures.effect some is;
       full = λ e. cooked_some c.try_line.new.line.items _ is;
     }
 

@@ -7,8 +7,8 @@ use Rattle.thread_table.proofs.hand.ThreadTable.close.Goals as goal
 pub count-requires-clause-allowed : goal.count-requires-clause-allowed
 count-requires-clause-allowed c = tallies_ends _ _ _ _ _ refl c.args.hand.one c.args.hand.fresh
 
-pub returns-in-Err-clause-steps : goal.returns-in-Err-clause-steps
-returns-in-Err-clause-steps c = let o = c.in-Err.ensures.others in were_open _ _ _ _ o.3.0 o.0 (search rules)
+pub returns-in-Err-clause-trace : goal.returns-in-Err-clause-trace
+returns-in-Err-clause-trace c = let o = c.in-Err.ensures.others in were_open _ _ _ _ o.3.0 o.0 (search rules)
 
 pub returns-in-Err-clause-only : goal.returns-in-Err-clause-only
 returns-in-Err-clause-only c = let o = c.in-Err.ensures.others in λ whole. o.0 (o.3.0.count.whole whole)

@@ -2,7 +2,7 @@ use Rattle.thread_table.proofs.Common.{rules, ◌≡◌, ap, subst, length, View
 use Rattle.thread_table.proofs.Hands.AfterSplits.{took_in}
 use Rattle.thread_table.proofs.hand.ThreadTable.join.Goals as goal
 
-pub returns-clause-steps : goal.returns-clause-steps
-returns-clause-steps c = let v : View = c.args.hand.now.seat.me.0 in let u : View = c.args.other.seat.me.0 in let w : View = c.count_down.new.seat.me.0 in
+pub returns-clause-trace : goal.returns-clause-trace
+returns-clause-trace c = let v : View = c.args.hand.now.seat.me.0 in let u : View = c.args.other.seat.me.0 in let w : View = c.count_down.new.seat.me.0 in
     let held : length u.own.held ≡ length v.own.held = search rules in let serves : length u.own.serves ≡ length v.own.serves = search rules in
     took_in v u w _ c.args.hand.now.one c.args.other.one held serves (subst (λ (z : View). CountedDown z c.count_down.result w) (ap (λ z. z.0) c.take_in.ensures.joined) c.count_down.ensures.counted)

@@ -2,11 +2,11 @@ use Rattle.thread_table.proofs.Common.{rules, ◌<◌, ◌∙◌, set, false, ar
 use Rattle.thread_table.proofs.Events.Answering.{was_spent, overtaken, claim_known, claim_moves, moved_to}
 use Rattle.thread_table.proofs.hand.ThreadTable.move_to.Goals as goal
 
-pub returns-then-head-clause-steps : goal.returns-then-head-clause-steps
-returns-then-head-clause-steps c = was_spent _ _ _ _ c.of-head.result.head c.of-head.result.mark c.load_head-word.ensures.found c.of-head.ensures.0 c.of-head.ensures.1 c.if-head.true
+pub returns-then-head-clause-trace : goal.returns-then-head-clause-trace
+returns-then-head-clause-trace c = was_spent _ _ _ _ c.of-head.result.head c.of-head.result.mark c.load_head-word.ensures.found c.of-head.ensures.0 c.of-head.ensures.1 c.if-head.true
 
-pub returns-then-found-word-clause-steps : goal.returns-then-found-word-clause-steps
-returns-then-found-word-clause-steps c = (
+pub returns-then-found-word-clause-trace : goal.returns-then-found-word-clause-trace
+returns-then-found-word-clause-trace c = (
   c.load_head-word.result,
   overtaken _ _ _ _ _ c.of-head.result.head c.of-head.result.mark _ c.load_head-word.ensures.found c.of-head.ensures.0 c.of-head.ensures.1 c.if-head.false
       (c.exchange_head-found.ensures.miss c.if-found-word.true).0 c.if-found-word.true,
@@ -21,7 +21,7 @@ moved : (c : goal.After-raise) → MovedBy (call_of c.args.hand.now) (view_of c.
 moved c = let a = c.load_head-word.ensures in let x = c.exchange_head-found in let s = c.raise.ensures in let id = a.queue.0.1 in let id' = x.ensures.queue.0.1 ∙ id in let n = c.number-number.ensures.value in
     let ring = c.args.ring in let h = c.args.hand.now in let v = c.load_head-word.new.seat.me.0 in let m = x.new.seat.me.0 in let w = c.raise.new.seat.me.0 in let head = c.of-head.result.head in let known : c.args.element < ELEMENTS = search rules in
     let claimed = transport (λ i. HandDid (id i) v (head_word ring) c.load_head-word.result (claim_event (id i) ring (n i)) m) (x.ensures.hit c.if-found-word.false) in
-    let raised = transport (λ i. HandDid (id' i) m (place_word ring head) s.did.0 (raise_event (id' i) m ring head) w) s.did.1 in
+    let raised = transport (λ i. HandDid (id' i) m (place_word ring head) s.effect.0 (raise_event (id' i) m ring head) w) s.effect.1 in
     moved_to _ _ _ _ _ head c.of-head.result.mark v m c.requires.table.1 (claim_moves h.seat.id ring c.args.element) claimed c.of-head.ensures.0 c.of-head.ensures.1 _ _ _ h.fresh c.requires.holds known a.found c.if-head.false raised
 
 pub invariant_of-hand-2 : goal.invariant_of-hand-2
@@ -33,9 +33,9 @@ invariant_of-hand-2 c = let a = c.load_head-word.ensures in let x = c.exchange_h
   holding = s.held ∙ ((λ i. set (h.holding i) (n i) false) ∙ sym (ap (λ (z : View). z.own.held) has));
   serving = h.serving ∙ sym (ap (λ (z : View). z.own.serves) has);
   putting = h.putting ∙ sym (ap (λ (z : View). z.own.on) has);
-  valid = merely s.did.1.step.valid;
+  valid = merely s.effect.1.step.valid;
   stands = s.stands;
 }
 
-pub returns-clause-steps : goal.returns-clause-steps
-returns-clause-steps c = (c.load_head-word.result, moved c.before)
+pub returns-clause-trace : goal.returns-clause-trace
+returns-clause-trace c = (c.load_head-word.result, moved c.before)

@@ -5,15 +5,15 @@ use Rattle.thread_table.proofs.hand.ThreadTable.off.Goals as goal
 
 -- what the step says
 offs : (c : goal.After-set_running) → (running (view_of c.args.hand.now) c.args.processor ≡ Some c.in-Some.element) × TakesOff (call_of c.args.hand.now) c.args.processor c.in-Some.element (view_of c.args.hand.now) c.swap_off.new.seat.me.0
-offs c = let h = c.args.hand.now in let d = c.swap_off.ensures.did in let p = c.number-2.ensures.value in
+offs c = let h = c.args.hand.now in let d = c.swap_off.ensures.effect in let p = c.number-2.ensures.value in
     let known : c.in-Some.element < ELEMENTS = search rules in let few : c.args.processor < PROCESSORS = search rules in
     let stood : running (view_of h) c.args.processor ≡ Some c.in-Some.element = ap₂ (λ (l : List (Option ℕ)) (k : ℕ). get_or l k None) (sym h.putting) (sym (c.from.ensures ∙ c.number.ensures.value)) ∙ (get_or_default h.running c.from.result None _ (let p = c.number.ensures.within in let q = c.from.ensures in let n : length h.running ≡ 8 = search rules in omega arith) ∙ c.in-Some.is) in (
       stood,
       takes_off (call_of h) c.args.processor c.in-Some.element d.0 (view_of h) _ known few c.requires.mine stood (transport (λ i. HandDid (call_of h) (view_of h) (processor_word (p i)) d.0 (events.Off (call_of h) (p i)) c.swap_off.new.seat.me.0) d.1),
     )
 
-pub returns-clause-steps : goal.returns-clause-steps
-returns-clause-steps c = offs c.before
+pub returns-clause-trace : goal.returns-clause-trace
+returns-clause-trace c = offs c.before
 
 pub invariant_of-hand : goal.invariant_of-hand
 invariant_of-hand c = let h = c.args.hand.now in let s = c.swap_off.ensures in let has = (offs c).1.3.has in let n = c.number-number.ensures.value in record {
@@ -24,6 +24,6 @@ invariant_of-hand c = let h = c.args.hand.now in let s = c.swap_off.ensures in l
   holding = c.set_held.ensures ∙ ((λ i. set (h.holding i) (n i) true) ∙ sym (ap (λ (z : View). z.own.held) has));
   serving = h.serving ∙ sym (ap (λ (z : View). z.own.serves) has);
   putting = c.set_running.ensures ∙ ((λ i. set (h.putting i) (c.number-3.ensures.value i) None) ∙ sym (ap (λ (z : View). z.own.on) has));
-  valid = merely s.did.1.step.valid;
+  valid = merely s.effect.1.step.valid;
   stands = s.stands;
 }

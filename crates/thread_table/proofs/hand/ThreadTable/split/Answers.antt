@@ -2,8 +2,8 @@ use Rattle.thread_table.proofs.Common.{ℕ, List, Bool, sym, ap, subst, View, Sp
 use Rattle.thread_table.proofs.Hands.AfterSplits.{divided, born}
 use Rattle.thread_table.proofs.hand.ThreadTable.split.Goals as goal
 
-pub returns-clause-steps : goal.returns-clause-steps
-returns-clause-steps c = let number : ℕ = c.args.processors in let mask : List Bool = c.marks_of-mask.result in let v : View = c.args.hand.now.seat.me.0 in let x : View = c.count_up.new.seat.me.0 in
+pub returns-clause-trace : goal.returns-clause-trace
+returns-clause-trace c = let number : ℕ = c.args.processors in let mask : List Bool = c.marks_of-mask.result in let v : View = c.args.hand.now.seat.me.0 in let x : View = c.count_up.new.seat.me.0 in
     subst (SplitBy number v) (sym (ap (λ z. z.0) c.split_off-seat.ensures.split.0)) (divided number mask v x _ c.marks_of-mask.ensures c.count_up.ensures.counted)
 
 pub returns-clause-born : goal.returns-clause-born

@@ -2,16 +2,16 @@ use Rattle.thread_table.proofs.Common.{Ok, rules, ◌≡◌, ◌<◌, ◌∙◌,
 use Rattle.thread_table.proofs.Events.Answering.{not_raised, passed_by, taken_first}
 use Rattle.thread_table.proofs.hand.ThreadTable.take_first.Goals as goal
 
-pub returns-then-now-tail-clause-steps : goal.returns-then-now-tail-clause-steps
-returns-then-now-tail-clause-steps c = let t = c.load_tail-tail.ensures in let p = c.load_place.ensures in let n = c.load_tail-now.ensures in let bounded : c.of-place.result.element < 256 = search rules in
+pub returns-then-now-tail-clause-trace : goal.returns-then-now-tail-clause-trace
+returns-then-now-tail-clause-trace c = let t = c.load_tail-tail.ensures in let p = c.load_place.ensures in let n = c.load_tail-now.ensures in let bounded : c.of-place.result.element < 256 = search rules in
     not_raised c.args.hand.now.seat.id _ _ _ _ _ _ _ c.of-place.result.element c.of-place.result.mark _ t.found p.found n.found c.of-place.ensures bounded c.if-place-tail.true c.if-now-tail.true
 
-pub returns-then-place-tail-clause-steps : goal.returns-then-place-tail-clause-steps
-returns-then-place-tail-clause-steps c = let t = c.load_tail-tail.ensures in let p = c.load_place.ensures in let n = c.load_tail-now.ensures in
+pub returns-then-place-tail-clause-trace : goal.returns-then-place-tail-clause-trace
+returns-then-place-tail-clause-trace c = let t = c.load_tail-tail.ensures in let p = c.load_place.ensures in let n = c.load_tail-now.ensures in
     passed_by c.args.hand.now.seat.id _ _ _ _ _ _ _ _ t.found p.found n.found t.tail n.tail c.if-now-tail.false
 
-pub returns-then-found-tail-clause-steps : goal.returns-then-found-tail-clause-steps
-returns-then-found-tail-clause-steps c = let t = c.load_tail-tail.ensures in let p = c.load_place.ensures in let e = c.exchange_tail-found.ensures.miss c.if-found-tail.true in
+pub returns-then-found-tail-clause-trace : goal.returns-then-found-tail-clause-trace
+returns-then-found-tail-clause-trace c = let t = c.load_tail-tail.ensures in let p = c.load_place.ensures in let e = c.exchange_tail-found.ensures.miss c.if-found-tail.true in
     passed_by c.args.hand.now.seat.id _ _ _ _ _ _ _ _ t.found p.found e.0 t.tail e.1 c.if-found-tail.true
 
 -- what the three steps of the taking say
@@ -39,6 +39,6 @@ invariant_of-hand-2 c = let t = c.load_tail-tail.ensures in let p = c.load_place
 pub unreachable-requires : goal.unreachable-requires
 unreachable-requires c = let known : c.of-place.result.element < ELEMENTS = (taken c.before.before.before).0 in search rules
 
-pub returns-clause-steps : goal.returns-clause-steps
-returns-clause-steps c = let is : c.in-Some.element ≡ c.of-place.result.element = search rules in let h = c.args.hand.now in
+pub returns-clause-trace : goal.returns-clause-trace
+returns-clause-trace c = let is : c.in-Some.element ≡ c.of-place.result.element = search rules in let h = c.args.hand.now in
     subst (λ (n : ℕ). TakeAnswer (call_of h) (view_of h) c.args.ring (Ok n) c.exchange_tail-found.new.seat.me.0) (sym is) (taken c.before.before.before).1

@@ -5,14 +5,14 @@ use Rattle.thread_table.proofs.Events.StatesSeen.{has_signals, delivered}
 use Rattle.thread_table.proofs.Events.Tells.{found_at}
 use Rattle.thread_table.proofs.hand.ThreadTable.try_deliver.Goals as goal
 
-pub returns-then-pending-eq0-clause-steps : goal.returns-then-pending-eq0-clause-steps
-returns-then-pending-eq0-clause-steps c = let l = found_at (ap state_word c.number-number.ensures.value) c.load_state-word.ensures.found in (c.load_state-word.result, _, sym c.pending-pending.ensures ∙ c.if-pending-eq0.true, l.acts)
+pub returns-then-pending-eq0-clause-trace : goal.returns-then-pending-eq0-clause-trace
+returns-then-pending-eq0-clause-trace c = let l = found_at (ap state_word c.number-number.ensures.value) c.load_state-word.ensures.found in (c.load_state-word.result, _, sym c.pending-pending.ensures ∙ c.if-pending-eq0.true, l.acts)
 
-pub returns-then-seen-word-clause-steps : goal.returns-then-seen-word-clause-steps
-returns-then-seen-word-clause-steps c = let here = ap state_word c.number-number.ensures.value in let l = found_at here c.load_state-word.ensures.found in let e = found_at here (c.exchange_state-seen.ensures.miss c.if-seen-word.true).0 in
+pub returns-then-seen-word-clause-trace : goal.returns-then-seen-word-clause-trace
+returns-then-seen-word-clause-trace c = let here = ap state_word c.number-number.ensures.value in let l = found_at here c.load_state-word.ensures.found in let e = found_at here (c.exchange_state-seen.ensures.miss c.if-seen-word.true).0 in
     (c.load_state-word.result, _, _, has_signals _ _ c.pending-pending.ensures c.if-pending-eq0.false, c.if-seen-word.true, acts_two _ _ _ _ _ _ _ l e)
 
-pub returns-clause-steps : goal.returns-clause-steps
-returns-clause-steps c = let h = c.args.hand.now in let n = c.number-number.ensures.value in let l = c.load_state-word in let id = l.ensures.queue.0.1 in let u = l.new.seat.me.0 in let known : c.args.element < ELEMENTS = search rules in
+pub returns-clause-trace : goal.returns-clause-trace
+returns-clause-trace c = let h = c.args.hand.now in let n = c.number-number.ensures.value in let l = c.load_state-word in let id = l.ensures.queue.0.1 in let u = l.new.seat.me.0 in let known : c.args.element < ELEMENTS = search rules in
     let d = transport (λ i. HandDid (id i) u (state_word (n i)) l.result (events.Deliver (id i) (n i)) c.exchange_state-seen.new.seat.me.0) (c.exchange_state-seen.ensures.hit c.if-seen-word.false) in let found = found_at (ap state_word n) l.ensures.found in
     delivered _ _ _ _ _ _ _ known found d c.pending-pending.ensures c.if-pending-eq0.false

@@ -6,11 +6,11 @@ use Rattle.thread_table.proofs.Events.StatesSeen.{bit_up, bit_down, cleared, hel
 use Rattle.thread_table.proofs.Events.Tells.{found_at}
 use Rattle.thread_table.proofs.hand.ThreadTable.try_start.Goals as goal
 
-pub returns-then-not-is_stopping-clause-steps : goal.returns-then-not-is_stopping-clause-steps
-returns-then-not-is_stopping-clause-steps c = let l = found_at (ap state_word c.number-number.ensures.value) c.load_state-word.ensures.found in (c.load_state-word.result, _, bit_down _ 16 c.if-not-is_stopping.ensures, l.acts)
+pub returns-then-not-is_stopping-clause-trace : goal.returns-then-not-is_stopping-clause-trace
+returns-then-not-is_stopping-clause-trace c = let l = found_at (ap state_word c.number-number.ensures.value) c.load_state-word.ensures.found in (c.load_state-word.result, _, bit_down _ 16 c.if-not-is_stopping.ensures, l.acts)
 
-pub returns-then-seen-word-clause-steps : goal.returns-then-seen-word-clause-steps
-returns-then-seen-word-clause-steps c = let here = ap state_word c.number-number.ensures.value in let l = found_at here c.load_state-word.ensures.found in let e = found_at here (c.exchange_state-seen.ensures.miss c.if-seen-word.true).0 in
+pub returns-then-seen-word-clause-trace : goal.returns-then-seen-word-clause-trace
+returns-then-seen-word-clause-trace c = let here = ap state_word c.number-number.ensures.value in let l = found_at here c.load_state-word.ensures.found in let e = found_at here (c.exchange_state-seen.ensures.miss c.if-seen-word.true).0 in
     (c.load_state-word.result, _, _, bit_up _ 16 c.if-not-is_stopping.ensures, c.if-seen-word.true, acts_two _ _ _ _ _ _ _ l e)
 
 -- what the two steps say
@@ -51,8 +51,8 @@ invariant_of-hand-2 c = let h = c.args.hand.now in let n = c.number-number.ensur
   stands = e.stands;
 }
 
-pub returns-then-not-is_parked-clause-steps : goal.returns-then-not-is_parked-clause-steps
-returns-then-not-is_parked-clause-steps c = starts_clear c.before
+pub returns-then-not-is_parked-clause-trace : goal.returns-then-not-is_parked-clause-trace
+returns-then-not-is_parked-clause-trace c = starts_clear c.before
 
-pub returns-clause-steps : goal.returns-clause-steps
-returns-clause-steps c = starts_held c.before
+pub returns-clause-trace : goal.returns-clause-trace
+returns-clause-trace c = starts_held c.before

@@ -3,21 +3,21 @@ use Rattle.event_theory.specs.declared.event.Event.TheVariants as events
 use Rattle.thread_table.proofs.Events.Answering.{found_in, was_spent, moved_before, moved_meanwhile, overtaken_at, claim_known, moved_to, word_parts}
 use Rattle.thread_table.proofs.hand.ThreadTable.try_wait_at.Goals as goal
 
-pub returns-then-head-clause-steps : goal.returns-then-head-clause-steps
-returns-then-head-clause-steps c = let q = c.number-queue.ensures in let known : c.args.wait < WAITS = search rules in let ring : c.wait_ring-ring.result ≡ wait_ring c.args.wait = c.wait_ring-ring.ensures.0 ∙ ap (λ (n : ℕ). n + 2) q.value in
+pub returns-then-head-clause-trace : goal.returns-then-head-clause-trace
+returns-then-head-clause-trace c = let q = c.number-queue.ensures in let known : c.args.wait < WAITS = search rules in let ring : c.wait_ring-ring.result ≡ wait_ring c.args.wait = c.wait_ring-ring.ensures.0 ∙ ap (λ (n : ℕ). n + 2) q.value in
     was_spent _ _ (wait_ring c.args.wait) _ c.of-head.result.head c.of-head.result.mark (found_in ring c.load_head-word.ensures.found) c.of-head.ensures.0 c.of-head.ensures.1 c.if-head.true
 
-pub returns-then-mark-ticket-clause-steps : goal.returns-then-mark-ticket-clause-steps
-returns-then-mark-ticket-clause-steps c = let q = c.number-queue.ensures in let ring : c.wait_ring-ring.result ≡ wait_ring c.args.wait = c.wait_ring-ring.ensures.0 ∙ ap (λ (n : ℕ). n + 2) q.value in
+pub returns-then-mark-ticket-clause-trace : goal.returns-then-mark-ticket-clause-trace
+returns-then-mark-ticket-clause-trace c = let q = c.number-queue.ensures in let ring : c.wait_ring-ring.result ≡ wait_ring c.args.wait = c.wait_ring-ring.ensures.0 ∙ ap (λ (n : ℕ). n + 2) q.value in
     moved_before _ _ c.args.wait _ _ c.of-head.result.head c.of-head.result.mark (found_in ring c.load_head-word.ensures.found) c.of-head.ensures.0 c.of-head.ensures.1 c.if-head.false c.if-mark-ticket.true
 
-pub returns-then-now-ticket-clause-steps : goal.returns-then-now-ticket-clause-steps
-returns-then-now-ticket-clause-steps c = let q = c.number-queue.ensures in let ring : c.wait_ring-ring.result ≡ wait_ring c.args.wait = c.wait_ring-ring.ensures.0 ∙ ap (λ (n : ℕ). n + 2) q.value in let e = c.exchange_head_at-found.ensures.miss c.if-found-word.true in
+pub returns-then-now-ticket-clause-trace : goal.returns-then-now-ticket-clause-trace
+returns-then-now-ticket-clause-trace c = let q = c.number-queue.ensures in let ring : c.wait_ring-ring.result ≡ wait_ring c.args.wait = c.wait_ring-ring.ensures.0 ∙ ap (λ (n : ℕ). n + 2) q.value in let e = c.exchange_head_at-found.ensures.miss c.if-found-word.true in
     moved_meanwhile _ _ _ c.args.wait _ _ c.of-head.result.head c.of-head.result.mark _ c.of-now.result.head c.of-now.result.mark (found_in ring c.load_head-word.ensures.found) c.of-head.ensures.0 c.of-head.ensures.1 c.if-head.false c.if-mark-ticket.false
     (found_in (ap (λ (n : ℕ). n + 2) q.value) e.0) c.of-now.ensures.0 c.of-now.ensures.1 c.if-now-ticket.true
 
-pub returns-then-found-word-clause-steps : goal.returns-then-found-word-clause-steps
-returns-then-found-word-clause-steps c = let q = c.number-queue.ensures in let ring : c.wait_ring-ring.result ≡ wait_ring c.args.wait = c.wait_ring-ring.ensures.0 ∙ ap (λ (n : ℕ). n + 2) q.value in let e = c.exchange_head_at-found.ensures.miss c.if-found-word.true in
+pub returns-then-found-word-clause-trace : goal.returns-then-found-word-clause-trace
+returns-then-found-word-clause-trace c = let q = c.number-queue.ensures in let ring : c.wait_ring-ring.result ≡ wait_ring c.args.wait = c.wait_ring-ring.ensures.0 ∙ ap (λ (n : ℕ). n + 2) q.value in let e = c.exchange_head_at-found.ensures.miss c.if-found-word.true in
     overtaken_at c.args.hand.now.seat.id c.args.element _ _ _ c.args.wait _ _ c.of-head.result.head c.of-head.result.mark _ c.of-now.result.head c.of-now.result.mark (found_in ring c.load_head-word.ensures.found) c.of-head.ensures.0 c.of-head.ensures.1 c.if-head.false c.if-mark-ticket.false
     (found_in (ap (λ (n : ℕ). n + 2) q.value) e.0) c.if-found-word.true c.of-now.ensures.0 c.of-now.ensures.1 c.if-now-ticket.false
 
@@ -35,7 +35,7 @@ moved c = let a = c.load_head-word.ensures in let x = c.exchange_head_at-found i
     let q = c.number-queue.ensures.value in let ring : c.wait_ring-ring.result ≡ wait_ring c.args.wait = c.wait_ring-ring.ensures.0 ∙ ap (λ (n : ℕ). n + 2) q in let below : c.args.wait < WAITS = search rules in
     let h = c.args.hand.now in let v = c.load_head-word.new.seat.me.0 in let m = x.new.seat.me.0 in let w = c.raise.new.seat.me.0 in let head = c.of-head.result.head in let known : c.args.element < ELEMENTS = search rules in
     let claimed = transport (λ i. HandDid (id i) v (head_word (wait_ring (q i))) c.load_head-word.result (events.WaitAt (id i) (q i) (n i) c.args.ticket) m) (x.ensures.hit c.if-found-word.false) in
-    let raised = transport (λ i. HandDid (id' i) m (place_word (ring i) head) s.did.0 (raise_event (id' i) m (ring i) head) w) s.did.1 in
+    let raised = transport (λ i. HandDid (id' i) m (place_word (ring i) head) s.effect.0 (raise_event (id' i) m (ring i) head) w) s.effect.1 in
     moved_to _ _ _ _ _ head c.of-head.result.mark v m (omega arith) (λ z e. refl) claimed c.of-head.ensures.0 c.of-head.ensures.1 _ _ _ h.fresh c.requires.holds known (found_in ring a.found) c.if-head.false raised
 
 pub invariant_of-hand-2 : goal.invariant_of-hand-2
@@ -47,12 +47,12 @@ invariant_of-hand-2 c = let a = c.load_head-word.ensures in let x = c.exchange_h
   holding = s.held ∙ ((λ i. set (h.holding i) (n i) false) ∙ sym (ap (λ (z : View). z.own.held) has));
   serving = h.serving ∙ sym (ap (λ (z : View). z.own.serves) has);
   putting = h.putting ∙ sym (ap (λ (z : View). z.own.on) has);
-  valid = merely s.did.1.step.valid;
+  valid = merely s.effect.1.step.valid;
   stands = s.stands;
 }
 
-pub returns-clause-steps : goal.returns-clause-steps
-returns-clause-steps c = (c.load_head-word.result, (word_parts _ c.of-head.result.head c.of-head.result.mark c.of-head.ensures.0 c.of-head.ensures.1).1 ∙ c.if-mark-ticket.false, moved c.before)
+pub returns-clause-trace : goal.returns-clause-trace
+returns-clause-trace c = (c.load_head-word.result, (word_parts _ c.of-head.result.head c.of-head.result.mark c.of-head.ensures.0 c.of-head.ensures.1).1 ∙ c.if-mark-ticket.false, moved c.before)
 
 pub invariant_of-hand-then-found-word-clause-stands : goal.invariant_of-hand-then-found-word-clause-stands
 invariant_of-hand-then-found-word-clause-stands c = c.exchange_head_at-found.ensures.stands

@@ -8,11 +8,11 @@ pub loop-init : goal.loop-init
 loop-init g c = let h = c.args.hand.now in let n = c.number-2.ensures.value in record {
   steps = search rules;
   same = search rules;
-  rounds = rounds_none _ _ _ _ _ _ (transport (λ i. HandDid (call_of h) (view_of h) (head_word (wait_ring (n i))) c.add_notify-word.result (events.NotifyWait (call_of h) (n i)) c.add_notify-word.new.seat.me.0) c.add_notify-word.ensures.did);
+  rounds = rounds_none _ _ _ _ _ _ (transport (λ i. HandDid (call_of h) (view_of h) (head_word (wait_ring (n i))) c.add_notify-word.result (events.NotifyWait (call_of h) (n i)) c.add_notify-word.new.seat.me.0) c.add_notify-word.ensures.effect);
 }
 
-pub returns-then-tail-head-clause-steps : goal.returns-then-tail-head-clause-steps
-returns-then-tail-head-clause-steps g c = let h = c.args.hand.now in let l = c.loop.hand.seat.me.0 in let w = c.load_tail-tail.new.seat.me.0 in let head = (word_parts _ _ c.of-head.result.mark c.of-head.ensures.0 c.of-head.ensures.1).0 in
+pub returns-then-tail-head-clause-trace : goal.returns-then-tail-head-clause-trace
+returns-then-tail-head-clause-trace g c = let h = c.args.hand.now in let l = c.loop.hand.seat.me.0 in let w = c.load_tail-tail.new.seat.me.0 in let head = (word_parts _ _ c.of-head.result.mark c.of-head.ensures.0 c.of-head.ensures.1).0 in
     let ring : c.wait_ring-ring.result ≡ wait_ring c.args.wait = c.wait_ring-ring.ensures.0 ∙ ap (λ (k : ℕ). k + 2) c.number.ensures.value in
     woke_all _ _ _ _ _ _ l w (transport (λ i. Rounds (call_of h) c.args.wait (ring i) c.add_notify-word.result (view_of h) c.loop.woken l) c.loop.invariant.rounds)
     (transport (λ i. Found l (tail_word (ring i)) c.load_tail-tail.result w) c.load_tail-tail.ensures.found) (subst (λ (k : ℕ). k ≤ c.load_tail-tail.result) (sym head) c.if-tail-head.true)

@@ -11,7 +11,7 @@ returns g c =
     let after = c.run-station.new.gate in
     let same = turns_keep _ (λ gate. gate.shared.now) (λ old p point new t. t) _ _ _ _ _ _ _ _ c.run-station.ensures.turned.turned.reported in
     let were = subst (ArePartsOf c.args.shared.now) (sym c.into_parts-hand.ensures) c.requires.parts in (
-      c.run-station.ensures.manned.manned.parts_are,
+      c.run-station.ensures.station.manned.parts_are,
       subst (ArePartsOf c.args.shared.now) (sym c.from_parts.ensures) (record {
         hand = subst (λ (s : Shared). IsHandOf s.threads after.hand) same after.hand_fits;
         small = subst (λ (s : Shared). AreEndsOf s.queues.small.items after.ends.items) same after.fit;

@@ -5,4 +5,4 @@ use Rattle.bindings.proofs.hand.held.HeldHand.signal.Goals as goal
 
 pub invariant_of-self-clause-known : goal.invariant_of-self-clause-known
 invariant_of-self-clause-known c = let x = c.args.self.now in let y = c.signal.new.hand in
-    still_known x.share.parts (view_of x.hand) (view_of y) (signal_keeps (call_of x.hand) c.args.element c.args.signal (view_of x.hand) (view_of y) c.signal.result c.signal.ensures.steps) x.known
+    still_known x.share.parts (view_of x.hand) (view_of y) (signal_keeps (call_of x.hand) c.args.element c.args.signal (view_of x.hand) (view_of y) c.signal.result c.signal.ensures.trace) x.known

@@ -5,4 +5,4 @@ use Rattle.bindings.proofs.hand.held.HeldHand.ticket.Goals as goal
 
 pub invariant_of-self-clause-known : goal.invariant_of-self-clause-known
 invariant_of-self-clause-known c = let x = c.args.self.now in let y = c.ticket.new.hand in
-    still_known x.share.parts (view_of x.hand) (view_of y) (ticket_stays c.args.wait c.ticket.result (view_of x.hand) (view_of y) c.ticket.ensures.steps).keeps x.known
+    still_known x.share.parts (view_of x.hand) (view_of y) (ticket_stays c.args.wait c.ticket.result (view_of x.hand) (view_of y) c.ticket.ensures.trace).keeps x.known

@@ -5,4 +5,4 @@ use Rattle.bindings.proofs.hand.held.HeldHand.try_park.Goals as goal
 
 pub invariant_of-self-clause-known : goal.invariant_of-self-clause-known
 invariant_of-self-clause-known c = let x = c.args.self.now in let y = c.try_park.new.hand in
-    still_known x.share.parts (view_of x.hand) (view_of y) (park_keeps (call_of x.hand) c.args.element (view_of x.hand) (view_of y) c.try_park.result c.try_park.ensures.steps) x.known
+    still_known x.share.parts (view_of x.hand) (view_of y) (park_keeps (call_of x.hand) c.args.element (view_of x.hand) (view_of y) c.try_park.result c.try_park.ensures.trace) x.known

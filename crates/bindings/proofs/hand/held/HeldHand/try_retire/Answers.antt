@@ -5,4 +5,4 @@ use Rattle.bindings.proofs.hand.held.HeldHand.try_retire.Goals as goal
 
 pub invariant_of-self-clause-known : goal.invariant_of-self-clause-known
 invariant_of-self-clause-known c = let x = c.args.self.now in let y = c.try_retire.new.hand in
-    still_known x.share.parts (view_of x.hand) (view_of y) (move_keeps (call_of x.hand) 1 c.args.element (view_of x.hand) (view_of y) c.try_retire.result c.try_retire.ensures.steps) x.known
+    still_known x.share.parts (view_of x.hand) (view_of y) (move_keeps (call_of x.hand) 1 c.args.element (view_of x.hand) (view_of y) c.try_retire.result c.try_retire.ensures.trace) x.known

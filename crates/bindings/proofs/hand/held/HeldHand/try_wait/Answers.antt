@@ -6,4 +6,4 @@ use Rattle.bindings.proofs.hand.held.HeldHand.try_wait.Goals as goal
 
 pub invariant_of-self-clause-known : goal.invariant_of-self-clause-known
 invariant_of-self-clause-known c = let x = c.args.self.now in let y = c.try_wait.new.hand in
-    still_known x.share.parts (view_of x.hand) (view_of y) (move_keeps (call_of x.hand) (c.args.wait + 2) c.args.element (view_of x.hand) (view_of y) c.try_wait.result c.try_wait.ensures.steps) x.known
+    still_known x.share.parts (view_of x.hand) (view_of y) (move_keeps (call_of x.hand) (c.args.wait + 2) c.args.element (view_of x.hand) (view_of y) c.try_wait.result c.try_wait.ensures.trace) x.known

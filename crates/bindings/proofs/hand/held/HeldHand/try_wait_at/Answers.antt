@@ -5,4 +5,4 @@ use Rattle.bindings.proofs.hand.held.HeldHand.try_wait_at.Goals as goal
 
 pub invariant_of-self-clause-known : goal.invariant_of-self-clause-known
 invariant_of-self-clause-known c = let x = c.args.self.now in let y = c.try_wait_at.new.hand in
-    still_known x.share.parts (view_of x.hand) (view_of y) (wait_keeps (call_of x.hand) c.args.wait c.args.element c.args.ticket (view_of x.hand) (view_of y) c.try_wait_at.result c.try_wait_at.ensures.steps) x.known
+    still_known x.share.parts (view_of x.hand) (view_of y) (wait_keeps (call_of x.hand) c.args.wait c.args.element c.args.ticket (view_of x.hand) (view_of y) c.try_wait_at.result c.try_wait_at.ensures.trace) x.known

@@ -6,4 +6,4 @@ use Rattle.bindings.proofs.hand.held.HeldHand.try_wake.Goals as goal
 
 pub invariant_of-self-clause-known : goal.invariant_of-self-clause-known
 invariant_of-self-clause-known c = let x = c.args.self.now in let y = c.try_wake.new.hand in
-    still_known x.share.parts (view_of x.hand) (view_of y) (take_keeps (call_of x.hand) (c.args.wait + 2) (view_of x.hand) (view_of y) c.try_wake.result c.try_wake.ensures.steps) x.known
+    still_known x.share.parts (view_of x.hand) (view_of y) (take_keeps (call_of x.hand) (c.args.wait + 2) (view_of x.hand) (view_of y) c.try_wake.result c.try_wake.ensures.trace) x.known

@@ -6,4 +6,4 @@ use Rattle.bindings.proofs.hand.held.HeldHand.try_wake_before.Goals as goal
 
 pub invariant_of-self-clause-known : goal.invariant_of-self-clause-known
 invariant_of-self-clause-known c = let x = c.args.self.now in let y = c.try_wake_before.new.hand in
-    still_known x.share.parts (view_of x.hand) (view_of y) (before_keeps (call_of x.hand) (c.args.wait + 2) c.args.head (view_of x.hand) (view_of y) c.try_wake_before.result c.try_wake_before.ensures.steps) x.known
+    still_known x.share.parts (view_of x.hand) (view_of y) (before_keeps (call_of x.hand) (c.args.wait + 2) c.args.head (view_of x.hand) (view_of y) c.try_wake_before.result c.try_wake_before.ensures.trace) x.known

@@ -6,7 +6,7 @@ use Rattle.bindings.proofs.queue.part.Part.try_take_line.Goals as goal
 
 pub invariant_of-self-clause-raised : goal.invariant_of-self-clause-raised
 invariant_of-self-clause-raised g c = let x = c.args.self.now in let t = c.try_take_line in
-    still_raised (line_keeps g.row.N (view_of x.end) (view_of t.new.end) t.new.line.items t.result t.ensures.steps) x.raised
+    still_raised (line_keeps g.row.N (view_of x.end) (view_of t.new.end) t.new.line.items t.result t.ensures.trace) x.raised
 
 pub returns-in-Ok : goal.returns-in-Ok
 returns-in-Ok g c = let x = c.args.self.now in let t = c.try_take_line in let l = t.new.line.items in let d = c.in-Ok.ensures.line in

@@ -48,11 +48,11 @@ loop-end-preserved g c =
     let steps : array_into_iter_items at.end-iterator ≡ x ∷ array_into_iter_items c.next.new.self = c.in-Some.ensures.steps in
     let v : View = view_of c.captures.last in
     let z : View = view_of c.join.new.end in record {
-      mine = c.join.ensures.same.0 ∙ i.mine;
+      mine = c.join.ensures.handle.0 ∙ i.mine;
       theirs = following c.captures.shared.now _ _ x steps i.theirs;
       all = append_assoc at.yielded (x ∷ []) (array_into_iter_items c.next.new.self) ∙ (ap (λ (l : List End). at.yielded ++ l) (sym steps) ∙ i.all);
       gathered = subst (λ (us : List View). Gathered v us z) (sym (map-append view_of at.yielded (x ∷ [])))
-          (gathered_more v (view_of at.last) (view_of x) z (map view_of at.yielded) i.gathered c.join.ensures.steps);
+          (gathered_more v (view_of at.last) (view_of x) z (map view_of at.yielded) i.gathered c.join.ensures.trace);
     }
 
 pub shut-was_open-requires : goal.shut-was_open-requires
@@ -71,8 +71,8 @@ returns g c =
     let all : at.yielded ≡ backs = sym (append-nil at.yielded) ∙ (ap (λ (l : List End). at.yielded ++ l) (sym empty) ∙ (i.all ∙ gives.0)) in
     let v : View = view_of c.captures.last in
     let z : View = view_of c.shut-was_open.new.end in
-    let same = c.shut-was_open.ensures.steps.3 in (
-      c.shut-was_open.ensures.same.0 ∙ i.mine,
+    let same = c.shut-was_open.ensures.trace.3 in (
+      c.shut-was_open.ensures.handle.0 ∙ i.mine,
       record {
         backs = map view_of backs;
         puts = puts_each c.captures.jobs.now c.captures.ends backs (jobs ∙ sym ends) (long ∙ sym ends)

@@ -5,3 +5,4 @@ pub mod Lists
 pub mod Schedule
 pub mod Shown
 pub mod Common
+pub mod Clients

@@ -20,3 +20,5 @@ pub mod Closings
 pub mod Laid
 pub mod Makers
 pub mod Notifies
+pub mod Client
+pub mod Evidence

@@ -1,10 +1,15 @@
 //! Moves: an element that the hand holds gets the next place of an element queue.
-ghost use Rattle.std.specs.Prelude.{◌≡◌, ◌<◌, ℕ, true, false, slice_set};
+ghost use Rattle.std.specs.Prelude.{◌≡◌, ◌<◌, ℕ, true, false, slice_set, MatchResult, IfOk, IfErr};
+ghost use Rattle.event_theory.specs.declared.event.Event.TheVariants as events;
 ghost use Rattle.table_theory.specs.Seating.{IsSame};
 ghost use Rattle.thread_table.specs.declared.layout.TheConstants.{WORDS, ELEMENTS, RINGS};
 ghost use Rattle.thread_table.specs.Layout.{ready_ring, free_ring, wait_ring, place_word, last_head};
 ghost use Rattle.thread_table.specs.Handles.{view_of, call_of, IsHandOf, IsSameHand};
-ghost use Rattle.thread_table.specs.Answers.{MoveAnswer, WaitAnswer, IsTicket, raise_event};
+ghost use Rattle.thread_table.specs.Keeping.{Keeps};
+ghost use Rattle.thread_table.specs.Client.{Moved, WhyNotMoved, WhyNotWaited, WaitedInTime, MadeNothing, IsTicketOf};
+ghost use Rattle.thread_table.specs.Entries.{claim_event};
+ghost use Rattle.thread_table.specs.Evidence.{MoveAnswer, WaitAnswer, IsTicket};
+ghost use Rattle.thread_table.specs.Answers.{raise_event};
 ghost use Rattle.thread_table.specs.Rules.{HasStood, IsActive, has};
 ghost use Rattle.thread_table.specs.Steps.{HandDid};
 ghost use Rattle.thread_table.specs.Views.{HasClaimed};
@@ -73,6 +78,12 @@ impl ThreadTable {
     pub fn try_ready(&self, hand: &mut Hand, element: Element) -> Result<(), MoveRefusal>
         requires table { IsHandOf self.now hand.old }
         requires holds { has (view_of hand.old) element ≡ true }
+        ensures effect { MatchResult result
+            (λ done. Moved (call_of hand.old) ready_ring element (claim_event (call_of hand.old) ready_ring element)
+            (view_of hand.old) (view_of hand.new))
+            (λ refusal. MadeNothing (view_of hand.old) (view_of hand.new)) }
+        ensures frame { Keeps (view_of hand.old) (view_of hand.new) }
+        ensures error { IfErr result (λ refusal. WhyNotMoved ready_ring refusal (view_of hand.old) (view_of hand.new)) }
         ensures trace { MoveAnswer (call_of hand.old) (view_of hand.old) ready_ring element result (view_of hand.new) }
         ensures handle { IsSameHand hand.old hand.new }
     {
@@ -88,6 +99,13 @@ impl ThreadTable {
     ) -> Result<(), MoveRefusal>
         requires table { IsHandOf self.now hand.old }
         requires holds { has (view_of hand.old) element ≡ true }
+        ensures effect { MatchResult result
+            (λ done. Moved (call_of hand.old) (wait_ring wait) element
+            (claim_event (call_of hand.old) (wait_ring wait) element) (view_of hand.old) (view_of hand.new))
+            (λ refusal. MadeNothing (view_of hand.old) (view_of hand.new)) }
+        ensures frame { Keeps (view_of hand.old) (view_of hand.new) }
+        ensures error { IfErr result (λ refusal. WhyNotMoved (wait_ring wait) refusal (view_of hand.old)
+            (view_of hand.new)) }
         ensures trace { MoveAnswer (call_of hand.old) (view_of hand.old) (wait_ring wait) element result
             (view_of hand.new) }
         ensures handle { IsSameHand hand.old hand.new }
@@ -99,6 +117,12 @@ impl ThreadTable {
     pub fn try_retire(&self, hand: &mut Hand, element: Element) -> Result<(), MoveRefusal>
         requires table { IsHandOf self.now hand.old }
         requires holds { has (view_of hand.old) element ≡ true }
+        ensures effect { MatchResult result
+            (λ done. Moved (call_of hand.old) free_ring element (claim_event (call_of hand.old) free_ring element)
+            (view_of hand.old) (view_of hand.new))
+            (λ refusal. MadeNothing (view_of hand.old) (view_of hand.new)) }
+        ensures frame { Keeps (view_of hand.old) (view_of hand.new) }
+        ensures error { IfErr result (λ refusal. WhyNotMoved free_ring refusal (view_of hand.old) (view_of hand.new)) }
         ensures trace { MoveAnswer (call_of hand.old) (view_of hand.old) free_ring element result (view_of hand.new) }
         ensures handle { IsSameHand hand.old hand.new }
     {
@@ -109,6 +133,12 @@ impl ThreadTable {
     fn move_to(&self, hand: &mut Hand, ring: usize, element: Element) -> Result<(), MoveRefusal>
         requires table { IsHandOf self.now hand.old × (ring < RINGS) }
         requires holds { has (view_of hand.old) element ≡ true }
+        ensures effect { MatchResult result
+            (λ done. Moved (call_of hand.old) ring element (claim_event (call_of hand.old) ring element)
+            (view_of hand.old) (view_of hand.new))
+            (λ refusal. MadeNothing (view_of hand.old) (view_of hand.new)) }
+        ensures frame { Keeps (view_of hand.old) (view_of hand.new) }
+        ensures error { IfErr result (λ refusal. WhyNotMoved ring refusal (view_of hand.old) (view_of hand.new)) }
         ensures trace { MoveAnswer (call_of hand.old) (view_of hand.old) ring element result (view_of hand.new) }
         ensures handle { IsSameHand hand.old hand.new }
     {
@@ -140,6 +170,9 @@ impl ThreadTable {
     /// The wait queue's number of notifies, by one load of its head word: a ticket for a wait.
     pub fn ticket(&self, hand: &mut Hand, wait: WaitNumber) -> u32
         requires { IsHandOf self.now hand.old }
+        ensures effect { MadeNothing (view_of hand.old) (view_of hand.new) }
+        ensures result { IsTicketOf wait result (view_of hand.old) (view_of hand.new) }
+        ensures frame { Keeps (view_of hand.old) (view_of hand.new) }
         ensures trace { IsTicket (view_of hand.old) wait result (view_of hand.new) }
         ensures handle { IsSameHand hand.old hand.new }
     {
@@ -159,6 +192,15 @@ impl ThreadTable {
     ) -> Result<(), MoveRefusal>
         requires table { IsHandOf self.now hand.old }
         requires holds { has (view_of hand.old) element ≡ true }
+        ensures effect { MatchResult result
+            (λ done. Moved (call_of hand.old) (wait_ring wait) element
+            (events.WaitAt (call_of hand.old) wait element ticket) (view_of hand.old) (view_of hand.new))
+            (λ refusal. MadeNothing (view_of hand.old) (view_of hand.new)) }
+        ensures result { IfOk result (λ done. WaitedInTime (call_of hand.old) wait element ticket (view_of hand.old)
+            (view_of hand.new)) }
+        ensures frame { Keeps (view_of hand.old) (view_of hand.new) }
+        ensures error { IfErr result (λ refusal. WhyNotWaited wait ticket refusal (view_of hand.old)
+            (view_of hand.new)) }
         ensures trace { WaitAnswer (call_of hand.old) (view_of hand.old) wait element ticket result
             (view_of hand.new) }
         ensures handle { IsSameHand hand.old hand.new }

@@ -1,8 +1,9 @@
 //! Processors: a hand puts an element that it holds on a processor that it serves, and takes it off.
-ghost use Rattle.std.specs.Prelude.{◌≡◌, ◌≢◌, true, Some, None, MatchResult};
+ghost use Rattle.std.specs.Prelude.{◌≡◌, ◌≢◌, true, Some, None, MatchResult, IfErr};
 ghost use Rattle.thread_table.specs.Handles.{view_of, call_of, IsHandOf, IsSameHand};
 ghost use Rattle.thread_table.specs.Rules.{has, serves, running};
-ghost use Rattle.thread_table.specs.Answers.{PutsOn, TakesOff};
+ghost use Rattle.thread_table.specs.Client.{PutOn, TookOff, ServesSame};
+ghost use Rattle.thread_table.specs.Evidence.{PutsOn, TakesOff};
 
 use crate::hand::{Hand, ThreadTable, set_held, set_running};
 use crate::steps::{swap_off, swap_on};
@@ -31,6 +32,11 @@ impl ThreadTable {
     ) -> Result<(), ProcessorBusy>
         requires table { IsHandOf self.now hand.old }
         requires mine { (has (view_of hand.old) element ≡ true) × (serves (view_of hand.old) processor ≡ true) }
+        ensures effect { MatchResult result
+            (λ done. PutOn (call_of hand.old) processor element (view_of hand.old) (view_of hand.new))
+            (λ busy. view_of hand.new ≡ view_of hand.old) }
+        ensures frame { ServesSame (view_of hand.old) (view_of hand.new) }
+        ensures error { IfErr result (λ busy. running (view_of hand.old) processor ≢ None) }
         ensures trace { MatchResult result
             (λ done. (running (view_of hand.old) processor ≡ None)
             × PutsOn (call_of hand.old) processor element (view_of hand.old) (view_of hand.new))
@@ -59,6 +65,11 @@ impl ThreadTable {
     pub fn off(&self, hand: &mut Hand, processor: Processor) -> Result<Element, ProcessorEmpty>
         requires table { IsHandOf self.now hand.old }
         requires mine { serves (view_of hand.old) processor ≡ true }
+        ensures effect { MatchResult result
+            (λ element. TookOff (call_of hand.old) processor element (view_of hand.old) (view_of hand.new))
+            (λ empty. view_of hand.new ≡ view_of hand.old) }
+        ensures frame { ServesSame (view_of hand.old) (view_of hand.new) }
+        ensures error { IfErr result (λ empty. running (view_of hand.old) processor ≡ None) }
         ensures trace { MatchResult result
             (λ element. (running (view_of hand.old) processor ≡ Some element)
             × TakesOff (call_of hand.old) processor element (view_of hand.old) (view_of hand.new))

@@ -1,8 +1,12 @@
 //! The number of steps of its program that an element has done.
-ghost use Rattle.std.specs.Prelude.{◌≡◌};
+ghost use Rattle.std.specs.Prelude.{◌≡◌, [], ◌∷◌, MatchResult, IfOk, IfErr};
+ghost use Rattle.event_theory.specs.declared.event.Event.TheVariants as events;
 ghost use Rattle.thread_table.specs.Handles.{view_of, call_of, IsHandOf, IsSameHand};
 ghost use Rattle.thread_table.specs.Rules.{MayStep};
-ghost use Rattle.thread_table.specs.Answers.{ReadPc, DoneAnswer};
+ghost use Rattle.thread_table.specs.Keeping.{Keeps};
+ghost use Rattle.thread_table.specs.Layout.{most_done};
+ghost use Rattle.thread_table.specs.Client.{MadeNothing, MadeOnly, HadDone, StepFound};
+ghost use Rattle.thread_table.specs.Evidence.{ReadPc, DoneAnswer};
 
 use crate::hand::{Hand, ThreadTable};
 use crate::steps::{load_done, store_done};
@@ -20,6 +24,9 @@ impl ThreadTable {
     /// count a step of it before this hand's next step, so `step_done` then counts from this number.
     pub fn pc(&self, hand: &mut Hand, element: Element) -> u64
         requires { IsHandOf self.now hand.old × MayStep (view_of hand.old) element }
+        ensures effect { MadeNothing (view_of hand.old) (view_of hand.new) }
+        ensures result { HadDone element result (view_of hand.old) (view_of hand.new) }
+        ensures frame { Keeps (view_of hand.old) (view_of hand.new) }
         ensures trace { ReadPc element (view_of hand.old) result (view_of hand.new) }
         ensures handle { IsSameHand hand.old hand.new }
     {
@@ -31,6 +38,13 @@ impl ThreadTable {
     /// if the element has done 4,294,967,295 steps.
     pub fn step_done(&self, hand: &mut Hand, element: Element) -> Result<u64, Spent>
         requires { IsHandOf self.now hand.old × MayStep (view_of hand.old) element }
+        ensures effect { MatchResult result
+            (λ number. MadeOnly (view_of hand.old) (events.Done (call_of hand.old) element ∷ []) (view_of hand.new))
+            (λ spent. MadeNothing (view_of hand.old) (view_of hand.new)) }
+        ensures result { IfOk result (λ number. StepFound (call_of hand.old) element number (view_of hand.old)
+            (view_of hand.new)) }
+        ensures frame { Keeps (view_of hand.old) (view_of hand.new) }
+        ensures error { IfErr result (λ spent. HadDone element most_done (view_of hand.old) (view_of hand.new)) }
         ensures trace { DoneAnswer (call_of hand.old) (view_of hand.old) element result (view_of hand.new) }
         ensures handle { IsSameHand hand.old hand.new }
     {

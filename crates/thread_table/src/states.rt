@@ -1,9 +1,13 @@
 //! Stop bits, stop cells and signals.
-ghost use Rattle.std.specs.Prelude.{◌≡◌, true};
+ghost use Rattle.std.specs.Prelude.{◌≡◌, true, [], ◌∷◌, MatchResult, IfOk, IfErr};
+ghost use Rattle.event_theory.specs.declared.event.Event.TheVariants as events;
 ghost use Rattle.thread_table.specs.Handles.{view_of, call_of, IsHandOf, IsSameHand};
 ghost use Rattle.thread_table.specs.Rules.{has};
-ghost use Rattle.thread_table.specs.Answers.{StoppedNow, StartAnswer, ParkAnswer, SignalAnswer, DeliverAnswer};
-ghost use Rattle.thread_table.specs.Answers.{IsPending};
+ghost use Rattle.thread_table.specs.Keeping.{Keeps};
+ghost use Rattle.thread_table.specs.Client.{MadeNothing, MadeOnly, StopFound, StartDid, StartFound, ParkDid};
+ghost use Rattle.thread_table.specs.Client.{ParkFound, SignalFound, WerePending, DeliverDid, DeliverFound, WhyLost};
+ghost use Rattle.thread_table.specs.Evidence.{StoppedNow, StartAnswer, ParkAnswer, SignalAnswer, DeliverAnswer};
+ghost use Rattle.thread_table.specs.Evidence.{IsPending};
 
 use crate::hand::{Hand, ThreadTable, set_held};
 use crate::steps::{exchange_state, load_state, or_signal, or_stop};
@@ -44,6 +48,9 @@ impl ThreadTable {
     /// Sets the stop bit of an element, wherever it is, by one step. True if the stop bit was clear.
     pub fn stop(&self, hand: &mut Hand, element: Element) -> bool
         requires { IsHandOf self.now hand.old }
+        ensures effect { MadeOnly (view_of hand.old) (events.Stop (call_of hand.old) element ∷ []) (view_of hand.new) }
+        ensures result { StopFound (call_of hand.old) element result (view_of hand.old) (view_of hand.new) }
+        ensures frame { Keeps (view_of hand.old) (view_of hand.new) }
         ensures trace { StoppedNow (call_of hand.old) (view_of hand.old) element result (view_of hand.new) }
         ensures handle { IsSameHand hand.old hand.new }
     {
@@ -57,6 +64,13 @@ impl ThreadTable {
     /// element was in its stop cell, the hand then holds it.
     pub fn try_start(&self, hand: &mut Hand, element: Element) -> Result<Started, Lost>
         requires { IsHandOf self.now hand.old }
+        ensures effect { MatchResult result
+            (λ started. StartDid (call_of hand.old) element started (view_of hand.old) (view_of hand.new))
+            (λ lost. MadeNothing (view_of hand.old) (view_of hand.new)) }
+        ensures result { IfOk result (λ started. StartFound (call_of hand.old) element started (view_of hand.old)
+            (view_of hand.new)) }
+        ensures frame { Keeps (view_of hand.old) (view_of hand.new) }
+        ensures error { IfErr result (λ lost. WhyLost element lost.seen (view_of hand.old) (view_of hand.new)) }
         ensures trace { StartAnswer (call_of hand.old) (view_of hand.old) element result (view_of hand.new) }
         ensures handle { IsSameHand hand.old hand.new }
     {
@@ -87,6 +101,13 @@ impl ThreadTable {
     pub fn try_park(&self, hand: &mut Hand, element: Element) -> Result<bool, Lost>
         requires table { IsHandOf self.now hand.old }
         requires holds { has (view_of hand.old) element ≡ true }
+        ensures effect { MatchResult result
+            (λ parked. ParkDid (call_of hand.old) element parked (view_of hand.old) (view_of hand.new))
+            (λ lost. MadeNothing (view_of hand.old) (view_of hand.new)) }
+        ensures result { IfOk result (λ parked. ParkFound (call_of hand.old) element parked (view_of hand.old)
+            (view_of hand.new)) }
+        ensures frame { Keeps (view_of hand.old) (view_of hand.new) }
+        ensures error { IfErr result (λ lost. WhyLost element lost.seen (view_of hand.old) (view_of hand.new)) }
         ensures trace { ParkAnswer (call_of hand.old) (view_of hand.old) element result (view_of hand.new) }
         ensures handle { IsSameHand hand.old hand.new }
     {
@@ -110,6 +131,10 @@ impl ThreadTable {
     /// Makes a signal of an element pending, wherever the element is, by one step.
     pub fn signal(&self, hand: &mut Hand, element: Element, signal: Signal) -> Signalled
         requires { IsHandOf self.now hand.old }
+        ensures effect { MadeOnly (view_of hand.old) (events.Signal (call_of hand.old) element signal ∷ [])
+            (view_of hand.new) }
+        ensures result { SignalFound (call_of hand.old) element signal result (view_of hand.old) (view_of hand.new) }
+        ensures frame { Keeps (view_of hand.old) (view_of hand.new) }
         ensures trace { SignalAnswer (call_of hand.old) (view_of hand.old) element signal result
             (view_of hand.new) }
         ensures handle { IsSameHand hand.old hand.new }
@@ -128,6 +153,9 @@ impl ThreadTable {
     /// nothing, and the signals stay pending.
     pub fn pending(&self, hand: &mut Hand, element: Element) -> u16
         requires { IsHandOf self.now hand.old }
+        ensures effect { MadeNothing (view_of hand.old) (view_of hand.new) }
+        ensures result { WerePending element result (view_of hand.old) (view_of hand.new) }
+        ensures frame { Keeps (view_of hand.old) (view_of hand.new) }
         ensures trace { IsPending (view_of hand.old) element result (view_of hand.new) }
         ensures handle { IsSameHand hand.old hand.new }
     {
@@ -143,6 +171,13 @@ impl ThreadTable {
     pub fn try_deliver(&self, hand: &mut Hand, element: Element) -> Result<u16, Lost>
         requires table { IsHandOf self.now hand.old }
         requires holds { has (view_of hand.old) element ≡ true }
+        ensures effect { MatchResult result
+            (λ mask. DeliverDid (call_of hand.old) element mask (view_of hand.old) (view_of hand.new))
+            (λ lost. MadeNothing (view_of hand.old) (view_of hand.new)) }
+        ensures result { IfOk result (λ mask. DeliverFound (call_of hand.old) element mask (view_of hand.old)
+            (view_of hand.new)) }
+        ensures frame { Keeps (view_of hand.old) (view_of hand.new) }
+        ensures error { IfErr result (λ lost. WhyLost element lost.seen (view_of hand.old) (view_of hand.new)) }
         ensures trace { DeliverAnswer (call_of hand.old) (view_of hand.old) element result (view_of hand.new) }
         ensures handle { IsSameHand hand.old hand.new }
     {

@@ -1,9 +1,11 @@
 //! Takings: a hand takes the oldest element of the ready ring, of the free elements or of a wait queue, and holds it.
-ghost use Rattle.std.specs.Prelude.{◌≡◌, ◌<◌};
+ghost use Rattle.std.specs.Prelude.{◌≡◌, ◌<◌, MatchResult, IfOk, IfErr};
 ghost use Rattle.thread_table.specs.declared.layout.TheConstants.{RINGS};
 ghost use Rattle.thread_table.specs.Layout.{ready_ring, free_ring, wait_ring};
 ghost use Rattle.thread_table.specs.Handles.{view_of, call_of, IsHandOf, IsSameHand};
-ghost use Rattle.thread_table.specs.Answers.{TakeAnswer};
+ghost use Rattle.thread_table.specs.Keeping.{Keeps};
+ghost use Rattle.thread_table.specs.Client.{Took, TookOldest, WhyNotTaken, MadeNothing};
+ghost use Rattle.thread_table.specs.Evidence.{TakeAnswer};
 
 use crate::hand::{Hand, ThreadTable};
 use crate::layout::{FREE, READY, wait_ring};
@@ -30,6 +32,13 @@ impl ThreadTable {
     /// compare-and-swap. The hand then holds the element.
     pub fn try_next(&self, hand: &mut Hand) -> Result<Element, NextRefusal>
         requires { IsHandOf self.now hand.old }
+        ensures effect { MatchResult result
+            (λ element. Took (call_of hand.old) ready_ring element (view_of hand.old) (view_of hand.new))
+            (λ refusal. MadeNothing (view_of hand.old) (view_of hand.new)) }
+        ensures result { IfOk result (λ element. TookOldest (call_of hand.old) ready_ring element (view_of hand.old)
+            (view_of hand.new)) }
+        ensures frame { Keeps (view_of hand.old) (view_of hand.new) }
+        ensures error { IfErr result (λ refusal. WhyNotTaken ready_ring refusal (view_of hand.old) (view_of hand.new)) }
         ensures trace { TakeAnswer (call_of hand.old) (view_of hand.old) ready_ring result (view_of hand.new) }
         ensures handle { IsSameHand hand.old hand.new }
     {
@@ -39,6 +48,13 @@ impl ThreadTable {
     /// Takes the oldest of the free elements, as `try_next` does from the ready ring.
     pub fn try_free(&self, hand: &mut Hand) -> Result<Element, NextRefusal>
         requires { IsHandOf self.now hand.old }
+        ensures effect { MatchResult result
+            (λ element. Took (call_of hand.old) free_ring element (view_of hand.old) (view_of hand.new))
+            (λ refusal. MadeNothing (view_of hand.old) (view_of hand.new)) }
+        ensures result { IfOk result (λ element. TookOldest (call_of hand.old) free_ring element (view_of hand.old)
+            (view_of hand.new)) }
+        ensures frame { Keeps (view_of hand.old) (view_of hand.new) }
+        ensures error { IfErr result (λ refusal. WhyNotTaken free_ring refusal (view_of hand.old) (view_of hand.new)) }
         ensures trace { TakeAnswer (call_of hand.old) (view_of hand.old) free_ring result (view_of hand.new) }
         ensures handle { IsSameHand hand.old hand.new }
     {
@@ -48,6 +64,14 @@ impl ThreadTable {
     /// Takes the oldest element of a wait queue, as `try_next` does from the ready ring.
     pub fn try_wake(&self, hand: &mut Hand, wait: WaitNumber) -> Result<Element, NextRefusal>
         requires { IsHandOf self.now hand.old }
+        ensures effect { MatchResult result
+            (λ element. Took (call_of hand.old) (wait_ring wait) element (view_of hand.old) (view_of hand.new))
+            (λ refusal. MadeNothing (view_of hand.old) (view_of hand.new)) }
+        ensures result { IfOk result (λ element. TookOldest (call_of hand.old) (wait_ring wait) element
+            (view_of hand.old) (view_of hand.new)) }
+        ensures frame { Keeps (view_of hand.old) (view_of hand.new) }
+        ensures error { IfErr result (λ refusal. WhyNotTaken (wait_ring wait) refusal (view_of hand.old)
+            (view_of hand.new)) }
         ensures trace { TakeAnswer (call_of hand.old) (view_of hand.old) (wait_ring wait) result (view_of hand.new) }
         ensures handle { IsSameHand hand.old hand.new }
     {
@@ -57,6 +81,13 @@ impl ThreadTable {
     // Takes the first element of an element queue.
     pub(crate) fn take_first(&self, hand: &mut Hand, ring: usize) -> Result<Element, NextRefusal>
         requires { IsHandOf self.now hand.old × (ring < RINGS) }
+        ensures effect { MatchResult result
+            (λ element. Took (call_of hand.old) ring element (view_of hand.old) (view_of hand.new))
+            (λ refusal. MadeNothing (view_of hand.old) (view_of hand.new)) }
+        ensures result { IfOk result (λ element. TookOldest (call_of hand.old) ring element (view_of hand.old)
+            (view_of hand.new)) }
+        ensures frame { Keeps (view_of hand.old) (view_of hand.new) }
+        ensures error { IfErr result (λ refusal. WhyNotTaken ring refusal (view_of hand.old) (view_of hand.new)) }
         ensures trace { TakeAnswer (call_of hand.old) (view_of hand.old) ring result (view_of hand.new) }
         ensures handle { IsSameHand hand.old hand.new }
     {

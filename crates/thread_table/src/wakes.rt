@@ -1,8 +1,12 @@
 //! Waking all that wait: in one call that waits, or by a notify and tries, none of which waits.
-ghost use Rattle.std.specs.Prelude.{◌≡◌};
+ghost use Rattle.std.specs.Prelude.{◌≡◌, [], ◌∷◌, MatchResult, IfOk, IfErr};
+ghost use Rattle.event_theory.specs.declared.event.Event.TheVariants as events;
 ghost use Rattle.thread_table.specs.Layout.{wait_ring};
 ghost use Rattle.thread_table.specs.Handles.{view_of, call_of, IsHandOf, IsSameHand};
-ghost use Rattle.thread_table.specs.Wakes.{WokeAll, NotifiedNow, BeforeAnswer};
+ghost use Rattle.thread_table.specs.Keeping.{Keeps};
+ghost use Rattle.thread_table.specs.Client.{MadeNothing, MadeOnly, Woke, WokeAllBefore, NotifyFound, BeforeDid};
+ghost use Rattle.thread_table.specs.Client.{BeforeFound, WhyNotTaken};
+ghost use Rattle.thread_table.specs.Evidence.{WokeAll, NotifiedNow, BeforeAnswer};
 
 use crate::hand::{Hand, ThreadTable};
 use crate::layout::wait_ring;
@@ -22,6 +26,9 @@ impl ThreadTable {
     /// Waits for the hands that claimed a place before the notify and have not raised it.
     pub fn wake_all<R: Wait>(&self, rt: &R, hand: &mut Hand, wait: WaitNumber) -> u64
         requires { IsHandOf self.now hand.old }
+        ensures effect { Woke (call_of hand.old) wait result (view_of hand.old) (view_of hand.new) }
+        ensures result { WokeAllBefore (call_of hand.old) wait (view_of hand.old) (view_of hand.new) }
+        ensures frame { Keeps (view_of hand.old) (view_of hand.new) }
         ensures trace { WokeAll (call_of hand.old) (view_of hand.old) wait result (view_of hand.new) }
         ensures handle { IsSameHand hand.old hand.new }
     {
@@ -53,6 +60,10 @@ impl ThreadTable {
     /// With `try_wake_before` it wakes all and never waits: a notify, and then tries until one returns None.
     pub fn notify(&self, hand: &mut Hand, wait: WaitNumber) -> u32
         requires { IsHandOf self.now hand.old }
+        ensures effect { MadeOnly (view_of hand.old) (events.NotifyWait (call_of hand.old) wait ∷ [])
+            (view_of hand.new) }
+        ensures result { NotifyFound (call_of hand.old) wait result (view_of hand.old) (view_of hand.new) }
+        ensures frame { Keeps (view_of hand.old) (view_of hand.new) }
         ensures trace { NotifiedNow (call_of hand.old) (view_of hand.old) wait result (view_of hand.new) }
         ensures handle { IsSameHand hand.old hand.new }
     {
@@ -73,6 +84,14 @@ impl ThreadTable {
         head: u32,
     ) -> Result<Option<Element>, NextRefusal>
         requires { IsHandOf self.now hand.old }
+        ensures effect { MatchResult result
+            (λ taken. BeforeDid (call_of hand.old) (wait_ring wait) taken (view_of hand.old) (view_of hand.new))
+            (λ refusal. MadeNothing (view_of hand.old) (view_of hand.new)) }
+        ensures result { IfOk result (λ taken. BeforeFound (call_of hand.old) (wait_ring wait) head taken
+            (view_of hand.old) (view_of hand.new)) }
+        ensures frame { Keeps (view_of hand.old) (view_of hand.new) }
+        ensures error { IfErr result (λ refusal. WhyNotTaken (wait_ring wait) refusal (view_of hand.old)
+            (view_of hand.new)) }
         ensures trace { BeforeAnswer (call_of hand.old) (view_of hand.old) (wait_ring wait) head result
             (view_of hand.new) }
         ensures handle { IsSameHand hand.old hand.new }

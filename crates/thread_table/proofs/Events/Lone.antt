@@ -22,7 +22,7 @@ same_head : (first ring a b : ℕ) (m n : Past) → ring < RINGS → m ≡ n →
 same_head first ring a b m n below is r s' = let s : IsValidHandStep first (load (head_word ring) b m) = subst (λ (z : Past). IsValidHandStep first (load (head_word ring) b z)) (sym is) s' in
     r.is ∙ ((r.shows.rings ring below).head ∙ (sym (s.shows.rings ring below).head ∙ sym s.is))
 
-same_state : (thread : Thread) (a b : ℕ) → StateShows thread a → StateShows thread b → a ≡ b
+pub same_state : (thread : Thread) (a b : ℕ) → StateShows thread a → StateShows thread b → a ≡ b
 same_state thread a b p q = let low = p.bounded in let low' = q.bounded in same_from_bits_below 18 a b (omega arith) (omega arith) (λ i below. by i below (cases_lt i 16))
   where
     last : (i : ℕ) → i < 18 → i ≢ 16 → (i < 16 → ⊥) → i ≡ 17

@@ -1,5 +1,8 @@
-use Rattle.thread_table.proofs.Common.{rules, ◌<◌, ◌∙◌, set, false, arith, sym, ap, transport, ELEMENTS, merely, claim_event, HandDid, View, call_of, view_of, head_word, place_word, raise_event, MovedBy}
+use Rattle.thread_table.proofs.Common.{rules, Ok, Err, ◌<◌, ◌∙◌, set, false, arith, sym, ap, transport, ELEMENTS, merely, claim_event, HandDid, View, call_of, view_of, head_word, place_word, raise_event, MovedBy}
 use Rattle.thread_table.proofs.Events.Answering.{was_spent, overtaken, claim_known, claim_moves, moved_to}
+use Rattle.thread_table.specs.declared.moves.MoveRefusal.TheVariants as moves
+use Rattle.thread_table.proofs.Clients.{move_effect, move_error}
+use Rattle.thread_table.proofs.Hands.Unchanged.{move_keeps}
 use Rattle.thread_table.proofs.hand.ThreadTable.move_to.Goals as goal
 
 pub returns-then-head-clause-trace : goal.returns-then-head-clause-trace
@@ -39,3 +42,27 @@ invariant_of-hand-2 c = let a = c.load_head-word.ensures in let x = c.exchange_h
 
 pub returns-clause-trace : goal.returns-clause-trace
 returns-clause-trace c = (c.load_head-word.result, moved c.before)
+
+pub returns-then-head-clause-effect : goal.returns-then-head-clause-effect
+returns-then-head-clause-effect c = move_effect _ _ c.load_head-word.ensures.found.valid c.args.hand.now.seat.id c.args.ring c.args.element (Err moves.Spent) c.requires.table.1 (returns-then-head-clause-trace c)
+
+pub returns-then-head-clause-frame : goal.returns-then-head-clause-frame
+returns-then-head-clause-frame c = move_keeps c.args.hand.now.seat.id c.args.ring c.args.element _ _ (Err moves.Spent) (returns-then-head-clause-trace c)
+
+pub returns-then-head-clause-error : goal.returns-then-head-clause-error
+returns-then-head-clause-error c = move_error _ _ c.load_head-word.ensures.found.valid c.args.hand.now.seat.id c.args.ring c.args.element (Err moves.Spent) c.requires.table.1 (returns-then-head-clause-trace c)
+
+pub returns-then-found-word-clause-effect : goal.returns-then-found-word-clause-effect
+returns-then-found-word-clause-effect c = let x = c.exchange_head-found.ensures.miss c.if-found-word.true in move_effect _ _ x.0.valid c.args.hand.now.seat.id c.args.ring c.args.element (Err (moves.Lost c.exchange_head-found.result)) c.requires.table.1 (returns-then-found-word-clause-trace c)
+
+pub returns-then-found-word-clause-frame : goal.returns-then-found-word-clause-frame
+returns-then-found-word-clause-frame c = move_keeps c.args.hand.now.seat.id c.args.ring c.args.element _ _ (Err (moves.Lost c.exchange_head-found.result)) (returns-then-found-word-clause-trace c)
+
+pub returns-then-found-word-clause-error : goal.returns-then-found-word-clause-error
+returns-then-found-word-clause-error c = let x = c.exchange_head-found.ensures.miss c.if-found-word.true in move_error _ _ x.0.valid c.args.hand.now.seat.id c.args.ring c.args.element (Err (moves.Lost c.exchange_head-found.result)) c.requires.table.1 (returns-then-found-word-clause-trace c)
+
+pub returns-clause-effect : goal.returns-clause-effect
+returns-clause-effect c = let s = c.raise.ensures in move_effect _ _ s.effect.1.step.valid c.args.hand.now.seat.id c.args.ring c.args.element (Ok tt) c.requires.table.1 (returns-clause-trace c)
+
+pub returns-clause-frame : goal.returns-clause-frame
+returns-clause-frame c = move_keeps c.args.hand.now.seat.id c.args.ring c.args.element _ _ (Ok tt) (returns-clause-trace c)

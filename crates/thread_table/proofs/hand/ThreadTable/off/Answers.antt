@@ -1,6 +1,7 @@
 use Rattle.thread_table.proofs.Common.{◌≡◌, ◌<◌, ◌∙◌, rules, length, arith, ℕ, List, Option, Some, None, get_or, set, true, sym, ap, ap₂, merely, View, transport, get_or_default, call_of, view_of, processor_word, running, TakesOff, HandDid, ELEMENTS, PROCESSORS}
 use Rattle.event_theory.specs.declared.event.Event.TheVariants as events
 use Rattle.thread_table.proofs.Events.StatesSeen.{takes_off}
+use Rattle.thread_table.proofs.Clients.{off_effect, off_frame}
 use Rattle.thread_table.proofs.hand.ThreadTable.off.Goals as goal
 
 -- what the step says
@@ -27,3 +28,9 @@ invariant_of-hand c = let h = c.args.hand.now in let s = c.swap_off.ensures in l
   valid = merely s.effect.1.step.valid;
   stands = s.stands;
 }
+
+pub returns-clause-effect : goal.returns-clause-effect
+returns-clause-effect c = off_effect c.args.hand.now.seat.id c.args.processor c.in-Some.element _ _ (returns-clause-trace c)
+
+pub returns-clause-frame : goal.returns-clause-frame
+returns-clause-frame c = off_frame c.args.hand.now.seat.id c.args.processor c.in-Some.element _ _ (returns-clause-trace c).1

@@ -1,6 +1,7 @@
 use Rattle.thread_table.proofs.Common.{◌≡◌, ◌<◌, ◌∙◌, Some, None, false, rules, set, sym, ap, transport, merely, View, call_of, view_of, processor_word, running, HandDid, ELEMENTS, PROCESSORS}
 use Rattle.event_theory.specs.declared.event.Event.TheVariants as events
 use Rattle.thread_table.proofs.Events.StatesSeen.{puts_on}
+use Rattle.thread_table.proofs.Clients.{on_effect, on_frame}
 use Rattle.thread_table.proofs.hand.ThreadTable.on.Goals as goal
 
 pub invariant_of-hand : goal.invariant_of-hand
@@ -22,3 +23,9 @@ returns-clause-trace c = let h = c.args.hand.now in let n = c.number-number.ensu
       empty,
       puts_on (call_of h) c.args.processor c.args.element d.0 (view_of h) _ known few c.requires.mine.1 empty (transport (λ i. HandDid (call_of h) (view_of h) (processor_word (p i)) d.0 (events.On (call_of h) (p i) (n i)) c.swap_on.new.seat.me.0) d.1),
     )
+
+pub returns-clause-effect : goal.returns-clause-effect
+returns-clause-effect c = on_effect c.args.hand.now.seat.id c.args.processor c.args.element _ _ (returns-clause-trace c)
+
+pub returns-clause-frame : goal.returns-clause-frame
+returns-clause-frame c = on_frame c.args.hand.now.seat.id c.args.processor c.args.element _ _ (returns-clause-trace c).1

@@ -1,7 +1,18 @@
-use Rattle.thread_table.proofs.Common.{rules, transport, view_of}
+use Rattle.thread_table.proofs.Common.{ELEMENTS, ◌<◌, rules, transport, view_of}
 use Rattle.thread_table.specs.Steps.{ReadPc}
 use Rattle.thread_table.proofs.Events.StatesSeen.{read_pc}
+use Rattle.thread_table.proofs.Clients.{pc_effect, pc_result}
+use Rattle.thread_table.proofs.Hands.Unchanged.{counts_stay}
 use Rattle.thread_table.proofs.hand.ThreadTable.pc.Goals as goal
 
 pub returns-clause-trace : goal.returns-clause-trace
 returns-clause-trace c = let n = c.number.ensures in read_pc _ _ _ _ (search rules) (transport (λ i. ReadPc (n.value i) (view_of c.args.hand.now) c.load_done.result c.load_done.new.seat.me.0) c.load_done.ensures.counted)
+
+pub returns-clause-effect : goal.returns-clause-effect
+returns-clause-effect c = pc_effect c.args.element _ _ _ (returns-clause-trace c)
+
+pub returns-clause-result : goal.returns-clause-result
+returns-clause-result c = let known : c.args.element < ELEMENTS = search rules in pc_result c.args.element known _ _ c.load_done.ensures.counted.valid _ (returns-clause-trace c)
+
+pub returns-clause-frame : goal.returns-clause-frame
+returns-clause-frame c = (counts_stay c.args.element _ _ _ (returns-clause-trace c)).keeps

@@ -1,6 +1,9 @@
-use Rattle.thread_table.proofs.Common.{◌∙◌, sym, ap, transport, is_in, call_of, view_of, state_word, HandDid}
+use Rattle.thread_table.proofs.Common.{ELEMENTS, ◌<◌, rules, ◌∙◌, sym, ap, transport, is_in, call_of, view_of, state_word, HandDid}
 use Rattle.event_theory.specs.declared.event.Event.TheVariants as events
 use Rattle.thread_table.proofs.Events.StatesSeen.{bit_up, bit_down}
+use Rattle.thread_table.specs.declared.states.Signalled.TheVariants as signalled
+use Rattle.thread_table.proofs.Clients.{signal_effect, signal_result}
+use Rattle.thread_table.proofs.Hands.Unchanged.{signal_keeps}
 use Rattle.thread_table.proofs.hand.ThreadTable.signal.Goals as goal
 
 pub returns-then-is_pending-clause-trace : goal.returns-then-is_pending-clause-trace
@@ -12,3 +15,21 @@ pub returns-clause-trace : goal.returns-clause-trace
 returns-clause-trace c = let n = c.number-number.ensures.value in let s = c.number-bit.ensures.value in let o = c.or_signal-word in let h = c.args.hand.now in
     let d = transport (λ i. HandDid (call_of h) (view_of h) (state_word (n i)) o.result (events.Signal (call_of h) (n i) (s i)) o.new.seat.me.0) o.ensures.effect in
     (o.result, d.before, ap (is_in o.result) (sym s) ∙ bit_down _ _ c.if-is_pending.ensures, d.step.acts)
+
+pub returns-then-is_pending-clause-effect : goal.returns-then-is_pending-clause-effect
+returns-then-is_pending-clause-effect c = signal_effect c.args.hand.now.seat.id c.args.element c.args.signal signalled.Merged _ _ (returns-then-is_pending-clause-trace c)
+
+pub returns-then-is_pending-clause-result : goal.returns-then-is_pending-clause-result
+returns-then-is_pending-clause-result c = let known : c.args.element < ELEMENTS = search rules in let low : c.args.signal < 16 = search rules in signal_result c.args.element known _ _ c.or_signal-word.ensures.effect.step.valid c.args.hand.now.seat.id c.args.signal signalled.Merged low (returns-then-is_pending-clause-trace c)
+
+pub returns-then-is_pending-clause-frame : goal.returns-then-is_pending-clause-frame
+returns-then-is_pending-clause-frame c = signal_keeps c.args.hand.now.seat.id c.args.element c.args.signal _ _ signalled.Merged (returns-then-is_pending-clause-trace c)
+
+pub returns-clause-effect : goal.returns-clause-effect
+returns-clause-effect c = signal_effect c.args.hand.now.seat.id c.args.element c.args.signal signalled.Raised _ _ (returns-clause-trace c)
+
+pub returns-clause-result : goal.returns-clause-result
+returns-clause-result c = let known : c.args.element < ELEMENTS = search rules in let low : c.args.signal < 16 = search rules in signal_result c.args.element known _ _ c.or_signal-word.ensures.effect.step.valid c.args.hand.now.seat.id c.args.signal signalled.Raised low (returns-clause-trace c)
+
+pub returns-clause-frame : goal.returns-clause-frame
+returns-clause-frame c = signal_keeps c.args.hand.now.seat.id c.args.element c.args.signal _ _ signalled.Raised (returns-clause-trace c)

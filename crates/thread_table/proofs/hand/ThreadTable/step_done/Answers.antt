@@ -1,7 +1,9 @@
-use Rattle.thread_table.proofs.Common.{rules, ℕ, ◌<◌, subst, transport, ReadPc, view_of, call_of, done_word, HandDid, ELEMENTS}
+use Rattle.thread_table.proofs.Common.{Err, Ok, rules, ℕ, ◌<◌, subst, transport, ReadPc, view_of, call_of, done_word, HandDid, ELEMENTS}
 use Rattle.event_theory.specs.declared.event.Event.TheVariants as events
 use Rattle.thread_table.specs.Steps as valid
 use Rattle.thread_table.proofs.Events.StatesSeen.{read_pc, counted_step}
+use Rattle.thread_table.proofs.Clients.{step_effect, step_result, step_error}
+use Rattle.thread_table.proofs.Hands.Unchanged.{done_keeps}
 use Rattle.thread_table.proofs.hand.ThreadTable.step_done.Goals as goal
 
 pub returns-then-done-clause-trace : goal.returns-then-done-clause-trace
@@ -13,3 +15,21 @@ returns-clause-trace c = let h = c.args.hand.now in let l = c.load_done-done in 
     let known : c.args.element < ELEMENTS = search rules in
     counted_step (call_of h) c.args.element (view_of h) u _ _ d.0 known (transport (λ i. valid.ReadPc (n i) (view_of h) l.result u) l.ensures.counted)
     (transport (λ i. HandDid (id i) u (done_word (n i)) d.0 (events.Done (id i) (n i)) c.store_done.new.seat.me.0) d.1)
+
+pub returns-then-done-clause-effect : goal.returns-then-done-clause-effect
+returns-then-done-clause-effect c = step_effect c.args.hand.now.seat.id c.args.element _ _ (Err _) (returns-then-done-clause-trace c)
+
+pub returns-then-done-clause-error : goal.returns-then-done-clause-error
+returns-then-done-clause-error c = let known : c.args.element < ELEMENTS = search rules in step_error c.args.element known _ _ c.load_done-done.ensures.counted.valid c.args.hand.now.seat.id (Err _) (returns-then-done-clause-trace c)
+
+pub returns-then-done-clause-frame : goal.returns-then-done-clause-frame
+returns-then-done-clause-frame c = done_keeps c.args.hand.now.seat.id c.args.element _ _ (Err _) (returns-then-done-clause-trace c)
+
+pub returns-clause-effect : goal.returns-clause-effect
+returns-clause-effect c = step_effect c.args.hand.now.seat.id c.args.element _ _ (Ok _) (returns-clause-trace c)
+
+pub returns-clause-result : goal.returns-clause-result
+returns-clause-result c = let known : c.args.element < ELEMENTS = search rules in step_result c.args.element known _ _ c.store_done.ensures.effect.1.step.valid c.args.hand.now.seat.id (Ok _) (returns-clause-trace c)
+
+pub returns-clause-frame : goal.returns-clause-frame
+returns-clause-frame c = done_keeps c.args.hand.now.seat.id c.args.element _ _ (Ok _) (returns-clause-trace c)

@@ -1,5 +1,8 @@
-use Rattle.thread_table.proofs.Common.{Ok, rules, ◌≡◌, ◌<◌, ◌∙◌, ℕ, set, true, subst, sym, ap, transport, View, call_of, view_of, take_event, tail_word, HandDid, merely, ELEMENTS, TakeAnswer}
+use Rattle.thread_table.proofs.Common.{Ok, Err, rules, [], ◌≡◌, ◌<◌, ◌∙◌, ℕ, set, true, subst, sym, ap, transport, View, call_of, view_of, take_event, tail_word, HandDid, merely, ELEMENTS, TakeAnswer}
 use Rattle.thread_table.proofs.Events.Answering.{not_raised, passed_by, taken_first}
+use Rattle.thread_table.specs.declared.takings.NextRefusal.TheVariants as nexts
+use Rattle.thread_table.proofs.Clients.{take_effect, take_result, take_error}
+use Rattle.thread_table.proofs.Hands.Unchanged.{take_keeps}
 use Rattle.thread_table.proofs.hand.ThreadTable.take_first.Goals as goal
 
 pub returns-then-now-tail-clause-trace : goal.returns-then-now-tail-clause-trace
@@ -42,3 +45,39 @@ unreachable-requires c = let known : c.of-place.result.element < ELEMENTS = (tak
 pub returns-clause-trace : goal.returns-clause-trace
 returns-clause-trace c = let is : c.in-Some.element ≡ c.of-place.result.element = search rules in let h = c.args.hand.now in
     subst (λ (n : ℕ). TakeAnswer (call_of h) (view_of h) c.args.ring (Ok n) c.exchange_tail-found.new.seat.me.0) (sym is) (taken c.before.before.before).1
+
+pub returns-then-now-tail-clause-effect : goal.returns-then-now-tail-clause-effect
+returns-then-now-tail-clause-effect c = take_effect [] c.args.hand.now.seat.id c.args.ring _ _ (Err nexts.NoneReady) tt (returns-then-now-tail-clause-trace c)
+
+pub returns-then-now-tail-clause-frame : goal.returns-then-now-tail-clause-frame
+returns-then-now-tail-clause-frame c = take_keeps c.args.hand.now.seat.id c.args.ring _ _ (Err nexts.NoneReady) (returns-then-now-tail-clause-trace c)
+
+pub returns-then-now-tail-clause-error : goal.returns-then-now-tail-clause-error
+returns-then-now-tail-clause-error c = take_error [] c.args.hand.now.seat.id c.args.ring _ _ c.requires.1 c.load_tail-now.ensures.found.valid (Err nexts.NoneReady) (returns-then-now-tail-clause-trace c)
+
+pub returns-then-place-tail-clause-effect : goal.returns-then-place-tail-clause-effect
+returns-then-place-tail-clause-effect c = take_effect [] c.args.hand.now.seat.id c.args.ring _ _ (Err (nexts.Lost c.load_tail-now.result)) tt (returns-then-place-tail-clause-trace c)
+
+pub returns-then-place-tail-clause-frame : goal.returns-then-place-tail-clause-frame
+returns-then-place-tail-clause-frame c = take_keeps c.args.hand.now.seat.id c.args.ring _ _ (Err (nexts.Lost c.load_tail-now.result)) (returns-then-place-tail-clause-trace c)
+
+pub returns-then-place-tail-clause-error : goal.returns-then-place-tail-clause-error
+returns-then-place-tail-clause-error c = take_error [] c.args.hand.now.seat.id c.args.ring _ _ c.requires.1 c.load_tail-now.ensures.found.valid (Err (nexts.Lost c.load_tail-now.result)) (returns-then-place-tail-clause-trace c)
+
+pub returns-then-found-tail-clause-effect : goal.returns-then-found-tail-clause-effect
+returns-then-found-tail-clause-effect c = take_effect [] c.args.hand.now.seat.id c.args.ring _ _ (Err (nexts.Lost c.exchange_tail-found.result)) tt (returns-then-found-tail-clause-trace c)
+
+pub returns-then-found-tail-clause-frame : goal.returns-then-found-tail-clause-frame
+returns-then-found-tail-clause-frame c = take_keeps c.args.hand.now.seat.id c.args.ring _ _ (Err (nexts.Lost c.exchange_tail-found.result)) (returns-then-found-tail-clause-trace c)
+
+pub returns-then-found-tail-clause-error : goal.returns-then-found-tail-clause-error
+returns-then-found-tail-clause-error c = let e = c.exchange_tail-found.ensures.miss c.if-found-tail.true in take_error [] c.args.hand.now.seat.id c.args.ring _ _ c.requires.1 e.0.valid (Err (nexts.Lost c.exchange_tail-found.result)) (returns-then-found-tail-clause-trace c)
+
+pub returns-clause-effect : goal.returns-clause-effect
+returns-clause-effect c = take_effect [] c.args.hand.now.seat.id c.args.ring _ _ (Ok c.in-Some.element) tt (returns-clause-trace c)
+
+pub returns-clause-frame : goal.returns-clause-frame
+returns-clause-frame c = take_keeps c.args.hand.now.seat.id c.args.ring _ _ (Ok c.in-Some.element) (returns-clause-trace c)
+
+pub returns-clause-result : goal.returns-clause-result
+returns-clause-result c = let e = c.exchange_tail-found.ensures.hit c.if-found-tail.false in take_result [] c.args.hand.now.seat.id c.args.ring _ _ c.requires.1 e.step.valid (Ok c.in-Some.element) (returns-clause-trace c)

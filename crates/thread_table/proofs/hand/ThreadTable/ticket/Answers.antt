@@ -1,7 +1,18 @@
-use Rattle.thread_table.proofs.Common.{rules, ◌<◌, ◌+◌, ◌≡◌, ◌∙◌, ap, ℕ, WAITS, wait_ring}
+use Rattle.thread_table.proofs.Common.{rules, refl, ◌<◌, ◌+◌, ◌≡◌, ◌∙◌, ap, ℕ, WAITS, wait_ring}
 use Rattle.thread_table.proofs.Events.Answering.{found_in, is_ticket}
+use Rattle.thread_table.proofs.Clients.{look_effect, ticket_says}
+use Rattle.thread_table.proofs.Hands.Unchanged.{ticket_stays}
 use Rattle.thread_table.proofs.hand.ThreadTable.ticket.Goals as goal
 
 pub returns-clause-trace : goal.returns-clause-trace
 returns-clause-trace c = let q = c.number.ensures in let known : c.args.wait < WAITS = search rules in let ring : c.wait_ring.result ≡ wait_ring c.args.wait = c.wait_ring.ensures.0 ∙ ap (λ (n : ℕ). n + 2) q.value in
     is_ticket _ _ c.args.wait _ c.of.result.head c.of.result.mark (found_in ring c.load_head.ensures.found) c.of.ensures.0 c.of.ensures.1
+
+pub returns-clause-effect : goal.returns-clause-effect
+returns-clause-effect c = let t = returns-clause-trace c in look_effect _ _ _ t.3 (refl, tt)
+
+pub returns-clause-result : goal.returns-clause-result
+returns-clause-result c = let known : c.args.wait < WAITS = search rules in ticket_says _ _ c.load_head.ensures.found.valid c.args.wait _ known (returns-clause-trace c)
+
+pub returns-clause-frame : goal.returns-clause-frame
+returns-clause-frame c = (ticket_stays c.args.wait _ _ _ (returns-clause-trace c)).keeps

@@ -1,8 +1,10 @@
-use Rattle.thread_table.proofs.Common.{◌<◌, ◌∙◌, rules, sym, ap, transport, state_word, HandDid, ELEMENTS}
+use Rattle.thread_table.proofs.Common.{Err, Ok, ◌<◌, ◌∙◌, rules, sym, ap, transport, state_word, HandDid, ELEMENTS}
 use Rattle.event_theory.specs.declared.event.Event.TheVariants as events
 use Rattle.thread_table.proofs.Schedule.Acting.{acts_two}
 use Rattle.thread_table.proofs.Events.StatesSeen.{has_signals, delivered}
 use Rattle.thread_table.proofs.Events.Tells.{found_at}
+use Rattle.thread_table.proofs.Clients.{deliver_effect, deliver_result, deliver_error}
+use Rattle.thread_table.proofs.Hands.Unchanged.{deliver_keeps}
 use Rattle.thread_table.proofs.hand.ThreadTable.try_deliver.Goals as goal
 
 pub returns-then-pending-eq0-clause-trace : goal.returns-then-pending-eq0-clause-trace
@@ -16,3 +18,30 @@ pub returns-clause-trace : goal.returns-clause-trace
 returns-clause-trace c = let h = c.args.hand.now in let n = c.number-number.ensures.value in let l = c.load_state-word in let id = l.ensures.queue.0.1 in let u = l.new.seat.me.0 in let known : c.args.element < ELEMENTS = search rules in
     let d = transport (λ i. HandDid (id i) u (state_word (n i)) l.result (events.Deliver (id i) (n i)) c.exchange_state-seen.new.seat.me.0) (c.exchange_state-seen.ensures.hit c.if-seen-word.false) in let found = found_at (ap state_word n) l.ensures.found in
     delivered _ _ _ _ _ _ _ known found d c.pending-pending.ensures c.if-pending-eq0.false
+
+pub returns-then-pending-eq0-clause-effect : goal.returns-then-pending-eq0-clause-effect
+returns-then-pending-eq0-clause-effect c = deliver_effect c.args.hand.now.seat.id c.args.element _ _ (Ok 0) (returns-then-pending-eq0-clause-trace c)
+
+pub returns-then-pending-eq0-clause-result : goal.returns-then-pending-eq0-clause-result
+returns-then-pending-eq0-clause-result c = let known : c.args.element < ELEMENTS = search rules in deliver_result c.args.element known _ _ c.load_state-word.ensures.found.valid c.args.hand.now.seat.id (Ok 0) (returns-then-pending-eq0-clause-trace c)
+
+pub returns-then-pending-eq0-clause-frame : goal.returns-then-pending-eq0-clause-frame
+returns-then-pending-eq0-clause-frame c = deliver_keeps c.args.hand.now.seat.id c.args.element _ _ (Ok 0) (returns-then-pending-eq0-clause-trace c)
+
+pub returns-then-seen-word-clause-effect : goal.returns-then-seen-word-clause-effect
+returns-then-seen-word-clause-effect c = deliver_effect c.args.hand.now.seat.id c.args.element _ _ (Err (record { seen = c.exchange_state-seen.result })) (returns-then-seen-word-clause-trace c)
+
+pub returns-then-seen-word-clause-error : goal.returns-then-seen-word-clause-error
+returns-then-seen-word-clause-error c = let known : c.args.element < ELEMENTS = search rules in let e = c.exchange_state-seen.ensures.miss c.if-seen-word.true in deliver_error c.args.element known _ _ e.0.valid c.args.hand.now.seat.id (Err (record { seen = c.exchange_state-seen.result })) (returns-then-seen-word-clause-trace c)
+
+pub returns-then-seen-word-clause-frame : goal.returns-then-seen-word-clause-frame
+returns-then-seen-word-clause-frame c = deliver_keeps c.args.hand.now.seat.id c.args.element _ _ (Err (record { seen = c.exchange_state-seen.result })) (returns-then-seen-word-clause-trace c)
+
+pub returns-clause-effect : goal.returns-clause-effect
+returns-clause-effect c = deliver_effect c.args.hand.now.seat.id c.args.element _ _ (Ok c.pending-pending.result) (returns-clause-trace c)
+
+pub returns-clause-result : goal.returns-clause-result
+returns-clause-result c = let known : c.args.element < ELEMENTS = search rules in let e = c.exchange_state-seen.ensures.hit c.if-seen-word.false in deliver_result c.args.element known _ _ e.step.valid c.args.hand.now.seat.id (Ok c.pending-pending.result) (returns-clause-trace c)
+
+pub returns-clause-frame : goal.returns-clause-frame
+returns-clause-frame c = deliver_keeps c.args.hand.now.seat.id c.args.element _ _ (Ok c.pending-pending.result) (returns-clause-trace c)

@@ -1,8 +1,10 @@
-use Rattle.thread_table.proofs.Common.{◌<◌, rules, ap, transport, state_word, HandDid, ELEMENTS}
+use Rattle.thread_table.proofs.Common.{false, true, Err, Ok, ◌<◌, rules, ap, transport, state_word, HandDid, ELEMENTS}
 use Rattle.event_theory.specs.declared.event.Event.TheVariants as events
 use Rattle.thread_table.proofs.Schedule.Acting.{acts_two}
 use Rattle.thread_table.proofs.Events.StatesSeen.{bit_up, bit_down, parked}
 use Rattle.thread_table.proofs.Events.Tells.{found_at}
+use Rattle.thread_table.proofs.Clients.{park_effect, park_result, park_error}
+use Rattle.thread_table.proofs.Hands.Unchanged.{park_keeps}
 use Rattle.thread_table.proofs.hand.ThreadTable.try_park.Goals as goal
 
 pub returns-then-not-is_stopping-clause-trace : goal.returns-then-not-is_stopping-clause-trace
@@ -16,3 +18,30 @@ pub returns-clause-trace : goal.returns-clause-trace
 returns-clause-trace c = let h = c.args.hand.now in let n = c.number-number.ensures.value in let l = c.load_state-word in let id = l.ensures.queue.0.1 in let u = l.new.seat.me.0 in let known : c.args.element < ELEMENTS = search rules in
     let d = transport (λ i. HandDid (id i) u (state_word (n i)) l.result (events.Park (id i) (n i)) c.exchange_state-seen.new.seat.me.0) (c.exchange_state-seen.ensures.hit c.if-seen-word.false) in let found = found_at (ap state_word n) l.ensures.found in
     parked _ _ _ _ _ _ h.fresh c.requires.holds known found c.if-not-is_stopping.ensures d
+
+pub returns-then-not-is_stopping-clause-effect : goal.returns-then-not-is_stopping-clause-effect
+returns-then-not-is_stopping-clause-effect c = park_effect c.args.hand.now.seat.id c.args.element _ _ (Ok false) (returns-then-not-is_stopping-clause-trace c)
+
+pub returns-then-not-is_stopping-clause-result : goal.returns-then-not-is_stopping-clause-result
+returns-then-not-is_stopping-clause-result c = let known : c.args.element < ELEMENTS = search rules in park_result c.args.element known _ _ c.load_state-word.ensures.found.valid c.args.hand.now.seat.id (Ok false) (returns-then-not-is_stopping-clause-trace c)
+
+pub returns-then-not-is_stopping-clause-frame : goal.returns-then-not-is_stopping-clause-frame
+returns-then-not-is_stopping-clause-frame c = park_keeps c.args.hand.now.seat.id c.args.element _ _ (Ok false) (returns-then-not-is_stopping-clause-trace c)
+
+pub returns-then-seen-word-clause-effect : goal.returns-then-seen-word-clause-effect
+returns-then-seen-word-clause-effect c = park_effect c.args.hand.now.seat.id c.args.element _ _ (Err (record { seen = c.exchange_state-seen.result })) (returns-then-seen-word-clause-trace c)
+
+pub returns-then-seen-word-clause-error : goal.returns-then-seen-word-clause-error
+returns-then-seen-word-clause-error c = let known : c.args.element < ELEMENTS = search rules in let e = c.exchange_state-seen.ensures.miss c.if-seen-word.true in park_error c.args.element known _ _ e.0.valid c.args.hand.now.seat.id (Err (record { seen = c.exchange_state-seen.result })) (returns-then-seen-word-clause-trace c)
+
+pub returns-then-seen-word-clause-frame : goal.returns-then-seen-word-clause-frame
+returns-then-seen-word-clause-frame c = park_keeps c.args.hand.now.seat.id c.args.element _ _ (Err (record { seen = c.exchange_state-seen.result })) (returns-then-seen-word-clause-trace c)
+
+pub returns-clause-effect : goal.returns-clause-effect
+returns-clause-effect c = park_effect c.args.hand.now.seat.id c.args.element _ _ (Ok true) (returns-clause-trace c)
+
+pub returns-clause-result : goal.returns-clause-result
+returns-clause-result c = let known : c.args.element < ELEMENTS = search rules in let e = c.exchange_state-seen.ensures.hit c.if-seen-word.false in park_result c.args.element known _ _ e.step.valid c.args.hand.now.seat.id (Ok true) (returns-clause-trace c)
+
+pub returns-clause-frame : goal.returns-clause-frame
+returns-clause-frame c = park_keeps c.args.hand.now.seat.id c.args.element _ _ (Ok true) (returns-clause-trace c)

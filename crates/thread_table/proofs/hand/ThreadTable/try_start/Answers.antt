@@ -1,9 +1,11 @@
-use Rattle.thread_table.proofs.Common.{Ok, ◌<◌, ◌∙◌, rules, true, set, sym, ap, transport, merely, View, call_of, view_of, StartAnswer, state_word, HandDid, ELEMENTS}
+use Rattle.thread_table.proofs.Common.{Err, Ok, ◌<◌, ◌∙◌, rules, true, set, sym, ap, transport, merely, View, call_of, view_of, StartAnswer, state_word, HandDid, ELEMENTS}
 use Rattle.thread_table.specs.declared.states.Started.TheVariants as started
 use Rattle.event_theory.specs.declared.event.Event.TheVariants as events
 use Rattle.thread_table.proofs.Schedule.Acting.{acts_two}
 use Rattle.thread_table.proofs.Events.StatesSeen.{bit_up, bit_down, cleared, held_again}
 use Rattle.thread_table.proofs.Events.Tells.{found_at}
+use Rattle.thread_table.proofs.Clients.{start_effect, start_result, start_error}
+use Rattle.thread_table.proofs.Hands.Unchanged.{start_keeps}
 use Rattle.thread_table.proofs.hand.ThreadTable.try_start.Goals as goal
 
 pub returns-then-not-is_stopping-clause-trace : goal.returns-then-not-is_stopping-clause-trace
@@ -56,3 +58,39 @@ returns-then-not-is_parked-clause-trace c = starts_clear c.before
 
 pub returns-clause-trace : goal.returns-clause-trace
 returns-clause-trace c = starts_held c.before
+
+pub returns-then-not-is_stopping-clause-effect : goal.returns-then-not-is_stopping-clause-effect
+returns-then-not-is_stopping-clause-effect c = start_effect c.args.hand.now.seat.id c.args.element _ _ (Ok started.NotStopped) (returns-then-not-is_stopping-clause-trace c)
+
+pub returns-then-not-is_stopping-clause-result : goal.returns-then-not-is_stopping-clause-result
+returns-then-not-is_stopping-clause-result c = let known : c.args.element < ELEMENTS = search rules in start_result c.args.element known _ _ c.load_state-word.ensures.found.valid c.args.hand.now.seat.id (Ok started.NotStopped) (returns-then-not-is_stopping-clause-trace c)
+
+pub returns-then-not-is_stopping-clause-frame : goal.returns-then-not-is_stopping-clause-frame
+returns-then-not-is_stopping-clause-frame c = start_keeps c.args.hand.now.seat.id c.args.element _ _ (Ok started.NotStopped) (returns-then-not-is_stopping-clause-trace c)
+
+pub returns-then-seen-word-clause-effect : goal.returns-then-seen-word-clause-effect
+returns-then-seen-word-clause-effect c = start_effect c.args.hand.now.seat.id c.args.element _ _ (Err (record { seen = c.exchange_state-seen.result })) (returns-then-seen-word-clause-trace c)
+
+pub returns-then-seen-word-clause-error : goal.returns-then-seen-word-clause-error
+returns-then-seen-word-clause-error c = let known : c.args.element < ELEMENTS = search rules in let e = c.exchange_state-seen.ensures.miss c.if-seen-word.true in start_error c.args.element known _ _ e.0.valid c.args.hand.now.seat.id (Err (record { seen = c.exchange_state-seen.result })) (returns-then-seen-word-clause-trace c)
+
+pub returns-then-seen-word-clause-frame : goal.returns-then-seen-word-clause-frame
+returns-then-seen-word-clause-frame c = start_keeps c.args.hand.now.seat.id c.args.element _ _ (Err (record { seen = c.exchange_state-seen.result })) (returns-then-seen-word-clause-trace c)
+
+pub returns-then-not-is_parked-clause-effect : goal.returns-then-not-is_parked-clause-effect
+returns-then-not-is_parked-clause-effect c = start_effect c.args.hand.now.seat.id c.args.element _ _ (Ok started.Cleared) (returns-then-not-is_parked-clause-trace c)
+
+pub returns-then-not-is_parked-clause-result : goal.returns-then-not-is_parked-clause-result
+returns-then-not-is_parked-clause-result c = let known : c.args.element < ELEMENTS = search rules in let e = c.exchange_state-seen.ensures.hit c.if-seen-word.false in start_result c.args.element known _ _ e.step.valid c.args.hand.now.seat.id (Ok started.Cleared) (returns-then-not-is_parked-clause-trace c)
+
+pub returns-then-not-is_parked-clause-frame : goal.returns-then-not-is_parked-clause-frame
+returns-then-not-is_parked-clause-frame c = start_keeps c.args.hand.now.seat.id c.args.element _ _ (Ok started.Cleared) (returns-then-not-is_parked-clause-trace c)
+
+pub returns-clause-effect : goal.returns-clause-effect
+returns-clause-effect c = start_effect c.args.hand.now.seat.id c.args.element _ _ (Ok started.Held) (returns-clause-trace c)
+
+pub returns-clause-result : goal.returns-clause-result
+returns-clause-result c = let known : c.args.element < ELEMENTS = search rules in let e = c.exchange_state-seen.ensures.hit c.if-seen-word.false in start_result c.args.element known _ _ e.step.valid c.args.hand.now.seat.id (Ok started.Held) (returns-clause-trace c)
+
+pub returns-clause-frame : goal.returns-clause-frame
+returns-clause-frame c = start_keeps c.args.hand.now.seat.id c.args.element _ _ (Ok started.Held) (returns-clause-trace c)

@@ -1,6 +1,9 @@
-use Rattle.thread_table.proofs.Common.{rules, ◌≡◌, ◌<◌, ◌∙◌, ◌+◌, ℕ, set, false, sym, ap, refl, subst, arith, transport, merely, ELEMENTS, WAITS, wait_ring, HasClaimed, HandDid, View, call_of, view_of, head_word, place_word, raise_event, MovedBy}
+use Rattle.thread_table.proofs.Common.{rules, Ok, Err, ◌≡◌, ◌<◌, ◌∙◌, ◌+◌, ℕ, set, false, sym, ap, refl, subst, arith, transport, merely, ELEMENTS, WAITS, wait_ring, HasClaimed, HandDid, View, call_of, view_of, head_word, place_word, raise_event, MovedBy}
 use Rattle.event_theory.specs.declared.event.Event.TheVariants as events
 use Rattle.thread_table.proofs.Events.Answering.{found_in, was_spent, moved_before, moved_meanwhile, overtaken_at, claim_known, moved_to, word_parts}
+use Rattle.thread_table.specs.declared.moves.MoveRefusal.TheVariants as moves
+use Rattle.thread_table.proofs.Clients.{wait_effect, wait_result, wait_error}
+use Rattle.thread_table.proofs.Hands.Unchanged.{wait_keeps}
 use Rattle.thread_table.proofs.hand.ThreadTable.try_wait_at.Goals as goal
 
 pub returns-then-head-clause-trace : goal.returns-then-head-clause-trace
@@ -56,3 +59,48 @@ returns-clause-trace c = (c.load_head-word.result, (word_parts _ c.of-head.resul
 
 pub invariant_of-hand-then-found-word-clause-stands : goal.invariant_of-hand-then-found-word-clause-stands
 invariant_of-hand-then-found-word-clause-stands c = c.exchange_head_at-found.ensures.stands
+
+pub returns-then-head-clause-effect : goal.returns-then-head-clause-effect
+returns-then-head-clause-effect c = let known : c.args.wait < WAITS = search rules in wait_effect _ _ c.load_head-word.ensures.found.valid c.args.hand.now.seat.id c.args.wait c.args.element c.args.ticket (Err moves.Spent) known (returns-then-head-clause-trace c)
+
+pub returns-then-head-clause-error : goal.returns-then-head-clause-error
+returns-then-head-clause-error c = let known : c.args.wait < WAITS = search rules in wait_error _ _ c.load_head-word.ensures.found.valid c.args.hand.now.seat.id c.args.wait c.args.element c.args.ticket (Err moves.Spent) known (returns-then-head-clause-trace c)
+
+pub returns-then-head-clause-frame : goal.returns-then-head-clause-frame
+returns-then-head-clause-frame c = wait_keeps c.args.hand.now.seat.id c.args.wait c.args.element c.args.ticket _ _ (Err moves.Spent) (returns-then-head-clause-trace c)
+
+pub returns-then-mark-ticket-clause-effect : goal.returns-then-mark-ticket-clause-effect
+returns-then-mark-ticket-clause-effect c = let known : c.args.wait < WAITS = search rules in wait_effect _ _ c.load_head-word.ensures.found.valid c.args.hand.now.seat.id c.args.wait c.args.element c.args.ticket (Err (moves.Moved c.of-head.result.mark)) known (returns-then-mark-ticket-clause-trace c)
+
+pub returns-then-mark-ticket-clause-error : goal.returns-then-mark-ticket-clause-error
+returns-then-mark-ticket-clause-error c = let known : c.args.wait < WAITS = search rules in wait_error _ _ c.load_head-word.ensures.found.valid c.args.hand.now.seat.id c.args.wait c.args.element c.args.ticket (Err (moves.Moved c.of-head.result.mark)) known (returns-then-mark-ticket-clause-trace c)
+
+pub returns-then-mark-ticket-clause-frame : goal.returns-then-mark-ticket-clause-frame
+returns-then-mark-ticket-clause-frame c = wait_keeps c.args.hand.now.seat.id c.args.wait c.args.element c.args.ticket _ _ (Err (moves.Moved c.of-head.result.mark)) (returns-then-mark-ticket-clause-trace c)
+
+pub returns-then-now-ticket-clause-effect : goal.returns-then-now-ticket-clause-effect
+returns-then-now-ticket-clause-effect c = let known : c.args.wait < WAITS = search rules in let x = c.exchange_head_at-found.ensures.miss c.if-found-word.true in wait_effect _ _ x.0.valid c.args.hand.now.seat.id c.args.wait c.args.element c.args.ticket (Err (moves.Moved c.of-now.result.mark)) known (returns-then-now-ticket-clause-trace c)
+
+pub returns-then-now-ticket-clause-error : goal.returns-then-now-ticket-clause-error
+returns-then-now-ticket-clause-error c = let known : c.args.wait < WAITS = search rules in let x = c.exchange_head_at-found.ensures.miss c.if-found-word.true in wait_error _ _ x.0.valid c.args.hand.now.seat.id c.args.wait c.args.element c.args.ticket (Err (moves.Moved c.of-now.result.mark)) known (returns-then-now-ticket-clause-trace c)
+
+pub returns-then-now-ticket-clause-frame : goal.returns-then-now-ticket-clause-frame
+returns-then-now-ticket-clause-frame c = wait_keeps c.args.hand.now.seat.id c.args.wait c.args.element c.args.ticket _ _ (Err (moves.Moved c.of-now.result.mark)) (returns-then-now-ticket-clause-trace c)
+
+pub returns-then-found-word-clause-effect : goal.returns-then-found-word-clause-effect
+returns-then-found-word-clause-effect c = let known : c.args.wait < WAITS = search rules in let x = c.exchange_head_at-found.ensures.miss c.if-found-word.true in wait_effect _ _ x.0.valid c.args.hand.now.seat.id c.args.wait c.args.element c.args.ticket (Err (moves.Lost c.exchange_head_at-found.result)) known (returns-then-found-word-clause-trace c)
+
+pub returns-then-found-word-clause-error : goal.returns-then-found-word-clause-error
+returns-then-found-word-clause-error c = let known : c.args.wait < WAITS = search rules in let x = c.exchange_head_at-found.ensures.miss c.if-found-word.true in wait_error _ _ x.0.valid c.args.hand.now.seat.id c.args.wait c.args.element c.args.ticket (Err (moves.Lost c.exchange_head_at-found.result)) known (returns-then-found-word-clause-trace c)
+
+pub returns-then-found-word-clause-frame : goal.returns-then-found-word-clause-frame
+returns-then-found-word-clause-frame c = wait_keeps c.args.hand.now.seat.id c.args.wait c.args.element c.args.ticket _ _ (Err (moves.Lost c.exchange_head_at-found.result)) (returns-then-found-word-clause-trace c)
+
+pub returns-clause-effect : goal.returns-clause-effect
+returns-clause-effect c = let known : c.args.wait < WAITS = search rules in let s = c.raise.ensures in wait_effect _ _ s.effect.1.step.valid c.args.hand.now.seat.id c.args.wait c.args.element c.args.ticket (Ok tt) known (returns-clause-trace c)
+
+pub returns-clause-result : goal.returns-clause-result
+returns-clause-result c = let known : c.args.wait < WAITS = search rules in let s = c.raise.ensures in wait_result _ _ s.effect.1.step.valid c.args.hand.now.seat.id c.args.wait c.args.element c.args.ticket (Ok tt) known (returns-clause-trace c)
+
+pub returns-clause-frame : goal.returns-clause-frame
+returns-clause-frame c = wait_keeps c.args.hand.now.seat.id c.args.wait c.args.element c.args.ticket _ _ (Ok tt) (returns-clause-trace c)

@@ -1,7 +1,8 @@
-use Rattle.thread_table.proofs.Common.{rules, ℕ, ◌≡◌, ◌+◌, ◌<◌, ◌≤◌, sym, ap, subst, ◌∙◌, Ok, Err, transport, call_of, view_of, head_word, tail_word, wait_ring, HandDid, Found, TakeAnswer}
+use Rattle.thread_table.proofs.Common.{rules, ℕ, WAITS, ◌≡◌, ◌+◌, ◌<◌, ◌≤◌, sym, ap, subst, ◌∙◌, Ok, Err, transport, call_of, view_of, head_word, tail_word, wait_ring, HandDid, Found, TakeAnswer}
 use Rattle.event_theory.specs.declared.event.Event.TheVariants as events
 use Rattle.thread_table.proofs.Events.Answering.{word_parts}
 use Rattle.thread_table.proofs.Events.Waking.{Rounds, rounds_none, rounds_took, rounds_missed, woke_all}
+use Rattle.thread_table.proofs.Clients.{wake_effect, wake_result, wake_keeps}
 use Rattle.thread_table.proofs.hand.ThreadTable.wake_all.Goals as goal
 
 pub loop-init : goal.loop-init
@@ -23,7 +24,7 @@ loop-preserved-in-Ok g c = let v = c.load_tail-tail.new.seat.me.0 in let id = c.
       steps = search rules;
       same = search rules;
       rounds = rounds_took _ _ _ _ c.load_tail-tail.result c.number-in-Ok.result _ _ v _ _ n.within c.loop.invariant.rounds c.load_tail-tail.ensures.found (subst (λ (k : ℕ). c.load_tail-tail.result < k) (sym head) below)
-          (transport (λ i. TakeAnswer (id i) v c.wait_ring-ring.result (Ok (sym n.value i)) c.take_first.new.hand.seat.me.0) c.in-Ok.ensures.steps);
+          (transport (λ i. TakeAnswer (id i) v c.wait_ring-ring.result (Ok (sym n.value i)) c.take_first.new.hand.seat.me.0) c.in-Ok.ensures.trace);
     }
 
 pub loop-preserved : goal.loop-preserved
@@ -32,5 +33,15 @@ loop-preserved g c = let v = c.load_tail-tail.new.seat.me.0 in let id = c.load_t
       steps = search rules;
       same = search rules;
       rounds = rounds_missed _ _ _ _ c.load_tail-tail.result _ _ v _ _ c.in-Err.field-0 c.loop.invariant.rounds c.load_tail-tail.ensures.found (subst (λ (k : ℕ). c.load_tail-tail.result < k) (sym head) below)
-          (transport (λ i. TakeAnswer (id i) v c.wait_ring-ring.result (Err c.in-Err.field-0) c.take_first.new.hand.seat.me.0) c.in-Err.ensures.steps);
+          (transport (λ i. TakeAnswer (id i) v c.wait_ring-ring.result (Err c.in-Err.field-0) c.take_first.new.hand.seat.me.0) c.in-Err.ensures.trace);
     }
+
+pub returns-then-tail-head-clause-effect : goal.returns-then-tail-head-clause-effect
+returns-then-tail-head-clause-effect g c = wake_effect (call_of c.args.hand.now) c.args.wait _ _ _ (returns-then-tail-head-clause-trace g c)
+
+pub returns-then-tail-head-clause-frame : goal.returns-then-tail-head-clause-frame
+returns-then-tail-head-clause-frame g c = wake_keeps (call_of c.args.hand.now) c.args.wait _ _ _ (returns-then-tail-head-clause-trace g c)
+
+pub returns-then-tail-head-clause-result : goal.returns-then-tail-head-clause-result
+returns-then-tail-head-clause-result g c = let low : c.args.wait < WAITS = search rules in
+    wake_result (call_of c.args.hand.now) c.args.wait _ _ _ low c.load_tail-tail.ensures.found.valid (returns-then-tail-head-clause-trace g c)

@@ -1,0 +1,267 @@
+-- What each call did, what its answer means, and why it was refused, for the call's caller: by the events that it made,
+-- by what the hand holds, and by what was so at a moment of the call. A moment's events are those of all hands so far.
+use Rattle.std.specs.Prelude.{◌≡◌, ◌≢◌, ◌⊎◌, ◌+◌, ◌*◌, ◌<◌, ◌≤◌, ◌||◌, ℕ, zero, suc, Bool, true, false, not}
+use Rattle.std.specs.Prelude.{List, [], ◌∷◌, ◌++◌, map, take, length, slice_set, Some, None, Option}
+use Rattle.event_theory.specs.Elements.{Thread}
+use Rattle.event_theory.specs.Queues.{Queue, left}
+use Rattle.event_theory.specs.declared.event.Event.{Event}
+use Rattle.event_theory.specs.declared.event.Event.TheVariants as events
+use Rattle.table_theory.specs.Ledgers.{ExtendsTrace}
+use Rattle.table_theory.specs.Moments.{AtSomeMoment, AtTwoMoments, Does}
+use Rattle.thread_table.specs.declared.layout.TheConstants.{ELEMENTS, NOTIFY}
+use Rattle.thread_table.specs.declared.moves.MoveRefusal.{MoveRefusal}
+use Rattle.thread_table.specs.declared.moves.MoveRefusal.TheVariants as moves
+use Rattle.thread_table.specs.declared.rule.MadeEvent.{MadeEvent}
+use Rattle.thread_table.specs.declared.states.Signalled.{Signalled}
+use Rattle.thread_table.specs.declared.states.Signalled.TheVariants as signalled
+use Rattle.thread_table.specs.declared.states.Started.{Started}
+use Rattle.thread_table.specs.declared.states.Started.TheVariants as started
+use Rattle.thread_table.specs.declared.takings.NextRefusal.{NextRefusal}
+use Rattle.thread_table.specs.declared.takings.NextRefusal.TheVariants as nexts
+use Rattle.thread_table.specs.Answers.{is_in}
+use Rattle.thread_table.specs.Entries.{Step, HoldsMore, HoldsLess, take_event}
+use Rattle.thread_table.specs.Layout.{wait_ring, last_head}
+use Rattle.thread_table.specs.Own.{View}
+use Rattle.thread_table.specs.Rules.{has, running, done_at}
+use Rattle.thread_table.specs.Schedules.{elements_after, ring_at, thread_at, ring_name}
+use Rattle.thread_table.specs.Shown.{StateShows, mark_of}
+
+-- TERMS
+
+-- an element queue after these events
+abbrev pub queue_after : List Event → ℕ → Queue
+queue_after past ring = ring_at (elements_after past) ring
+
+-- the positions of an element queue's head and tail after these events: that of the next place that is claimed, and
+-- that of the oldest element that is left
+abbrev pub head_after : View → ℕ → List Event → ℕ
+head_after v ring past = v.own.first + length (queue_after past ring).history
+
+abbrev pub tail_after : View → ℕ → List Event → ℕ
+tail_after v ring past = v.own.first + (queue_after past ring).taken
+
+-- how many notifies a wait queue has had after these events, modulo 2^32
+abbrev pub notifies_after : ℕ → List Event → ℕ
+notifies_after ring past = mark_of (elements_after past) ring
+
+-- an element's stop bit, stop cell and signals after these events
+abbrev pub thread_after : List Event → ℕ → Thread
+thread_after past element = thread_at (elements_after past) element
+
+-- the events that the hand lists as its own
+abbrev pub events_of : View → List Event
+events_of v = map (λ (m : MadeEvent). m.event) v.own.made
+
+-- the call made just these events, in this order, each at one of its steps, and the hand lists them after all others
+abbrev pub Made : View → List Event → View → Type 0
+Made v events w = (events_of w ≡ events_of v ++ events)
+    × Does (λ event past next. next ≡ past ++ event ∷ []) (λ past next. next ≡ past) v events w
+
+-- the call made no event, the hand holds what it held, and its list of events is as it was
+abbrev pub MadeNothing : View → View → Type 0
+MadeNothing v w = Made v [] w × (w.own.held ≡ v.own.held) × (w.own.made ≡ v.own.made)
+
+-- the call made just these events, and the hand holds what it held
+abbrev pub MadeOnly : View → List Event → View → Type 0
+MadeOnly v events w = Made v events w × (w.own.held ≡ v.own.held)
+
+-- the call made this event at one of its steps, and Holds was true of all events before it
+pub record MadeWhen (v : View) (event : Event) (Holds : List Event → Type 0) (w : View) : Type 0 where
+  pub before : List Step
+  pub step : Step
+  pub after : List Step
+  pub adds : ExtendsTrace v (before ++ step ∷ after) w
+  pub makes : step.next.object ≡ step.then.object ++ event ∷ []
+  pub holds : Holds step.then.object
+
+-- TAKINGS
+
+-- the hand took the element out of the queue: it holds the element, which it did not hold, and all that it held
+abbrev pub Took : ℕ → ℕ → ℕ → View → View → Type 0
+Took call ring element v w = HoldsMore element v w × Made v (take_event call ring ∷ []) w
+
+-- the element was the oldest in the queue when it was taken
+abbrev pub TookOldest : ℕ → ℕ → ℕ → View → View → Type 0
+TookOldest call ring element v w =
+    MadeWhen v (take_event call ring) (λ past. take 1 (left (queue_after past ring)) ≡ element ∷ []) w
+
+-- why no element was taken: the place at the tail was not raised; or the tail moved on during the call, to `seen`
+abbrev pub WhyNotTaken : ℕ → NextRefusal → View → View → Type 0
+WhyNotTaken ring nexts.NoneReady v w =
+    AtSomeMoment v w (λ past. (queue_after past ring).raised (queue_after past ring).taken 0 ≡ false)
+WhyNotTaken ring (nexts.Lost seen) v w = AtTwoMoments v w (λ past later.
+    (tail_after v ring past < tail_after v ring later) × (tail_after v ring later ≡ seen))
+
+-- MOVES
+
+-- The hand put the element into the queue and no longer holds it: by this event it claimed the next place, after all
+-- that were claimed before, and then it raised that place.
+abbrev pub Moved : ℕ → ℕ → ℕ → Event → View → View → Type 0
+Moved call ring element event v w = HoldsLess element v w × (run : ℕ)
+    × Made v (event ∷ events.Raise call (ring_name ring) run 0 ∷ []) w
+    × MadeWhen v event (λ past. length (queue_after past ring).history ≡ run) w
+
+-- another hand claimed a place of the queue between two moments, or made a notify
+abbrev pub HeadMoved : ℕ → List Event → List Event → Type 0
+HeadMoved ring past later = (length (queue_after past ring).history < length (queue_after later ring).history)
+    ⊎ (notifies_after ring past ≢ notifies_after ring later)
+
+-- the head word shows the head, in its low half, and the number of notifies, in its high half
+abbrev pub ShowsHead : View → ℕ → List Event → ℕ → Type 0
+ShowsHead v ring past word = word ≡ head_after v ring past + notifies_after ring past * NOTIFY
+
+-- why no element was put into the queue: no position was left; or another hand was first
+abbrev pub WhyNotMoved : ℕ → MoveRefusal → View → View → Type 0
+WhyNotMoved ring moves.Spent v w = AtSomeMoment v w (λ past. head_after v ring past ≡ last_head)
+WhyNotMoved ring (moves.Lost seen) v w = AtTwoMoments v w (λ past later. HeadMoved ring past later
+    × ShowsHead v ring later seen)
+WhyNotMoved ring (moves.Moved mark) v w = ⊥
+
+-- why no element was put into the wait queue with a ticket: no position was left; or another hand was first, and the
+-- ticket was still good; or the number of notifies was another one, `mark`
+abbrev pub WhyNotWaited : ℕ → ℕ → MoveRefusal → View → View → Type 0
+WhyNotWaited wait ticket moves.Spent v w = AtSomeMoment v w (λ past. head_after v (wait_ring wait) past ≡ last_head)
+WhyNotWaited wait ticket (moves.Lost seen) v w = AtTwoMoments v w (λ past later.
+    (head_after v (wait_ring wait) past < head_after v (wait_ring wait) later)
+    × (notifies_after (wait_ring wait) later ≡ ticket) × ShowsHead v (wait_ring wait) later seen)
+WhyNotWaited wait ticket (moves.Moved mark) v w = (mark ≢ ticket)
+    × AtSomeMoment v w (λ past. notifies_after (wait_ring wait) past ≡ mark)
+
+-- the ticket was the number of notifies of the wait queue
+abbrev pub IsTicketOf : ℕ → ℕ → View → View → Type 0
+IsTicketOf wait ticket v w = AtSomeMoment v w (λ past. notifies_after (wait_ring wait) past ≡ ticket)
+
+-- the call waited while its ticket was good: no notify came between the ticket and the claim
+abbrev pub WaitedInTime : ℕ → ℕ → ℕ → ℕ → View → View → Type 0
+WaitedInTime call wait element ticket v w = MadeWhen v (events.WaitAt call wait element ticket)
+    (λ past. notifies_after (wait_ring wait) past ≡ ticket) w
+
+-- STOP BITS AND SIGNALS
+
+-- another hand changed the element's stop bit, stop cell or signals between two moments, to those that `seen` shows
+abbrev pub WhyLost : ℕ → ℕ → View → View → Type 0
+WhyLost element seen v w = AtTwoMoments v w (λ past later. (StateShows (thread_after past element) seen → ⊥)
+    × StateShows (thread_after later element) seen)
+
+-- the effect of a start: nothing; or its event, and the hand then holds the element, if it was in its stop cell
+abbrev pub StartDid : ℕ → ℕ → Started → View → View → Type 0
+StartDid call element started.NotStopped v w = MadeNothing v w
+StartDid call element started.Cleared v w = MadeOnly v (events.Start call element ∷ []) w
+StartDid call element started.Held v w = HoldsMore element v w × Made v (events.Start call element ∷ []) w
+
+-- what a start found: the stop bit was clear; or it was set, and the element was not in its stop cell, or was
+abbrev pub StartFound : ℕ → ℕ → Started → View → View → Type 0
+StartFound call element started.NotStopped v w = AtSomeMoment v w (λ past. (thread_after past element).stop ≡ false)
+StartFound call element started.Cleared v w = MadeWhen v (events.Start call element)
+    (λ past. ((thread_after past element).stop ≡ true) × ((thread_after past element).parked ≡ false)) w
+StartFound call element started.Held v w = MadeWhen v (events.Start call element)
+    (λ past. ((thread_after past element).stop ≡ true) × ((thread_after past element).parked ≡ true)) w
+
+-- the effect of a park: the element is in its stop cell, and the hand no longer holds it; or nothing
+abbrev pub ParkDid : ℕ → ℕ → Bool → View → View → Type 0
+ParkDid call element true v w = HoldsLess element v w × Made v (events.Park call element ∷ []) w
+ParkDid call element false v w = MadeNothing v w
+
+-- what a park found: the stop bit was set, or clear
+abbrev pub ParkFound : ℕ → ℕ → Bool → View → View → Type 0
+ParkFound call element true v w = MadeWhen v (events.Park call element)
+    (λ past. (thread_after past element).stop ≡ true) w
+ParkFound call element false v w = AtSomeMoment v w (λ past. (thread_after past element).stop ≡ false)
+
+-- whether the stop bit was clear when it was set
+abbrev pub StopFound : ℕ → ℕ → Bool → View → View → Type 0
+StopFound call element was_clear v w = MadeWhen v (events.Stop call element)
+    (λ past. was_clear ≡ not (thread_after past element).stop) w
+
+-- whether the signal was pending already when it was made pending
+abbrev pub SignalFound : ℕ → ℕ → ℕ → Signalled → View → View → Type 0
+SignalFound call element signal signalled.Raised v w = MadeWhen v (events.Signal call element signal)
+    (λ past. (thread_after past element).pending signal ≡ false) w
+SignalFound call element signal signalled.Merged v w = MadeWhen v (events.Signal call element signal)
+    (λ past. (thread_after past element).pending signal ≡ true) w
+
+-- the signals of the mask are those that are pending after these events
+abbrev pub ArePending : ℕ → ℕ → List Event → Type 0
+ArePending element mask past = (signal : ℕ) → signal < 16
+    → (thread_after past element).pending signal ≡ is_in mask signal
+
+-- the signals of the mask were those that were pending
+abbrev pub WerePending : ℕ → ℕ → View → View → Type 0
+WerePending element mask v w = AtSomeMoment v w (ArePending element mask)
+
+-- the effect of a delivery, and what it found: the signals of the mask were pending and are delivered; or none was
+abbrev pub DeliverDid : ℕ → ℕ → ℕ → View → View → Type 0
+DeliverDid call element zero v w = MadeNothing v w
+DeliverDid call element (suc mask) v w = MadeOnly v (events.Deliver call element ∷ []) w
+
+abbrev pub DeliverFound : ℕ → ℕ → ℕ → View → View → Type 0
+DeliverFound call element zero v w = AtSomeMoment v w (ArePending element 0)
+DeliverFound call element (suc mask) v w = MadeWhen v (events.Deliver call element) (ArePending element (suc mask)) w
+
+-- STEPS DONE
+
+-- the element had done this number of steps
+abbrev pub HadDone : ℕ → ℕ → View → View → Type 0
+HadDone element number v w = AtSomeMoment v w (λ past. done_at past element ≡ number)
+
+-- with the step that the call counted, the element has done this number of steps
+abbrev pub StepFound : ℕ → ℕ → ℕ → View → View → Type 0
+StepFound call element number v w = MadeWhen v (events.Done call element) (λ past. done_at past element + 1 ≡ number) w
+
+-- PROCESSORS
+
+-- the hand put the element, which it no longer holds, on the processor, where nothing was
+abbrev pub PutOn : ℕ → ℕ → ℕ → View → View → Type 0
+PutOn call processor element v w = (running v processor ≡ None) × HoldsLess element v w
+    × (w.own.on ≡ slice_set v.own.on processor (Some element)) × Made v (events.On call processor element ∷ []) w
+
+-- the hand took the element, which it then holds, off the processor, where it was
+abbrev pub TookOff : ℕ → ℕ → ℕ → View → View → Type 0
+TookOff call processor element v w = (running v processor ≡ Some element) × HoldsMore element v w
+    × (w.own.on ≡ slice_set v.own.on processor None) × Made v (events.Off call processor ∷ []) w
+
+-- the hand serves the processors that it served, and has its part of the share
+abbrev pub ServesSame : View → View → Type 0
+ServesSame v w = (w.own.serves ≡ v.own.serves) × (w.member.share ≡ v.member.share)
+
+-- NOTIFIES AND WAKES
+
+-- the head that a notify found: the position after the last place that was claimed before it
+abbrev pub NotifyFound : ℕ → ℕ → ℕ → View → View → Type 0
+NotifyFound call wait head v w = MadeWhen v (events.NotifyWait call wait)
+    (λ past. head_after v (wait_ring wait) past ≡ head) w
+
+-- the effect of a try to take before a position: nothing, or a taking
+abbrev pub BeforeDid : ℕ → ℕ → Option ℕ → View → View → Type 0
+BeforeDid call ring None v w = MadeNothing v w
+BeforeDid call ring (Some element) v w = Took call ring element v w
+
+-- what such a try found: each place before the position was taken; or not each, and then the oldest element of the
+-- queue
+abbrev pub BeforeFound : ℕ → ℕ → ℕ → Option ℕ → View → View → Type 0
+BeforeFound call ring head None v w = AtSomeMoment v w (λ past. head ≤ tail_after v ring past)
+BeforeFound call ring head (Some element) v w = AtSomeMoment v w (λ past. tail_after v ring past < head)
+    × TookOldest call ring element v w
+
+-- the takings of a wake: so many from this queue
+abbrev pub takings : ℕ → ℕ → ℕ → List Event
+takings call ring zero = []
+takings call ring (suc number) = take_event call ring ∷ takings call ring number
+
+-- The call made one notify, and then takings alone. The hand holds the elements of the mask, none of which it held, and
+-- all that it held.
+abbrev pub Woke : ℕ → ℕ → ℕ → View → View → Type 0
+Woke call wait mask v w = ((e : ℕ) → e < ELEMENTS → has w e ≡ (has v e || is_in mask e))
+    × ((e : ℕ) → e < ELEMENTS → is_in mask e ≡ true → has v e ≡ false)
+    × (number : ℕ) × Made v (events.NotifyWait call wait ∷ takings call (wait_ring wait) number) w
+
+-- each place that was claimed before the call's notify was taken, by this hand or by others, at a later moment
+pub record WokeAllBefore (call wait : ℕ) (v w : View) : Type 0 where
+  pub before : List Step
+  pub notify : Step
+  pub between : List Step
+  pub last : Step
+  pub after : List Step
+  pub adds : ExtendsTrace v (before ++ notify ∷ (between ++ last ∷ after)) w
+  pub makes : notify.next.object ≡ notify.then.object ++ events.NotifyWait call wait ∷ []
+  pub reached : head_after v (wait_ring wait) notify.then.object ≤ tail_after v (wait_ring wait) last.then.object

@@ -1,5 +1,5 @@
 //! Boots with gates, of each number of turns, with streams that are handed over, and where memory is refused. The built
-//! program boots more scripts, and all kinds of them, in `tools/test-boots` and `tools/test-program`.
+//! program boots more scripts, and all kinds of them, in `tools/test-programs`.
 
 mod gates;
 mod kinds;

@@ -173,7 +173,7 @@ fn a_byte_that_is_not_ascii_is_told_in_its_line(rt: HostRuntime) {
 }
 
 /// Where an allocation is refused, a sound script is refused for want of memory alone, and the fault of another is told
-/// all the same. `tools/refused-memory-tests` refuses an allocation of this test.
+/// all the same. `tools/refused/memory tests` refuses an allocation of this test.
 #[test]
 fn boot_memory_may_be_wanting(rt: HostRuntime) {
     let sound = SWITCH;

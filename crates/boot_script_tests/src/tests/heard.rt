@@ -115,7 +115,7 @@ fn two_lines(alloc: Global) -> Option<HeardReport> {
     report_in(names.ok()?, processors.ok()?, alloc, &[(1, 0), (0, 0)])
 }
 
-/// Where an allocation is refused there are no lines, and the next try has them. `tools/refused-memory-tests` refuses
+/// Where an allocation is refused there are no lines, and the next try has them. `tools/refused/memory tests` refuses
 /// each one of this test.
 #[test]
 fn heard_memory_may_be_wanting(rt: HostRuntime) {

@@ -1,4 +1,4 @@
-//! Cores where an allocation is refused, as `tools/refused-memory-tests` refuses each in turn: one in a run of a test. So
+//! Cores where an allocation is refused, as `tools/refused/memory tests` refuses each in turn: one in a test run. So
 //! what is tried twice is there.
 ghost use Rattle.std.specs.Prelude.{◌≤◌};
 

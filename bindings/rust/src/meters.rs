@@ -46,7 +46,7 @@ pub struct Alarm {
     pub due: u32,
     /// Whom it is for.
     pub element: Element,
-    /// What it tells.
+    /// The signal that it sends.
     pub signal: Signal,
 }
 
@@ -108,7 +108,7 @@ impl Alarm {
         raw::Alarm { due: self.due, element: self.element.raw(), signal: self.signal.raw() }
     }
 
-    /// The alarm that a call of the library told.
+    /// The alarm that a call of the library reported.
     fn told(alarm: raw::Alarm) -> Alarm {
         Alarm { due: alarm.due, element: Element::told(alarm.element), signal: Signal::told(alarm.signal) }
     }
@@ -123,7 +123,7 @@ impl Slot {
 }
 
 impl MeterSeat {
-    /// Gauges at 0, the clock as told, no alarm, and the only end.
+    /// Gauges at 0, the clock as given, no alarm, and the only end.
     pub fn new(clock: u32) -> Result<MeterSeat, OutOfMemory> {
         let first = made(|handle| raw::synth_raw_seat_new(clock, handle))?;
         Ok(MeterSeat { share: Share::new(first)? })
@@ -236,7 +236,7 @@ impl MeterSeat {
     }
 
     /// Takes this alarm out of this slot, by one step. Returns true if it was there; otherwise it was fired or
-    /// cancelled before, or never was there. Two alarms that are equal can't be told apart.
+    /// cancelled before, or never was there. Two alarms that are equal can't be distinguished.
     ///
     /// ```
     /// # use synthesis_kernel::meters::{Alarm, MeterSeat};

@@ -63,7 +63,7 @@ impl Hand {
         moved(raw::synth_raw_hand_try_ready(&mut self.share.handle().0, element.raw()))
     }
 
-    /// One try to put an element that the hand holds behind the free elements.
+    /// One try to put an element that the hand holds after the free elements.
     ///
     /// ```
     /// # use synthesis_kernel::Hand;

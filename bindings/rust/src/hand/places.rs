@@ -36,7 +36,7 @@ pub struct Places {
 }
 
 impl Place {
-    /// The place that a call of the library told.
+    /// The place that a call of the library reported.
     fn told(place: raw::Place) -> Place {
         match place.kind {
             raw::PLACE_PROCESSOR => Place::Processor(Processor::told(place.number)),

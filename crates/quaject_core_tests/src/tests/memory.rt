@@ -1,4 +1,4 @@
-//! Cores when an allocation is refused. `tools/refused-memory-tests` refuses each allocation in turn, one in a run of a
+//! Cores when an allocation is refused. `tools/refused/memory tests` refuses each allocation in turn, one in a run of a
 //! test, so a second try always has memory.
 ghost use Rattle.std.specs.Prelude.{◌≤◌};
 

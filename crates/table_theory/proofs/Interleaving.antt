@@ -158,7 +158,7 @@ module _ (p : ℕ) (log : List (Owned Batch)) (lists : List (List Batch)) (c : A
         in_joined lists b.0.1 e (subst (λ (z : List Batch). get_elem? z b.0.1 ≡ some e) (only (joined lists) s.0 b.0.0 s.1) (s.2 ∙ ap some b.2));
   })
 
--- THE FACTS OF EACH ENTRY
+-- WHAT IS TOLD OF EACH ENTRY
 
 module _ {A B : Type 0} (f : A → B) where
   map_set : (lists : List (List A)) (k : ℕ) (l : List A) → set (map (map f) lists) k (map f l) ≡ map (map f) (set lists k l)

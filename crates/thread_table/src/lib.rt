@@ -72,7 +72,7 @@ pub use moves::MoveRefusal;
 pub use places::Place;
 pub use processors::{ProcessorBusy, ProcessorEmpty};
 pub use programs::Spent;
-pub use rule::{Claimed, Counted, HandState, Performed, Shape, ThreadRule, View};
+pub use rule::{Claimed, Counted, HandState, MadeEvent, Shape, ThreadRule, View};
 pub use states::{Lost, Signalled, Started};
 pub use table_theory::OpenEnds;
 pub use takings::NextRefusal;

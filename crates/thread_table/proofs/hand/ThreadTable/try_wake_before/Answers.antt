@@ -16,7 +16,7 @@ pub returns-in_err-element-clause-trace : goal.returns-in_err-element-clause-tra
 returns-in_err-element-clause-trace c = let h = c.args.hand.now in let u = c.load_tail-reached.new.seat.me.0 in let w = view_of c.take_first.new.hand in let r : NextRefusal = c.in_err-element.field-0.0 in
     let ring : c.wait_ring-ring.result ≡ wait_ring c.args.wait = c.wait_ring-ring.ensures.0 ∙ ap (λ (k : ℕ). k + 2) c.number.ensures.value in
     let below : c.load_tail-reached.result < c.args.head = search rules in
-    let missed = subst (λ (k : ℕ). TakeAnswer k u c.wait_ring-ring.result (Err r) w) c.load_tail-reached.ensures.queue.0.1 c.in_err-element.ensures.steps in
+    let missed = subst (λ (k : ℕ). TakeAnswer k u c.wait_ring-ring.result (Err r) w) c.load_tail-reached.ensures.queue.0.1 c.in_err-element.ensures.trace in
     subst (λ (z : Result (Option ℕ) NextRefusal). BeforeAnswer (call_of h) (view_of h) (wait_ring c.args.wait) c.args.head z w) (sym (err_is c.from_residual.result r c.from_residual.ensures.1))
     (subst (λ (k : ℕ). BeforeAnswer (call_of h) (view_of h) k c.args.head (Err r) w) ring (missed_before (call_of h) c.wait_ring-ring.result c.args.head c.load_tail-reached.result (view_of h) u w r c.load_tail-reached.ensures.found below missed))
 
@@ -24,5 +24,5 @@ pub returns-clause-trace : goal.returns-clause-trace
 returns-clause-trace c = let h = c.args.hand.now in let u = c.load_tail-reached.new.seat.me.0 in let w = view_of c.take_first.new.hand in let e : ℕ = c.in_ok-element.element in
     let ring : c.wait_ring-ring.result ≡ wait_ring c.args.wait = c.wait_ring-ring.ensures.0 ∙ ap (λ (k : ℕ). k + 2) c.number.ensures.value in
     let below : c.load_tail-reached.result < c.args.head = search rules in
-    let took = subst (λ (k : ℕ). TakeAnswer k u c.wait_ring-ring.result (Ok e) w) c.load_tail-reached.ensures.queue.0.1 c.in_ok-element.ensures.steps in
+    let took = subst (λ (k : ℕ). TakeAnswer k u c.wait_ring-ring.result (Ok e) w) c.load_tail-reached.ensures.queue.0.1 c.in_ok-element.ensures.trace in
     subst (λ (k : ℕ). BeforeAnswer (call_of h) (view_of h) k c.args.head (Ok (Some e)) w) ring (took_before (call_of h) c.wait_ring-ring.result c.args.head c.load_tail-reached.result e (view_of h) u w c.load_tail-reached.ensures.found below took)

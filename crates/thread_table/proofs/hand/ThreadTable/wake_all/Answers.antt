@@ -23,7 +23,7 @@ loop-preserved-in-Ok g c = let v = c.load_tail-tail.new.seat.me.0 in let id = c.
       steps = search rules;
       same = search rules;
       rounds = rounds_took _ _ _ _ c.load_tail-tail.result c.number-in-Ok.result _ _ v _ _ n.within c.loop.invariant.rounds c.load_tail-tail.ensures.found (subst (λ (k : ℕ). c.load_tail-tail.result < k) (sym head) below)
-          (transport (λ i. TakeAnswer (id i) v c.wait_ring-ring.result (Ok (sym n.value i)) c.take_first.new.hand.seat.me.0) c.in-Ok.ensures.steps);
+          (transport (λ i. TakeAnswer (id i) v c.wait_ring-ring.result (Ok (sym n.value i)) c.take_first.new.hand.seat.me.0) c.in-Ok.ensures.trace);
     }
 
 pub loop-preserved : goal.loop-preserved
@@ -32,5 +32,5 @@ loop-preserved g c = let v = c.load_tail-tail.new.seat.me.0 in let id = c.load_t
       steps = search rules;
       same = search rules;
       rounds = rounds_missed _ _ _ _ c.load_tail-tail.result _ _ v _ _ c.in-Err.field-0 c.loop.invariant.rounds c.load_tail-tail.ensures.found (subst (λ (k : ℕ). c.load_tail-tail.result < k) (sym head) below)
-          (transport (λ i. TakeAnswer (id i) v c.wait_ring-ring.result (Err c.in-Err.field-0) c.take_first.new.hand.seat.me.0) c.in-Err.ensures.steps);
+          (transport (λ i. TakeAnswer (id i) v c.wait_ring-ring.result (Err c.in-Err.field-0) c.take_first.new.hand.seat.me.0) c.in-Err.ensures.trace);
     }

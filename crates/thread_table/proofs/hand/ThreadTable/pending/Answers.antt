@@ -1,5 +1,5 @@
 use Rattle.thread_table.proofs.Common.{ap, state_word}
-use Rattle.thread_table.proofs.Events.Tells.{found_at}
+use Rattle.thread_table.proofs.Events.Steps.{found_at}
 use Rattle.thread_table.proofs.hand.ThreadTable.pending.Goals as goal
 
 pub returns-clause-trace : goal.returns-clause-trace

@@ -2,7 +2,7 @@ use Rattle.thread_table.proofs.Common.{◌<◌, rules, ap, transport, state_word
 use Rattle.event_theory.specs.declared.event.Event.TheVariants as events
 use Rattle.thread_table.proofs.Schedule.Acting.{acts_two}
 use Rattle.thread_table.proofs.Events.StatesSeen.{bit_up, bit_down, parked}
-use Rattle.thread_table.proofs.Events.Tells.{found_at}
+use Rattle.thread_table.proofs.Events.Steps.{found_at}
 use Rattle.thread_table.proofs.hand.ThreadTable.try_park.Goals as goal
 
 pub returns-then-not-is_stopping-clause-trace : goal.returns-then-not-is_stopping-clause-trace

@@ -1,10 +1,11 @@
 #!/usr/bin/env python3
-"""Reads crates.txt: each crate with its words, such as may_wait=2, and the crates that it uses. The tools import it, or ask:
+"""Reads crates.txt: each crate with its words, such as may_wait=2, and the crates that it uses. The tools import it, or
+ask it:
 
-    tools/crates.py names            prints all crates, each after those that it uses
-    tools/crates.py order NAME..     prints these and all below them, those first that the longest chain of lines waits for
-    tools/crates.py row NAME         prints the crate's line
-    tools/crates.py uses NAME        prints the crates of this repository that it uses
+    tools/crates.py names           prints all crates, each after those that it uses
+    tools/crates.py order NAME..    prints these and all below them, first those for which the most lines wait
+    tools/crates.py row NAME        prints the crate's line
+    tools/crates.py uses NAME       prints the crates of this repository that it uses
 """
 
 import pathlib

@@ -32,7 +32,7 @@ says!(MoveError {
     MoveError::NotHeld => "the hand doesn't hold the element",
     MoveError::Spent => "the queue's positions are spent",
     MoveError::Moved { notifies } => "the number of notifies is {notifies}",
-    MoveError::Lost { head, notifies } => "lost, head {head}, notifies {notifies}",
+    MoveError::Lost { head, notifies } => "another hand moved the head to {head}, notifies {notifies}",
 });
 
 /// What a move answers.

@@ -57,12 +57,12 @@ pub enum Signalled {
 }
 
 says!(StartError {
-    StartError::Lost { found: StateWord { word } } => "lost, state {word}",
+    StartError::Lost { found: StateWord { word } } => "another hand changed the state word to {word}",
 });
 
 says!(StateError {
     StateError::NotHeld => "the hand doesn't hold the element",
-    StateError::Lost { found: StateWord { word } } => "lost, state {word}",
+    StateError::Lost { found: StateWord { word } } => "another hand changed the state word to {word}",
 });
 
 impl StateWord {
@@ -218,7 +218,7 @@ mod tests {
         assert_eq!(states.map(StateWord::pending), [0, 1 << 15 | 1, 0, 3]);
         assert_eq!(states.map(StateWord::is_stopping), [false, false, true, true]);
         assert_eq!(states.map(StateWord::is_parked), [false, false, false, true]);
-        assert_eq!(StartError::Lost { found: states[2] }.to_string(), "lost, state 65536");
-        assert_eq!(StateError::Lost { found: states[1] }.to_string(), "lost, state 32769");
+        assert_eq!(StartError::Lost { found: states[2] }.to_string(), "another hand changed the state word to 65536");
+        assert_eq!(StateError::Lost { found: states[1] }.to_string(), "another hand changed the state word to 32769");
     }
 }

@@ -19,8 +19,8 @@ pub enum TakeError {
 }
 
 says!(TakeError {
-    TakeError::Empty => "nothing raised at the tail",
-    TakeError::Lost { tail } => "lost, tail {tail}",
+    TakeError::Empty => "nothing is raised at the tail",
+    TakeError::Lost { tail } => "another hand moved the tail to {tail}",
 });
 
 /// What a try to take this element answers.

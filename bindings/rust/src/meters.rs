@@ -109,8 +109,8 @@ impl Alarm {
     }
 
     /// The alarm that a call of the library reported.
-    fn told(alarm: raw::Alarm) -> Alarm {
-        Alarm { due: alarm.due, element: Element::told(alarm.element), signal: Signal::told(alarm.signal) }
+    fn from_raw(alarm: raw::Alarm) -> Alarm {
+        Alarm { due: alarm.due, element: Element::from_raw(alarm.element), signal: Signal::from_raw(alarm.signal) }
     }
 }
 
@@ -276,7 +276,7 @@ impl MeterSeat {
         let code =
             unsafe { raw::synth_raw_seat_due(self.share.handle(), alarms.as_mut_ptr(), alarms.len(), &mut count) };
         match code {
-            raw::OK => alarms.into_iter().take(count).map(Alarm::told),
+            raw::OK => alarms.into_iter().take(count).map(Alarm::from_raw),
             code => raw::no_such_answer(code),
         }
     }
@@ -303,7 +303,7 @@ impl MeterSeat {
         Ok(Closed {
             gauges: numbers.gauges,
             clock: numbers.clock,
-            alarms: alarms.iter().copied().map(Alarm::told).collect(),
+            alarms: alarms.iter().copied().map(Alarm::from_raw).collect(),
         })
     }
 }

@@ -194,7 +194,7 @@ impl Hand {
     pub fn pending(&mut self, element: Element) -> u16 {
         let mut signals = 0;
         match raw::synth_raw_hand_pending(&mut self.share.handle().0, element.raw(), &mut signals) {
-            raw::OK => u16::try_from(signals).unwrap_or_else(|_| unreachable!("the library told signals {signals}")),
+            raw::OK => u16::try_from(signals).unwrap_or_else(|_| unreachable!("the library returned signals {signals}")),
             code => raw::no_such_answer(code),
         }
     }
@@ -204,7 +204,7 @@ impl Hand {
     pub fn try_deliver(&mut self, element: Element) -> Result<u16, StateError> {
         let mut signals = 0;
         tried(raw::synth_raw_hand_try_deliver(&mut self.share.handle().0, element.raw(), &mut signals))?;
-        Ok(u16::try_from(signals).unwrap_or_else(|_| unreachable!("the library told signals {signals}")))
+        Ok(u16::try_from(signals).unwrap_or_else(|_| unreachable!("the library returned signals {signals}")))
     }
 }
 
@@ -213,7 +213,7 @@ mod tests {
     use super::*;
 
     #[test]
-    fn a_state_that_was_found_is_told() {
+    fn a_state_that_was_found_is_reported() {
         let states = [0, 1 << 15 | 1, 1 << 16, 1 << 17 | 1 << 16 | 3].map(|word| StateWord { word });
         assert_eq!(states.map(StateWord::pending), [0, 1 << 15 | 1, 0, 3]);
         assert_eq!(states.map(StateWord::is_stopping), [false, false, true, true]);

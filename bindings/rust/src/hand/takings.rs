@@ -26,7 +26,7 @@ says!(TakeError {
 /// What a try to take this element answers.
 fn taken(answer: raw::Answer, element: u32) -> Result<Element, TakeError> {
     match answer.code {
-        raw::OK => Ok(Element::told(element)),
+        raw::OK => Ok(Element::from_raw(element)),
         raw::EMPTY => Err(TakeError::Empty),
         raw::LOST => Err(TakeError::Lost { tail: answer.tail }),
         code => raw::no_such_answer(code),

@@ -14,5 +14,5 @@ returns g c = let own = c.requires.owns.0 in let raised = raised_on g.row.N _ _ 
   owns = own_after g.row.N _ _ _ _ _ own raised;
   trace = raised;
   frame = others_raised g.row.N _ _ _ _ _ own raised;
-  same = search rules;
+  handle = search rules;
 }

@@ -12,5 +12,5 @@ returns g c = let put = put_of _ _ _ _ _ _ (distinct_end c.claim_places.new.end)
   shut = search rules;
   trace = put;
   frame = more_claims _ _ _ (put_own _ _ _ _ _ put);
-  same = search rules;
+  handle = search rules;
 }

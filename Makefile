@@ -29,7 +29,7 @@ $(programs) &: $(sources)
 	tools/prove
 
 doc:
-	tools/doc
+	tools/docs make
 
 test:
 	tools/gate
@@ -45,4 +45,4 @@ uninstall:
 	@$(named) packaging/uninstall
 
 dist: library
-	$(named) tools/dist
+	$(named) packaging/dist

@@ -1,4 +1,4 @@
-# What the tools of this folder, tools/dist and tools/test-dist share. Each begins with it, after setting `root`.
+# What the tools of this folder share. Each begins with it, after setting `root`.
 
 unset MAKEFLAGS MFLAGS GNUMAKEFLAGS MAKEFILES MAKELEVEL
 umask 022

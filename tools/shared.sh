@@ -1,18 +1,23 @@
-# What the shell tools here share. Each begins with it:  . "$(dirname -- "$0")/shared.sh"
-# It stops at the first fault, names the repository `root`, and makes `folder`, which is removed at the end.
+# What the tests in shell share. Each begins with it, such as:  . "$(dirname -- "$0")/shared.sh"
+# A test ends at its first fault. The repository is `root`, and `folder` is removed at the end.
 
 set -eu
 
-tool=$(basename -- "$0")
-root=$(CDPATH='' cd -- "$(dirname -- "$0")/.." && pwd -P)
+root=$(CDPATH='' cd -- "$(dirname -- "$0")" && pwd -P)
+tool=$root/$(basename -- "$0")
+while [ ! -f "$root/crates.txt" ]; do
+    root=${root%/*}
+    [ -n "$root" ] || exit 1
+done
+tool=${tool#"$root/"}
 folder=$(mktemp -d)
 trap 'rm -rf -- "$folder"' EXIT
 
-# What is tried, in words, and the files of `folder` that tell of it: both are shown at a fault.
+# What is tried, in words, and the files of `folder` that show it: a fault prints both.
 tried=
 evidence=
 
-# Ends the tool: what is tried is at fault, as these words say.
+# Ends the test: what is tried has the fault that these words name.
 fail() {
     echo "$tool: ${tried:+$tried: }$1" >&2
     for file in $evidence; do
@@ -23,7 +28,7 @@ fail() {
 
 # The built program of this name, which has to be proved and current, is `program`.
 proved() {
-    "$root/tools/is-proved" "$1"
+    "$root/tools/run" --is-proved "$1"
     program=$root/crates/$1/out/$1
 }
 
@@ -32,7 +37,7 @@ has_status() {
     [ "$status" -eq "$1" ] || fail "status $status and not $1"
 }
 
-# A file has the bytes of another one. Else these words are told.
+# A file has the bytes of another one. Else the test ends with these words.
 is_same() {
     cmp -s -- "$1" "$2" || fail "$3"
 }

@@ -1,4 +1,4 @@
-/* The example at the head of synthesis.h: tools/test-bindings compares them. Status 0: each call did what it says. */
+/* The example at the head of synthesis.h: bindings/test compares them. Status 0: each call did what it says. */
 #include "synthesis.h"
 
 int main(void)

@@ -61,7 +61,7 @@ static void *put_lines(void *given)
     return NULL;
 }
 
-/* A taker: takes lines until it is told that none will ever come. */
+/* A taker: takes lines until a take reports that none will ever come. */
 static void *take_lines(void *given)
 {
     struct job *job = (struct job *)given;
@@ -99,7 +99,7 @@ int main(void)
         must(pthread_create(&threads[i], NULL, i < PRODUCERS ? put_lines : take_lines, &jobs[i]), "a thread");
     }
 
-    /* Once all is put the queue is shut, so that the takers are told when all is taken. */
+    /* Once all is put the queue is shut, so that a take reports when all is taken. */
     for (int i = 0; i < PRODUCERS; i++) {
         must(pthread_join(threads[i], NULL), "the end of a producer");
     }

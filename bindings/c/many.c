@@ -66,7 +66,7 @@ static void *put_items(void *given)
     return NULL;
 }
 
-/* Marks an item as taken by this thread, and looks whether it comes behind all that it took of the same producer. */
+/* Marks an item as taken by this thread, and looks whether it comes after all that it took of the same producer. */
 static void mark(struct job *job, uint64_t item)
 {
     int producer = 0;

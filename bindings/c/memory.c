@@ -59,7 +59,7 @@ static int is_refused(void)
     return asked == refused;
 }
 
-/* Puts a block in the place of another in the list. Null stands for none. */
+/* Puts a block in the place of another in the list. Null means none. */
 static void *replaced(void *old, void *block, size_t length)
 {
     for (int i = 0; i < MOST; i++) {

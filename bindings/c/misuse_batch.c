@@ -1,6 +1,6 @@
 /*
  * What each call of a batch queue answers to a caller that is wrong, or that has to be refused, a row each; and that a
- * refusal changes nothing but what it tells.
+ * refusal changes nothing but what it reports.
  */
 #include "rows.h"
 #include "synthesis.h"

@@ -208,7 +208,7 @@ static void not_held(void)
     ROW(places.pc[0], 1);
 }
 
-/* Processors: which hand serves them, and what stands there. */
+/* Processors: which hand serves them, and what is on them. */
 static void processors(void)
 {
     struct synth_hand hand = SYNTH_HAND_INIT, other = SYNTH_HAND_INIT, third = SYNTH_HAND_INIT;
@@ -249,7 +249,7 @@ static void processors(void)
     ROW(synth_hand_pc(&other, 0, &steps), SYNTH_NOT_HELD);
     ROW(synth_hand_split(&hand, 1u << 1, &third), SYNTH_OK);
 
-    /* A join brings what stands on the processors. */
+    /* A join brings what is on the processors. */
     ROW(synth_hand_join(&other, &hand), SYNTH_OK);
     ROW(synth_hand_join(&other, &third), SYNTH_OK);
     ROW(synth_hand_on(&other, 7, 1), SYNTH_OK);
@@ -298,7 +298,7 @@ static void queues_in_order(void)
     is_at(0, SYNTH_PLACE_READY, 0);
 }
 
-/* The last positions: SPENT is told ahead of MOVED. */
+/* The last positions: SPENT is reported ahead of MOVED. */
 static void spent_positions(void)
 {
     struct synth_hand hand = SYNTH_HAND_INIT;
@@ -344,7 +344,7 @@ static void waits(void)
     ROW(synth_hand_ticket(&hand, 2, &ticket), SYNTH_OK);
     ROW(ticket, 1);
 
-    /* The notify's two are woken; the one that came behind it waits. */
+    /* The notify's two are woken; the one that came after it waits. */
     taken(synth_hand_try_wake_before(&hand, 2, head, &element, &tail), SYNTH_OK);
     ROW(element, 0);
     taken(synth_hand_try_wake_before(&hand, 2, head, &element, &tail), SYNTH_OK);

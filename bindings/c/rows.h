@@ -1,5 +1,5 @@
 /*
- * Rows of a test: each compares one answer with the one that it has to be. A row that differs is told on standard
+ * Rows of a test: each compares one answer with the one that it has to be. A row that differs is reported on standard
  * error, and the status that `rows_end` gives is then 1.
  */
 #ifndef ROWS_H

@@ -88,7 +88,7 @@ static synth_code put_wait(struct synth_queue *end, uint64_t item, int64_t limit
     return code;
 }
 
-/* Some threads don't wait for good, but for 50 microseconds at a time. */
+/* Some threads don't wait for good: they wait 50 microseconds at a time. */
 static int64_t limit_of(int number)
 {
     return number % 3 == 2 ? 50000 : SYNTH_EVENT_NO_LIMIT;
@@ -268,7 +268,7 @@ static void pass_turns(void)
     faults += (changes != rounds) + atomic_load(&turns.waiters);
 }
 
-/* Threads that wait for no condition, but for a notify. */
+/* Threads that wait for a notify, and for no condition. */
 enum { WAITERS = 8 };
 static synth_event bell = SYNTH_EVENT_INIT;
 static synth_event_word announced;

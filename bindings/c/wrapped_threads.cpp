@@ -50,7 +50,7 @@ void must(Code code, const char *what)
     }
 }
 
-/* The third thread of each kind doesn't wait for good, but for 50 microseconds at a time. */
+/* The third thread of each kind doesn't wait for good: it waits 50 microseconds at a time. */
 synthesis::Limit limit_of(std::size_t number)
 {
     return number % 3 == 2 ? synthesis::Limit(50us) : synthesis::Limit();

@@ -89,7 +89,7 @@
 #define SYNTH_VERSION_PATCH 0 /**< changes with what is mended */
 
 /**
- * Stands before each call that may be refused though its caller made no mistake: the compiler warns if its code isn't
+ * Is before each call that may be refused though its caller made no mistake: the compiler warns if its code isn't
  * used. Define it as nothing, before this header is included, to go without.
  */
 #ifndef SYNTH_MUST_USE
@@ -506,7 +506,7 @@ SYNTH_CALL_ synth_code synth_queue_free(struct synth_queue *queue);
 
 /**
  * @defgroup chain Chains of deferred procedures
- * A note, a number of 16 bits, stands for a procedure and what it is to work on; which one is the program's. Any handle
+ * A note, a number of 16 bits, means a procedure and what it is to work on; which one is the program's. Any handle
  * may chain notes, also one of a signal handler or of a time-critical thread: it never waits. One handle at a time runs
  * notes, in the order in which they were chained: the one whose note found nobody running. So what the procedures work
  * on needs no lock (Massalin and Pu, 1991).
@@ -687,7 +687,7 @@ SYNTH_CALL_ synth_code synth_seat_clock(const struct synth_seat *seat, uint32_t 
 
 /**
  * Takes this alarm out of this slot, by one step. `cancelled` becomes true if it was there; else it was fired or
- * cancelled before, or never was there. Two alarms that are equal can't be told apart.
+ * cancelled before, or never was there. Two alarms that are equal can't be distinguished.
  * @return SYNTH_EMPTY_HANDLE; SYNTH_BAD_NUMBER: the slot, or of the alarm.
  */
 SYNTH_CALL_ synth_code synth_seat_cancel(struct synth_seat *SYNTH_RESTRICT_ seat, uint32_t slot,

@@ -10,7 +10,7 @@
 #include <stdlib.h>
 #include <time.h>
 
-/* A variable that stands in a cache line of its own, and in the neighbour that is fetched with it. */
+/* A variable that is in a cache line of its own, and in the neighbour that is fetched with it. */
 #define APART __attribute__((aligned(128)))
 
 static void must(bool good, const char *what)

@@ -8,22 +8,22 @@
  * length of a line, and the nanoseconds an item. The courses are
  *
  *     alone               one thread puts a line and takes it again
- *     pair-short, -long   a thread puts lines and another takes them; the words tell how a thread waits
+ *     pair-short, -long   a thread puts lines and another takes them; the words say how a thread waits
  *     two-short, -long    two threads put, each a half, and two others take
- *     lone-short, -long   a thread puts an item now and then, and another takes it. In the place of the length stand the
+ *     lone-short, -long   a thread puts an item now and then, and another takes it. In the place of the length are the
  *                         microseconds from one put to the next, and the figure is the median of the nanoseconds from
  *                         before a put till after the taking
  *
- * In the rows of the course `vain` stand the tries in vain of the taker for each line, where a thread puts lines, another
- * takes them, and waits are long.
+ * The rows of the course `vain` have the failed tries of the taker for each line, as a thread puts lines, another takes
+ * them, and waits are long.
  *
  * Of each two cores the first is a thread's that puts, and the second one's that takes. All but the first course need
- * two cores, and that of two threads on either side needs four. The row `handoff` tells how many nanoseconds a word
- * takes from one core to the other. The row `away` tells for how many per cent of the time of threads that met other
+ * two cores, and that of two threads on either side needs four. The row `handoff` has how many nanoseconds a word
+ * takes from one core to the other. The row `away` has for how many per cent of the time of threads that met other
  * threads had their cores. A program whose threads may sleep defines SLEEPS, and has no such row.
  *
  * Each item that is taken is compared with the one that has to come. Where two threads put, the items of each have to
- * come in their order, and all items add up. The queue has to be empty behind the last item. Status 1: an item was lost,
+ * come in their order, and all items add up. The queue has to be empty after the last item. Status 1: an item was lost,
  * came twice or came out of order, or there was no memory, thread or core.
  */
 #ifndef MEASURE_H
@@ -38,7 +38,7 @@ enum { PLACES = 256, MOST = 64, MOST_ENDS = 2, MOST_CORES = 2 * MOST_ENDS, LONES
 /* The longest of the short waits is of 2 to the power of LONGEST_SHORT pauses. */
 enum { LONGEST_SHORT = 6 };
 
-/* So many tries in vain are followed by a long wait. */
+/* So many failed tries are followed by a long wait. */
 enum { LONG_WAITS = 8 };
 
 /* A long wait, in nanoseconds. The variable SYNTHESIS_WAIT of the environment has another number. */
@@ -48,7 +48,7 @@ static const uint64_t END_OF_LINE = 10;
 
 enum course { ALONE, PAIR, TWO, LONE };
 
-/* How a thread waits after a try in vain, and before the next one. */
+/* How a thread waits after a failed try, and before the next one. */
 enum waits { SHORT, LONG };
 
 /*
@@ -64,8 +64,8 @@ static size_t put_some(unsigned end, const uint64_t *items, size_t count);
 static size_t take_some(unsigned end, uint64_t *items, size_t most);
 
 /*
- * Waits after a try in vain, of which there were so many before. Short waits are of 1, 2, 4 and so on to 64 pauses,
- * as those of crossbeam's `Backoff`; long ones are of two microseconds, eight times. Behind them each wait is as long
+ * Waits after a failed try, of which there were so many before. Short waits are of 1, 2, 4 and so on to 64 pauses,
+ * as those of crossbeam's `Backoff`; long ones are of two microseconds, eight times. After them each wait is as long
  * as others want the core.
  */
 static void wait_a_little(enum waits waits, unsigned *tries)
@@ -102,7 +102,7 @@ static uint64_t mask_of(size_t length)
     return length == 1 ? UINT64_MAX : length - 1;
 }
 
-/* The item of this number: 11 and above, each once, but 10 at the end of a line, by which a line can be told. */
+/* The item of this number: 11 and above, each once, but 10 at the end of a line, by which a line can be recognised. */
 static uint64_t item_of(uint64_t number, uint64_t mask)
 {
     return (number & mask) == mask ? END_OF_LINE : number + END_OF_LINE + 1;
@@ -137,7 +137,7 @@ static uint64_t difference(const uint64_t *taken, size_t count, uint64_t first, 
     return bits;
 }
 
-/* The tries in vain to take, of this thread. */
+/* The failed tries to take, of this thread. */
 static __thread uint64_t vain;
 
 static void put_line(unsigned end, enum waits waits, const uint64_t *line, size_t length)
@@ -190,7 +190,7 @@ static uint64_t time_alone(uint64_t items, size_t length)
     return ended - begun;
 }
 
-/* What a thread works with, and what it tells. Bits that are not 0 tell of an item that had not to come. */
+/* What a thread works with, and what it reports. Bits that are not 0 mean an item that had not to come. */
 struct job {
     void (*work)(struct job *);
     unsigned end;
@@ -299,7 +299,7 @@ static uint64_t time_jobs(struct job *jobs, unsigned count)
     return ended - begun;
 }
 
-/* The tries in vain of the last thread that took what one thread put. */
+/* The failed tries of the last thread that took what one thread put. */
 static uint64_t last_vain;
 
 static uint64_t time_pair(enum waits waits, uint64_t items, size_t length, const int *cores)

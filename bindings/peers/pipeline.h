@@ -10,7 +10,7 @@
  * are given, go round. Each ring has room for all of them. Up to 32 at once are taken, and what was taken at once is
  * put at once.
  *
- * A try in vain is followed by waits, and then by a sleep till something is put: by the event count of
+ * A failed try is followed by waits, and then by a sleep till something is put: by the event count of
  * synthesis_event.h, if the program has no sleep of its own. With short waits these are 1, 2, 4 and so on to 64 pauses;
  * with long ones eight times two microseconds.
  *
@@ -71,7 +71,7 @@ struct packet {
 } __attribute__((aligned(64)));
 
 /*
- * What a thread works with, and what it tells. Bits that are not 0 tell of a packet that is not as it has to be. A
+ * What a thread works with, and what it reports. Bits that are not 0 mean a packet that is not as it has to be. A
  * receiver has spare buffers at its end, if it took more of them than packets were left to receive.
  */
 struct job {
@@ -94,7 +94,7 @@ static uint64_t *sent;
 static enum waits waits;
 static uint64_t long_wait = 2000;
 
-/* Waits after a try in vain, of which there were so many before. False: it is time to sleep. */
+/* Waits after a failed try, of which there were so many before. False: it is time to sleep. */
 static bool wait_a_little(unsigned tries)
 {
     if (tries > (waits == SHORT ? LONGEST_SHORT : LONG_WAITS - 1)) {

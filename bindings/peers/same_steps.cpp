@@ -2,7 +2,7 @@
  * The steps of the claim queue in C++, one by one and on words that lie as its words do, with no handle and no proof:
  * what these steps cost where nothing is added to them. Each is sequentially consistent, as the queue's are. With WEAKER
  * the words of the data are stored and loaded relaxed, flags are stored by release, and all else is loaded by acquire,
- * which is as much as the algorithm needs. With TOGETHER head and tail are neighbours, and all flags lie behind all data:
+ * which is as much as the algorithm needs. With TOGETHER head and tail are neighbours, and all flags are after all data:
  * what it would cost not to have head, tail and places in cache lines of their own.
  */
 #include "measure.h"
@@ -66,7 +66,7 @@ public:
     }
 
 private:
-    /* What the queue loads to tell why nothing was taken: the head, which may be shut, and the tail again. */
+    /* What the queue loads to report why nothing was taken: the head, which may be shut, and the tail again. */
     size_t refused(uint64_t tail)
     {
         must(words[HEAD].load(LOAD) != SHUT + tail, "the queue was shut");

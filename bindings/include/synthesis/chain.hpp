@@ -21,7 +21,7 @@ struct [[nodiscard]] ChainAnswer {
 /// What a chain had at its end: how many notes were chained, and handed out.
 using ChainTotals = synth_chain_totals;
 
-/// An end of a chain of 32 places. A note of 16 bits stands for a procedure and what it works on.
+/// An end of a chain of 32 places. A note of 16 bits means a procedure and what it works on.
 ///
 /// Any end may chain notes. One end at a time runs them, in the order in which they were chained, so no two procedures
 /// of a chain run at once. An end is used by one thread at a time; `split` makes one for another thread. What a thread

@@ -47,8 +47,8 @@ template <class T> struct [[nodiscard]] StateAnswer {
 /// What a start did.
 enum class Started : std::uint32_t {
     NotStopped = SYNTH_START_NOT_STOPPED, ///< nothing: the stop bit was clear
-    Cleared = SYNTH_START_CLEARED,        ///< the stop bit was cleared; the element didn't stand in its stop cell
-    Held = SYNTH_START_HELD               ///< the stop bit was cleared; the hand holds the element, which stood there
+    Cleared = SYNTH_START_CLEARED,        ///< the stop bit was cleared; the element wasn't in its stop cell
+    Held = SYNTH_START_HELD               ///< the stop bit was cleared; the hand holds the element, which was there
 };
 
 /// The kinds of places.
@@ -293,7 +293,7 @@ public:
         return detail::state_answer(code, static_cast<Started>(started), found);
     }
 
-    /// One try to put an element into its stop cell, if its stop bit is set. The value is whether it stands there.
+    /// One try to put an element into its stop cell, if its stop bit is set. The value is whether it is there.
     /// EmptyHandle; BadNumber; NotHeld; Lost.
     StateAnswer<bool> try_park(std::uint32_t element) noexcept
     {

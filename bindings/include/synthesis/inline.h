@@ -1,6 +1,6 @@
 /*
  * The calls of synthesis.h, over the proved ones of raw.h. They pass on what they are given, write the answers for
- * which there are pointers, and tell ThreadSanitizer of the order of memory. Include synthesis.h.
+ * which there are pointers, and declare the order of memory to ThreadSanitizer. Include synthesis.h.
  */
 #ifndef SYNTHESIS_INLINE_H
 #define SYNTHESIS_INLINE_H

@@ -117,7 +117,7 @@ public:
         return detail::value_of(code, clock);
     }
 
-    /// Takes this alarm out of this slot. The value is whether it stood there. EmptyHandle; BadNumber.
+    /// Takes this alarm out of this slot. The value is whether it was there. EmptyHandle; BadNumber.
     Expected<bool> cancel(std::uint32_t slot, const Alarm &alarm) noexcept
     {
         bool cancelled = false;

@@ -381,8 +381,8 @@ impl BatchEnd {
         self.capacity
     }
 
-    /// Shuts the queue for puts, for good; what was put can still be taken. True if it was open, which one end alone is
-    /// ever told.
+    /// Shuts the queue for puts, for good; what was put can still be taken. True if it was open, which
+    /// one end alone ever observes.
     ///
     /// ```
     /// # use synthesis_kernel::batch::{BatchEnd, PutError, TakeError};

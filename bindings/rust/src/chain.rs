@@ -6,7 +6,7 @@ use crate::words::says;
 use std::iter::FusedIterator;
 use std::{hint, mem};
 
-/// An end of a chain. A note, a number of 16 bits, stands for a procedure; which one is the program's. Any end may
+/// An end of a chain. A note, a number of 16 bits, means a procedure; which one is the program's. Any end may
 /// chain notes, and never waits. One end at a time runs them, in the order in which they were chained: the one whose
 /// note found nobody running gets a [`Turn`]. So what the procedures work on needs no lock (Massalin and Pu, 1991).
 ///

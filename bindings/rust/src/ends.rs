@@ -1,6 +1,6 @@
 //! The ends of an object: how they are made, split, joined and closed, and what a dropped one leaves.
 //!
-//! An object is made with one handle that has the whole of it. That handle stays with the object, behind a lock, and
+//! An object is made with one handle that has the whole of it. That handle stays with the object, under a lock, and
 //! each end gets a share of it. A dropped end gives its share back there, so the last end can always close the object.
 //! Only new, split, close, a drop and a call that takes over what dropped ends had take the lock.
 

@@ -22,7 +22,7 @@ use crate::words::says;
 ///
 /// Each element is in exactly one place: on a processor, in the ready ring, among the free elements, in a wait queue,
 /// in its stop cell, or held by a hand. What a hand holds, and what it has put on its processors, no other hand can
-/// move. The table runs nothing: what an element stands for, and its steps, are its caller's.
+/// move. The table runs nothing: what an element means, and its steps, are its caller's.
 ///
 /// A dropped hand gives its share back, so the last hand can always close the table. What it held and served is
 /// nobody's then, until another hand calls [`take_over`](Hand::take_over).

@@ -46,7 +46,7 @@ pub struct Alarm {
     pub due: u32,
     /// Whom it is for.
     pub element: Element,
-    /// What it tells.
+    /// The signal that it sends.
     pub signal: Signal,
 }
 
@@ -108,9 +108,9 @@ impl Alarm {
         raw::Alarm { due: self.due, element: self.element.raw(), signal: self.signal.raw() }
     }
 
-    /// The alarm that a call of the library told.
-    fn told(alarm: raw::Alarm) -> Alarm {
-        Alarm { due: alarm.due, element: Element::told(alarm.element), signal: Signal::told(alarm.signal) }
+    /// The alarm that a call of the library reported.
+    fn from_raw(alarm: raw::Alarm) -> Alarm {
+        Alarm { due: alarm.due, element: Element::from_raw(alarm.element), signal: Signal::from_raw(alarm.signal) }
     }
 }
 
@@ -123,7 +123,7 @@ impl Slot {
 }
 
 impl MeterSeat {
-    /// Gauges at 0, the clock as told, no alarm, and the only end.
+    /// Gauges at 0, the clock as given, no alarm, and the only end.
     pub fn new(clock: u32) -> Result<MeterSeat, OutOfMemory> {
         let first = made(|handle| raw::synth_raw_seat_new(clock, handle))?;
         Ok(MeterSeat { share: Share::new(first)? })
@@ -236,7 +236,7 @@ impl MeterSeat {
     }
 
     /// Takes this alarm out of this slot, by one step. Returns true if it was there; otherwise it was fired or
-    /// cancelled before, or never was there. Two alarms that are equal can't be told apart.
+    /// cancelled before, or never was there. Two alarms that are equal can't be distinguished.
     ///
     /// ```
     /// # use synthesis_kernel::meters::{Alarm, MeterSeat};
@@ -276,7 +276,7 @@ impl MeterSeat {
         let code =
             unsafe { raw::synth_raw_seat_due(self.share.handle(), alarms.as_mut_ptr(), alarms.len(), &mut count) };
         match code {
-            raw::OK => alarms.into_iter().take(count).map(Alarm::told),
+            raw::OK => alarms.into_iter().take(count).map(Alarm::from_raw),
             code => raw::no_such_answer(code),
         }
     }
@@ -303,7 +303,7 @@ impl MeterSeat {
         Ok(Closed {
             gauges: numbers.gauges,
             clock: numbers.clock,
-            alarms: alarms.iter().copied().map(Alarm::told).collect(),
+            alarms: alarms.iter().copied().map(Alarm::from_raw).collect(),
         })
     }
 }

@@ -173,11 +173,11 @@ impl fmt::Debug for Processors {
 }
 
 /// The types whose numbers the library returns.
-macro_rules! told {
+macro_rules! from_raw {
     ($($name:ident),+) => {$(
         impl $name {
             /// The one that a call of the library returned.
-            pub(crate) fn told(number: u32) -> $name {
+            pub(crate) fn from_raw(number: u32) -> $name {
                 let value = u8::try_from(number).ok().and_then($name::new);
                 value.unwrap_or_else(|| unreachable!(concat!("the library answered {} ", stringify!($name)), number))
             }
@@ -185,4 +185,4 @@ macro_rules! told {
     )+};
 }
 
-told!(Element, Processor, Signal, WaitNumber);
+from_raw!(Element, Processor, Signal, WaitNumber);

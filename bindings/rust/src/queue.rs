@@ -243,7 +243,7 @@ impl<const N: usize> QueueEnd<N> {
         Ok(count)
     }
 
-    /// One try to take a line: the items up to and with the first 10, or N raised items without one. They stand at
+    /// One try to take a line: the items up to and with the first 10, or N raised items without one. They are at
     /// the front of `line`, and their number is the answer. All of them come by one taking, so no other end's item
     /// lies between them.
     ///

@@ -17,7 +17,7 @@ macro_rules! handles {
             full: bool,
         }
 
-        // SAFETY: the library proves of what a handle stands for that another thread may go on with it.
+        // SAFETY: the library proves of what a handle means that another thread may go on with it.
         unsafe impl Send for $name {}
 
         // SAFETY: no two calls may use one handle at once. Each call of the library takes it by `&mut`, so threads that

@@ -11,7 +11,7 @@ const TAKERS: u64 = 3;
 const ITEMS: u64 = 100_000;
 const WAITERS: u32 = 8;
 
-/// Some threads don't wait for good, but for 50 microseconds at a time.
+/// Some threads don't wait for good: they wait 50 microseconds at a time.
 fn limit_of(number: u64) -> Option<Duration> {
     (number % 3 == 2).then_some(Duration::from_micros(50))
 }
@@ -86,7 +86,7 @@ fn two_threads_take_turns() {
     assert_eq!(turn.load(SeqCst), ROUNDS);
 }
 
-/// Lets threads wait for no condition, but for a notify, and wakes them.
+/// Lets threads wait for a notify, and for no condition, and wakes them.
 fn ring(wake: impl FnOnce(&Event)) {
     let (event, announced) = (&Event::new(), &AtomicU32::new(0));
     thread::scope(|scope| {

@@ -1,5 +1,5 @@
 //! A model of the event, over all schedules of a few threads. A step of the model is one atomic step of the event: what
-//! it does under its lock, a load, a look, or a put. A model that is at fault is found, as one without a second look.
+//! it does under its lock, a load, a look, or a put. A model with a fault is found, as one without a second look.
 
 use std::collections::HashSet;
 
@@ -25,7 +25,7 @@ enum At {
     End,
 }
 
-/// What can be at fault.
+/// The faults that a model can have.
 #[derive(Clone, Copy, PartialEq, Eq)]
 enum Fault {
     None,
@@ -230,7 +230,7 @@ impl State {
         let asleep = |thread: &Thread| thread.at == At::Asleep && !thread.woken;
         let sleepers: Vec<_> = (0..self.threads.len()).filter(|j| asleep(&self.threads[*j])).collect();
         if sleepers.is_empty() || fault == Fault::WakesOutsideTheLock {
-            // At fault: the wake-up comes later, and finds another sleeper or none.
+            // A fault: the wake-up comes later, and finds another sleeper or none.
             return vec![self];
         }
         let woken = |j: usize| {

@@ -285,11 +285,11 @@ fn errors_say_why() {
         (Box::new(OffError::Vacant), "no element is on the processor"),
         (Box::new(NotHeldError), "the hand neither holds the element nor has it on a processor"),
         (Box::new(StepError::Spent), "the element's steps are spent"),
-        (Box::new(TakeError::Empty), "nothing raised at the tail"),
-        (Box::new(TakeError::Lost { tail: 6 }), "lost, tail 6"),
+        (Box::new(TakeError::Empty), "nothing is raised at the tail"),
+        (Box::new(TakeError::Lost { tail: 6 }), "another hand moved the tail to 6"),
         (Box::new(MoveError::Spent), "the queue's positions are spent"),
         (Box::new(MoveError::Moved { notifies: 2 }), "the number of notifies is 2"),
-        (Box::new(MoveError::Lost { head: 3, notifies: 1 }), "lost, head 3, notifies 1"),
+        (Box::new(MoveError::Lost { head: 3, notifies: 1 }), "another hand moved the head to 3, notifies 1"),
         (Box::new(StateError::NotHeld), "the hand doesn't hold the element"),
     ];
     for (error, words) in errors {

@@ -33,7 +33,7 @@ module _ {A : Type 0} where
 -- the numbers of a queue
 counts_said : {n : ℕ} (q : closed.Queue) (its : ClosedQueue n) → ShowsQueue q its → lines.Counts q (item_counts (Some its))
 counts_said q its s = let t = length-take q.taken q.items in let d = length-drop q.taken q.items in
-    let put = s.put in let taken = s.taken in let following = s.following in let left = s.left in
+    let put = s.put in let taken = s.taken in let following = s.taken_within in let left = s.left in
     record { put = put; taken = omega arith; left = omega arith }
 
 pub counts_are : {n : ℕ} (queues : List closed.Queue) (numbers : List (ClosedQueue n)) → ShowsQueues queues numbers

@@ -1,5 +1,5 @@
 //! Boots with gates, of each number of turns, with streams that are handed over, and with refused allocations. The
-//! built program boots more scripts, of all kinds, in `tools/test-boots` and `tools/test-program`.
+//! built program boots more scripts, of all kinds, in `tools/test-programs`.
 
 mod gates;
 mod kinds;

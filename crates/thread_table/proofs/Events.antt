@@ -14,7 +14,7 @@ pub mod Rooms
 pub mod Saying
 pub mod SingleRuns
 pub mod StatesSeen
+pub mod Steps
 pub mod Takes
-pub mod StepShows
 pub mod Threads
 pub mod Waking

@@ -31,7 +31,7 @@ const LONGEST_SHORT: u32 = 6;
 /// A long wait, in nanoseconds.
 const LONG_WAIT: u64 = 2000;
 
-/// So many tries in vain are followed by a long wait.
+/// So many failed tries are followed by a long wait.
 const LONG_WAITS: u32 = 8;
 
 /// So many items are put one at a time, now and then.
@@ -51,11 +51,11 @@ pub trait Puts: Send {
 
 /// What takes out of it.
 pub trait Takes: Send {
-    /// One try to take a line. Gives how many items were taken, `most` or fewer, which stand at the front.
+    /// One try to take a line. Gives how many items were taken, `most` or fewer, which are at the front.
     fn take_some(&mut self, items: &mut [u64; PLACES], most: usize) -> usize;
 }
 
-/// An end that stands in a cache line of its own, and in the neighbour that is fetched with it.
+/// An end that is in a cache line of its own, and in the neighbour that is fetched with it.
 #[repr(align(128))]
 struct Apart<T>(T);
 
@@ -65,7 +65,7 @@ struct Ends<P, T> {
     taker: Apart<T>,
 }
 
-/// How a thread waits after a try in vain, and before the next one.
+/// How a thread waits after a failed try, and before the next one.
 #[derive(Clone, Copy)]
 enum Waits {
     Short,
@@ -81,7 +81,7 @@ struct Course<'a> {
     cores: &'a [usize],
 }
 
-/// What a thread tells at its end. Bits that are not 0 tell of an item that had not to come.
+/// What a thread reports at its end. Bits that are not 0 mean an item that had not to come.
 #[derive(Clone, Copy)]
 struct Told {
     begun: u64,
@@ -90,7 +90,7 @@ struct Told {
     sum: u64,
 }
 
-/// Ends the program where a queue is at fault.
+/// Ends the program if a queue has a fault.
 pub fn must(good: bool, what: &str) {
     if !good {
         eprintln!("{what}");
@@ -105,7 +105,7 @@ fn wait_till(time: u64) {
 }
 
 impl Waits {
-    /// Waits after a try in vain, of which there were so many before.
+    /// Waits after a failed try, of which there were so many before.
     fn wait_a_little(self, tries: &mut u32) {
         match self {
             Waits::Short if *tries <= LONGEST_SHORT => (0..1 << *tries).for_each(|_| hint::spin_loop()),

@@ -32,7 +32,7 @@ says!(MoveError {
     MoveError::NotHeld => "the hand doesn't hold the element",
     MoveError::Spent => "the queue's positions are spent",
     MoveError::Moved { notifies } => "the number of notifies is {notifies}",
-    MoveError::Lost { head, notifies } => "lost, head {head}, notifies {notifies}",
+    MoveError::Lost { head, notifies } => "another hand moved the head to {head}, notifies {notifies}",
 });
 
 /// What a move answers.
@@ -63,7 +63,7 @@ impl Hand {
         moved(raw::synth_raw_hand_try_ready(&mut self.share.handle().0, element.raw()))
     }
 
-    /// One try to put an element that the hand holds behind the free elements.
+    /// One try to put an element that the hand holds after the free elements.
     ///
     /// ```
     /// # use synthesis_kernel::Hand;

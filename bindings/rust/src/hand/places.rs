@@ -36,16 +36,16 @@ pub struct Places {
 }
 
 impl Place {
-    /// The place that a call of the library told.
-    fn told(place: raw::Place) -> Place {
+    /// The place that a call of the library reported.
+    fn from_raw(place: raw::Place) -> Place {
         match place.kind {
-            raw::PLACE_PROCESSOR => Place::Processor(Processor::told(place.number)),
+            raw::PLACE_PROCESSOR => Place::Processor(Processor::from_raw(place.number)),
             raw::PLACE_READY => Place::Ready,
             raw::PLACE_FREE => Place::Free,
-            raw::PLACE_WAIT => Place::Wait(WaitNumber::told(place.number)),
+            raw::PLACE_WAIT => Place::Wait(WaitNumber::from_raw(place.number)),
             raw::PLACE_STOPPED => Place::Stopped,
             raw::PLACE_HELD => Place::Held,
-            kind => unreachable!("the library told a place of kind {kind}"),
+            kind => unreachable!("the library returned a place of kind {kind}"),
         }
     }
 }
@@ -70,6 +70,6 @@ impl Hand {
             code => raw::no_such_answer(code),
         }
         let raw::Places { place, pc, pending, stops } = found;
-        Ok(Places { places: place.map(Place::told), pcs: pc, pending, stops })
+        Ok(Places { places: place.map(Place::from_raw), pcs: pc, pending, stops })
     }
 }

@@ -78,7 +78,7 @@ impl Hand {
     pub fn on_processor(&mut self, processor: Processor) -> Option<Element> {
         let mut element = 0;
         match raw::synth_raw_hand_on_processor(&mut self.share.handle().0, processor.raw(), &mut element) {
-            raw::OK => Some(Element::told(element)),
+            raw::OK => Some(Element::from_raw(element)),
             raw::VACANT => None,
             code => raw::no_such_answer(code),
         }
@@ -122,7 +122,7 @@ impl Hand {
     pub fn off(&mut self, processor: Processor) -> Result<Element, OffError> {
         let mut element = 0;
         match raw::synth_raw_hand_off(&mut self.share.handle().0, processor.raw(), &mut element) {
-            raw::OK => Ok(Element::told(element)),
+            raw::OK => Ok(Element::from_raw(element)),
             raw::NOT_SERVED => Err(OffError::NotServed),
             raw::VACANT => Err(OffError::Vacant),
             code => raw::no_such_answer(code),

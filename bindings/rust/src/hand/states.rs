@@ -57,12 +57,12 @@ pub enum Signalled {
 }
 
 says!(StartError {
-    StartError::Lost { found: StateWord { word } } => "lost, state {word}",
+    StartError::Lost { found: StateWord { word } } => "another hand changed the state word to {word}",
 });
 
 says!(StateError {
     StateError::NotHeld => "the hand doesn't hold the element",
-    StateError::Lost { found: StateWord { word } } => "lost, state {word}",
+    StateError::Lost { found: StateWord { word } } => "another hand changed the state word to {word}",
 });
 
 impl StateWord {
@@ -194,7 +194,7 @@ impl Hand {
     pub fn pending(&mut self, element: Element) -> u16 {
         let mut signals = 0;
         match raw::synth_raw_hand_pending(&mut self.share.handle().0, element.raw(), &mut signals) {
-            raw::OK => u16::try_from(signals).unwrap_or_else(|_| unreachable!("the library told signals {signals}")),
+            raw::OK => u16::try_from(signals).unwrap_or_else(|_| unreachable!("the library returned signals {signals}")),
             code => raw::no_such_answer(code),
         }
     }
@@ -204,7 +204,7 @@ impl Hand {
     pub fn try_deliver(&mut self, element: Element) -> Result<u16, StateError> {
         let mut signals = 0;
         tried(raw::synth_raw_hand_try_deliver(&mut self.share.handle().0, element.raw(), &mut signals))?;
-        Ok(u16::try_from(signals).unwrap_or_else(|_| unreachable!("the library told signals {signals}")))
+        Ok(u16::try_from(signals).unwrap_or_else(|_| unreachable!("the library returned signals {signals}")))
     }
 }
 
@@ -213,12 +213,12 @@ mod tests {
     use super::*;
 
     #[test]
-    fn a_state_that_was_found_is_told() {
+    fn a_state_that_was_found_is_reported() {
         let states = [0, 1 << 15 | 1, 1 << 16, 1 << 17 | 1 << 16 | 3].map(|word| StateWord { word });
         assert_eq!(states.map(StateWord::pending), [0, 1 << 15 | 1, 0, 3]);
         assert_eq!(states.map(StateWord::is_stopping), [false, false, true, true]);
         assert_eq!(states.map(StateWord::is_parked), [false, false, false, true]);
-        assert_eq!(StartError::Lost { found: states[2] }.to_string(), "lost, state 65536");
-        assert_eq!(StateError::Lost { found: states[1] }.to_string(), "lost, state 32769");
+        assert_eq!(StartError::Lost { found: states[2] }.to_string(), "another hand changed the state word to 65536");
+        assert_eq!(StateError::Lost { found: states[1] }.to_string(), "another hand changed the state word to 32769");
     }
 }

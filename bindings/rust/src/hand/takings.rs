@@ -19,14 +19,14 @@ pub enum TakeError {
 }
 
 says!(TakeError {
-    TakeError::Empty => "nothing raised at the tail",
-    TakeError::Lost { tail } => "lost, tail {tail}",
+    TakeError::Empty => "nothing is raised at the tail",
+    TakeError::Lost { tail } => "another hand moved the tail to {tail}",
 });
 
 /// What a try to take this element answers.
 fn taken(answer: raw::Answer, element: u32) -> Result<Element, TakeError> {
     match answer.code {
-        raw::OK => Ok(Element::told(element)),
+        raw::OK => Ok(Element::from_raw(element)),
         raw::EMPTY => Err(TakeError::Empty),
         raw::LOST => Err(TakeError::Lost { tail: answer.tail }),
         code => raw::no_such_answer(code),

@@ -173,9 +173,9 @@ fn a_byte_that_is_not_ascii_is_reported_in_its_line(rt: HostRuntime) {
 }
 
 /// If an allocation is refused, a valid script is refused only as out of memory, and the fault of an invalid one is
-/// still reported. `tools/refused-memory-tests` refuses an allocation of this test.
+/// still reported. `tools/refused/memory tests` refuses an allocation of this test.
 #[test]
-fn boot_memory_may_be_short(rt: HostRuntime) {
+fn boot_memory_may_run_out(rt: HostRuntime) {
     let sound = SWITCH;
     let faulty = b"synthesis 1\nqueue q\nthread a\nsay q x\nhear r\n";
     let mut read = false;

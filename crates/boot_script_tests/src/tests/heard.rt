@@ -115,10 +115,10 @@ fn two_lines(alloc: Global) -> Option<HeardReport> {
     report_in(names.ok()?, processors.ok()?, alloc, &[(1, 0), (0, 0)])
 }
 
-/// If an allocation is refused, there are no lines, and the next try has them. `tools/refused-memory-tests` refuses
+/// If an allocation is refused, there are no lines, and the next try has them. `tools/refused/memory tests` refuses
 /// each allocation of this test.
 #[test]
-fn heard_memory_may_be_short(rt: HostRuntime) {
+fn heard_memory_may_run_out(rt: HostRuntime) {
     let mut made = false;
     for _ in 0..3u8 {
         match HeardLines::with_room(rt.alloc(), 1, 2) {

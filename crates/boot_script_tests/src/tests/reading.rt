@@ -140,7 +140,7 @@ fn each_word_says_its_event(rt: HostRuntime) {
 /// If an allocation is refused, the next try is not affected. A fault of the text is reported whether there is memory
 /// or not.
 ///
-/// `tools/refused-memory-tests` refuses an allocation of this test, and `tools/refused-memory` each one of the
+/// `tools/refused/memory tests` refuses an allocation of this test, and its word `programs` each one of the
 /// built program, in lists with and without a fault.
 #[test]
 fn memory_may_run_out(rt: HostRuntime) {

@@ -480,7 +480,7 @@ fn memory_may_run_out(rt: HostRuntime) {
     assert!(rt; made);
 }
 
-const TAKINGS_TOLD: &[(NextRefusal, &str)] = &[
+const TAKING_MESSAGES: &[(NextRefusal, &str)] = &[
     (NextRefusal::NoneReady, "nothing is raised at the tail"),
     (
         NextRefusal::Lost { seen: 5 },
@@ -488,7 +488,7 @@ const TAKINGS_TOLD: &[(NextRefusal, &str)] = &[
     ),
 ];
 
-const MOVES_TOLD: &[(MoveRefusal, &str)] = &[
+const MOVE_MESSAGES: &[(MoveRefusal, &str)] = &[
     (MoveRefusal::Spent, "the queue's positions are spent"),
     (
         MoveRefusal::Lost {
@@ -506,10 +506,10 @@ const MOVES_TOLD: &[(MoveRefusal, &str)] = &[
 #[test]
 fn refusals_are_reported(rt: HostRuntime) {
     let alloc = rt.alloc();
-    for (refusal, words) in TAKINGS_TOLD {
+    for (refusal, words) in TAKING_MESSAGES {
         assert!(rt; is_reported(alloc, *refusal, words));
     }
-    for (refusal, words) in MOVES_TOLD {
+    for (refusal, words) in MOVE_MESSAGES {
         assert!(rt; is_reported(alloc, *refusal, words));
     }
     let lost = Lost { seen: 65_536 };

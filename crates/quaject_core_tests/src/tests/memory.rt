@@ -1,4 +1,4 @@
-//! Cores when an allocation is refused. `tools/refused-memory-tests` refuses each allocation in turn, one in a run of a
+//! Cores when an allocation is refused. `tools/refused/memory tests` refuses each allocation in turn, one in a run of a
 //! test, so a second try always has memory.
 ghost use Rattle.std.specs.Prelude.{◌≤◌};
 
@@ -192,7 +192,7 @@ fn assert_new<R: Abort>(rt: &R, core: &Core, elements: usize) {
 
 /// If an allocation is refused, there is no core or no status, and the next try succeeds.
 #[test]
-fn new_memory_may_be_short(rt: HostRuntime) {
+fn new_memory_may_run_out(rt: HostRuntime) {
     let alloc = rt.alloc();
     let core = match if_given(&rt, Core::new(alloc)) {
         Some(core) => core,
@@ -212,7 +212,7 @@ const ON_ITS_WAY: ElementStatus = ElementStatus {
 
 /// If an allocation is refused, the events before it were applied, and a run of the other events continues from there.
 #[test]
-fn element_memory_may_be_short(rt: HostRuntime) {
+fn element_memory_may_run_out(rt: HostRuntime) {
     let alloc = rt.alloc();
     let events = match on_its_way(alloc) {
         Some(events) => events,
@@ -244,7 +244,7 @@ const EMPTIED: QueueStatus = QueueStatus {
 };
 
 #[test]
-fn queue_memory_may_be_short(rt: HostRuntime) {
+fn queue_memory_may_run_out(rt: HostRuntime) {
     let alloc = rt.alloc();
     let events = match a_note_and_an_item(alloc) {
         Some(events) => events,

@@ -56,7 +56,7 @@ const SHUT: QueueStatus = QueueStatus {
     shut: true,
 };
 
-const TOLD: ChainStatus = ChainStatus {
+const STATUS: ChainStatus = ChainStatus {
     put: 2,
     taken: 1,
     left: 1,
@@ -67,7 +67,7 @@ const TOLD: ChainStatus = ChainStatus {
 fn lists_give_their_items_back(rt: HostRuntime) {
     assert!(rt; gives_back(rt.alloc(), &[3, 4]));
     assert!(rt; gives_back(rt.alloc(), &[SHUT]));
-    assert!(rt; gives_back(rt.alloc(), &[TOLD]));
+    assert!(rt; gives_back(rt.alloc(), &[STATUS]));
     assert!(rt; gives_back(rt.alloc(), &[FREE]));
 }
 

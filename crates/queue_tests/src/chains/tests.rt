@@ -458,7 +458,7 @@ fn memory_may_run_out(rt: HostRuntime) {
     assert!(rt; made);
 }
 
-const TOLD: &[(ChainRefusal, &str)] = &[
+const REFUSAL_MESSAGES: &[(ChainRefusal, &str)] = &[
     (ChainRefusal::Spent, "no positions left"),
     (
         ChainRefusal::Full { head: 40, tail: 8 },
@@ -470,7 +470,7 @@ const TOLD: &[(ChainRefusal, &str)] = &[
 /// Each refusal is reported in its words, with its numbers.
 #[test]
 fn refusals_are_reported(rt: HostRuntime) {
-    for (refusal, words) in TOLD {
+    for (refusal, words) in REFUSAL_MESSAGES {
         assert!(rt; is_reported(rt.alloc(), *refusal, words));
     }
     let open = OpenEnds { others: 3 };

@@ -342,7 +342,7 @@ fn memory_may_run_out(rt: HostRuntime) {
     assert!(rt; made);
 }
 
-const CLAIMS_TOLD: &[(ClaimRefusal, &str)] = &[
+const CLAIM_MESSAGES: &[(ClaimRefusal, &str)] = &[
     (ClaimRefusal::NoItems, "no items"),
     (ClaimRefusal::TooLong, "more items than places"),
     (ClaimRefusal::Closed, "the queue is shut"),
@@ -354,7 +354,7 @@ const CLAIMS_TOLD: &[(ClaimRefusal, &str)] = &[
     (ClaimRefusal::Lost { head: 8 }, "lost, head 8"),
 ];
 
-const TAKINGS_TOLD: &[(TakeRefusal, &str)] = &[
+const TAKING_MESSAGES: &[(TakeRefusal, &str)] = &[
     (TakeRefusal::Empty { at: 6 }, "nothing raised at 6"),
     (TakeRefusal::Lost { tail: 7 }, "lost, tail 7"),
     (TakeRefusal::Closed, "the queue is shut and empty"),
@@ -363,10 +363,10 @@ const TAKINGS_TOLD: &[(TakeRefusal, &str)] = &[
 /// Each refusal is reported in its words, with its numbers.
 #[test]
 fn refusals_are_reported(rt: HostRuntime) {
-    for (refusal, words) in CLAIMS_TOLD {
+    for (refusal, words) in CLAIM_MESSAGES {
         assert!(rt; is_reported(rt.alloc(), *refusal, words));
     }
-    for (refusal, words) in TAKINGS_TOLD {
+    for (refusal, words) in TAKING_MESSAGES {
         assert!(rt; is_reported(rt.alloc(), *refusal, words));
     }
     let open = OpenEnds { others: 3 };

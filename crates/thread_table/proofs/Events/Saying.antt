@@ -5,7 +5,7 @@ use Rattle.thread_table.specs.Schedules.{after, begun, state_after, elements_aft
 use Rattle.thread_table.specs.Layout.{stop_bit, cell_bit}
 use Rattle.thread_table.specs.Telling.{IsValidHandStep}
 use Rattle.thread_table.proofs.Schedule.Orders.{real_allows}
-use Rattle.thread_table.proofs.Events.Tells.{place_says}
+use Rattle.thread_table.proofs.Events.Steps.{place_says}
 use Rattle.thread_table.proofs.Events.SingleRuns.{raised_known, first_of_left}
 use Rattle.thread_table.proofs.Events.StatesSeen.{shown_in, pending_are}
 use Rattle.thread_table.proofs.Schedule.Schedules.{lawful_after}

@@ -7,7 +7,7 @@ use std::sync::atomic::{AtomicUsize, Ordering};
 use std::sync::Arc;
 use synthesis_peers::boxes::{measure, notify_one, wait_for, Event, Receives, Sends};
 
-/// An event that stands in a cache line of its own, and in the neighbour that is fetched with it.
+/// An event that is in a cache line of its own, and in the neighbour that is fetched with it.
 #[repr(align(128))]
 struct Apart(Event);
 

@@ -27,7 +27,7 @@ returns-in-Ok-clause-next c =
     let enough : 2 ≤ length (drop 1 text) = omega (arith, c.if-rest-lt2.false, ap length (following 1 text)) in
     let said = first_escaped text c.requires escaped enough in
     let two : escape_of (slice_index_or (drop 1 text) 0 0) (slice_index_or (drop 1 text) 1 0) ≡ Ok c.in-Ok.escaped =
-    ap (λ r. escape_of (slice_index_or r 0 0) (slice_index_or r 1 0)) (sym (following 1 text)) ∙ sym c.in-Ok.ensures.exact in
+    ap (λ r. escape_of (slice_index_or r 0 0) (slice_index_or r 1 0)) (sym (following 1 text)) ∙ sym c.in-Ok.ensures.result in
     said ∙ (ap (λ e. e >>= λ x. before x (bytes_of (drop 2 (drop 1 text)))) two
     ∙ ap (λ r. before c.in-Ok.escaped (bytes_of r)) (ap (drop 2) (sym (following 1 text)) ∙ sym (following 2 rest)))
 
@@ -37,5 +37,5 @@ returns-in-Err-clause-refused c =
     let escaped : eqb (slice_index_or text 0 0) 92 ≡ true = grind (arith, nat_tests, c.if-byte-ne92.false) in
     let enough : 2 ≤ length (drop 1 text) = omega (arith, c.if-rest-lt2.false, ap length (following 1 text)) in
     let two : escape_of (slice_index_or (drop 1 text) 0 0) (slice_index_or (drop 1 text) 1 0) ≡ Err c.in-Err.refusal =
-    ap (λ r. escape_of (slice_index_or r 0 0) (slice_index_or r 1 0)) (sym (following 1 text)) ∙ sym c.in-Err.ensures.exact in
+    ap (λ r. escape_of (slice_index_or r 0 0) (slice_index_or r 1 0)) (sym (following 1 text)) ∙ sym c.in-Err.ensures.result in
     first_escaped text c.requires escaped enough ∙ ap (λ e. e >>= λ x. before x (bytes_of (drop 2 (drop 1 text)))) two

@@ -10,7 +10,7 @@ pub try_put-requires-clause-holds : goal.try_put-requires-clause-holds
 try_put-requires-clause-holds g c = c.loop.invariant.holds c.args.element ∙ c.requires.holds
 
 pub loop-preserved : goal.loop-preserved
-loop-preserved g c = let s = move_refused (call_of c.loop.hand) (ring_of c.args.ring) c.args.element (view_of c.loop.hand) (view_of c.try_put.new.hand) _ c.try_put.new.hand.valid c.in-Err.ensures.steps in record {
+loop-preserved g c = let s = move_refused (call_of c.loop.hand) (ring_of c.args.ring) c.args.element (view_of c.loop.hand) (view_of c.try_put.new.hand) _ c.try_put.new.hand.valid c.in-Err.ensures.trace in record {
   steps = search rules;
   its = search rules;
   same = search rules;
@@ -21,4 +21,4 @@ loop-preserved g c = let s = move_refused (call_of c.loop.hand) (ring_of c.args.
 pub returns-in-Ok-clause-put : goal.returns-in-Ok-clause-put
 returns-in-Ok-clause-put g c = put_into (call_of c.args.hand.now) c.args.ring c.args.element (view_of c.args.hand.now) (view_of c.loop.hand) (view_of c.try_put.new.hand) c.try_put.new.hand.valid
     (c.loop.invariant.holds c.args.element ∙ c.requires.holds) c.loop.invariant.moved c.loop.invariant.holds
-    (subst (λ (z : ℕ). MoveAnswer z (view_of c.loop.hand) (ring_of c.args.ring) c.args.element (Ok tt) (view_of c.try_put.new.hand)) c.loop.invariant.same.1 c.in-Ok.ensures.steps)
+    (subst (λ (z : ℕ). MoveAnswer z (view_of c.loop.hand) (ring_of c.args.ring) c.args.element (Ok tt) (view_of c.try_put.new.hand)) c.loop.invariant.same.1 c.in-Ok.ensures.trace)

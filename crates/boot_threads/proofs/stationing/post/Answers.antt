@@ -28,7 +28,7 @@ returns-clause-posted g c =
       };
       fresh = c.in_ok-born.ensures.fresh;
       split = s;
-      did = c.in_ok-born.ensures.did.0;
+      did = c.in_ok-born.ensures.effect.0;
       kept_are = c.in_ok-born.ensures.shares.0;
       given_are = c.in_ok-born.ensures.shares.1;
     }

@@ -17,11 +17,11 @@ loop-init g c = record {
 
 pub returns-in-Ok-Run-clause-noted : goal.returns-in-Ok-Run-clause-noted
 returns-in-Ok-Run-clause-noted g c = let t = c.loop.invariant.tried in let s = c.serve_all-ran.ensures in
-    noted_run (makes MadeOf (pact_of c.args.chain.now)) (suits Fits (pact_of c.args.chain.now)) (me_of c.args.end.now) (me_of c.loop.end) (me_of c.try_chain.new.end) (me_of c.serve_all-ran.new.end) t.0 _ _ _ _ c.in-Ok-Run.field-0-is t.1 c.loop.end.reported c.try_chain.new.end.reported c.in-Ok-Run.ensures.steps c.in-Ok-Run.ensures.notes s.made s.trace s.slot
+    noted_run (makes MadeOf (pact_of c.args.chain.now)) (suits Fits (pact_of c.args.chain.now)) (me_of c.args.end.now) (me_of c.loop.end) (me_of c.try_chain.new.end) (me_of c.serve_all-ran.new.end) t.0 _ _ _ _ c.in-Ok-Run.field-0-is t.1 c.loop.end.reported c.try_chain.new.end.reported c.in-Ok-Run.ensures.trace c.in-Ok-Run.ensures.effect s.made s.trace s.slot
 
 pub returns-in-Ok-Left-clause-noted : goal.returns-in-Ok-Left-clause-noted
 returns-in-Ok-Left-clause-noted g c = let l = c.loop.invariant in
-    noted_left (makes MadeOf (pact_of c.args.chain.now)) (suits Fits (pact_of c.args.chain.now)) (me_of c.args.end.now) (me_of c.loop.end) (me_of c.try_chain.new.end) l.tried.0 _ _ c.in-Ok-Left.field-0-is l.tried.1 l.held (c.in-Ok-Left.ensures.kept (search rules)).1 c.in-Ok-Left.ensures.steps c.in-Ok-Left.ensures.notes
+    noted_left (makes MadeOf (pact_of c.args.chain.now)) (suits Fits (pact_of c.args.chain.now)) (me_of c.args.end.now) (me_of c.loop.end) (me_of c.try_chain.new.end) l.tried.0 _ _ c.in-Ok-Left.field-0-is l.tried.1 l.held (c.in-Ok-Left.ensures.kept (search rules)).1 c.in-Ok-Left.ensures.trace c.in-Ok-Left.ensures.effect
 
 pub loop-preserved : goal.loop-preserved
 loop-preserved g c = let l = c.loop.invariant in record {
@@ -30,13 +30,13 @@ loop-preserved g c = let l = c.loop.invariant in record {
   idle = search rules;
   same = search rules;
   held = c.in-Err-Lost.ensures.turn.1 ∙ l.held;
-  tried = tries_more _ _ _ l.tried.0 _ _ c.in-Err-Lost.field-0-is l.tried.1 c.in-Err-Lost.ensures.steps;
+  tried = tries_more _ _ _ l.tried.0 _ _ c.in-Err-Lost.field-0-is l.tried.1 c.in-Err-Lost.ensures.trace;
 }
 
 pub returns-in-Err-Spent-clause-noted : goal.returns-in-Err-Spent-clause-noted
 returns-in-Err-Spent-clause-noted g c = let l = c.loop.invariant in
-    noted_spent (makes MadeOf (pact_of c.args.chain.now)) (suits Fits (pact_of c.args.chain.now)) (me_of c.args.end.now) (me_of c.loop.end) (me_of c.try_chain.new.end) l.tried.0 _ _ c.in-Err-Spent.field-0-is l.tried.1 l.held c.in-Err-Spent.ensures.turn.1 c.in-Err-Spent.ensures.steps
+    noted_spent (makes MadeOf (pact_of c.args.chain.now)) (suits Fits (pact_of c.args.chain.now)) (me_of c.args.end.now) (me_of c.loop.end) (me_of c.try_chain.new.end) l.tried.0 _ _ c.in-Err-Spent.field-0-is l.tried.1 l.held c.in-Err-Spent.ensures.turn.1 c.in-Err-Spent.ensures.trace
 
 pub returns-in-Err-Full-clause-noted : goal.returns-in-Err-Full-clause-noted
 returns-in-Err-Full-clause-noted g c = let l = c.loop.invariant in
-    noted_full (makes MadeOf (pact_of c.args.chain.now)) (suits Fits (pact_of c.args.chain.now)) (me_of c.args.end.now) (me_of c.loop.end) (me_of c.try_chain.new.end) l.tried.0 _ _ _ _ c.in-Err-Full.field-0-is l.tried.1 l.held c.in-Err-Full.ensures.turn.1 c.in-Err-Full.ensures.steps
+    noted_full (makes MadeOf (pact_of c.args.chain.now)) (suits Fits (pact_of c.args.chain.now)) (me_of c.args.end.now) (me_of c.loop.end) (me_of c.try_chain.new.end) l.tried.0 _ _ _ _ c.in-Err-Full.field-0-is l.tried.1 l.held c.in-Err-Full.ensures.turn.1 c.in-Err-Full.ensures.trace

@@ -1,7 +1,7 @@
 use Rattle.thread_table.proofs.Common.{rules, ap, ◌∙◌, head_word}
 use Rattle.thread_table.proofs.Events.Allowed.{makes_it}
 use Rattle.thread_table.proofs.Events.Notices.{may_notify}
-use Rattle.thread_table.proofs.Events.Tells.{did_at}
+use Rattle.thread_table.proofs.Events.Steps.{did_at}
 use Rattle.thread_table.proofs.Hands.OnlyLoads.{stood}
 use Rattle.thread_table.proofs.steps.add_notify.Goals as goal
 

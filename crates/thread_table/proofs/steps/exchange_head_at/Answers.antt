@@ -1,7 +1,7 @@
 use Rattle.thread_table.proofs.Common.{rules, arith, ap, ◌∙◌, head_word}
 use Rattle.thread_table.proofs.Events.Allowed.{tries_it}
 use Rattle.thread_table.proofs.Events.Claims.{may_wait}
-use Rattle.thread_table.proofs.Events.Tells.{did_at, found_at, found_head}
+use Rattle.thread_table.proofs.Events.Steps.{did_at, found_at, found_head}
 use Rattle.thread_table.proofs.Hands.OnlyLoads.{stood}
 use Rattle.thread_table.proofs.steps.exchange_head_at.Goals as goal
 

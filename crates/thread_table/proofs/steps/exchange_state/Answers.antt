@@ -1,7 +1,7 @@
 use Rattle.thread_table.proofs.Common.{rules}
 use Rattle.thread_table.proofs.Events.Allowed.{tries_it}
 use Rattle.thread_table.proofs.Events.Threads.{may_turn}
-use Rattle.thread_table.proofs.Events.Tells.{did_at, found_at, state_found}
+use Rattle.thread_table.proofs.Events.Steps.{did_at, found_at, state_found}
 use Rattle.thread_table.proofs.Hands.OnlyLoads.{stood}
 use Rattle.thread_table.proofs.steps.exchange_state.Goals as goal
 

@@ -1,7 +1,7 @@
 use Rattle.thread_table.proofs.Common.{rules}
 use Rattle.thread_table.proofs.Events.Allowed.{tries_it}
 use Rattle.thread_table.proofs.Events.Takes.{may_take}
-use Rattle.thread_table.proofs.Events.Tells.{did_at, found_at, found_tail}
+use Rattle.thread_table.proofs.Events.Steps.{did_at, found_at, found_tail}
 use Rattle.thread_table.proofs.Hands.OnlyLoads.{stood}
 use Rattle.thread_table.proofs.steps.exchange_tail.Goals as goal
 

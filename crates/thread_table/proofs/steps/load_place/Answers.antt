@@ -1,5 +1,5 @@
 use Rattle.thread_table.proofs.Common.{ℕ, ap, ◌∙◌, place_word}
-use Rattle.thread_table.proofs.Events.Tells.{found_at, found_place}
+use Rattle.thread_table.proofs.Events.Steps.{found_at, found_place}
 use Rattle.thread_table.proofs.steps.load_place.Goals as goal
 
 pub returns-clause-found : goal.returns-clause-found

@@ -1,4 +1,4 @@
-use Rattle.thread_table.proofs.Events.Tells.{found_at, state_found}
+use Rattle.thread_table.proofs.Events.Steps.{found_at, state_found}
 use Rattle.thread_table.proofs.steps.load_state.Goals as goal
 
 pub returns-clause-found : goal.returns-clause-found

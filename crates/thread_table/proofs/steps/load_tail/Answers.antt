@@ -1,5 +1,5 @@
 use Rattle.thread_table.proofs.Common.{arith}
-use Rattle.thread_table.proofs.Events.Tells.{found_at, found_tail, small_tail}
+use Rattle.thread_table.proofs.Events.Steps.{found_at, found_tail, small_tail}
 use Rattle.thread_table.proofs.steps.load_tail.Goals as goal
 
 pub returns-clause-found : goal.returns-clause-found

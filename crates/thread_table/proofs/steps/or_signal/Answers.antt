@@ -2,7 +2,7 @@ use Rattle.thread_table.proofs.Common.{rules}
 use Rattle.thread_table.proofs.Events.Allowed.{makes_it}
 use Rattle.thread_table.proofs.Events.Threads.{may_signal}
 use Rattle.thread_table.proofs.Events.Allowed.{shifted}
-use Rattle.thread_table.proofs.Events.Tells.{did_at}
+use Rattle.thread_table.proofs.Events.Steps.{did_at}
 use Rattle.thread_table.proofs.Hands.OnlyLoads.{stood}
 use Rattle.thread_table.proofs.steps.or_signal.Goals as goal
 

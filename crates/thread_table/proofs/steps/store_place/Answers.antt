@@ -1,7 +1,7 @@
 use Rattle.thread_table.proofs.Common.{rules}
 use Rattle.thread_table.proofs.Events.Allowed.{stores_it}
 use Rattle.thread_table.proofs.Events.Raises.{may_raise}
-use Rattle.thread_table.proofs.Events.Tells.{did_at}
+use Rattle.thread_table.proofs.Events.Steps.{did_at}
 use Rattle.thread_table.proofs.Hands.OnlyLoads.{stood}
 use Rattle.thread_table.proofs.steps.store_place.Goals as goal
 

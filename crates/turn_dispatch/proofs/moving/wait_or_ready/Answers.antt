@@ -6,7 +6,7 @@ use Rattle.turn_dispatch.proofs.moving.wait_or_ready.Goals as goal
 pub loop-preserved : goal.loop-preserved
 loop-preserved g c =
     let i = c.loop.invariant in
-    let m = rw c.in-Err-Lost.field-0-is at c.in-Err-Lost.ensures.steps in
-    let same = c.in-Err-Lost.ensures.same in
+    let m = rw c.in-Err-Lost.field-0-is at c.in-Err-Lost.ensures.trace in
+    let same = c.in-Err-Lost.ensures.handle in
     let r = lost_wait_again (call_of c.args.hand.now) (call_of c.loop.hand) c.args.wait c.args.element c.args.ticket (view_of c.args.hand.now) (view_of c.loop.hand) (view_of c.try_wait_at.new.hand) c.in-Err-Lost.field-0-0 i.0.1 i.1 i.2 m in
     ((same.0 ∙ i.0.0, same.1 ∙ i.0.1), r.0, r.1)

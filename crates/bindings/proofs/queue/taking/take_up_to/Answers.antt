@@ -11,5 +11,5 @@ loop-i-preserved g c = let l = c.loop-i in let n = g.row.N in let e = c.args.end
       same = (s.0 ∙ k.0, s.1 ∙ k.1);
       kept = kept_more l.i x c.args.out.now l.out l.invariant.kept;
       took = subst (λ (z : List ℕ). TookEach n (view_of e) z w) (sym (filled_more l.i x l.out (search rules)))
-          (each_more n (view_of e) (view_of l.end) w _ x l.invariant.took c.in-Ok.ensures.steps);
+          (each_more n (view_of e) (view_of l.end) w _ x l.invariant.took c.in-Ok.ensures.trace);
     }

@@ -14,7 +14,7 @@ loop-words-init c = record {
 pub returns-in_err-item : goal.returns-in_err-item
 returns-in_err-item c =
     let some : c.loop-words.words ≡ [] → ⊥ = λ h. grind (arith, nat_tests, c.is_done.ensures.1 h) in
-    let e = c.in_err-item.ensures.exact ∙ ap (number_of 18446744073709551615) c.next_word.ensures.word in
+    let e = c.in_err-item.ensures.result ∙ ap (number_of 18446744073709551615) c.next_word.ensures.word in
     let fails = items_refused _ c.loop-words.invariant.gathered.front c.loop-words.words c.args.words.now some e c.loop-words.invariant.gathered.all in
     search (rules, fails)
 
@@ -22,7 +22,7 @@ pub loop-words-preserved-then-kept : goal.loop-words-preserved-then-kept
 loop-words-preserved-then-kept c =
     let front = c.loop-words.invariant.gathered.front in
     let some : c.loop-words.words ≡ [] → ⊥ = λ h. grind (arith, nat_tests, c.is_done.ensures.1 h) in
-    let e = c.in_ok-item.ensures.exact ∙ ap (number_of 18446744073709551615) c.next_word.ensures.word in
+    let e = c.in_ok-item.ensures.result ∙ ap (number_of 18446744073709551615) c.next_word.ensures.word in
     let more = number_more 18446744073709551615 c.in_ok-item.item front c.loop-words.words _ some e c.loop-words.invariant.gathered.all in
     let longer = length-append front (c.in_ok-item.item ∷ []) in
     record {
@@ -38,7 +38,7 @@ pub loop-words-preserved : goal.loop-words-preserved
 loop-words-preserved c =
     let front = c.loop-words.invariant.gathered.front in
     let some : c.loop-words.words ≡ [] → ⊥ = λ h. grind (arith, nat_tests, c.is_done.ensures.1 h) in
-    let e = c.in_ok-item.ensures.exact ∙ ap (number_of 18446744073709551615) c.next_word.ensures.word in
+    let e = c.in_ok-item.ensures.result ∙ ap (number_of 18446744073709551615) c.next_word.ensures.word in
     let more = number_more 18446744073709551615 c.in_ok-item.item front c.loop-words.words _ some e c.loop-words.invariant.gathered.all in
     let longer = length-append front (c.in_ok-item.item ∷ []) in
     record {

@@ -7,13 +7,13 @@ pub count-requires-clause-allowed : goal.count-requires-clause-allowed
 count-requires-clause-allowed g c = tallies _ _ _ _ _ _ c.args.end.rests.one
 
 pub read_left-left-requires-clause-range : goal.read_left-left-requires-clause-range
-read_left-left-requires-clause-range g c = let s = spans (makes g.Q.Quaject.made_by) (suits g.Q.Quaject.fits) c.args.self.table.shared.key _ _ _ _ _ _ c.close_by-closed.ensures.values.2 c.word-head.ensures c.word-tail.ensures in (s.following, s.within, s.bounded)
+read_left-left-requires-clause-range g c = let s = spans (makes g.Q.Quaject.made_by) (suits g.Q.Quaject.fits) c.args.self.table.shared.key _ _ _ _ _ _ c.close_by-closed.ensures.values.2 c.word-head.ensures c.word-tail.ensures in (s.taken_within, s.within, s.bounded)
 
 pub overflow_sub-result-3 : goal.overflow_sub-result-3
 overflow_sub-result-3 g c = let s = spans (makes g.Q.Quaject.made_by) (suits g.Q.Quaject.fits) c.args.self.table.shared.key _ _ _ _ _ _ c.close_by-closed.ensures.values.2 c.word-head.ensures c.word-tail.ensures in let started = s.started in let first = c.args.self.shaped in omega arith
 
 pub overflow_cast-result-4 : goal.overflow_cast-result-4
-overflow_cast-result-4 g c = let s = spans (makes g.Q.Quaject.made_by) (suits g.Q.Quaject.fits) c.args.self.table.shared.key _ _ _ _ _ _ c.close_by-closed.ensures.values.2 c.word-head.ensures c.word-tail.ensures in let following = s.following in let bounded = s.bounded in omega arith
+overflow_cast-result-4 g c = let s = spans (makes g.Q.Quaject.made_by) (suits g.Q.Quaject.fits) c.args.self.table.shared.key _ _ _ _ _ _ c.close_by-closed.ensures.values.2 c.word-head.ensures c.word-tail.ensures in let following = s.taken_within in let bounded = s.bounded in omega arith
 
 pub free-requires : goal.free-requires
 free-requires g c = let slots = c.take-quaject.ensures.others in λ k below. emptied_slot _ _ _ k slots.1 (slots.2 ∙ (c.close_by-closed.ensures.counts.1 ∙ c.args.self.sized.1)) below

@@ -15,10 +15,10 @@ loop-init g c = record {
 }
 
 pub returns-in-Done-clause-trace : goal.returns-in-Done-clause-trace
-returns-in-Done-clause-trace g c = let l = c.loop.invariant in let s = c.in-Done.ensures.steps in all_done _ _ _ l.servings s.0 s.1 c.loop.total c.in-Done.ran l.rounds s.2 s.3
+returns-in-Done-clause-trace g c = let l = c.loop.invariant in let s = c.in-Done.ensures.trace in all_done _ _ _ l.servings s.0 s.1 c.loop.total c.in-Done.ran l.rounds s.2 s.3
 
 pub loop-preserved : goal.loop-preserved
-loop-preserved g c = let l = c.loop.invariant in let s = c.in-More.ensures.steps in record {
+loop-preserved g c = let l = c.loop.invariant in let s = c.in-More.ensures.trace in record {
   steps = search rules;
   same = (c.serve.ensures.handle.0 ∙ l.same.0, c.serve.ensures.handle.1 ∙ l.same.1);
   slot = c.serve.ensures.ends.1;
@@ -29,12 +29,12 @@ loop-preserved g c = let l = c.loop.invariant in let s = c.in-More.ensures.steps
 }
 
 pub overflow_add-result : goal.overflow_add-result
-overflow_add-result g c = let l = c.loop.invariant.rounds in let s = c.in-Done.ensures.steps.3 in let end = c.loop.end in let new = c.serve.new.end in
+overflow_add-result g c = let l = c.loop.invariant.rounds in let s = c.in-Done.ensures.trace.3 in let end = c.loop.end in let new = c.serve.new.end in
     let few = few_run _ _ _ l.all.served end.valid in let number = l.number in let few' = few_run _ _ _ s.served new.valid in let number' = s.number in record { fits = omega arith }
 
 pub overflow_add-total : goal.overflow_add-total
-overflow_add-total g c = let l = c.loop.invariant.rounds in let s = c.in-More.ensures.steps.2 in let end = c.loop.end in let new = c.serve.new.end in
+overflow_add-total g c = let l = c.loop.invariant.rounds in let s = c.in-More.ensures.trace.2 in let end = c.loop.end in let new = c.serve.new.end in
     let few = few_run _ _ _ l.all.served end.valid in let number = l.number in let few' = few_run _ _ _ s.served new.valid in let number' = s.number in record { fits = omega arith }
 
 pub returns-in-Done-clause-made : goal.returns-in-Done-clause-made
-returns-in-Done-clause-made g c = since_then (makes g.Q.Quaject.made_by c.args.self.now.table.shared.key.pact) (suits g.Q.Quaject.fits c.args.self.now.table.shared.key.pact) c.args.end.now.seat.me.0 c.loop.end.seat.me.0 c.serve.new.end.seat.me.0 _ c.loop.invariant.since c.serve.ensures.made c.in-Done.ensures.steps.3.served.notes (reported_after c.loop.end.seat.me.0 c.loop.end.valid)
+returns-in-Done-clause-made g c = since_then (makes g.Q.Quaject.made_by c.args.self.now.table.shared.key.pact) (suits g.Q.Quaject.fits c.args.self.now.table.shared.key.pact) c.args.end.now.seat.me.0 c.loop.end.seat.me.0 c.serve.new.end.seat.me.0 _ c.loop.invariant.since c.serve.ensures.made c.in-Done.ensures.trace.3.served.notes (reported_after c.loop.end.seat.me.0 c.loop.end.valid)

@@ -38,12 +38,12 @@ invariant_of-end-in-Some g c = let end = c.args.end.now in let a = c.load-head.e
 
 pub returns-in-Some : goal.returns-in-Some
 returns-in-Some g c = let end = c.args.end.now in let a = c.load-head.ensures in let b = c.load-tail.ensures in let e = c.exchange_head-found.ensures in let h = e.hit c.if-found-head.false in let r = c.store_place.ensures.raised (run c.load-head.result c.args.note) (claimed_at _ _ _ _ h) in let w = c.in-Some.ensures.notified in let then = with_turn w.1.0.object.queue.taken in let d = chained _ _ _ _ _ _ _ c.args.note a.found b.found h r _ 0 w.1.0 then w.1.1 c.if-head-ge-POSITIONS.false (omega (arith, c.if-head-tail.false)) in let x = c.store_place.ensures.frame.0 in let y = c.swap_more.ensures.frame.0 in let pact = c.args.self.now.table.shared.key.pact in let down = sym (λ i. ((link _ _ _ _ _ _ _ c.args.note a.found b.found h r).did i).runner) ∙ w.0 in record {
-  notes = put_note _ _ _ _ then (λ d. refl) (λ d. refl) d.1.did;
+  effect = put_note _ _ _ _ then (λ d. refl) (λ d. refl) d.1.did;
   turn = λ _. (sym end.turned ∙ down, refl);
   kept = λ (is : true ≡ false). absurd (true≢false is);
-  steps = (_, refl, d);
+  trace = (_, refl, d);
   ends = (y.0 ∙ (x.0 ∙ (e.frame.0.0 ∙ (b.frame.0.0 ∙ (a.frame.0.0 ∙ c.requires.0)))), slot_up (makes g.Q.Quaject.made_by pact) (suits g.Q.Quaject.fits pact) c.swap_more.new.seat.me (λ i. (d.1.did i).runner) (won_slot (makes g.Q.Quaject.made_by pact) (suits g.Q.Quaject.fits pact) _ _ _ _ _ _ w.1.1 ((c.store_place.ensures.frame.1.0 ∙ (e.frame.1.0 ∙ (b.frame.1.0 ∙ a.frame.1.0))) ∙ c.requires.1.1 down) w.1.2));
-  same = ((y.0 ∙ (x.0 ∙ (e.frame.0.0 ∙ (b.frame.0.0 ∙ a.frame.0.0))), y.1 ∙ (x.1 ∙ (e.frame.0.1 ∙ (b.frame.0.1 ∙ a.frame.0.1)))), (chained_seen _ _ _ _ _ _ _ c.args.note a.found b.found h r _ 0 w.1.0 then w.1.1).taken);
+  handle = ((y.0 ∙ (x.0 ∙ (e.frame.0.0 ∙ (b.frame.0.0 ∙ a.frame.0.0))), y.1 ∙ (x.1 ∙ (e.frame.0.1 ∙ (b.frame.0.1 ∙ a.frame.0.1)))), (chained_seen _ _ _ _ _ _ _ c.args.note a.found b.found h r _ 0 w.1.0 then w.1.1).taken);
 }
 
 pub invariant_of-end-in-None : goal.invariant_of-end-in-None

@@ -8,10 +8,10 @@ pub count-requires-clause-allowed : goal.count-requires-clause-allowed
 count-requires-clause-allowed c = tallies_ends _ _ _ _ _ refl c.args.hand.one c.args.hand.fresh
 
 pub returns-in-Err-clause-trace : goal.returns-in-Err-clause-trace
-returns-in-Err-clause-trace c = let o = c.in-Err.ensures.others in were_open _ _ _ _ o.3.0 o.0 (search rules)
+returns-in-Err-clause-trace c = let o = c.in-Err.ensures.frame in were_open _ _ _ _ o.3.0 o.0 (search rules)
 
 pub returns-in-Err-clause-only : goal.returns-in-Err-clause-only
-returns-in-Err-clause-only c = let o = c.in-Err.ensures.others in λ whole. o.0 (o.3.0.count.whole whole)
+returns-in-Err-clause-only c = let o = c.in-Err.ensures.frame in λ whole. o.0 (o.3.0.count.whole whole)
 
 pub returns-clause-closed : goal.returns-clause-closed
 returns-clause-closed c = let key = c.args.self.table.shared.key in let ws = slots_items c.close_by-closed.result.words in let xs = slots_items c.close_by-closed.result.slots in let o = c.in-Ok.ensures.alone in let w = c.in-Ok.last.seat.me.0 in

@@ -1,5 +1,5 @@
 use Rattle.thread_table.proofs.Common.{refl, ELEMENTS, ◌<◌, rules, ap, state_word}
-use Rattle.thread_table.proofs.Events.Tells.{found_at}
+use Rattle.thread_table.proofs.Events.Steps.{found_at}
 use Rattle.thread_table.proofs.Clients.{look_effect, pending_result}
 use Rattle.thread_table.proofs.Hands.Unchanged.{stays_by}
 use Rattle.thread_table.proofs.hand.ThreadTable.pending.Goals as goal

@@ -2,7 +2,7 @@ use Rattle.thread_table.proofs.Common.{Err, Ok, ◌<◌, ◌∙◌, rules, sym, 
 use Rattle.event_theory.specs.declared.event.Event.TheVariants as events
 use Rattle.thread_table.proofs.Schedule.Acting.{acts_two}
 use Rattle.thread_table.proofs.Events.StatesSeen.{has_signals, delivered}
-use Rattle.thread_table.proofs.Events.Tells.{found_at}
+use Rattle.thread_table.proofs.Events.Steps.{found_at}
 use Rattle.thread_table.proofs.Clients.{deliver_effect, deliver_result, deliver_error}
 use Rattle.thread_table.proofs.Hands.Unchanged.{deliver_keeps}
 use Rattle.thread_table.proofs.hand.ThreadTable.try_deliver.Goals as goal

@@ -2,7 +2,7 @@ use Rattle.thread_table.proofs.Common.{false, true, Err, Ok, ◌<◌, rules, ap,
 use Rattle.event_theory.specs.declared.event.Event.TheVariants as events
 use Rattle.thread_table.proofs.Schedule.Acting.{acts_two}
 use Rattle.thread_table.proofs.Events.StatesSeen.{bit_up, bit_down, parked}
-use Rattle.thread_table.proofs.Events.Tells.{found_at}
+use Rattle.thread_table.proofs.Events.Steps.{found_at}
 use Rattle.thread_table.proofs.Clients.{park_effect, park_result, park_error}
 use Rattle.thread_table.proofs.Hands.Unchanged.{park_keeps}
 use Rattle.thread_table.proofs.hand.ThreadTable.try_park.Goals as goal

@@ -3,7 +3,7 @@ use Rattle.thread_table.specs.declared.states.Started.TheVariants as started
 use Rattle.event_theory.specs.declared.event.Event.TheVariants as events
 use Rattle.thread_table.proofs.Schedule.Acting.{acts_two}
 use Rattle.thread_table.proofs.Events.StatesSeen.{bit_up, bit_down, cleared, held_again}
-use Rattle.thread_table.proofs.Events.Tells.{found_at}
+use Rattle.thread_table.proofs.Events.Steps.{found_at}
 use Rattle.thread_table.proofs.Clients.{start_effect, start_result, start_error}
 use Rattle.thread_table.proofs.Hands.Unchanged.{start_keeps}
 use Rattle.thread_table.proofs.hand.ThreadTable.try_start.Goals as goal

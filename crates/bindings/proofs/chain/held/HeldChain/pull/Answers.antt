@@ -15,11 +15,11 @@ note_of [] = 0
 note_of (x ∷ xs) = x.1.note
 
 pub returns-in-Done : goal.returns-in-Done
-returns-in-Done c = let (s, l, fewer, run) = c.in-Done.ensures.steps in let v = (me_of c.args.self.now.end).0 in let w = (me_of c.serve_kept.new.end).0 in
+returns-in-Done c = let (s, l, fewer, run) = c.in-Done.ensures.trace in let v = (me_of c.args.self.now.end).0 in let w = (me_of c.serve_kept.new.end).0 in
     (search rules, c.in-Done.ensures.turn, (s, l, fewer, subst (λ n. HasRun v (s ∷ []) (Some l) n w) (sym run.number ∙ none_run s.uses fewer) run))
 
 pub returns-in-More : goal.returns-in-More
-returns-in-More c = let (turn, (s, used, run)) = c.in-More.ensures.steps in let v = (me_of c.args.self.now.end).0 in let w = (me_of c.serve_kept.new.end).0 in
+returns-in-More c = let (turn, (s, used, run)) = c.in-More.ensures.trace in let v = (me_of c.args.self.now.end).0 in let w = (me_of c.serve_kept.new.end).0 in
     let (note, one) = one_run s.uses used (λ e. c.in-More.ran-test.1 (sym run.number ∙ e)) in
     let served = subst (λ ns. HasServed v ns w) one run.served in
     let (inbox, slot, made, fits) = c.in-More.ensures.slot in

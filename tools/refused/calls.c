@@ -1,11 +1,12 @@
 /*
  * Counts the calls of malloc and realloc that a program makes, its calls of pthread_create, and its reads of standard
- * input, and refuses the allocation whose number REFUSED_ALLOCATION has, or the thread whose number REFUSED_THREAD has.
- * From the call on whose number REFUSED_READ has each read of standard input fails, by the error READ_ERROR or else an
- * input fault; so do the writes to standard output from REFUSED_WRITE on, and those to standard error from REFUSED_TELL
- * on, as on a full device. Where BYTE_BY_BYTE is 1 each of these calls moves one byte at the most.
- * Loaded before the program's libraries; the three counts are told on descriptor 3 in the end, on one line, whether the
- * program returns from its main function or leaves by _exit. It includes no header, so that a compiler alone is enough.
+ * input. It refuses the allocation whose number REFUSED_ALLOCATION has, or the thread whose number REFUSED_THREAD has.
+ * From the call REFUSED_READ on each read of standard input fails, by the error READ_ERROR or else an input fault. So do
+ * the writes to standard output from REFUSED_WRITE on, and those to standard error from REFUSED_TELL on, as on a full
+ * device. If BYTE_BY_BYTE is 1 each of these calls moves one byte at the most.
+ * It is loaded before the program's libraries. In the end the three counts are written to descriptor 3, on one line,
+ * whether the program returns from its main function or leaves by _exit. It includes no header, so that a compiler alone
+ * is enough.
  */
 typedef __SIZE_TYPE__ size;
 typedef __PTRDIFF_TYPE__ moved;

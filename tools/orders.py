@@ -1,32 +1,23 @@
-#!/usr/bin/env python3
-"""Tries in a copy that the compiler refuses bodies of processor that do the steps of two tables in another order: a ticket that is
-read behind the try, a wake in front of the put or the shut, a step that is counted, or an element that goes on, before its try.
-So it does with bodies that make a token by `Default`, copy one, open one's fields or use one twice; with bodies of proc_chain that
-run a note before its taking, or take two notes and then run two; and with bodies of each table that look at it after an end found no
-other, or do so without counting.
-A body in the right order, and with the same words, compiles. It takes five minutes.
+"""Bodies that do steps in another order, for `tools/wrong-bodies orders`. The types have to refuse each.
+
+In processor they do the steps of two tables in another order: a ticket that is read after the try, a wake before the put or the shut,
+a step that is counted, or an element that goes on, before its try. Others make a token by `Default`, copy one, open one's fields or
+use one twice. In proc_chain they run a note before its taking, or take two notes and then run two. In each table they look at it
+after an end found no other, or do so without counting. A body in the right order, with the same words, has to compile.
 """
 
-import pathlib
-import re
-import shutil
-import subprocess
-import sys
-import tempfile
-
-ROOT = pathlib.Path(__file__).resolve().parent.parent
 HEAD = """//! Bodies in another order.
-use crate::attempt::{Attempt, Seated, StepRan, do_step, seat};
-use crate::counting::{Tried, count_step};
-use crate::deed::Deed;
+use crate::attempt::{StepTry, OnProcessor, StepRan, do_step, seat};
+use crate::counting::{StepCounted, count_step};
+use crate::step_outcome::StepOutcome;
 use crate::lines::{LineRoom, say_at};
 use crate::pipes::waits_of;
 use crate::sending::{Moved, Rescheduled, send_on};
 use crate::shared::Shared;
 use crate::station::Parts;
 use crate::ticket::{Ticket, ticket_for};
-use crate::tries::{Owed, SayAnswer, Unsaid, WasShut, shut_at, try_hear, try_say};
-use crate::waking::{Paid, wake_for};
+use crate::tries::{WakeDue, SayAnswer, Unsaid, WasShut, shut_at, try_hear, try_say};
+use crate::waking::{WakeDone, wake_for};
 use boot_data::plan::{QueueIndex, Step};
 use claim_queue::QueueEnd;
 use turn_io::{Gate, shut_queue};
@@ -39,9 +30,9 @@ use thread_table::Hand;
 fn nothing() {}
 """
 QUEUES = "shared: &Shared, hand: &mut Hand, small: &mut [QueueEnd<64>], large: &mut [QueueEnd<256>], queue: QueueIndex"
-SAYS = f"fn {{}}<R: Wait, G: Gate>(rt: &R, {QUEUES}, line: &[u64], p: u8, gate: &mut G) -> SayAnswer<Paid>"
+SAYS = f"fn {{}}<R: Wait, G: Gate>(rt: &R, {QUEUES}, line: &[u64], p: u8, gate: &mut G) -> SayAnswer<WakeDone>"
 HEARS = f"fn {{}}<G: Gate>({QUEUES}, room: &mut LineRoom, p: u8, gate: &mut G)"
-CLOSES = "fn {}<R: Wait>(rt: &R, shared: &Shared, hand: &mut Hand, small: &mut [QueueEnd<64>], queue: usize) -> WasShut<Paid>"
+CLOSES = "fn {}<R: Wait>(rt: &R, shared: &Shared, hand: &mut Hand, small: &mut [QueueEnd<64>], queue: usize) -> WasShut<WakeDone>"
 RUNS = "fn {}<R: Wait>(rt: &R, shared: &Shared, parts: &mut Parts, p: Processor, element: Element, gauge: Gauge)"
 TICK = "shared.meters.tick(&mut parts.meters, usize::from(gauge.number()), 1)"
 ANSWERS = "SayAnswer::Over => SayAnswer::Over, SayAnswer::Refused(unsaid) => SayAnswer::Refused(unsaid), }"
@@ -55,41 +46,41 @@ PRIVATE = [
     ("made_ticket", "fn {}(shared: &Shared, hand: &mut Hand, wait: WaitNumber) -> Ticket", "let number = shared.threads.ticket(hand, wait); Ticket { wait, number }"),
     ("read_ticket", "fn {}(ticket: &Ticket) -> u32", "ticket.number"),
     ("wake_for_nothing", SAYS, """let ticket = ticket_for(&shared.threads, hand, waits_of(&shared.plan, queue).1);
-        let paid = wake_for(rt, &shared.threads, hand, waits_of(&shared.plan, queue).0, Owed(()));
+        let paid = wake_for(rt, &shared.threads, hand, waits_of(&shared.plan, queue).0, WakeDue(()));
         match try_say(shared, small, large, queue, line, ticket, p, gate) { SayAnswer::Put(_) => SayAnswer::Put(paid), """ + ANSWERS),
     ("wake_before_the_put", SAYS, """let ticket = ticket_for(&shared.threads, hand, waits_of(&shared.plan, queue).1);
-        let paid = match waits_of(&shared.plan, queue).0 { Some(wait) => Paid { woken: Some(wake(rt, &shared.threads, hand, wait)), owed: Owed(()) }, None => Paid { woken: None, owed: Owed(()) } };
+        let paid = match waits_of(&shared.plan, queue).0 { Some(wait) => WakeDone { woken: Some(wake(rt, &shared.threads, hand, wait)), owed: WakeDue(()) }, None => WakeDone { woken: None, owed: WakeDue(()) } };
         match try_say(shared, small, large, queue, line, ticket, p, gate) { SayAnswer::Put(_) => SayAnswer::Put(paid), """ + ANSWERS),
     ("wake_before_the_shut", CLOSES, """let readers = match waits_of(&shared.plan, QueueIndex::Small(queue)).0 {
-        Some(wait) => Paid { woken: Some(wake(rt, &shared.threads, hand, wait)), owed: Owed(()) }, None => Paid { woken: None, owed: Owed(()) } };
-        let was_open = shut_queue(shared.queues.small.as_slice(), small, queue); WasShut { was_open, readers, writers: Paid { woken: None, owed: Owed(()) } }"""),
-    ("opened_paid", "fn {}(paid: Paid) -> Owed", "let Paid { woken: _, owed } = paid; owed"),
-    ("opened_attempt", "fn {}(attempt: Attempt) -> StepRan", "attempt.was_tried"),
-    ("tried_before_it_is_on", RUNS + " -> Attempt", f"""let _rt = rt; let deed = Deed::Tick {{ gauge, amount: 1, before: {TICK} }}; put_on(&shared.threads, &mut parts.hand, p, element); Attempt {{ deed, was_tried: StepRan(()) }}"""),
-    ("seated_for_nothing", "fn {}<R: Wait, G: Gate>(rt: &R, shared: &Shared, parts: &mut Parts, step: &Step, room: &mut LineRoom, gate: &mut G) -> Attempt",
-        "do_step(rt, shared, parts, Seated(()), step, room, 0, gate)"),
-    ("counted_before_the_try", RUNS + " -> Tried", f"""let _rt = rt; let _seated = seat(&shared.threads, &mut parts.hand, p, element);
-        let counted = count(&shared.threads, &mut parts.hand, element, true); let deed = Deed::Tick {{ gauge, amount: 1, before: {TICK} }}; Tried {{ deed, counted, was_tried: StepRan(()) }}"""),
-    ("counted_for_nothing", RUNS + " -> Tried", f"""let _rt = rt; let _seated = seat(&shared.threads, &mut parts.hand, p, element);
-        let tried = count_step(&shared.threads, &mut parts.hand, element, Attempt {{ deed: Deed::Pass, was_tried: StepRan(()) }}); let _before = {TICK}; tried"""),
-    ("sent_on_before_the_try", RUNS.replace(")", ", tried: Tried)") + " -> Rescheduled", f"""let _p = p; let sent = Rescheduled {{ tried, moved: Moved::Ready(make_ready(rt, &shared.threads, &mut parts.hand, element)) }};
+        Some(wait) => WakeDone { woken: Some(wake(rt, &shared.threads, hand, wait)), owed: WakeDue(()) }, None => WakeDone { woken: None, owed: WakeDue(()) } };
+        let was_open = shut_queue(shared.queues.small.as_slice(), small, queue); WasShut { was_open, readers, writers: WakeDone { woken: None, owed: WakeDue(()) } }"""),
+    ("opened_paid", "fn {}(paid: WakeDone) -> WakeDue", "let WakeDone { woken: _, owed } = paid; owed"),
+    ("opened_attempt", "fn {}(attempt: StepTry) -> StepRan", "attempt.was_tried"),
+    ("tried_before_it_is_on", RUNS + " -> StepTry", f"""let _rt = rt; let step_outcome = StepOutcome::Tick {{ gauge, amount: 1, before: {TICK} }}; put_on(&shared.threads, &mut parts.hand, p, element); StepTry {{ step_outcome, was_tried: StepRan(()) }}"""),
+    ("seated_for_nothing", "fn {}<R: Wait, G: Gate>(rt: &R, shared: &Shared, parts: &mut Parts, step: &Step, room: &mut LineRoom, gate: &mut G) -> StepTry",
+        "do_step(rt, shared, parts, OnProcessor(()), step, room, 0, gate)"),
+    ("counted_before_the_try", RUNS + " -> StepCounted", f"""let _rt = rt; let _seated = seat(&shared.threads, &mut parts.hand, p, element);
+        let counted = count(&shared.threads, &mut parts.hand, element, true); let step_outcome = StepOutcome::Tick {{ gauge, amount: 1, before: {TICK} }}; StepCounted {{ step_outcome, counted, was_tried: StepRan(()) }}"""),
+    ("counted_for_nothing", RUNS + " -> StepCounted", f"""let _rt = rt; let _seated = seat(&shared.threads, &mut parts.hand, p, element);
+        let tried = count_step(&shared.threads, &mut parts.hand, element, StepTry {{ step_outcome: StepOutcome::Pass, was_tried: StepRan(()) }}); let _before = {TICK}; tried"""),
+    ("sent_on_before_the_try", RUNS.replace(")", ", tried: StepCounted)") + " -> Rescheduled", f"""let _p = p; let sent = Rescheduled {{ tried, moved: Moved::Ready(make_ready(rt, &shared.threads, &mut parts.hand, element)) }};
         let _before = {TICK}; sent"""),
 ]
 # A maker that a token might have derived, and the token that it would make.
 DERIVED = [
-    (f"derived_{name.lower()}", f"fn {{}}() -> {name}", f"{name}::default()") for name in ("Ticket", "Owed", "Paid", "Seated", "StepRan")
-] + [(f"copied_{name.lower()}", f"fn {{}}(it: &{name}) -> {name}", "it.clone()") for name in ("Ticket", "Owed", "Paid", "Seated", "StepRan")]
+    (f"derived_{name.lower()}", f"fn {{}}() -> {name}", f"{name}::default()") for name in ("Ticket", "WakeDue", "WakeDone", "OnProcessor", "StepRan")
+] + [(f"copied_{name.lower()}", f"fn {{}}(it: &{name}) -> {name}", "it.clone()") for name in ("Ticket", "WakeDue", "WakeDone", "OnProcessor", "StepRan")]
 MOVED = [
     ("one_ticket_twice", HEARS, """let ticket = ticket_for(&shared.threads, hand, waits_of(&shared.plan, queue).0);
         let _first = try_hear(shared, small, large, queue, room, ticket, p, gate); let _second = try_hear(shared, small, large, queue, room, ticket, p, gate);"""),
     ("one_debt_twice", CLOSES, """let WasShut { was_open, readers: owed, writers: _ } = shut_at(&shared.queues, small, queue);
         let readers = wake_for(rt, &shared.threads, hand, waits_of(&shared.plan, QueueIndex::Small(queue)).0, owed);
         let writers = wake_for(rt, &shared.threads, hand, waits_of(&shared.plan, QueueIndex::Small(queue)).1, owed); WasShut { was_open, readers, writers }"""),
-    ("one_attempt_twice", "fn {}(shared: &Shared, hand: &mut Hand, element: Element, attempt: Attempt) -> Tried",
+    ("one_attempt_twice", "fn {}(shared: &Shared, hand: &mut Hand, element: Element, attempt: StepTry) -> StepCounted",
         "let _first = count_step(&shared.threads, hand, element, attempt); count_step(&shared.threads, hand, element, attempt)"),
-    ("one_seat_twice", "fn {}<R: Wait, G: Gate>(rt: &R, shared: &Shared, parts: &mut Parts, seated: Seated, step: &Step, room: &mut LineRoom, gate: &mut G) -> Attempt",
+    ("one_seat_twice", "fn {}<R: Wait, G: Gate>(rt: &R, shared: &Shared, parts: &mut Parts, seated: OnProcessor, step: &Step, room: &mut LineRoom, gate: &mut G) -> StepTry",
         "let _first = do_step(rt, shared, parts, seated, step, room, 0, gate); do_step(rt, shared, parts, seated, step, room, 0, gate)"),
-    ("one_count_twice", "fn {}<R: Wait>(rt: &R, shared: &Shared, hand: &mut Hand, element: Element, tried: Tried) -> Rescheduled",
+    ("one_count_twice", "fn {}<R: Wait>(rt: &R, shared: &Shared, hand: &mut Hand, element: Element, tried: StepCounted) -> Rescheduled",
         "let _first = send_on(rt, &shared.threads, hand, element, tried, false); send_on(rt, &shared.threads, hand, element, tried, false)"),
 ]
 RIGHT = [
@@ -97,8 +88,8 @@ RIGHT = [
         match try_say(shared, small, large, queue, line, ticket, p, gate) {
         SayAnswer::Put(owed) => SayAnswer::Put(wake_for(rt, &shared.threads, hand, waits_of(&shared.plan, queue).0, owed)), """ + ANSWERS),
 ]
-# How the compiler tells that what is private is asked for, that what was moved is used, that a type has no such maker or isn't copied,
-# or that what has to be used isn't.
+# The compiler's words where a body asks for what is private, uses what was moved, makes or copies a type that has no such
+# maker, or lets go of what has to be used.
 NO_FIELD, NO_NAME, NO_VALUE = "error[private-field]", "so its constructor is private too", "error[borrow-e0382]"
 LET_GO = "error[linear-value-let-go]"
 NO_ITEM = "is private"
@@ -135,7 +126,8 @@ CHAIN_MOVED = [
         "let _world = world; let taken = store_tail(words, seat, turn, tail, note); (taken, exchange_gate(words, seat, turn))"),
 ]
 CHAIN_RIGHT = [("right_order", SERVES, "let taken = store_tail(words, seat, turn, tail, note); run_held(words, seat, world, taken)")]
-# How an end that found no other is opened, made, copied, let go and used twice, where a table is closed: by the words of each crate.
+# A body that opens, makes, copies, lets go or uses twice the end that found no other, as a table is closed, in the words of
+# each crate.
 CLOSES = """//! Bodies in another order.
 use crate::rule::{rule};
 use crate::steps::{look};
@@ -171,10 +163,10 @@ def closing(rule, look, item="()", bound="", more="", rest="", shape="Shape"):
     return named, right, [(opened, (NO_FIELD, NO_NAME)), (counted, (NO_ITEM,)), (derived, (NO_MAKER,)), (copied, (NO_COPY,)), (let_go, (LET_GO,)), (twice, (NO_VALUE,))]
 
 
-# Each crate, its module before the one that it gets more, that one's head, its body in the right order, and all others, a few at a
-# time (the compiler tells 20 errors at most), with the errors that are to refuse each.
+# Each crate, its module before the added one, that one's head, its body in the right order, and all others with the errors that
+# have to refuse each. The others are a few at a time, since the compiler reports 20 errors at most.
 TRIALS = [
-    ("processor", "deed", HEAD, RIGHT, [*((PRIVATE[at : at + 4], (NO_FIELD, NO_NAME)) for at in range(0, len(PRIVATE), 4)), (DERIVED[:5], (NO_MAKER,)),
+    ("processor", "step_outcome", HEAD, RIGHT, [*((PRIVATE[at : at + 4], (NO_FIELD, NO_NAME)) for at in range(0, len(PRIVATE), 4)), (DERIVED[:5], (NO_MAKER,)),
         (DERIVED[5:], (NO_COPY,)), (MOVED, (NO_VALUE,))]),
     ("proc_chain", "layout", CHAIN_HEAD, CHAIN_RIGHT, [(CHAIN_PRIVATE, (NO_FIELD, NO_NAME)), (CHAIN_LET_GO, (LET_GO,)), (CHAIN_MOVED, (NO_VALUE,))]),
     ("proc_chain", "layout", *closing("ChainRule", "load", "Q", "<Q: Quaject>", "use crate::quaject::Quaject;\n", ", 0", shape="Shape<Pact<Q::World, Q>>")),
@@ -182,64 +174,3 @@ TRIALS = [
     ("meters", "layout", *closing("MeterRule", "load_clock")),
     ("thread_table", "hand", *closing("ThreadRule", "load_head", rest=", 0")),
 ]
-
-
-def copied(copy):
-    """Puts a copy of the sources there, in which each crate that is tried has one module more."""
-    shutil.copytree(ROOT / "crates", copy / "crates", ignore=shutil.ignore_patterns("out", "must-fail", "wrong-bodies"))
-    for name in ("crates.txt", "HANDLES"):
-        shutil.copy(ROOT / name, copy)
-    (copy / ".git").mkdir()
-    for crate, module in {(crate, module) for crate, module, *_ in TRIALS}:
-        lib = copy / "crates" / crate / "src/lib.rt"
-        lib.write_text(lib.read_text(encoding="utf-8").replace(f"\nmod {module};\n", f"\nmod {module};\nmod in_another_order;\n"), encoding="utf-8")
-        (lib.parent / "in_another_order.rt").write_text("//! No bodies yet.\n", encoding="utf-8")
-
-
-def errors_of(source, top, bodies):
-    """Compiles the bodies in this crate, and gives the errors of each, by its name, and all others by None."""
-    texts = [top, *("\n" + head.format(name) + " {\n    " + " ".join(text.split()) + "\n}\n" for name, head, text in bodies)]
-    (source / "src/in_another_order.rt").write_text("".join(texts), encoding="utf-8")
-    lines = "".join(texts).split("\n")
-    call = ["rt", "try", "--test"]
-    run = subprocess.run(call, cwd=source, stdout=subprocess.PIPE, stderr=subprocess.STDOUT, text=True)
-    found = {}
-    for line in run.stdout.split("\n"):
-        if "error" not in line or not re.match(r"src/|\S+: error", line):
-            continue
-        place = re.match(r"src/in_another_order\.rt:(\d+):", line)
-        names = [head[1] for at in range(int(place[1]) if place else 0) if (head := re.match(r"fn (\w+)", lines[at]))]
-        found.setdefault(names[-1] if names else None, []).append(line)
-    return found, run
-
-
-def tried(source, top, bodies, wanted):
-    """What is wrong where these bodies are to be refused by errors of these kinds, or, where there are none, not refused."""
-    found, run = errors_of(source, top, bodies)
-    names = [name for name, _, _ in bodies] if wanted else []
-    faults = [f"{name} is not refused" for name in names if name not in found]
-    faults += [line for name in found for line in found[name] if name not in names or not any(word in line for word in wanted)]
-    if not wanted and run.returncode:
-        faults.append(f"the right order is refused: {run.stdout[-1000:]}")
-    return faults
-
-
-def main():
-    faults = []
-    with tempfile.TemporaryDirectory() as folder:
-        copy = pathlib.Path(folder)
-        copied(copy)
-        for crate, _, top, right, rounds in TRIALS:
-            for bodies, wanted in [(right, ()), *rounds]:
-                faults += tried(copy / "crates" / crate, top, bodies, wanted)
-            # The crates above are to compile as they are.
-            (copy / "crates" / crate / "src/in_another_order.rt").write_text("//! No bodies any more.\n", encoding="utf-8")
-    for fault in faults:
-        print(f"test-order: {fault}", file=sys.stderr)
-    if not faults:
-        wrong, right = sum(len(bodies) for trial in TRIALS for bodies, _ in trial[4]), len(TRIALS)
-        print(f"order: {wrong} bodies in another order don't compile, and {right} in the right order do")
-    return 1 if faults else 0
-
-
-sys.exit(main())

@@ -7,7 +7,7 @@ split_seat-requires g c = (
   search rules,
   search rules,
   subst (λ (m : List Bool). Splits (Rule c.args.words.now.key) c.args.seat.now.id c.args.seat.now.me.0 (rest_of m c.args.seat.now.me.0) (newborn m c.args.seat.now.me.0)) (sym c.requires.mask.0)
-      (splits c.args.words.now.key c.args.seat.now.id c.args.seat.now.me.0 c.args.mask.now c.requires.live c.valid-mask c.requires.mask.1),
+      (splits c.args.words.now.key c.args.seat.now.id c.args.seat.now.me.0 c.args.mask.now c.requires.live c.told-mask c.requires.mask.1),
 )
 
 pub returns-clause-stands : goal.returns-clause-stands

@@ -24,7 +24,7 @@ HasOrGave {Q} made fits false me = (me.1 ≡ []) × ((x : Q) × made x (notes_of
 pub record IsRunner {Q : Type 0} (made : Q → List ℕ → Type 0) (fits : Q → Type 0) (me : Me Q View) : Type 0 where
   pub live : 1 ≤ me.0.member.ends
   pub runner : me.0.own.runner ≡ true
-  pub following : (queue_of me.0).taken ≤ length (queue_of me.0).places
+  pub taken_within : (queue_of me.0).taken ≤ length (queue_of me.0).places
   pub carries : Carries made fits (notes_of (queue_of me.0)) [] me.1
 
 -- at each number of notes taken in between, the quaject was made by that many first notes, in order, and fits

@@ -16,7 +16,7 @@ pub overflow_cast-result-4 : goal.overflow_cast-result-4
 overflow_cast-result-4 g c = let s = spans (makes g.Q.Quaject.made_by) (suits g.Q.Quaject.fits) c.args.self.table.shared.key _ _ _ _ _ _ c.close_by-closed.ensures.values.2 c.word-head.ensures c.word-tail.ensures in let following = s.taken_within in let bounded = s.bounded in omega arith
 
 pub free-requires : goal.free-requires
-free-requires g c = let slots = c.take-quaject.ensures.frame in λ k below. emptied_slot _ _ _ k slots.1 (slots.2 ∙ (c.close_by-closed.ensures.counts.1 ∙ c.args.self.sized.1)) below
+free-requires g c = let slots = c.take-quaject.ensures.others in λ k below. emptied_slot _ _ _ k slots.1 (slots.2 ∙ (c.close_by-closed.ensures.counts.1 ∙ c.args.self.sized.1)) below
 
 pub returns-clause-closed : goal.returns-clause-closed
 returns-clause-closed g c = let k = c.args.self.table.shared.key in let first = c.args.self.shaped in let end = c.args.end in

@@ -1,5 +1,7 @@
 # make: proves and builds the programs where one is missing or older than its sources
 # make doc: the reference as linked pages, from docs/out/index.html on
+# make check SINCE=REVISION: proves what a change touches, over what earlier checks kept, with its tests and wrong
+#     bodies. It is not the gate. HEAD if no revision is named
 # make test: the gate. The last line is that of `rt ci`, and so is the status.
 # make install PREFIX=/where DESTDIR=/stage: the programs, the libraries, headers, pages of the manual and documents;
 #     /usr/local if no PREFIX is named. make uninstall, with the same words, removes them.
@@ -17,11 +19,12 @@ sources := $(shell find crates/*/src crates/*/specs crates/*/proofs crates.txt H
 PREFIX := /usr/local
 DESTDIR :=
 GATE_LOG :=
+SINCE := HEAD
 PROGRAMS := $(programs)
 LIBRARY := bindings/out/libsynthesis.a
 named = PREFIX='$(PREFIX)' DESTDIR='$(DESTDIR)' GATE_LOG='$(GATE_LOG)' PROGRAMS='$(PROGRAMS)' LIBRARY='$(LIBRARY)'
 
-.PHONY: all doc test install uninstall dist library
+.PHONY: all check doc test install uninstall dist library
 
 all: $(programs)
 
@@ -30,6 +33,9 @@ $(programs) &: $(sources)
 
 doc:
 	tools/docs make
+
+check:
+	tools/check '$(SINCE)'
 
 test:
 	tools/gate

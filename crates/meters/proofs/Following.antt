@@ -1,5 +1,5 @@
 -- What several steps tell together.
-use Rattle.meters.proofs.Common.{◌≡◌, ◌≢◌, ◌⊎◌, inl, inr, ne_eqb, ℕ, suc, ◌+◌, ◌<◌, ◌≤◌, true, false, List, [], ◌∷◌, ◌++◌, length, length-append, filter_map, refl, sym, ap, ◌∙◌, subst, arith, Option, Some, None, append-nil, true≢false, filter_map-append, ∥∥₁_elim, Alarm, AbsState, Step, load, change, IsValidView, ExtendsTrace, Performed, Looked, clock_word, slot_word, word_of, alarm_in, MeterOps, Reading, with_alarm, SeatView, of_meters, Fits, WasSet, WasFired, FoundIn, Gave, NotAdvanced, scan, NotSet}
+use Rattle.meters.proofs.Common.{◌≡◌, ◌≢◌, ◌⊎◌, inl, inr, ne_eqb, ℕ, suc, ◌+◌, ◌<◌, ◌≤◌, true, false, List, [], ◌∷◌, ◌++◌, length, length-append, filter_map, refl, sym, ap, ◌∙◌, subst, arith, Option, Some, None, append-nil, true≢false, filter_map-append, ∥∥₁_elim, Alarm, AbsState, Step, load, change, IsValidStep, IsValidView, ExtendsTrace, Performed, entries_real, Looked, clock_word, slot_word, word_of, alarm_in, MeterOps, Reading, with_alarm, SeatView, of_meters, Fits, WasSet, WasFired, FoundIn, Gave, NotAdvanced, scan, NotSet}
 use Rattle.std.specs.Prelude.{◌==◌}
 use Rattle.std.proofs.Common.{append_assoc}
 use Rattle.std.proofs.Math.Bridge.{le_prop}
@@ -36,22 +36,25 @@ pub record Searched (v : SeatView) (slot : ℕ) (w : SeatView) : Type 0 where
   pub as_many : length taken ≡ slot
   pub full : AreTaken taken
   pub made : Performed v (scan 0 taken) v.own w
+  pub real : AllByRecursion (IsValidStep of_meters) (scan 0 taken)
 
 pub searched_none : (v : SeatView) → Searched v 0 v
-searched_none v = record { taken = []; as_many = refl; full = tt; made = made_none v }
+searched_none v = record { taken = []; as_many = refl; full = tt; made = made_none v; real = tt }
 
 scan_on : (slot : ℕ) (xs ys : Scanned) → scan slot (xs ++ ys) ≡ scan slot xs ++ scan (slot + length xs) ys
 scan_on slot [] ys = let z : slot + 0 ≡ slot = omega arith in ap (λ (k : ℕ). scan k ys) (sym z)
 scan_on slot (x ∷ xs) ys = let n : ℕ = length xs in let z : slot + suc n ≡ slot + 1 + n = omega arith in (λ i. load (slot_word slot) x.0 x.1 ∷ (scan_on (slot + 1) xs ys ∙ ap (λ (k : ℕ). scan (slot + 1) xs ++ scan k ys) (sym z)) i)
 
-pub searched_more : (v u w : SeatView) (slot : ℕ) (stood : Option Alarm) → Searched v slot u → FoundIn u slot stood w → is_some stood ≡ true → Searched v (slot + 1) w
-searched_more v u w slot None s f e = absurd (true≢false (sym e))
-searched_more v u w slot (Some alarm) s f e = let bits : ℕ = word_of (Some alarm) in let l = f.looked in let x : ℕ × AbsState Reading = (bits, l.at) in let long = length-append s.taken (x ∷ []) in let n = s.as_many in let z : slot ≡ 0 + length s.taken = omega arith in let some : 0 < bits = omega arith in record {
-  taken = s.taken ++ x ∷ [];
-  as_many = omega arith;
-  full = all_on (λ (found : ℕ × AbsState Reading). 0 < found.0) s.taken (x ∷ []) s.full (some, tt);
-  made = subst (λ (es : List (Step Reading)). Performed v es v.own w) (ap (λ (k : ℕ). scan 0 s.taken ++ scan k (x ∷ [])) z ∙ sym (scan_on 0 s.taken (x ∷ []))) (two_looks v u w (scan 0 s.taken) (slot_word slot) bits s.made l);
-}
+pub searched_more : (v u w : SeatView) (slot : ℕ) (stood : Option Alarm) → Searched v slot u → FoundIn u slot stood w → IsValidView of_meters w → is_some stood ≡ true → Searched v (slot + 1) w
+searched_more v u w slot None s f y e = absurd (true≢false (sym e))
+searched_more v u w slot (Some alarm) s f y e = let bits : ℕ = word_of (Some alarm) in let l = f.looked in let x : ℕ × AbsState Reading = (bits, l.at) in let long = length-append s.taken (x ∷ []) in let n = s.as_many in let z : slot ≡ 0 + length s.taken = omega arith in let some : 0 < bits = omega arith in
+    let m : Performed v (scan 0 (s.taken ++ x ∷ [])) v.own w = subst (λ (es : List (Step Reading)). Performed v es v.own w) (ap (λ (k : ℕ). scan 0 s.taken ++ scan k (x ∷ [])) z ∙ sym (scan_on 0 s.taken (x ∷ []))) (two_looks v u w (scan 0 s.taken) (slot_word slot) bits s.made l) in record {
+      taken = s.taken ++ x ∷ [];
+      as_many = omega arith;
+      full = all_on (λ (found : ℕ × AbsState Reading). 0 < found.0) s.taken (x ∷ []) s.full (some, tt);
+      made = m;
+      real = entries_real of_meters v w (scan 0 (s.taken ++ x ∷ [])) y m.adds;
+    }
 
 pub no_room : (v w : SeatView) (slot : ℕ) → slot ≡ 16 → Searched v slot w → NotSet v not_set.NoRoom w × DidNothing v w
 no_room v w slot is s = ((s.taken, s.as_many ∙ is, s.full, s.made.adds), made_own v w _ v.own s.made)
@@ -122,26 +125,29 @@ pub record Swept (v : SeatView) (clock slot : ℕ) (alarms : List Alarm) (w : Se
   pub fit : AllByRecursion (IsVisit clock) visits
   pub alarms_are : alarms ≡ filter_map gave visits
   pub made : Performed v (tour 0 visits) (record v.own { fired = v.own.fired ++ filter_map gave visits }) w
+  pub real : AllByRecursion (IsValidStep of_meters) (tour 0 visits)
 
 pub swept_none : (v : SeatView) (clock : ℕ) (alarms : List Alarm) → alarms ≡ [] → Swept v clock 0 alarms v
-swept_none v clock alarms none = record { visits = []; as_many = refl; fit = tt; alarms_are = none; made = nothing_more v v [] (made_none v) }
+swept_none v clock alarms none = record { visits = []; as_many = refl; fit = tt; alarms_are = none; made = nothing_more v v [] (made_none v); real = tt }
 
 tour_on : (slot : ℕ) (xs ys : List Visit) → tour slot (xs ++ ys) ≡ tour slot xs ++ tour (slot + length xs) ys
 tour_on slot [] ys = let z : slot + 0 ≡ slot = omega arith in ap (λ (k : ℕ). tour k ys) (sym z)
 tour_on slot (x ∷ xs) ys = let n : ℕ = length xs in let z : slot + suc n ≡ slot + 1 + n = omega arith in
     (λ i. entries_of slot x ++ (tour_on (slot + 1) xs ys ∙ ap (λ (k : ℕ). tour (slot + 1) xs ++ tour k ys) (sym z)) i) ∙ sym (append_assoc (entries_of slot x) (tour (slot + 1) xs) (tour (slot + suc n) ys))
 
-pub swept_more : (v u w : SeatView) (clock slot : ℕ) (alarms new : List Alarm) (alarm : Option Alarm) → Swept v clock slot alarms u → Gave u clock slot alarm w → new ≡ alarms ++ filter_map (λ (x : Option Alarm). x) (alarm ∷ []) → Swept v clock (slot + 1) new w
-swept_more v u w clock slot alarms new alarm s g is = let x : Visit = g.visit in let long = length-append s.visits (x ∷ []) in let n = s.as_many in let z : slot ≡ 0 + length s.visits = omega arith in
-    let all = sym (filter_map-append gave s.visits (x ∷ [])) in record {
+pub swept_more : (v u w : SeatView) (clock slot : ℕ) (alarms new : List Alarm) (alarm : Option Alarm) → Swept v clock slot alarms u → Gave u clock slot alarm w → IsValidView of_meters w → new ≡ alarms ++ filter_map (λ (x : Option Alarm). x) (alarm ∷ []) → Swept v clock (slot + 1) new w
+swept_more v u w clock slot alarms new alarm s g y is = let x : Visit = g.visit in let long = length-append s.visits (x ∷ []) in let n = s.as_many in let z : slot ≡ 0 + length s.visits = omega arith in
+    let all = sym (filter_map-append gave s.visits (x ∷ [])) in
+    let m : Performed v (tour 0 (s.visits ++ x ∷ [])) (record v.own { fired = v.own.fired ++ filter_map gave (s.visits ++ x ∷ []) }) w = subst (λ (es : List (Step Reading)). Performed v es (record v.own { fired = v.own.fired ++ filter_map gave (s.visits ++ x ∷ []) }) w)
+    (ap (λ (e : List (Step Reading)). tour 0 s.visits ++ e) (sym (append-nil (entries_of slot x))) ∙ (ap (λ (k : ℕ). tour 0 s.visits ++ tour k (x ∷ [])) z ∙ sym (tour_on 0 s.visits (x ∷ []))))
+    (subst (λ (fired : List Alarm). Performed v (tour 0 s.visits ++ entries_of slot x) (record v.own { fired = fired }) w) (append_assoc v.own.fired (filter_map gave s.visits) (filter_map gave (x ∷ [])) ∙ ap (λ (e : List Alarm). v.own.fired ++ e) all)
+    (made_then v u w (tour 0 s.visits) (entries_of slot x) _ (λ d. record d { fired = d.fired ++ filter_map gave (x ∷ []) }) s.made g.made)) in record {
       visits = s.visits ++ x ∷ [];
       as_many = omega arith;
       fit = all_on (IsVisit clock) s.visits (x ∷ []) s.fit (g.fits, tt);
       alarms_are = is ∙ ((λ i. s.alarms_are i ++ one g.visit alarm g.alarm_is i) ∙ all);
-      made = subst (λ (es : List (Step Reading)). Performed v es (record v.own { fired = v.own.fired ++ filter_map gave (s.visits ++ x ∷ []) }) w)
-          (ap (λ (e : List (Step Reading)). tour 0 s.visits ++ e) (sym (append-nil (entries_of slot x))) ∙ (ap (λ (k : ℕ). tour 0 s.visits ++ tour k (x ∷ [])) z ∙ sym (tour_on 0 s.visits (x ∷ []))))
-          (subst (λ (fired : List Alarm). Performed v (tour 0 s.visits ++ entries_of slot x) (record v.own { fired = fired }) w) (append_assoc v.own.fired (filter_map gave s.visits) (filter_map gave (x ∷ [])) ∙ ap (λ (e : List Alarm). v.own.fired ++ e) all)
-          (made_then v u w (tour 0 s.visits) (entries_of slot x) _ (λ d. record d { fired = d.fired ++ filter_map gave (x ∷ []) }) s.made g.made));
+      made = m;
+      real = entries_real of_meters v w (tour 0 (s.visits ++ x ∷ [])) y m.adds;
     }
   where
     one : (visit : Visit) (a : Option Alarm) → a ≡ gave visit → filter_map (λ (x : Option Alarm). x) (a ∷ []) ≡ filter_map gave (visit ∷ [])

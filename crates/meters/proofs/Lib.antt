@@ -8,6 +8,7 @@ pub mod Stepping
 pub mod Falling
 pub mod Finding
 pub mod Following
+pub mod Clients
 pub mod Lone
 pub mod Betweens
 pub mod Opening

@@ -11,3 +11,5 @@ pub mod Handles
 pub mod Endings
 pub mod Closings
 pub mod Between
+pub mod Client
+pub mod Evidence

@@ -1,11 +1,15 @@
 //! Alarms.
-ghost use Rattle.std.specs.Prelude.{◌≡◌, ◌<◌, ◌≤◌, MatchResult, MatchBool, [], ◌∷◌, ◌++◌, length, Option, filter_map};
+ghost use Rattle.std.specs.Prelude.{◌≡◌, ◌<◌, ◌≤◌, MatchResult, MatchBool, IfOk, IfErr, [], ◌∷◌, ◌++◌, length};
+ghost use Rattle.std.specs.Prelude.{Option, filter_map};
+ghost use Rattle.table_theory.specs.Ledgers.{IsValidView};
 ghost use Rattle.meters.specs.declared.layout.TheConstants.{SLOTS};
 ghost use Rattle.meters.specs.Handles.{view_of, IsSeatOf, IsSameSeat};
-ghost use Rattle.meters.specs.Answers.{SetNow, NotSet, CancelledNow, FiredNow};
+ghost use Rattle.meters.specs.Client.{SetsAlarm, WereTakenBefore, WhyNotSet, CancelsAlarm, SlotHad, FiresDue};
+ghost use Rattle.meters.specs.Client.{ChangesNothing};
+ghost use Rattle.meters.specs.Evidence.{SetNow, NotSet, CancelledNow, FiredNow};
 ghost use Rattle.meters.specs.Steps.{FoundIn, Gave};
 ghost use Rattle.meters.specs.Layout.{word_of};
-ghost use Rattle.meters.specs.Own.{SeatView, DidNothing, DidSet, DidCancel, DidFire};
+ghost use Rattle.meters.specs.Own.{SeatView, of_meters, DidNothing, DidSet, DidCancel, DidFire};
 
 use crate::ends::{MeterSeat, Meters};
 use crate::layout::SLOTS;
@@ -33,8 +37,13 @@ impl Meters {
     /// compare-and-swap. Returns the slot, 0 to 15, by which the alarm can be cancelled.
     pub fn try_set(&self, seat: &mut MeterSeat, alarm: Alarm) -> Result<usize, SetRefusal>
         requires { IsSeatOf self.now seat.old }
+        ensures effect { MatchResult result (λ slot. SetsAlarm slot alarm (view_of seat.old) (view_of seat.new))
+            (λ r. ChangesNothing (view_of seat.old) (view_of seat.new)) }
+        ensures result { IfOk result (λ slot. (slot < SLOTS)
+            × WereTakenBefore slot (view_of seat.old) (view_of seat.new)) }
         ensures owns { MatchResult result (λ slot. DidSet alarm (view_of seat.old) (view_of seat.new))
             (λ r. DidNothing (view_of seat.old) (view_of seat.new)) }
+        ensures error { IfErr result (λ r. WhyNotSet (view_of seat.old) r (view_of seat.new)) }
         ensures trace { MatchResult result (λ slot. SetNow (view_of seat.old) slot alarm (view_of seat.new))
             (λ r. NotSet (view_of seat.old) r (view_of seat.new)) }
         ensures handle { IsSameSeat seat.old seat.new }
@@ -57,6 +66,9 @@ impl Meters {
     /// fired or cancelled before, or was never there. Two equal alarms cannot be distinguished.
     pub fn cancel(&self, seat: &mut MeterSeat, slot: usize, alarm: Alarm) -> bool
         requires { IsSeatOf self.now seat.old × (slot < SLOTS) }
+        ensures effect { MatchBool result (CancelsAlarm slot alarm (view_of seat.old) (view_of seat.new))
+            (ChangesNothing (view_of seat.old) (view_of seat.new)) }
+        ensures result { SlotHad slot alarm result (view_of seat.old) (view_of seat.new) }
         ensures owns { MatchBool result (DidCancel alarm (view_of seat.old) (view_of seat.new))
             (DidNothing (view_of seat.old) (view_of seat.new)) }
         ensures trace { CancelledNow (view_of seat.old) slot alarm result (view_of seat.new) }
@@ -85,6 +97,7 @@ impl Meters {
             → FoundIn v slot stood (view_of seat.old)
             → (alarm : Option Alarm) × Gave v clock slot alarm (view_of seat.new)
             × (fired.new.items ≡ fired.old.items ++ filter_map (λ a. a) (alarm ∷ [])) }
+        ensures valid { IsValidView of_meters (view_of seat.old) → IsValidView of_meters (view_of seat.new) }
         ensures handle { IsSameSeat seat.old seat.new }
     {
         let Some(alarm) = found.alarm() else { return };
@@ -104,6 +117,7 @@ impl Meters {
     /// over.
     pub fn due(&self, seat: &mut MeterSeat) -> ArrayVec<Alarm, SLOTS>
         requires { IsSeatOf self.now seat.old }
+        ensures effect { FiresDue result.items (view_of seat.old) (view_of seat.new) }
         ensures owns { DidFire result.items (view_of seat.old) (view_of seat.new) }
         ensures trace { FiredNow (view_of seat.old) result.items (view_of seat.new) }
         ensures handle { IsSameSeat seat.old seat.new }
@@ -117,6 +131,7 @@ impl Meters {
     /// can be used again and again, and none is moved.
     pub fn take_due(&self, seat: &mut MeterSeat, fired: &mut ArrayVec<Alarm, SLOTS>)
         requires { IsSeatOf self.now seat.old }
+        ensures effect { FiresDue fired.new.items (view_of seat.old) (view_of seat.new) }
         ensures owns { DidFire fired.new.items (view_of seat.old) (view_of seat.new) }
         ensures trace { FiredNow (view_of seat.old) fired.new.items (view_of seat.new) }
         ensures handle { IsSameSeat seat.old seat.new }

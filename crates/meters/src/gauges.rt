@@ -1,9 +1,11 @@
 //! Gauges and the clock.
-ghost use Rattle.std.specs.Prelude.{◌≡◌, ◌<◌, MatchResult};
+ghost use Rattle.std.specs.Prelude.{◌≡◌, ◌<◌, MatchResult, IfOk, IfErr, slice_index_or};
 ghost use Rattle.meters.specs.declared.layout.TheConstants.{GAUGES};
 ghost use Rattle.meters.specs.Layout.{gauge_word, clock_word};
 ghost use Rattle.meters.specs.Handles.{view_of, IsSeatOf, IsSameSeat};
-ghost use Rattle.meters.specs.Answers.{Ticked, Loaded, AdvancedNow, NotAdvanced};
+ghost use Rattle.meters.specs.Client.{AtSomeMoment, AddsToGauge, GaugeWas, ChangesNothing};
+ghost use Rattle.meters.specs.Client.{MovesClock, ClockBecame, WhyNotAdvanced};
+ghost use Rattle.meters.specs.Evidence.{Ticked, Loaded, AdvancedNow, NotAdvanced};
 ghost use Rattle.meters.specs.Own.{DidNothing, DidTick, DidAdvance};
 
 use crate::ends::{MeterSeat, Meters};
@@ -26,6 +28,8 @@ impl Meters {
     /// Adds `amount` to the gauge 0 to 7, modulo 2^64, by one step, and returns the gauge's value before.
     pub fn tick(&self, seat: &mut MeterSeat, gauge: usize, amount: u64) -> u64
         requires { IsSeatOf self.now seat.old × (gauge < GAUGES) }
+        ensures effect { AddsToGauge gauge amount (view_of seat.old) (view_of seat.new) }
+        ensures result { GaugeWas gauge amount result (view_of seat.old) (view_of seat.new) }
         ensures owns { DidTick gauge amount (view_of seat.old) (view_of seat.new) }
         ensures trace { Ticked (view_of seat.old) gauge amount result (view_of seat.new) }
         ensures handle { IsSameSeat seat.old seat.new }
@@ -37,6 +41,9 @@ impl Meters {
     /// The value of the gauge 0 to 7, by one load.
     pub fn gauge(&self, seat: &mut MeterSeat, gauge: usize) -> u64
         requires { IsSeatOf self.now seat.old × (gauge < GAUGES) }
+        ensures effect { ChangesNothing (view_of seat.old) (view_of seat.new) }
+        ensures result { AtSomeMoment (view_of seat.old) (view_of seat.new) (λ m.
+            slice_index_or m.gauges gauge 0 ≡ result) }
         ensures owns { DidNothing (view_of seat.old) (view_of seat.new) }
         ensures trace { Loaded (view_of seat.old) (gauge_word gauge) result (view_of seat.new) }
         ensures handle { IsSameSeat seat.old seat.new }
@@ -48,6 +55,8 @@ impl Meters {
     /// The clock, by one load.
     pub fn clock(&self, seat: &mut MeterSeat) -> u32
         requires { IsSeatOf self.now seat.old }
+        ensures effect { ChangesNothing (view_of seat.old) (view_of seat.new) }
+        ensures result { AtSomeMoment (view_of seat.old) (view_of seat.new) (λ m. m.clock ≡ result) }
         ensures owns { DidNothing (view_of seat.old) (view_of seat.new) }
         ensures trace { Loaded (view_of seat.old) clock_word result (view_of seat.new) }
         ensures handle { IsSameSeat seat.old seat.new }
@@ -60,8 +69,12 @@ impl Meters {
     /// compare-and-swap. Returns the new clock.
     pub fn advance(&self, seat: &mut MeterSeat) -> Result<u32, AdvanceRefusal>
         requires { IsSeatOf self.now seat.old }
+        ensures effect { MatchResult result (λ clock. MovesClock (view_of seat.old) (view_of seat.new))
+            (λ r. ChangesNothing (view_of seat.old) (view_of seat.new)) }
+        ensures result { IfOk result (λ clock. ClockBecame clock (view_of seat.old) (view_of seat.new)) }
         ensures owns { MatchResult result (λ clock. DidAdvance clock (view_of seat.old) (view_of seat.new))
             (λ r. DidNothing (view_of seat.old) (view_of seat.new)) }
+        ensures error { IfErr result (λ r. WhyNotAdvanced (view_of seat.old) r (view_of seat.new)) }
         ensures trace { MatchResult result (λ clock. AdvancedNow (view_of seat.old) clock (view_of seat.new))
             (λ r. NotAdvanced (view_of seat.old) r (view_of seat.new)) }
         ensures handle { IsSameSeat seat.old seat.new }

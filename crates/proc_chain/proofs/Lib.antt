@@ -15,3 +15,4 @@ pub mod Common
 pub mod Apart
 pub mod Falling
 pub mod Kept
+pub mod Clients

@@ -1,5 +1,5 @@
 -- The parts of a serving taken together, and the invariant of its loop.
-use Rattle.proc_chain.proofs.Common.{◌≡◌, ◌≢◌, ℕ, zero, suc, ◌+◌, ◌/◌, ◌%◌, ◌<◌, ◌≤◌, Option, Some, None, true, false, Bool, List, [], ◌∷◌, ◌++◌, map, take, length, get_or, sym, refl, ap, ◌∙◌, subst, arith, length-append, props, ∥∥₁_elim, map-append, length-map, dite, ℕ_discrete, dec_le, Me, Seat, Batch, Cell, Positions, AbsState, Part, line_of, Step, load, change, blank, item_of, item_at, stage_at, with_take, tail_of, IsSame, made_on, raised_below, ChainOps, GatedQueue, place_word, raised_word, notes_of, with_taken, with_gate, taking, View, queue_of, Stepped, Found, IsValidChainView, Carries, IsRunner, MadeSince, Serving, tail_word, gate_word}
+use Rattle.proc_chain.proofs.Common.{◌≡◌, ◌≢◌, ℕ, zero, suc, ◌+◌, ◌/◌, ◌%◌, ◌<◌, ◌≤◌, Option, Some, None, true, false, Bool, List, [], ◌∷◌, ◌++◌, map, take, length, get_or, sym, refl, ap, ◌∙◌, subst, arith, length-append, props, ∥∥₁_elim, map-append, length-map, dite, ℕ_discrete, dec_le, dec_lt, Me, Seat, Batch, Cell, Positions, AbsState, Part, line_of, Step, load, change, blank, item_of, item_at, stage_at, with_take, tail_of, IsSame, made_on, raised_below, ChainOps, GatedQueue, place_word, raised_word, notes_of, with_taken, with_gate, taking, View, queue_of, Stepped, Found, IsValidChainView, Carries, IsRunner, MadeSince, Serving, tail_word, gate_word}
 use Rattle.std.proofs.Common.{drop}
 use Rattle.std.proofs.lemmas.Grind.{flat_map-append}
 use Rattle.std.proofs.lemmas.List.{append-nil, append_assoc, length-take-le, take-append-le}
@@ -14,7 +14,9 @@ use Rattle.proc_chain.specs.Turns.{HasOrGave, HasServed}
 use Rattle.proc_chain.specs.Servings.{Use, took, failed, entries_of, IsUse, notes_run, takings, serving, Leaving, leaving, goes_on, all_uses, HasRun, ServedNow, AllServed}
 use Rattle.proc_chain.specs.declared.serve.Served.TheVariants as served
 use Rattle.proc_chain.specs.declared.running.Turn.{Turn}
-use Rattle.proc_chain.specs.Rounds.{used, Ran, RanNote, FoundNone, LeftNow, RoundNow, IsDone, IsUsedUp}
+use Rattle.proc_chain.specs.Client.{FoundNoneAt, WhyLeft, IsNoneRaised}
+use Rattle.proc_chain.specs.Rounds.{used, Ran, RanNote, FoundNone, LeftNow, RoundNow, IsDone, IsUsedUp, SawNone, MetGate}
+use Rattle.proc_chain.proofs.Clients.{found_none_at, two_after, two_then}
 use Rattle.proc_chain.proofs.Finding.{note_says, mark_says, runner_on, seen_step}
 use Rattle.proc_chain.proofs.Gates.{notes_same, notes_take}
 
@@ -227,6 +229,7 @@ module _ {Q : Type 0} (made : Q → List ℕ → Type 0) (fits : Q → Type 0) w
     pub runner : IsRunner made fits now.me
     pub valid : IsValidChainView now.me.0
     pub since : MadeSince made fits old.me.0 now.me.0
+    pub failed : ran < count → FoundNoneAt 2 old.me.0 now.me.0
 
   module _ (old now : Seat Q View) where
     pub rounds_begin : (gate : ℕ) → IsSame old now → BegunRound old.me.0 gate now.me.0 → now.me.1 ≡ old.me.1 → IsValidChainView now.me.0 → IsRunner made fits old.me → InRounds old now 0 0
@@ -241,10 +244,11 @@ module _ {Q : Type 0} (made : Q → List ℕ → Type 0) (fits : Q → Type 0) w
           runner = runner;
           valid = valid;
           since = since_step v w [] a.served (omega arith) r.taken_within runner.taken_within (made_of old.me r) (made_of now.me runner);
+          failed = λ less. absurd (omega arith);
         }
 
-    pub rounds_on : (next : Seat Q View) (count ran more : ℕ) (one : Use) → InRounds old now count ran → IsSame now next → Ran now.me.0 (entries_of one) (one ∷ []) true false next.me.0 → length (notes_run (one ∷ [])) ≡ more → more ≤ 1 → IsRunner made fits next.me → IsValidChainView next.me.0 → InRounds old next (count + 1) (ran + more)
-    rounds_on next count ran more one r same u is small runner valid = let v : View = old.me.0 in let w : View = now.me.0 in let x : View = next.me.0 in let us : List Use = r.so.uses in
+    pub rounds_on : (next : Seat Q View) (count ran more : ℕ) (one : Use) → InRounds old now count ran → IsSame now next → Ran now.me.0 (entries_of one) (one ∷ []) true false next.me.0 → length (notes_run (one ∷ [])) ≡ more → more ≤ 1 → IsRunner made fits next.me → IsValidChainView next.me.0 → (more < 1 → FoundNoneAt 2 now.me.0 next.me.0) → InRounds old next (count + 1) (ran + more)
+    rounds_on next count ran more one r same u is small runner valid fails = let v : View = old.me.0 in let w : View = now.me.0 in let x : View = next.me.0 in let us : List Use = r.so.uses in
         let few = r.few in let number = r.number in let long = r.long in let n = length-append us (one ∷ []) in let l = length-append (notes_run us) (notes_run (one ∷ [])) in let len = ap length (run_on us (one ∷ [])) in record {
           same = (same.0 ∙ r.same.0, same.1 ∙ r.same.1);
           so = record r.so { uses = us ++ one ∷ [] };
@@ -255,6 +259,9 @@ module _ {Q : Type 0} (made : Q → List ℕ → Type 0) (fits : Q → Type 0) w
           runner = runner;
           valid = valid;
           since = since_then v w x (notes_run (one ∷ [])) r.since (since_step w x (notes_run (one ∷ [])) u.served (omega arith) r.runner.taken_within runner.taken_within (made_of now.me r.runner) (made_of next.me runner)) u.served.notes r.runner.taken_within;
+          failed = λ less. dite (dec_lt ran count)
+              (λ before. two_then v w x (entries_of one) (λ o later. IsNoneRaised o × (later.queue.taken ≡ o.queue.taken) × (later.gate ≡ 2)) (ap (λ (z : Part). z.share) r.all.made.member) (r.failed before) u.made.adds)
+              (λ no. two_after v w x (serving r.so) (λ o later. IsNoneRaised o × (later.queue.taken ≡ o.queue.taken) × (later.gate ≡ 2)) (ap (λ (z : Part). z.share) r.all.made.member) r.all.made.adds (fails (omega arith)));
         }
 
     -- one serving, by its own uses and entries
@@ -266,6 +273,13 @@ module _ {Q : Type 0} (made : Q → List ℕ → Type 0) (fits : Q → Type 0) w
     rounds_done mid w limit count ran r below n l = let v : View = old.me.0 in let u : View = now.me.0 in let long = r.long in let left : Leaving = record { tail = n.0; word = n.1; low = n.4; at_tail = n.2; at_place = n.3; at_gate = l.0 } in
         let a = ran_on u mid w (load tail_word n.0 n.2 ∷ load (place_word n.0) n.1 n.3 ∷ []) (change gate_word 1 l.0 (with_gate l.0.object 0) ∷ []) [] [] true false true false n.5 l.1 in
         (r.so, left, omega arith, one_run w r.so (Some left) ran (subst (λ (z : List Use). Ran v (serving r.so ++ leaving (Some left)) z false false w) (append-nil r.so.uses) (ran_on v u w (serving r.so) (leaving (Some left)) r.so.uses [] true false false false r.all a)) r.number)
+
+    pub left_why : (mid w : View) (limit count ran : ℕ) → InRounds old now count ran → count < limit → FoundNone now.me.0 mid → SawNone now.me.0 mid → MetGate 1 mid w × (w.seen.object.gate ≡ 0) → (ran < limit) × WhyLeft old.me.0 w
+    left_why mid w limit count ran r below n a b = let few = r.few in (
+      omega arith,
+      (two_after old.me.0 now.me.0 w (serving r.so) (λ o later. IsNoneRaised o × (later.queue.taken ≡ o.queue.taken) × (later.gate ≡ 1)) (ap (λ (z : Part). z.share) r.all.made.member) r.all.made.adds (found_none_at now.me.0 mid w 1 (ap (λ (z : Part). z.share) n.5.made.member) a b.0),
+      b.1),
+    )
 
     pub since_done : (mid w : View) (held : List (ℕ × Q)) (count ran : ℕ) → InRounds old now count ran → FoundNone now.me.0 mid → LeftNow mid w → IsValidChainView w → HasOrGave made fits false (w, held) → MadeSince made fits old.me.0 w
     since_done mid w held count ran r n l valid h = let u : View = now.me.0 in let on = served_on u mid w [] [] n.5.served l.1.served in

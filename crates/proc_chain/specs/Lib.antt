@@ -17,3 +17,5 @@ pub mod Rounds
 pub mod Endings
 pub mod Closings
 pub mod Handles
+pub mod Client
+pub mod Evidence

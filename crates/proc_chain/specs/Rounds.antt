@@ -7,8 +7,10 @@ use Rattle.proc_chain.specs.declared.rule.ChainOps.{ChainOps}
 use Rattle.proc_chain.specs.declared.rule.GatedQueue.{GatedQueue}
 use Rattle.proc_chain.specs.declared.layout.TheConstants.{IDLE, RUNNING, MORE}
 use Rattle.proc_chain.specs.Layout.{tail_word, gate_word, place_word, mark_of}
+use Rattle.table_theory.specs.Moments.{AtSomeMoment}
 use Rattle.proc_chain.specs.Changes.{with_gate}
-use Rattle.proc_chain.specs.Own.{View}
+use Rattle.proc_chain.specs.Client.{IsNoneRaised}
+use Rattle.proc_chain.specs.Own.{View, queue_of}
 use Rattle.proc_chain.specs.Turns.{HasServed}
 use Rattle.proc_chain.specs.Servings.{Use, took, entries_of, IsUse, notes_run, takings, Serving, Leaving, HasRun}
 
@@ -56,3 +58,11 @@ IsDone v limit ran w = (s : Serving) × (l : Leaving) × (length s.uses < limit)
 -- the serving used its limit up
 abbrev pub IsUsedUp : View → ℕ → ℕ → View → Type 0
 IsUsedUp v limit ran w = (s : Serving) × (length s.uses ≡ limit) × HasRun v (s ∷ []) None ran w
+
+-- at a moment of the runner's steps no note was raised at the tail, and no note more was taken after that
+abbrev pub SawNone : View → View → Type 0
+SawNone v w = AtSomeMoment v w (λ o. IsNoneRaised o × (o.queue.taken ≡ (queue_of w).taken))
+
+-- at a moment of the runner's steps this was the gate, and no note more was taken before that
+abbrev pub MetGate : ℕ → View → View → Type 0
+MetGate gate v w = AtSomeMoment v w (λ o. (o.queue.taken ≡ (queue_of v).taken) × (o.gate ≡ gate))

@@ -1,6 +1,8 @@
 //! Chaining a note.
-ghost use Rattle.std.specs.Prelude.{◌≡◌, MatchResult, IfOk, false, true};
-ghost use Rattle.proc_chain.specs.Answers.{ChainedNow, NotChained, is_run};
+ghost use Rattle.std.specs.Prelude.{◌≡◌, MatchResult, IfOk, IfErr, false, true};
+ghost use Rattle.proc_chain.specs.Answers.{is_run};
+ghost use Rattle.proc_chain.specs.Client.{OnlyLooked, WhoRuns, WhyNotChained};
+ghost use Rattle.proc_chain.specs.Evidence.{ChainedNow, NotChained};
 ghost use Rattle.proc_chain.specs.Notes.{SameNotes, PutNote};
 ghost use Rattle.proc_chain.specs.Turns.{KeepsTaken};
 
@@ -49,12 +51,15 @@ impl<Q: Quaject> ProcChain<Q> {
         requires { IsEndOf self.now end.old }
         ensures effect { MatchResult result (λ r. PutNote note (view_of end.old) (view_of end.new))
             (λ e. SameNotes (view_of end.old) (view_of end.new)) }
+        ensures result { IfOk result (λ r. WhoRuns (view_of end.old) note r (view_of end.new)) }
+        ensures frame { IfErr result (λ e. OnlyLooked (view_of end.old) (view_of end.new)) }
+        ensures error { IfErr result (λ e. WhyNotChained (view_of end.old) e (view_of end.new)) }
         ensures turn { MatchResult result (λ r. is_run r ≡ true → (turn_of end.old ≡ false) × (turn_of end.new ≡ true))
             (λ e. KeepsTurn end.old end.new) }
         ensures kept { IfOk result (λ r. is_run r ≡ false → KeepsTurn end.old end.new) }
+        ensures ends { IsEndOf self.now end.new }
         ensures trace { MatchResult result (λ r. ChainedNow (view_of end.old) note r (view_of end.new))
             (λ e. NotChained (view_of end.old) e (view_of end.new)) }
-        ensures ends { IsEndOf self.now end.new }
         ensures handle { IsSameEnd end.old end.new × KeepsTaken (view_of end.old) (view_of end.new) }
     {
         let words = &self.table.shared;

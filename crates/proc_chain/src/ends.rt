@@ -1,8 +1,10 @@
 //! The chain and its ends.
-ghost use Rattle.std.specs.Prelude.{◌≡◌, ◌||◌, [], true, false, IfOk, IfErr};
+ghost use Rattle.std.specs.Prelude.{◌≡◌, ◌+◌, ◌||◌, [], true, false, IfOk, IfErr};
 ghost use Rattle.proc_chain.specs.Layout.{width};
 ghost use Rattle.proc_chain.specs.Rules.{view_from, IsValidChainView, Rests};
-ghost use Rattle.proc_chain.specs.Endings.{SplitBy, IsNewEnd, JoinedBy, Joined};
+ghost use Rattle.proc_chain.specs.Client.{HasTheirs};
+ghost use Rattle.proc_chain.specs.Endings.{IsNewEnd, JoinedBy};
+ghost use Rattle.proc_chain.specs.Evidence.{SplitBy, Joined};
 ghost use Rattle.proc_chain.specs.Notes.{SameNotes};
 ghost use Rattle.proc_chain.specs.Turns.{KeepsTaken};
 
@@ -112,10 +114,12 @@ impl<Q: Quaject> ProcChain<Q> {
         requires ends { IsEndOf self.now end.old }
         requires parts { IsDivisible end.old }
         ensures effect { SameNotes (view_of end.old) (view_of end.new) }
+        ensures owns { (view_of end.new).member.share + (view_of result).member.share
+            ≡ (view_of end.old).member.share }
         ensures turns { KeepsTurn end.old end.new × (turn_of result ≡ false) }
         ensures born { IsNewEnd (view_of end.old) (view_of end.new) (view_of result) }
-        ensures trace { SplitBy (view_of end.old) (view_of end.new) }
         ensures ends { IsEndOf self.now end.new × IsEndOf self.now result }
+        ensures trace { SplitBy (view_of end.old) (view_of end.new) }
         ensures handle { IsSameEnd end.old end.new × KeepsTaken (view_of end.old) (view_of end.new) }
     {
         // linearization point: the new end is counted, before it exists, so a close cannot miss it
@@ -130,10 +134,11 @@ impl<Q: Quaject> ProcChain<Q> {
     /// loaded twice, and the numbers found there are not used.
     pub fn join(&self, end: &mut ChainEnd<Q>, other: ChainEnd<Q>)
         requires ends { IsEndOf self.now end.old × IsEndOf self.now other }
+        ensures effect { HasTheirs (turn_of other) (view_of end.old) (view_of other) (view_of end.new) }
         ensures turn { turn_of end.new ≡ (turn_of other || turn_of end.old) }
         ensures one_turn { turn_of other ≡ true → turn_of end.old ≡ false }
-        ensures trace { Joined (turn_of other) (me_of end.old) (me_of other) (me_of end.new) }
         ensures ends { IsEndOf self.now end.new }
+        ensures trace { Joined (turn_of other) (me_of end.old) (me_of other) (me_of end.new) }
         ensures handle { turn_of other ≡ false
             → IsSameEnd end.old end.new × KeepsTaken (view_of end.old) (view_of end.new) }
         ensures swapped { turn_of other ≡ true

@@ -2,7 +2,9 @@
 ghost use Rattle.std.specs.Prelude.{◌≡◌, true, [], ◌∷◌};
 ghost use Rattle.proc_chain.specs.Rules.{suits, makes};
 ghost use Rattle.proc_chain.specs.Turns.{HasOrGave, MadeSince};
-ghost use Rattle.proc_chain.specs.Servings.{KeptNow, goes_on_after};
+ghost use Rattle.proc_chain.specs.Servings.{goes_on_after};
+ghost use Rattle.proc_chain.specs.Client.{RanNotes, WhyServedKept, number_run_kept};
+ghost use Rattle.proc_chain.specs.Evidence.{KeptNow};
 
 use crate::ends::{ChainEnd, ProcChain};
 use crate::quaject::Quaject;
@@ -39,13 +41,15 @@ impl<Q: Quaject> ProcChain<Q> {
         requires ends { IsEndOf self.now end.old }
         requires turn { turn_of end.old ≡ true }
         requires world { world_of self.now ≡ world.now }
+        ensures effect { RanNotes (view_of end.old) (number_run_kept result) (view_of end.new) }
+        ensures result { WhyServedKept (view_of end.old) limit result (view_of end.new) }
         ensures turn { turn_of end.new ≡ goes_on_after result }
         ensures slot { HasOrGave (makes Q.made_by (pact_of self.now)) (suits Q.fits (pact_of self.now))
             (goes_on_after result) (me_of end.new) }
         ensures made { MadeSince (makes Q.made_by (pact_of self.now)) (suits Q.fits (pact_of self.now))
             (view_of end.old) (view_of end.new) }
-        ensures trace { KeptNow (me_of end.old) limit result (me_of end.new) }
         ensures ends { IsEndOf self.now end.new }
+        ensures trace { KeptNow (me_of end.old) limit result (me_of end.new) }
         ensures handle { IsSameEnd end.old end.new }
     {
         let turn = turn_of_runner(&self.table.shared, &end.seat);

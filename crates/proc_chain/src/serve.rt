@@ -1,11 +1,14 @@
 //! Serving a Turn.
-ghost use Rattle.std.specs.Prelude.{◌≡◌, ◌+◌, ◌<◌, ℕ, List, true, false, [], ◌∷◌, ◌++◌, MatchBool, MatchOption};
+ghost use Rattle.std.specs.Prelude.{◌≡◌, ◌+◌, ◌<◌, ◌≤◌, ℕ, List, true, false, [], ◌∷◌, ◌++◌, MatchBool, MatchOption};
 ghost use Rattle.table_theory.specs.Seating.{IsSame};
 ghost use Rattle.proc_chain.specs.Layout.{width};
 ghost use Rattle.proc_chain.specs.Rules.{suits, makes, IsValidChainView};
-ghost use Rattle.proc_chain.specs.Rounds.{RanNote, FoundNone, LeftNow, RoundNow, IsDone, IsUsedUp};
+ghost use Rattle.proc_chain.specs.Rounds.{RanNote, FoundNone, LeftNow, RoundNow, IsDone, IsUsedUp, SawNone, MetGate};
 ghost use Rattle.proc_chain.specs.Turns.{Carries, IsRunner, HasOrGave, MadeSince};
-ghost use Rattle.proc_chain.specs.Servings.{ServedNow, AllServed, is_more};
+ghost use Rattle.proc_chain.specs.Servings.{is_more};
+ghost use Rattle.proc_chain.specs.Client.{FoundNoneAt, RanNotes, WhyLeft, WhyServed, number_run};
+ghost use Rattle.proc_chain.specs.Evidence.{ServedNow, AllServed};
+ghost use Rattle.proc_chain.specs.declared.layout.TheConstants.{IDLE, RUNNING, MORE};
 
 use crate::ends::{ChainEnd, ProcChain};
 use crate::layout::TAIL;
@@ -41,6 +44,7 @@ fn run_next<Q: Quaject>(
     ensures frame { IsSame seat.old seat.new × IsValidChainView seat.new.me.0 }
     ensures runner { IsRunner (makes Q.made_by words.now.key.pact) (suits Q.fits words.now.key.pact) seat.new.me }
     ensures ran { MatchBool result.0 (RanNote seat.old.me.0 seat.new.me.0) (FoundNone seat.old.me.0 seat.new.me.0) }
+    ensures none { MatchBool result.0 (Unit {0}) (SawNone seat.old.me.0 seat.new.me.0) }
 {
     // One load suffices: only the end with the Turn writes the tail.
     let tail = load(words, seat, TAIL);
@@ -70,6 +74,8 @@ fn leave_or_round<Q: Quaject>(
         (λ turn. IsRunner (makes Q.made_by words.now.key.pact) (suits Q.fits words.now.key.pact) seat.new.me) }
     ensures left { MatchOption result (LeftNow seat.old.me.0 seat.new.me.0)
         (λ turn. RoundNow seat.old.me.0 seat.new.me.0) }
+    ensures why { MatchOption result (MetGate RUNNING seat.old.me.0 seat.new.me.0
+        × (seat.new.me.0.seen.object.gate ≡ IDLE)) (λ turn. MetGate MORE seat.old.me.0 seat.new.me.0) }
 {
     // linearization point: the end leaves, if the gate is Running. A notify since the last round has set More, and then
     // the compare-and-swap fails.
@@ -104,6 +110,8 @@ fn serve_seat<Q: Quaject>(
         seat.old.me.0 seat.new.me.0 }
     ensures served { MatchOption result.0 (IsDone seat.old.me.0 limit result.1 seat.new.me.0)
         (λ turn. IsUsedUp seat.old.me.0 limit result.1 seat.new.me.0) }
+    ensures why { MatchOption result.0 ((result.1 < limit) × WhyLeft seat.old.me.0 seat.new.me.0)
+        (λ turn. (result.1 ≤ limit) × (result.1 < limit → FoundNoneAt MORE seat.old.me.0 seat.new.me.0)) }
 {
     let mut turn = turn;
     let mut ran = 0u32;
@@ -139,13 +147,15 @@ impl<Q: Quaject> ProcChain<Q> {
         requires ends { IsEndOf self.now end.old }
         requires turn { turn_of end.old ≡ true }
         requires world { world_of self.now ≡ world.now }
+        ensures effect { RanNotes (view_of end.old) (number_run result) (view_of end.new) }
+        ensures result { WhyServed (view_of end.old) limit result (view_of end.new) }
         ensures turn { turn_of end.new ≡ is_more result }
         ensures slot { HasOrGave (makes Q.made_by (pact_of self.now)) (suits Q.fits (pact_of self.now))
             (is_more result) (me_of end.new) }
         ensures made { MadeSince (makes Q.made_by (pact_of self.now)) (suits Q.fits (pact_of self.now))
             (view_of end.old) (view_of end.new) }
-        ensures trace { ServedNow (me_of end.old) limit result (me_of end.new) }
         ensures ends { IsEndOf self.now end.new }
+        ensures trace { ServedNow (me_of end.old) limit result (me_of end.new) }
         ensures handle { IsSameEnd end.old end.new }
     {
         if limit == 0 {
@@ -174,13 +184,15 @@ impl<Q: Quaject> ProcChain<Q> {
         requires ends { IsEndOf self.now end.old }
         requires turn { turn_of end.old ≡ true }
         requires world { world_of self.now ≡ world.now }
+        ensures effect { RanNotes (view_of end.old) result (view_of end.new) }
+        ensures result { WhyLeft (view_of end.old) (view_of end.new) }
         ensures turn { turn_of end.new ≡ false }
         ensures slot { HasOrGave (makes Q.made_by (pact_of self.now)) (suits Q.fits (pact_of self.now))
             false (me_of end.new) }
         ensures made { MadeSince (makes Q.made_by (pact_of self.now)) (suits Q.fits (pact_of self.now))
             (view_of end.old) (view_of end.new) }
-        ensures trace { AllServed (view_of end.old) result (view_of end.new) }
         ensures ends { IsEndOf self.now end.new }
+        ensures trace { AllServed (view_of end.old) result (view_of end.new) }
         ensures handle { IsSameEnd end.old end.new }
     {
         let mut turn = turn;

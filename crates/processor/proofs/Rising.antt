@@ -40,7 +40,7 @@ falls v w reported later = λ e. ∥∥₁_elim reported le_prop (λ (h : IsVali
 
 -- no number of steps fell between two states of a hand
 pub fallen : (old new : Hand) → Later (view_of old) (view_of new) → NeverFalls (view_of old) (view_of new)
-fallen old new later = falls (view_of old) (view_of new) new.reported later
+fallen old new later = falls (view_of old) (view_of new) new.valid later
 
 later_same : (v w : View) → w ≡ v → Later v w
 later_same v w same = subst (Later v) (sym same) (begins_refl v.seen.object)

@@ -17,7 +17,7 @@ loop-init g c = record {
 
 pub returns-in-Ok-Run-clause-noted : goal.returns-in-Ok-Run-clause-noted
 returns-in-Ok-Run-clause-noted g c = let t = c.loop.invariant.tried in let s = c.serve_all-ran.ensures in
-    noted_run (makes MadeOf (pact_of c.args.chain.now)) (suits Fits (pact_of c.args.chain.now)) (me_of c.args.end.now) (me_of c.loop.end) (me_of c.try_chain.new.end) (me_of c.serve_all-ran.new.end) t.0 _ _ _ _ c.in-Ok-Run.field-0-is t.1 c.loop.end.reported c.try_chain.new.end.reported c.in-Ok-Run.ensures.trace c.in-Ok-Run.ensures.effect s.made s.trace s.slot
+    noted_run (makes MadeOf (pact_of c.args.chain.now)) (suits Fits (pact_of c.args.chain.now)) (me_of c.args.end.now) (me_of c.loop.end) (me_of c.try_chain.new.end) (me_of c.serve_all-ran.new.end) t.0 _ _ _ _ c.in-Ok-Run.field-0-is t.1 c.loop.end.valid c.try_chain.new.end.valid c.in-Ok-Run.ensures.trace c.in-Ok-Run.ensures.effect s.made s.trace s.slot
 
 pub returns-in-Ok-Left-clause-noted : goal.returns-in-Ok-Left-clause-noted
 returns-in-Ok-Left-clause-noted g c = let l = c.loop.invariant in

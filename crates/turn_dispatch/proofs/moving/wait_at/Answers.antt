@@ -18,4 +18,4 @@ returns-clause-adds g c = let h = c.args.hand.now in let n = c.wait_or_ready.new
 
 pub returns-clause-steady : goal.returns-clause-steady
 returns-clause-steady g c = let h = c.args.hand.now in let n = c.wait_or_ready.new.hand in
-    steady no_events (view_of h) (view_of n) (λ e. refl) h.fresh h.reported n.reported (waited_goes (call_of h) c.args.wait c.args.element c.args.ticket c.wait_or_ready.result (view_of h) (view_of n) h.fresh c.wait_or_ready.ensures.waited).0
+    steady no_events (view_of h) (view_of n) (λ e. refl) h.fresh h.valid n.valid (waited_goes (call_of h) c.args.wait c.args.element c.args.ticket c.wait_or_ready.result (view_of h) (view_of n) h.fresh c.wait_or_ready.ensures.waited).0

@@ -14,4 +14,4 @@ pub returns-clause-adds : goal.returns-clause-adds
 returns-clause-adds g c = let h = c.args.hand.now in let n = c.send.new.hand in (sent_goes (call_of h) (c.args.wait + 2) c.args.element c.send.result (view_of h) (view_of n) (λ z. omega arith) h.fresh c.send.ensures.sent).adds
 
 pub returns-clause-steady : goal.returns-clause-steady
-returns-clause-steady g c = let h = c.args.hand.now in let n = c.send.new.hand in steady no_events (view_of h) (view_of n) (λ e. refl) h.fresh h.reported n.reported (sent_goes (call_of h) (c.args.wait + 2) c.args.element c.send.result (view_of h) (view_of n) (λ z. omega arith) h.fresh c.send.ensures.sent)
+returns-clause-steady g c = let h = c.args.hand.now in let n = c.send.new.hand in steady no_events (view_of h) (view_of n) (λ e. refl) h.fresh h.valid n.valid (sent_goes (call_of h) (c.args.wait + 2) c.args.element c.send.result (view_of h) (view_of n) (λ z. omega arith) h.fresh c.send.ensures.sent)

@@ -14,4 +14,4 @@ pub returns-clause-adds : goal.returns-clause-adds
 returns-clause-adds g c = let h = c.args.hand.now in let n = c.resume.new.hand in (resumed_is (call_of h) c.args.element c.resume.result (view_of h) (view_of n) c.resume.ensures.started).0.adds
 
 pub returns-clause-steady : goal.returns-clause-steady
-returns-clause-steady g c = let h = c.args.hand.now in let n = c.resume.new.hand in steady no_events (view_of h) (view_of n) (λ e. refl) h.fresh h.reported n.reported (resumed_is (call_of h) c.args.element c.resume.result (view_of h) (view_of n) c.resume.ensures.started).0
+returns-clause-steady g c = let h = c.args.hand.now in let n = c.resume.new.hand in steady no_events (view_of h) (view_of n) (λ e. refl) h.fresh h.valid n.valid (resumed_is (call_of h) c.args.element c.resume.result (view_of h) (view_of n) c.resume.ensures.started).0

@@ -25,5 +25,5 @@ returns-clause-adds g c = let h = c.args.hand.now in let u = c.wake_all-taken.ne
 
 pub returns-clause-steady : goal.returns-clause-steady
 returns-clause-steady g c = let h = c.args.hand.now in let u = c.wake_all-taken.new.hand in let n = c.ready_all-ready.new.hand in let k : Woken = record { taken = c.wake_all-taken.result; ready = c.ready_all-ready.result } in
-    steady no_events (view_of h) (view_of n) (λ e. refl) h.fresh h.reported n.reported
+    steady no_events (view_of h) (view_of n) (λ e. refl) h.fresh h.valid n.valid
     (woken_is (call_of h) c.args.wait k (view_of h) (view_of n) h.fresh (woke (call_of h) (call_of u) c.args.wait k.taken k.ready (view_of h) (view_of u) (view_of n) c.wake_all-taken.ensures.handle.1 c.wake_all-taken.ensures.trace c.ready_all-ready.ensures.sent)).0

@@ -9,7 +9,7 @@ use Rattle.turn_io.proofs.poking.poke_end.Goals as goal
 
 pub returns-in-Run-clause-poked : goal.returns-in-Run-clause-poked
 returns-in-Run-clause-poked g c = let me = me_of c.args.end.now in let s = c.serve_all-notes.ensures in
-    is_run (makes MadeOf (pact_of c.args.chain.now)) (suits Fits (pact_of c.args.chain.now)) me me (me_of c.try_chain-answer.new.end) (me_of c.serve_all-notes.new.end) [] _ _ c.in-Run.turn c.in-Ok.chained c.in-Run.is (none_lost me.0) c.args.end.now.reported c.try_chain-answer.new.end.reported c.in-Ok.ensures.trace c.in-Ok.ensures.effect s.made s.trace s.slot
+    is_run (makes MadeOf (pact_of c.args.chain.now)) (suits Fits (pact_of c.args.chain.now)) me me (me_of c.try_chain-answer.new.end) (me_of c.serve_all-notes.new.end) [] _ _ c.in-Run.turn c.in-Ok.chained c.in-Run.is (none_lost me.0) c.args.end.now.valid c.try_chain-answer.new.end.valid c.in-Ok.ensures.trace c.in-Ok.ensures.effect s.made s.trace s.slot
 
 pub returns-in-Run-clause-worked : goal.returns-in-Run-clause-worked
 returns-in-Run-clause-worked g c = ran_worked c.args.end.now c.serve_all-notes.new.end (makes MadeOf (pact_of c.args.chain.now)) (suits Fits (pact_of c.args.chain.now)) _ _ (returns-in-Run-clause-poked g c)

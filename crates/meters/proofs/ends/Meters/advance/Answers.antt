@@ -1,3 +1,4 @@
+use Rattle.meters.proofs.Clients.{clock_became, clock_lost, moves_clock}
 use Rattle.meters.proofs.Following.{lost_clock, advanced_now}
 use Rattle.meters.proofs.ends.Meters.advance.Goals as goal
 
@@ -14,3 +15,17 @@ returns-clause-trace c = (advanced_now _ _ _ _ c.load_clock-clock.ensures.found 
 
 pub returns-clause-owns : goal.returns-clause-owns
 returns-clause-owns c = (advanced_now _ _ _ _ c.load_clock-clock.ensures.found (c.exchange_clock-found.ensures.hit c.if-found-clock.false)).1
+
+pub returns-then-found-clock-clause-effect : goal.returns-then-found-clock-clause-effect
+returns-then-found-clock-clause-effect c = let ne = c.if-found-clock.true in let load = c.load_clock-clock.ensures in let missed = c.exchange_clock-found.ensures in let miss = missed.miss ne in
+    (clock_lost _ _ _ missed.seat.2 (lost_clock _ _ _ _ _ load.found load.clock miss.0 miss.1 ne load.seat.2 missed.seat.2).0).0
+
+pub returns-then-found-clock-clause-error : goal.returns-then-found-clock-clause-error
+returns-then-found-clock-clause-error c = let ne = c.if-found-clock.true in let load = c.load_clock-clock.ensures in let missed = c.exchange_clock-found.ensures in let miss = missed.miss ne in
+    (clock_lost _ _ _ missed.seat.2 (lost_clock _ _ _ _ _ load.found load.clock miss.0 miss.1 ne load.seat.2 missed.seat.2).0).1
+
+pub returns-clause-effect : goal.returns-clause-effect
+returns-clause-effect c = moves_clock _ _ _ (advanced_now _ _ _ _ c.load_clock-clock.ensures.found (c.exchange_clock-found.ensures.hit c.if-found-clock.false)).0
+
+pub returns-clause-result : goal.returns-clause-result
+returns-clause-result c = clock_became _ _ _ c.exchange_clock-found.ensures.seat.2 (advanced_now _ _ _ _ c.load_clock-clock.ensures.found (c.exchange_clock-found.ensures.hit c.if-found-clock.false)).0

@@ -25,3 +25,9 @@ returns-clause-gave c = λ v stood is f. let e = c.from.ensures in let due = c.i
     let some : stood ≡ Some c.in-Some.alarm = sym (c.alarm.ensures.stands stood f.fits is) ∙ c.in-Some.is in
     let there = subst (λ (z : Option Alarm). FoundIn v c.args.slot z c.args.seat.now.seat.me.0) some f in
     (Some c.in-Some.alarm, gave_fired v _ _ c.args.clock c.args.slot c.in-Some.alarm there (omega arith) (c.exchange_fired.ensures.hit c.if-not-exchange_fired.false), c.push.ensures.items)
+
+pub returns-then-not-exchange_fired-clause-valid : goal.returns-then-not-exchange_fired-clause-valid
+returns-then-not-exchange_fired-clause-valid c = λ y. c.exchange_fired.ensures.seat.2
+
+pub returns-clause-valid : goal.returns-clause-valid
+returns-clause-valid c = λ y. c.exchange_fired.ensures.seat.2

@@ -1,4 +1,5 @@
 use Rattle.meters.proofs.Common.{arith, refl, ◌∙◌}
+use Rattle.meters.proofs.Clients.{set_after, set_full, set_lost, sets_alarm}
 use Rattle.meters.proofs.Following.{searched_none, searched_more, no_room, set_now, lost_slot}
 use Rattle.meters.proofs.ends.Meters.try_set.Goals as goal
 
@@ -20,7 +21,7 @@ returns-then-is_none-clause-owns c = (lost_slot _ _ _ _ c.loop-slot.slot _ c.loo
 pub loop-slot-preserved : goal.loop-slot-preserved
 loop-slot-preserved c = let load = c.load_alarm.ensures in let old = c.loop-slot.invariant in record {
   same = (load.seat.0.0 ∙ old.same.0, load.seat.0.1 ∙ old.same.1);
-  searched = searched_more _ _ _ _ _ old.searched load.found c.if-is_none.ensures;
+  searched = searched_more _ _ _ _ _ old.searched load.found load.seat.2 c.if-is_none.ensures;
 }
 
 pub returns-clause-trace : goal.returns-clause-trace
@@ -28,3 +29,21 @@ returns-clause-trace c = let past = c.loop-slot-test.false in let end = c.loop-s
 
 pub returns-clause-owns : goal.returns-clause-owns
 returns-clause-owns c = let past = c.loop-slot-test.false in let end = c.loop-slot.auto.slot-end in (no_room _ _ c.loop-slot.slot (omega arith) c.loop-slot.invariant.searched).1
+
+pub returns-then-exchange_in-clause-effect : goal.returns-then-exchange_in-clause-effect
+returns-then-exchange_in-clause-effect c = sets_alarm _ _ c.loop-slot.slot _ c.exchange_in.ensures.seat.2 (set_now _ _ _ _ c.loop-slot.slot _ c.loop-slot-test.true c.loop-slot.invariant.searched c.load_alarm.ensures.found c.if-is_none.ensures c.args.alarm (c.exchange_in.ensures.hit c.if-exchange_in.true)).0
+
+pub returns-then-exchange_in-clause-result : goal.returns-then-exchange_in-clause-result
+returns-then-exchange_in-clause-result c = set_after _ _ c.loop-slot.slot _ c.exchange_in.ensures.seat.2 (set_now _ _ _ _ c.loop-slot.slot _ c.loop-slot-test.true c.loop-slot.invariant.searched c.load_alarm.ensures.found c.if-is_none.ensures c.args.alarm (c.exchange_in.ensures.hit c.if-exchange_in.true)).0
+
+pub returns-then-is_none-clause-effect : goal.returns-then-is_none-clause-effect
+returns-then-is_none-clause-effect c = (set_lost _ _ c.loop-slot.slot c.exchange_in.ensures.seat.2 (lost_slot _ _ _ _ c.loop-slot.slot _ c.loop-slot-test.true c.loop-slot.invariant.searched c.load_alarm.ensures.found c.if-is_none.ensures (c.exchange_in.ensures.miss c.if-exchange_in.false)).0).0
+
+pub returns-then-is_none-clause-error : goal.returns-then-is_none-clause-error
+returns-then-is_none-clause-error c = (set_lost _ _ c.loop-slot.slot c.exchange_in.ensures.seat.2 (lost_slot _ _ _ _ c.loop-slot.slot _ c.loop-slot-test.true c.loop-slot.invariant.searched c.load_alarm.ensures.found c.if-is_none.ensures (c.exchange_in.ensures.miss c.if-exchange_in.false)).0).1
+
+pub returns-clause-effect : goal.returns-clause-effect
+returns-clause-effect c = let past = c.loop-slot-test.false in let end = c.loop-slot.auto.slot-end in (set_full _ _ c.loop-slot.slot (omega arith) c.loop-slot.invariant.searched).0
+
+pub returns-clause-error : goal.returns-clause-error
+returns-clause-error c = let past = c.loop-slot-test.false in let end = c.loop-slot.auto.slot-end in (set_full _ _ c.loop-slot.slot (omega arith) c.loop-slot.invariant.searched).1

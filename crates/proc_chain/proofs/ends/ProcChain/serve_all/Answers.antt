@@ -1,4 +1,5 @@
-use Rattle.proc_chain.proofs.Common.{rules, arith, refl, ◌∙◌, [], ◌∷◌, ◌++◌, suits, makes}
+use Rattle.proc_chain.proofs.Common.{rules, arith, ap, Part, refl, ◌∙◌, [], ◌∷◌, ◌++◌, suits, makes}
+use Rattle.proc_chain.proofs.Clients.{left_on, ran_notes}
 use Rattle.proc_chain.proofs.Finding.{reported_after}
 use Rattle.proc_chain.proofs.Rounds.{no_rounds, rounds_more, all_done, few_run, since_still, since_then}
 use Rattle.proc_chain.proofs.ends.ProcChain.serve_all.Goals as goal
@@ -38,3 +39,9 @@ overflow_add-total g c = let l = c.loop.invariant.rounds in let s = c.in-More.en
 
 pub returns-in-Done-clause-made : goal.returns-in-Done-clause-made
 returns-in-Done-clause-made g c = since_then (makes g.Q.Quaject.made_by c.args.self.now.table.shared.key.pact) (suits g.Q.Quaject.fits c.args.self.now.table.shared.key.pact) c.args.end.now.seat.me.0 c.loop.end.seat.me.0 c.serve.new.end.seat.me.0 _ c.loop.invariant.since c.serve.ensures.made c.in-Done.ensures.trace.3.served.notes (reported_after c.loop.end.seat.me.0 c.loop.end.valid)
+
+pub returns-in-Done-clause-effect : goal.returns-in-Done-clause-effect
+returns-in-Done-clause-effect g c = let l = c.loop.invariant in let s = c.in-Done.ensures.trace in let a = all_done _ _ _ l.servings s.0 s.1 c.loop.total c.in-Done.ran l.rounds s.2 s.3 in ran_notes _ _ _ _ _ a.5
+
+pub returns-in-Done-clause-result : goal.returns-in-Done-clause-result
+returns-in-Done-clause-result g c = let r = c.loop.invariant.rounds.all.made in left_on _ _ _ _ _ _ (ap (λ (z : Part). z.share) r.member) r.adds c.in-Done.ensures.result

@@ -1,5 +1,5 @@
 -- What the steps of each call mean for its caller.
-use Rattle.thread_table.proofs.Common.{◌≡◌, ◌≢◌, ◌⊎◌, inl, inr, ℕ, zero, suc, ◌+◌, ◌-◌, ◌*◌, ◌/◌, ◌%◌, ◌<◌, ◌≤◌, Bool, true, false, not, List, [], ◌∷◌, ◌++◌, ◌∙◌, refl, sym, ap, subst, arith, map, take, length, Result, Ok, Err, Option, Some, None, dite, dec_lt, flat_map, append_assoc, append-nil, map-append, AllByRecursion, left, load, change, Event, Past, Step, Grows, ELEMENTS, RINGS, WAITS, NOTIFY, MadeEvent, View, Lost, NextRefusal, IsValidHandView, Thread, PerformsEvents, take_event, claim_event, with_event, quiet, head_word, tail_word, place_word, state_word, wait_ring, thread_at, ring_at, StateShows, mark_of, done_at, TakeAnswer, MoveAnswer, MovedBy, WaitAnswer, Overtaken, BeforeAnswer, NotifiedNow, IsTicket, StartAnswer, ParkAnswer, DeliverAnswer, ReadPc, DoneAnswer, TakesOff, head_in, Found, running, done_word, mark_in, is_in, steps_in, raise_event, made_in}
+use Rattle.thread_table.proofs.Common.{◌≡◌, ◌≢◌, ◌⊎◌, inl, inr, ℕ, zero, suc, ◌+◌, ◌-◌, ◌%◌, ◌<◌, ◌≤◌, Bool, true, false, not, List, [], ◌∷◌, ◌++◌, ◌∙◌, refl, sym, ap, subst, arith, map, length, Result, Ok, Err, Option, Some, None, dite, dec_lt, flat_map, append_assoc, append-nil, map-append, AllByRecursion, load, change, Event, Past, Step, ELEMENTS, RINGS, WAITS, MadeEvent, View, Lost, NextRefusal, IsValidHandView, Thread, PerformsEvents, take_event, claim_event, quiet, head_word, tail_word, place_word, state_word, wait_ring, MoveAnswer, MovedBy, WaitAnswer, BeforeAnswer, NotifiedNow, IsTicket, StartAnswer, ParkAnswer, DeliverAnswer, ReadPc, DoneAnswer, TakesOff, head_in, Found, running, done_word, mark_in, is_in, raise_event, made_in}
 use Rattle.std.specs.Prelude.{MatchResult, IfOk, IfErr}
 use Rattle.event_theory.specs.declared.event.Event.TheVariants as events
 use Rattle.table_theory.specs.Ledgers.{ExtendsTrace}
@@ -14,14 +14,15 @@ use Rattle.thread_table.specs.declared.states.Signalled.TheVariants as signalled
 use Rattle.thread_table.specs.declared.states.Started.{Started}
 use Rattle.thread_table.specs.declared.states.Started.TheVariants as started
 use Rattle.thread_table.specs.Answers.{TakesAfter, WasSpent, FoundState, Exchanged, WasChanged, HasStop, HasNoStop, HasCell, HasSignals, StoppedNow, SignalledNow, SignalAnswer, IsPending, signals_in, PutsOn}
-use Rattle.thread_table.specs.Wakes.{Try, took, missed, entries_of, made_by_try, WokeAll}
+use Rattle.thread_table.specs.Wakes.{Try, took, missed, entries_of, IsTry, made_by_try, WokeAll}
+use Rattle.std.proofs.lemmas.List.Concat.{flat_map-append}
 use Rattle.thread_table.specs.Keeping.{Keeps}
 use Rattle.thread_table.proofs.Hands.Unchanged.{keeps_by}
 use Rattle.thread_table.specs.declared.programs.Spent.{Spent}
-use Rattle.thread_table.specs.Client.{queue_after, head_after, tail_after, notifies_after, thread_after, events_of, Made, MadeNothing, MadeOnly, MadeWhen, Took, TookOldest, WhyNotTaken, Moved, HeadMoved, ShowsHead, WhyNotMoved, WhyNotWaited, WaitedInTime, IsTicketOf, WhyLost, StopFound, SignalFound, StartDid, StartFound, ParkDid, ParkFound, ArePending, WerePending, DeliverDid, DeliverFound, HadDone, StepFound, PutOn, TookOff, ServesSame, NotifyFound, BeforeDid, BeforeFound, takings, Woke, WokeAllBefore}
+use Rattle.thread_table.specs.Client.{queue_after, head_after, notifies_after, thread_after, events_of, Made, MadeNothing, MadeOnly, MadeWhen, Took, TookOldest, WhyNotTaken, Moved, HeadMoved, ShowsHead, WhyNotMoved, WhyNotWaited, WaitedInTime, IsTicketOf, WhyLost, StopFound, SignalFound, StartDid, StartFound, ParkDid, ParkFound, ArePending, WerePending, DeliverDid, DeliverFound, HadDone, StepFound, PutOn, TookOff, ServesSame, NotifyFound, BeforeDid, BeforeFound, WhyNotBefore, takings, Woke, WokeAllBefore, WokeNoMore}
 use Rattle.thread_table.specs.Entries.{AreInOrder}
 use Rattle.thread_table.specs.Layout.{last_head, most_done, stop_bit, cell_bit}
-use Rattle.thread_table.specs.Schedules.{elements_after, state_after}
+use Rattle.thread_table.specs.Schedules.{state_after}
 use Rattle.thread_table.specs.Telling.{IsValidHandStep}
 use Rattle.thread_table.proofs.Events.Saying.{head_says, tail_says, state_says, done_says, bits_say, oldest_says, unraised_says, as_load}
 use Rattle.thread_table.proofs.Events.Lone.{same_state}
@@ -446,20 +447,18 @@ tries_made call ring [] e look = inl (look, refl)
 tries_made call ring (took before tail place q r s t ∷ tries) e look = inl (refl, inl (refl, inl (refl, inr (take_event call ring, takings call ring (number_took tries), refl, refl, tries_made call ring tries e look))))
 tries_made call ring (missed before tail place seen q r s t ∷ tries) e look = inl (refl, inl (refl, inl (refl, inl (refl, tries_made call ring tries e look))))
 
-pub wake_effect : (call wait mask : ℕ) (v w : View) → WokeAll call v wait mask w → Woke call wait mask v w
-wake_effect call wait mask v w a = let ring : ℕ = wait_ring wait in let notify : MadeEvent = record { event = events.NotifyWait call wait; number = 0; signals = [] } in (
-  a.holds,
-  a.woken,
-  number_took a.tries,
-  (
-    ap events_of a.acts.has ∙ (map-append event_in v.own.made (notify ∷ flat_map (made_by_try call ring) a.tries) ∙ ap (λ (z : List Event). events_of v ++ events.NotifyWait call wait ∷ z) (tries_list call ring a.tries)),
-    record {
-      steps = change (head_word ring) a.word a.first (events.NotifyWait call wait) ∷ flat_map (entries_of call ring) a.tries ++ load (tail_word ring) a.tail a.last ∷ [];
-      adds = a.acts.adds;
-      are = inr (events.NotifyWait call wait, takings call ring (number_took a.tries), refl, refl, tries_made call ring a.tries (load (tail_word ring) a.tail a.last) refl);
-    },
-  ),
+wake_made : (call wait mask : ℕ) (v w : View) (a : WokeAll call v wait mask w) → Made v (events.NotifyWait call wait ∷ takings call (wait_ring wait) (number_took a.tries)) w
+wake_made call wait mask v w a = let ring : ℕ = wait_ring wait in let notify : MadeEvent = record { event = events.NotifyWait call wait; number = 0; signals = [] } in (
+  ap events_of a.acts.has ∙ (map-append event_in v.own.made (notify ∷ flat_map (made_by_try call ring) a.tries) ∙ ap (λ (z : List Event). events_of v ++ events.NotifyWait call wait ∷ z) (tries_list call ring a.tries)),
+  record {
+    steps = change (head_word ring) a.word a.first (events.NotifyWait call wait) ∷ flat_map (entries_of call ring) a.tries ++ load (tail_word ring) a.tail a.last ∷ [];
+    adds = a.acts.adds;
+    are = inr (events.NotifyWait call wait, takings call ring (number_took a.tries), refl, refl, tries_made call ring a.tries (load (tail_word ring) a.tail a.last) refl);
+  },
 )
+
+pub wake_effect : (call wait mask : ℕ) (v w : View) → WokeAll call v wait mask w → Woke call wait mask v w
+wake_effect call wait mask v w a = (a.holds, a.woken, number_took a.tries, wake_made call wait mask v w a)
 
 pub wake_keeps : (call wait mask : ℕ) (v w : View) → WokeAll call v wait mask w → Keeps v w
 wake_keeps call wait mask v w a = keeps_by v w _ _ a.acts refl refl refl refl
@@ -516,3 +515,64 @@ before_found v u w call ring head tail element below f less s = let one : Step =
       record { before = []; step = one; after = s.before ++ s.step ∷ s.after; adds = adds_after v u w (one ∷ []) (s.before ++ s.step ∷ s.after) share f.acts.adds s.adds; holds = omega arith },
       took_after v u w (one ∷ []) share same f.acts.adds call ring element s,
     )
+
+-- the tail was found before a position, and then nothing was taken
+pub before_refused : (v u w : View) (ring head tail : ℕ) (r : NextRefusal) → ring < RINGS → Found v (tail_word ring) tail u → tail < head → WhyNotTaken ring r u w → WhyNotBefore ring head r v w
+before_refused v u w ring head tail r below f less s = let one : Step = load (tail_word ring) tail u.seen in let share : u.member.share ≡ v.member.share = ap (λ (z : View). z.member.share) f.acts.has in
+    let same : u.own.first ≡ v.own.first = ap (λ (z : View). z.own.first) f.acts.has in let is = tail_says u.own.first one (real_after v u f.valid [] (one ∷ []) f.acts.adds).0 ring below refl in let a = adds_of r s in (
+      record { before = []; step = one; after = a.0; adds = adds_after v u w (one ∷ []) a.0 share f.acts.adds a.1; holds = omega arith },
+      error_after v u w (one ∷ []) share same f.acts.adds ring r s,
+    )
+  where
+    adds_of : (r : NextRefusal) → WhyNotTaken ring r u w → (es : List Step) × ExtendsTrace u es w
+    adds_of nexts.NoneReady s = (s.before ++ s.step ∷ s.after, s.adds)
+    adds_of (nexts.Lost seen) s = (s.before ++ s.first ∷ (s.between ++ s.second ∷ s.after), s.adds)
+
+-- the last try that took an element, if one did
+last_took : (tries : List Try) → (number_took tries ≡ 0) ⊎ ((xs : List Try) × (before : ℕ) × (tail : ℕ) × (place : ℕ) × (q : Past) × (r : Past) × (s : Past) × (t : Past) × (ys : List Try) × (tries ≡ xs ++ took before tail place q r s t ∷ ys) × (number_took ys ≡ 0))
+last_took [] = inl refl
+last_took (x ∷ tries) = by x (last_took tries)
+  where
+    by : (x : Try) → (number_took tries ≡ 0) ⊎ ((xs : List Try) × (before : ℕ) × (tail : ℕ) × (place : ℕ) × (q : Past) × (r : Past) × (s : Past) × (t : Past) × (ys : List Try) × (tries ≡ xs ++ took before tail place q r s t ∷ ys) × (number_took ys ≡ 0))
+        → (number_took (x ∷ tries) ≡ 0) ⊎ ((xs : List Try) × (before : ℕ) × (tail : ℕ) × (place : ℕ) × (q : Past) × (r : Past) × (s : Past) × (t : Past) × (ys : List Try) × (x ∷ tries ≡ xs ++ took before tail place q r s t ∷ ys) × (number_took ys ≡ 0))
+    by x (inr (xs, before, tail, place, q, r, s, t, ys, is, none)) = inr (x ∷ xs, before, tail, place, q, r, s, t, ys, ap (λ (z : List Try). x ∷ z) is, none)
+    by (took before tail place q r s t) (inl none) = inr ([], before, tail, place, q, r, s, t, tries, refl, none)
+    by (missed before tail place seen q r s t) (inl none) = inl none
+
+pub wake_owns : (call wait mask : ℕ) (v w : View) → wait < WAITS → IsValidHandView w → WokeAll call v wait mask w → WokeNoMore call wait v w
+wake_owns call wait mask v w low h a = by (last_took a.tries)
+  where
+    below : wait_ring wait < RINGS
+    below = omega arith
+
+    first : w.own.first ≡ v.own.first
+    first = ap (λ (z : View). z.own.first) a.acts.has
+
+    one : Step
+    one = change (head_word (wait_ring wait)) a.word a.first (events.NotifyWait call wait)
+
+    last : Step
+    last = load (tail_word (wait_ring wait)) a.tail a.last
+
+    by : (number_took a.tries ≡ 0) ⊎ ((xs : List Try) × (before : ℕ) × (tail : ℕ) × (place : ℕ) × (q : Past) × (r : Past) × (s : Past) × (t : Past) × (ys : List Try) × (a.tries ≡ xs ++ took before tail place q r s t ∷ ys) × (number_took ys ≡ 0)) → WokeNoMore call wait v w
+    by (inl none) = inl (subst (λ (n : ℕ). Made v (events.NotifyWait call wait ∷ takings call (wait_ring wait) n) w) none (wake_made call wait mask v w a))
+    by (inr (xs, before, tail, place, q, r, s, t, ys, is, none)) =
+        let ring : ℕ = wait_ring wait in let between : List Step = flat_map (entries_of call ring) xs in let look : Step = load (tail_word ring) before q in
+        let rest : List Step = load (tail_word ring) tail r ∷ load (place_word ring tail) place s ∷ change (tail_word ring) tail t (take_event call ring) ∷ (flat_map (entries_of call ring) ys ++ last ∷ []) in
+        let split : flat_map (entries_of call ring) a.tries ++ last ∷ [] ≡ between ++ look ∷ rest =
+        ap (λ (z : List Try). flat_map (entries_of call ring) z ++ last ∷ []) is
+        ∙ (ap (λ (z : List Step). z ++ last ∷ []) (flat_map-append (entries_of call ring) xs (took before tail place q r s t ∷ ys)) ∙ append_assoc between (flat_map (entries_of call ring) (took before tail place q r s t ∷ ys)) (last ∷ [])) in
+        let adds : ExtendsTrace v (one ∷ (between ++ look ∷ rest)) w = subst (λ (z : List Step). ExtendsTrace v (one ∷ z) w) split a.acts.adds in
+        let real = real_after v w h [] (one ∷ (between ++ look ∷ rest)) adds in let was = (head_says w.own.first one real.0 ring below refl).0 in
+        let found = tail_says w.own.first look (all_after (IsValidHandStep w.own.first) between (look ∷ rest) real.1).0 ring below refl in
+        let less = (all_after (IsTry (head_in a.word)) xs (took before tail place q r s t ∷ ys) (subst (AllByRecursion (IsTry (head_in a.word))) is a.each)).0.0 in let same = first in inr record {
+          before = [];
+          notify = one;
+          between = between;
+          look = look;
+          rest = rest;
+          adds = adds;
+          makes = refl;
+          low = omega arith;
+          last = inl (refl, inl (refl, inr (take_event call ring, [], refl, refl, subst (λ (n : ℕ). Are (flat_map (entries_of call ring) ys ++ last ∷ []) (takings call ring n)) none (tries_made call ring ys last refl))));
+        }

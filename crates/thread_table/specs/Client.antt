@@ -7,7 +7,7 @@ use Rattle.event_theory.specs.Queues.{Queue, left}
 use Rattle.event_theory.specs.declared.event.Event.{Event}
 use Rattle.event_theory.specs.declared.event.Event.TheVariants as events
 use Rattle.table_theory.specs.Ledgers.{ExtendsTrace}
-use Rattle.table_theory.specs.Moments.{AtSomeMoment, AtTwoMoments, Does}
+use Rattle.table_theory.specs.Moments.{AtSomeMoment, AtTwoMoments, AreEvents, Does}
 use Rattle.thread_table.specs.declared.layout.TheConstants.{ELEMENTS, NOTIFY}
 use Rattle.thread_table.specs.declared.moves.MoveRefusal.{MoveRefusal}
 use Rattle.thread_table.specs.declared.moves.MoveRefusal.TheVariants as moves
@@ -243,6 +243,11 @@ BeforeFound call ring head None v w = AtSomeMoment v w (λ past. head ≤ tail_a
 BeforeFound call ring head (Some element) v w = AtSomeMoment v w (λ past. tail_after v ring past < head)
     × TookOldest call ring element v w
 
+-- why such a try took nothing: not each place before the position was taken, and it was refused as a taking is
+abbrev pub WhyNotBefore : ℕ → ℕ → NextRefusal → View → View → Type 0
+WhyNotBefore ring head refusal v w = AtSomeMoment v w (λ past. tail_after v ring past < head)
+    × WhyNotTaken ring refusal v w
+
 -- the takings of a wake: so many from this queue
 abbrev pub takings : ℕ → ℕ → ℕ → List Event
 takings call ring zero = []
@@ -254,6 +259,23 @@ abbrev pub Woke : ℕ → ℕ → ℕ → View → View → Type 0
 Woke call wait mask v w = ((e : ℕ) → e < ELEMENTS → has w e ≡ (has v e || is_in mask e))
     × ((e : ℕ) → e < ELEMENTS → is_in mask e ≡ true → has v e ≡ false)
     × (number : ℕ) × Made v (events.NotifyWait call wait ∷ takings call (wait_ring wait) number) w
+
+-- Before the call's last taking, and after its notify, a place that was claimed before the notify was not yet taken.
+pub record TookLastInTime (call wait : ℕ) (v w : View) : Type 0 where
+  pub before : List Step
+  pub notify : Step
+  pub between : List Step
+  pub look : Step
+  pub rest : List Step
+  pub adds : ExtendsTrace v (before ++ notify ∷ (between ++ look ∷ rest)) w
+  pub makes : notify.next.object ≡ notify.then.object ++ events.NotifyWait call wait ∷ []
+  pub low : tail_after v (wait_ring wait) look.then.object < head_after v (wait_ring wait) notify.then.object
+  pub last : AreEvents (λ event past next. next ≡ past ++ event ∷ []) (λ past next. next ≡ past) rest
+      (take_event call (wait_ring wait) ∷ [])
+
+-- the call took no more than it had to: nothing, or its last taking was in time
+abbrev pub WokeNoMore : ℕ → ℕ → View → View → Type 0
+WokeNoMore call wait v w = Made v (events.NotifyWait call wait ∷ []) w ⊎ TookLastInTime call wait v w
 
 -- each place that was claimed before the call's notify was taken, by this hand or by others, at a later moment
 pub record WokeAllBefore (call wait : ℕ) (v w : View) : Type 0 where

@@ -1,10 +1,10 @@
-use Rattle.thread_table.proofs.Common.{rules, ℕ, View, Found, tail_word, RINGS, WAITS, arith, ◌≡◌, ◌+◌, ◌<◌, ◌≤◌, sym, ap, subst, ◌∙◌, Ok, Err, Some, None, Result, Option, NextRefusal, call_of, view_of, wait_ring, TakeAnswer, BeforeAnswer}
+use Rattle.thread_table.proofs.Common.{rules, ℕ, Found, tail_word, RINGS, WAITS, arith, ◌≡◌, ◌+◌, ◌<◌, ◌≤◌, sym, ap, subst, ◌∙◌, Ok, Err, Some, None, Result, Option, NextRefusal, call_of, view_of, wait_ring, TakeAnswer, BeforeAnswer}
 use Rattle.std.specs.Result.{IsErrAnd}
 use Rattle.thread_table.proofs.Events.Waking.{has_reached, took_before, missed_before}
-use Rattle.thread_table.proofs.Clients.{before_effect, before_reached, before_found, error_after}
+use Rattle.thread_table.proofs.Clients.{before_effect, before_reached, before_found, before_refused}
 use Rattle.thread_table.proofs.Hands.Unchanged.{before_keeps}
 use Rattle.std.specs.Prelude.{IfOk, IfErr}
-use Rattle.thread_table.specs.Client.{TookOldest, WhyNotTaken, BeforeFound}
+use Rattle.thread_table.specs.Client.{TookOldest, WhyNotTaken, WhyNotBefore, BeforeFound}
 use Rattle.thread_table.proofs.hand.ThreadTable.try_wake_before.Goals as goal
 
 err_is : {A E : Type 0} (z : Result A E) (e : E) → IsErrAnd z (λ x. x ≡ e) → z ≡ Err e
@@ -58,11 +58,12 @@ returns-in_err-element-clause-result c = let r : NextRefusal = c.in_err-element.
     subst (λ (z : Result (Option ℕ) NextRefusal). IfOk z (λ taken. BeforeFound (call_of c.args.hand.now) (wait_ring c.args.wait) c.args.head taken (view_of c.args.hand.now) w)) (sym (err_is c.from_residual.result r c.from_residual.ensures.1)) tt
 
 pub returns-in_err-element-clause-error : goal.returns-in_err-element-clause-error
-returns-in_err-element-clause-error c = let r : NextRefusal = c.in_err-element.field-0.0 in let v = view_of c.args.hand.now in let u = c.load_tail-reached.new.seat.me.0 in let w = view_of c.take_first.new.hand in let look = c.load_tail-reached.ensures.found.acts in
+returns-in_err-element-clause-error c = let r : NextRefusal = c.in_err-element.field-0.0 in let v = view_of c.args.hand.now in let u = c.load_tail-reached.new.seat.me.0 in let w = view_of c.take_first.new.hand in let look = c.load_tail-reached.ensures.found in
+    let low : c.args.wait < WAITS = search rules in let below : wait_ring c.args.wait < RINGS = omega arith in
     let ring : c.wait_ring-ring.result ≡ wait_ring c.args.wait = c.wait_ring-ring.ensures.0 ∙ ap (λ (k : ℕ). k + 2) c.number.ensures.value in
     let found : WhyNotTaken (wait_ring c.args.wait) r u w = subst (λ (k : ℕ). WhyNotTaken k r u w) ring c.in_err-element.ensures.error in
-    subst (λ (z : Result (Option ℕ) NextRefusal). IfErr z (λ refusal. WhyNotTaken (wait_ring c.args.wait) refusal v w)) (sym (err_is c.from_residual.result r c.from_residual.ensures.1))
-    (error_after v u w _ (ap (λ (z : View). z.member.share) look.has) (ap (λ (z : View). z.own.first) look.has) look.adds (wait_ring c.args.wait) r found)
+    subst (λ (z : Result (Option ℕ) NextRefusal). IfErr z (λ refusal. WhyNotBefore (wait_ring c.args.wait) c.args.head refusal v w)) (sym (err_is c.from_residual.result r c.from_residual.ensures.1))
+    (before_refused v u w (wait_ring c.args.wait) c.args.head c.load_tail-reached.result r below (subst (λ (k : ℕ). Found v (tail_word k) c.load_tail-reached.result u) ring look) (search rules) found)
 
 pub returns-clause-result : goal.returns-clause-result
 returns-clause-result c = let e : ℕ = c.in_ok-element.element in let v = view_of c.args.hand.now in let u = c.load_tail-reached.new.seat.me.0 in let w = view_of c.take_first.new.hand in let found = c.load_tail-reached.ensures.found in

@@ -2,7 +2,7 @@ use Rattle.thread_table.proofs.Common.{rules, ℕ, WAITS, ◌≡◌, ◌+◌, �
 use Rattle.event_theory.specs.declared.event.Event.TheVariants as events
 use Rattle.thread_table.proofs.Events.Answering.{word_parts}
 use Rattle.thread_table.proofs.Events.Waking.{Rounds, rounds_none, rounds_took, rounds_missed, woke_all}
-use Rattle.thread_table.proofs.Clients.{wake_effect, wake_result, wake_keeps}
+use Rattle.thread_table.proofs.Clients.{wake_effect, wake_result, wake_owns, wake_keeps}
 use Rattle.thread_table.proofs.hand.ThreadTable.wake_all.Goals as goal
 
 pub loop-init : goal.loop-init
@@ -45,3 +45,7 @@ returns-then-tail-head-clause-frame g c = wake_keeps (call_of c.args.hand.now) c
 pub returns-then-tail-head-clause-result : goal.returns-then-tail-head-clause-result
 returns-then-tail-head-clause-result g c = let low : c.args.wait < WAITS = search rules in
     wake_result (call_of c.args.hand.now) c.args.wait _ _ _ low c.load_tail-tail.ensures.found.valid (returns-then-tail-head-clause-trace g c)
+
+pub returns-then-tail-head-clause-bound : goal.returns-then-tail-head-clause-bound
+returns-then-tail-head-clause-bound g c = let low : c.args.wait < WAITS = search rules in
+    wake_owns (call_of c.args.hand.now) c.args.wait _ _ _ low c.load_tail-tail.ensures.found.valid (returns-then-tail-head-clause-trace g c)

@@ -8,16 +8,16 @@ count-requires-clause-allowed g c = tallies _ _ _ _ c.args.end.one
 
 pub read_left-left-requires : goal.read_left-left-requires
 read_left-left-requires g c = let s = spans c.args.self.table.shared.key _ _ _ _ _ _ c.close_by-closed.ensures.values.2 c.word-head.ensures c.word-tail.ensures in
-    (search rules, (search rules, (s.following, subst (λ (z : ℕ). c.word-head.result % 4294967296 ≤ c.word-tail.result + z) c.args.self.shaped.1 s.within, s.bounded)))
+    (search rules, (search rules, (s.taken_within, subst (λ (z : ℕ). c.word-head.result % 4294967296 ≤ c.word-tail.result + z) c.args.self.shaped.1 s.within, s.bounded)))
 
 pub overflow_sub-result-2 : goal.overflow_sub-result-2
-overflow_sub-result-2 g c = let s = spans c.args.self.table.shared.key _ _ _ _ _ _ c.close_by-closed.ensures.values.2 c.word-head.ensures c.word-tail.ensures in let following = s.following in let started = s.started in let first = c.args.self.shaped.0 in omega arith
+overflow_sub-result-2 g c = let s = spans c.args.self.table.shared.key _ _ _ _ _ _ c.close_by-closed.ensures.values.2 c.word-head.ensures c.word-tail.ensures in let following = s.taken_within in let started = s.started in let first = c.args.self.shaped.0 in omega arith
 
 pub overflow_sub-result-3 : goal.overflow_sub-result-3
 overflow_sub-result-3 g c = let s = spans c.args.self.table.shared.key _ _ _ _ _ _ c.close_by-closed.ensures.values.2 c.word-head.ensures c.word-tail.ensures in let started = s.started in let first = c.args.self.shaped.0 in omega arith
 
 pub overflow_cast-result-4 : goal.overflow_cast-result-4
-overflow_cast-result-4 g c = let s = spans c.args.self.table.shared.key _ _ _ _ _ _ c.close_by-closed.ensures.values.2 c.word-head.ensures c.word-tail.ensures in let following = s.following in let bounded = s.bounded in omega arith
+overflow_cast-result-4 g c = let s = spans c.args.self.table.shared.key _ _ _ _ _ _ c.close_by-closed.ensures.values.2 c.word-head.ensures c.word-tail.ensures in let following = s.taken_within in let bounded = s.bounded in omega arith
 
 pub returns-clause-closed : goal.returns-clause-closed
 returns-clause-closed g c = let k = c.args.self.table.shared.key in let first = c.args.self.shaped.0 in let room = c.args.self.shaped.1 in let ws = slots_items c.close_by-closed.result.words in (

@@ -11,8 +11,8 @@ store_flag-requires-clause-mine g c = let xs = c.args.items.now in let r : ℕ =
 
 pub returns : goal.returns
 returns g c = let own = c.requires.owns.0 in let raised = raised_on g.row.N _ _ _ c.args.start c.args.index c.args.items.now own c.requires.below c.store_data.ensures.wrote c.store_flag.ensures.wrote in record {
-  own = own_after g.row.N _ _ _ _ _ own raised;
-  steps = raised;
-  others = others_raised g.row.N _ _ _ _ _ own raised;
-  same = search rules;
+  owns = own_after g.row.N _ _ _ _ _ own raised;
+  trace = raised;
+  frame = others_raised g.row.N _ _ _ _ _ own raised;
+  handle = search rules;
 }

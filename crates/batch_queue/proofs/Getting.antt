@@ -4,7 +4,7 @@ use Rattle.std.proofs.Math.Seq.{drop-append_seam, take-append_seam}
 use Rattle.std.specs.Prelude.{min}
 use Rattle.std.proofs.lemmas.List.{length-drop, length-take-le}
 use Rattle.table_theory.proofs.Parting.{made_then}
-use Rattle.batch_queue.specs.Answers.{WhyNotTaken}
+use Rattle.batch_queue.specs.Client.{WhyNotTaken}
 use Rattle.batch_queue.specs.Takings.{AreBatches, AreFirst, HasTaken, RefusedTake}
 use Rattle.batch_queue.specs.Walks.{Followed, FollowedBy, LeadsOn, Passed}
 use Rattle.batch_queue.specs.declared.refusals.TakeRefusal.TheVariants.{Lost}

@@ -4,7 +4,7 @@ use Rattle.std.proofs.Common.{◌*◌}
 use Rattle.std.specs.Prelude.{min}
 use Rattle.batch_queue.specs.Layout as layout
 use Rattle.table_theory.proofs.Parting.{made_then}
-use Rattle.batch_queue.specs.Answers.{WhyNotTaken}
+use Rattle.batch_queue.specs.Client.{WhyNotTaken}
 use Rattle.batch_queue.specs.Moments.{AtSomeMoment, claimed}
 use Rattle.batch_queue.specs.Takings.{Glance, NoneBy, RefusedTake, LookedTwice, IsNone, IsShort}
 use Rattle.batch_queue.specs.Walks.{LeadsOn}

@@ -6,7 +6,7 @@ use Rattle.table_theory.proofs.Parting.{made_on}
 use Rattle.table_theory.specs.declared.views.Part.{Part}
 use Rattle.batch_queue.specs.Lines.{SameLines}
 use Rattle.batch_queue.specs.Parts.{AreSome, FilledSome, FoundStop, HasTakenSome, LostStop, MayPart, PartedBy, RefusedSomeBy, SameSome, StopBy, TookSome, WhyNoStop, WhyNotTakenSome, all, already, meanwhile, no_more, one_more, parted, within, with_parts}
-use Rattle.batch_queue.specs.Answers.{WhyNotTaken}
+use Rattle.batch_queue.specs.Client.{WhyNotTaken}
 use Rattle.batch_queue.specs.Takings.{IsNone, NoneBy, with_line}
 use Rattle.batch_queue.specs.declared.refusals.TakeRefusal.{TakeRefusal}
 use Rattle.batch_queue.specs.declared.refusals.TakeRefusal.TheVariants.{Empty, ShortBuffer, Lost, Closed}

@@ -8,7 +8,7 @@ use Rattle.table_theory.proofs.Parting.{made_none, made_then}
 use Rattle.table_theory.proofs.Reaching.{adds_none, all_on}
 use Rattle.table_theory.specs.Ledgers.{ExtendsTrace, OnlyLoads}
 use Rattle.table_theory.specs.declared.views.Part.{Part}
-use Rattle.batch_queue.specs.Answers.{WhyNotPut, WhyNotTaken}
+use Rattle.batch_queue.specs.Client.{WhyNotPut, WhyNotTaken}
 use Rattle.table_theory.specs.Batches.{line_of}
 use Rattle.batch_queue.specs.Lines.{PutLine, SameLines, TookLine}
 use Rattle.batch_queue.specs.Puts.{IsPut, IsLostTry, PutAnswer, RefusedPut, RefusedPutBy, is_lost, tried, with_put}

@@ -14,8 +14,9 @@ pub mod Closings
 pub mod Between
 pub mod Walks
 pub mod Moments
-pub mod Answers
+pub mod Client
 pub mod Puts
 pub mod Takings
 pub mod Hints
 pub mod Parts
+pub mod Evidence

@@ -9,7 +9,7 @@ use Rattle.batch_queue.specs.declared.refusals.TakeRefusal.{TakeRefusal}
 use Rattle.batch_queue.specs.declared.refusals.TakeRefusal.TheVariants.{ShortBuffer, Lost}
 use Rattle.batch_queue.specs.declared.rule.BatchState.{BatchState}
 use Rattle.batch_queue.specs.declared.rule.EndRecord.{EndRecord}
-use Rattle.batch_queue.specs.Answers.{WhyNotTaken}
+use Rattle.batch_queue.specs.Client.{WhyNotTaken}
 use Rattle.batch_queue.specs.Layout.{tail_word, mark_word}
 use Rattle.batch_queue.specs.Lines.{lines_put, lines_taken, times_parted}
 use Rattle.batch_queue.specs.Moments.{AtSomeMoment, MarkChanged}

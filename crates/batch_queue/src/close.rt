@@ -1,7 +1,8 @@
 //! Shutting and closing.
 ghost use Rattle.std.specs.Prelude.{◌≡◌, true, IfOk, IfErr, MatchResult};
 ghost use Rattle.table_theory.specs.Ledgers.{WereOpen};
-ghost use Rattle.batch_queue.specs.Closings.{ShutNow, ClosedNow};
+ghost use Rattle.batch_queue.specs.Closings.{ClosedNow};
+ghost use Rattle.batch_queue.specs.Evidence.{ShutNow};
 ghost use Rattle.batch_queue.specs.Layout.{ends_word};
 ghost use Rattle.batch_queue.specs.Lefts.{items_left};
 ghost use Rattle.batch_queue.specs.Lines.{SameLines};

@@ -3,7 +3,8 @@ ghost use Rattle.std.specs.Prelude.{◌≡◌, ◌+◌, ◌<◌, ◌≤◌, [], 
 ghost use Rattle.batch_queue.specs.Layout.{width, IsPowerOfTwo};
 ghost use Rattle.batch_queue.specs.Own.{no_slots};
 ghost use Rattle.batch_queue.specs.Rules.{newcomer, InvHeldOf};
-ghost use Rattle.batch_queue.specs.Endings.{SplitBy, IsNewEnd, JoinedBy};
+ghost use Rattle.batch_queue.specs.Endings.{IsNewEnd};
+ghost use Rattle.batch_queue.specs.Evidence.{SplitBy, JoinedBy};
 ghost use Rattle.batch_queue.specs.Lines.{lines_put, lines_taken, times_parted};
 ghost use Rattle.batch_queue.specs.declared.layout.TheConstants.{MOST_PLACES};
 

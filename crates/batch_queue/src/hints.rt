@@ -1,6 +1,6 @@
 //! The number of places of a queue, and a hint of how many items are in the queue.
 ghost use Rattle.std.specs.Prelude.{◌≡◌};
-ghost use Rattle.batch_queue.specs.Hints.{LookedAround};
+ghost use Rattle.batch_queue.specs.Evidence.{LookedAround};
 ghost use Rattle.batch_queue.specs.Lines.{SameLines};
 
 use crate::ends::{BatchEnd, BatchQueue};

@@ -2,7 +2,8 @@
 //! queue is shut.
 ghost use Rattle.std.specs.Prelude.{◌≡◌, ◌≤◌, ◌<◌};
 ghost use Rattle.table_theory.specs.Seating.{IsSame};
-ghost use Rattle.batch_queue.specs.Hints.{FoundUp, IsUpTo, Looked};
+ghost use Rattle.batch_queue.specs.Evidence.{Looked};
+ghost use Rattle.batch_queue.specs.Hints.{FoundUp, IsUpTo};
 ghost use Rattle.batch_queue.specs.Lines.{SameLines};
 ghost use Rattle.batch_queue.specs.Object.{Grows};
 ghost use Rattle.batch_queue.specs.Steps.{IsSeated, Stays};

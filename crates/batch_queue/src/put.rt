@@ -2,15 +2,15 @@
 //! publishes all of them by one store.
 ghost use Rattle.std.specs.Prelude.{◌≡◌, ◌+◌, ◌<◌, ◌≤◌, ℕ, true, [], length, min, take, MatchResult, IfErr};
 ghost use Rattle.table_theory.specs.Seating.{IsSame};
-ghost use Rattle.batch_queue.specs.Answers.{WhyNotClaimed, WhyNotPut, WhyNotPutSome};
+ghost use Rattle.batch_queue.specs.Client.{WhyNotClaimed, WhyNotPut, WhyNotPutSome};
 ghost use Rattle.batch_queue.specs.declared.layout.TheConstants.{FIRST_MARK, POSITIONS, SHUT};
 ghost use Rattle.batch_queue.specs.declared.refusals.PutRefusal.TheVariants as refusals;
 ghost use Rattle.batch_queue.specs.Layout.{head_word};
 ghost use Rattle.batch_queue.specs.Lines.{SameLines, PutLine};
 ghost use Rattle.batch_queue.specs.Moments.{claimed};
 ghost use Rattle.batch_queue.specs.Own.{no_slots, OnlyLoads};
-ghost use Rattle.batch_queue.specs.Puts.{HasClaimed, IsPut, IsPutSome, PutAnswer, is_lost};
-ghost use Rattle.batch_queue.specs.Puts.{RefusedClaimBy, RefusedPut, RefusedSome};
+ghost use Rattle.batch_queue.specs.Evidence.{IsPut, IsPutSome, PutAnswer, RefusedPut, RefusedSome};
+ghost use Rattle.batch_queue.specs.Puts.{HasClaimed, RefusedClaimBy, is_lost};
 ghost use Rattle.batch_queue.specs.Rules.{InvHeldOf};
 ghost use Rattle.batch_queue.specs.Steps.{IsSeated, Stays, Found};
 

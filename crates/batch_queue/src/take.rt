@@ -2,15 +2,15 @@
 //! compare-and-swap of the tail. Then it reads their items, and gives their places back by one store.
 ghost use Rattle.std.specs.Prelude.{◌≡◌, ◌+◌, ◌<◌, ◌≤◌, ℕ, List, [], length, take, MatchResult, IfErr, IfOk};
 ghost use Rattle.table_theory.specs.Seating.{IsSame};
-ghost use Rattle.batch_queue.specs.Answers.{WhyNotTaken};
+ghost use Rattle.batch_queue.specs.Client.{WhyNotTaken};
 ghost use Rattle.batch_queue.specs.declared.layout.TheConstants.{FIRST_MARK, POSITIONS};
 ghost use Rattle.batch_queue.specs.Layout.{tail_word};
 ghost use Rattle.batch_queue.specs.Lines.{SameLines};
 ghost use Rattle.batch_queue.specs.Own.{no_slots};
 ghost use Rattle.batch_queue.specs.Rules.{InvHeldOf};
 ghost use Rattle.batch_queue.specs.Steps.{IsSeated, Stays, Found};
-ghost use Rattle.batch_queue.specs.Takings.{FilledBuffer, HasTaken, IsNone, IsShort, RefusedTake};
-ghost use Rattle.batch_queue.specs.Takings.{TakeAnswer, TookBatches, must_wait};
+ghost use Rattle.batch_queue.specs.Evidence.{RefusedTake, TakeAnswer, TookBatches};
+ghost use Rattle.batch_queue.specs.Takings.{FilledBuffer, HasTaken, IsNone, IsShort, must_wait};
 
 use crate::access::read_items;
 use crate::ends::{BatchEnd, BatchQueue};

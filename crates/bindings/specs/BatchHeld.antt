@@ -10,7 +10,7 @@ use Rattle.batch_queue.specs.Handles.{IsSameEnd, view_of, room_of}
 use Rattle.batch_queue.specs.Handles as batches
 use Rattle.batch_queue.specs.Layout.{IsPowerOfTwo}
 use Rattle.batch_queue.specs.Rules.{newcomer}
-use Rattle.batch_queue.specs.Answers.{WhyNotPut, WhyNotPutSome, WhyNotTaken}
+use Rattle.batch_queue.specs.Client.{WhyNotPut, WhyNotPutSome, WhyNotTaken}
 use Rattle.batch_queue.specs.Closings.{ShutNow}
 use Rattle.batch_queue.specs.Endings as endings
 use Rattle.batch_queue.specs.Hints.{LookedAround}

@@ -14,12 +14,12 @@ head_is e is r = let h = head_says e is r in low_of (head_of e.then.object) e.fo
 
 module _ (v w : View) (x : IsValidView of_queues v) (y : IsValidView of_queues w) where
   -- the queue grows up to an entry, and on from it
-  around : (before after : List (Step Positions)) (e : Step Positions) → ExtendsTrace v (before ++ e ∷ after) w → Grows v.seen.object e.then.object × IsValidStep of_queues e × Grows e.then.object w.seen.object
+  pub around : (before after : List (Step Positions)) (e : Step Positions) → ExtendsTrace v (before ++ e ∷ after) w → Grows v.seen.object e.then.object × IsValidStep of_queues e × Grows e.then.object w.seen.object
   around before after e a = let p = passes_split of_queues v.seen w.seen before e after (passes_since of_queues v w (before ++ e ∷ after) x y a) in
       (reaches_grow v.seen e.then p.0, p.1, grows_trans e.then.object e.next.object w.seen.object (real_grows e p.1) (passes_grow e.next w.seen after p.2))
 
   -- and from one entry to a later one
-  both : (before between after : List (Step Positions)) (e f : Step Positions) → ExtendsTrace v (before ++ e ∷ (between ++ f ∷ after)) w → IsValidStep of_queues e × IsValidStep of_queues f × Grows e.then.object f.then.object
+  pub both : (before between after : List (Step Positions)) (e f : Step Positions) → ExtendsTrace v (before ++ e ∷ (between ++ f ∷ after)) w → IsValidStep of_queues e × IsValidStep of_queues f × Grows e.then.object f.then.object
   both before between after e f a = let p = passes_split of_queues v.seen w.seen before e (between ++ f ∷ after) (passes_since of_queues v w (before ++ e ∷ (between ++ f ∷ after)) x y a) in let q = passes_split of_queues e.next w.seen between f after p.2 in
       (p.1, q.1, grows_trans e.then.object e.next.object f.then.object (real_grows e p.1) (reaches_grow e.next f.then q.0))
 

@@ -23,4 +23,5 @@ pub mod Ordered
 pub mod Heading
 pub mod Historic
 pub mod Vacant
+pub mod Clients
 pub mod Common

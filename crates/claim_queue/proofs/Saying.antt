@@ -13,7 +13,7 @@ shut_from n true bounded h = refl
 shut_from n false bounded h = absurd (omega arith)
 
 -- a head that was found with the mark is that of a shut queue
-head_shut : (head : ℕ) (m : AbsState Positions) → IsValidStep of_queues (load head_word head m) → 4294967296 ≤ head → m.object.shut ≡ true
+pub head_shut : (head : ℕ) (m : AbsState Positions) → IsValidStep of_queues (load head_word head m) → 4294967296 ≤ head → m.object.shut ≡ true
 head_shut head m r marked = let h = head_says (load head_word head m) refl r in let e = h.0 in shut_from (head_of m.object) m.object.shut h.1 (omega arith)
 
 last_shut : (m n : AbsState Positions) → m ≡ n → m.object.shut ≡ true → n.object.shut ≡ true

@@ -4,6 +4,7 @@ use Rattle.std.specs.Prelude.{min}
 use Rattle.std.proofs.Math.Dec.{leb}
 use Rattle.std.proofs.lemmas.Bool.{le-leb, lt-leb}
 use Rattle.claim_queue.specs.declared.look.QueueLook.{QueueLook}
+use Rattle.claim_queue.specs.Client.{LookedAt}
 use Rattle.claim_queue.specs.Walks.{raised_flags, at_gap, FlagWalk, HasWalked, AreRaised, IsNotRaised, LookAgrees, HasLooked}
 use Rattle.claim_queue.proofs.Following.{then_look}
 use Rattle.claim_queue.proofs.Lawful.{head_says}
@@ -103,4 +104,16 @@ module _ (v u w : View) (tail word : ℕ) (x : Found v tail_word tail u) (y : Fo
       walked = subst (λ (m : ℕ). FlagWalk room tail m raised k.loads) is k.walked;
       made = subst (λ (h : ℕ). Performed v (load tail_word tail u.seen ∷ load head_word h w.seen ∷ k.loads) v.own z) (sym whole)
           (made_then v u z (load tail_word tail u.seen ∷ []) (load head_word word w.seen ∷ k.loads) v.own (λ d. d) x.made (made_then u w z (load head_word word w.seen ∷ []) k.loads u.own (λ d. d) y.made k.made));
+    }
+
+    -- the tail was loaded at one moment, and the head and the shut mark at a later one
+    pub looked_moments : HasWalked room tail most raised w z → LookedAt v look z
+    looked_moments k = let m = made_then v u z (load tail_word tail u.seen ∷ []) (load head_word word w.seen ∷ k.loads) v.own (λ d. d) x.made (made_then u w z (load head_word word w.seen ∷ []) k.loads u.own (λ d. d) y.made k.made) in record {
+      before = [];
+      first = load tail_word tail u.seen;
+      between = [];
+      second = load head_word word w.seen;
+      after = k.loads;
+      adds = m.adds;
+      holds = (sym (found_tail v u tail x).0, sym parts.0, sym parts.1);
     }

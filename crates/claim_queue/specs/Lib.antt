@@ -16,3 +16,5 @@ pub mod Puts
 pub mod Orders
 pub mod Reads
 pub mod Walks
+pub mod Client
+pub mod Evidence

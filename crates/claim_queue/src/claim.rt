@@ -1,12 +1,14 @@
 //! Claims: an end reserves a run of places by one compare-and-swap of the head, and then raises the places one by one
 //! (Massalin and Pu 1991, the many-producer queue).
-ghost use Rattle.std.specs.Prelude.{◌≡◌, ◌+◌, ◌<◌, ◌≤◌, ℕ, true, length, MatchResult, MatchBool, IfOk, slice_index};
+ghost use Rattle.std.specs.Prelude.{◌≡◌, ◌+◌, ◌<◌, ◌≤◌, ℕ, true, length, MatchResult, MatchBool, IfOk, IfErr};
+ghost use Rattle.std.specs.Prelude.{slice_index, slice_index_or};
 ghost use Rattle.table_theory.specs.Listing.{AllRaised};
 ghost use Rattle.claim_queue.specs.Claims.{Owns, KeepsClaims, KeepsOthers};
-ghost use Rattle.claim_queue.specs.Answers.{ClaimedItems, Refused, PausedClaim};
+ghost use Rattle.claim_queue.specs.Client.{HadRoomAt, WhyNotClaimed, WhyNotPut, HasRaisedItem};
 ghost use Rattle.claim_queue.specs.declared.claim.ClaimRefusal.TheVariants as refusals;
+ghost use Rattle.claim_queue.specs.Evidence.{ClaimedItems, Refused, PausedClaim, Raised, IsPut, PutAnswer};
 ghost use Rattle.claim_queue.specs.Lines.{SameLines, PutLine};
-ghost use Rattle.claim_queue.specs.Puts.{Raised, RaisedFrom, IsPut, PutAnswer, is_lost};
+ghost use Rattle.claim_queue.specs.Puts.{RaisedFrom, is_lost};
 
 use crate::ends::{ClaimQueue, QueueEnd};
 use crate::layout::SHUT;
@@ -105,14 +107,17 @@ impl<const N: usize> ClaimQueue<N> {
         requires { IsEndOf self.now end.old }
         ensures effect { MatchResult result (λ c. PutLine items.now (view_of end.old) (view_of end.new))
             (λ r. SameLines (view_of end.old) (view_of end.new)) }
+        ensures result { IfOk result (λ c. HadRoomAt (view_of end.old) N c.start (length items.now) (view_of end.new)) }
+        ensures frame { KeepsClaims (view_of end.old) (view_of end.new) }
         ensures owns { IfOk result (λ c. (c.items.items ≡ items.now) × (c.raised ≡ 0)
             × Owns (view_of end.new) c.start c.items.items c.raised) }
+        ensures error { IfErr result (λ r. ((view_of end.new).own ≡ (view_of end.old).own)
+            × WhyNotClaimed (view_of end.old) N (length items.now) r (view_of end.new)) }
         ensures shut { (view_of end.old).seen.object.shut ≡ true → 0 < length items.now → length items.now ≤ N
             → MatchResult result (λ claim. ⊥) (λ refusal. refusal ≡ refusals.Closed) }
         ensures trace { MatchResult result
             (λ c. ClaimedItems N (view_of end.old) c.start items.now (view_of end.new))
             (λ r. Refused N (view_of end.old) (length items.now) r (view_of end.new)) }
-        ensures frame { KeepsClaims (view_of end.old) (view_of end.new) }
         ensures handle { IsSameEnd end.old end.new }
     {
         self.try_claim_paused(end, items, &mut NoPause)
@@ -129,14 +134,17 @@ impl<const N: usize> ClaimQueue<N> {
         requires { IsEndOf self.now end.old }
         ensures effect { MatchResult result (λ c. PutLine items.now (view_of end.old) (view_of end.new))
             (λ r. SameLines (view_of end.old) (view_of end.new)) }
+        ensures result { IfOk result (λ c. HadRoomAt (view_of end.old) N c.start (length items.now) (view_of end.new)) }
+        ensures frame { KeepsClaims (view_of end.old) (view_of end.new) }
         ensures owns { IfOk result (λ c. (c.items.items ≡ items.now) × (c.raised ≡ 0)
             × Owns (view_of end.new) c.start c.items.items c.raised) }
+        ensures error { IfErr result (λ r. ((view_of end.new).own ≡ (view_of end.old).own)
+            × WhyNotClaimed (view_of end.old) N (length items.now) r (view_of end.new)) }
         ensures shut { (view_of end.old).seen.object.shut ≡ true → 0 < length items.now → length items.now ≤ N
             → MatchResult result (λ claim. ⊥) (λ refusal. refusal ≡ refusals.Closed) }
         ensures trace { MatchResult result
             (λ c. ClaimedItems N (view_of end.old) c.start items.now (view_of end.new))
             (λ r. Refused N (view_of end.old) (length items.now) r (view_of end.new)) }
-        ensures frame { KeepsClaims (view_of end.old) (view_of end.new) }
         ensures handle { IsSameEnd end.old end.new }
         ensures hook { MatchResult result (λ c. P.paused pause.old pause.new) (λ r. PausedClaim P.paused N
             (view_of end.old) (length items.now) r (view_of end.new) pause.old pause.new) }
@@ -231,14 +239,17 @@ impl<const N: usize> ClaimQueue<N> {
     pub fn raise_next(&self, end: &mut QueueEnd<N>, claim: &mut Claim<N>) -> bool
         requires queue { IsEndOf self.now end.old }
         requires owns { Owns (view_of end.old) claim.old.start claim.old.items.items claim.old.raised }
+        ensures effect { SameLines (view_of end.old) (view_of end.new) }
+        ensures result { MatchBool result (HasRaisedItem (view_of end.old) (claim.old.start + claim.old.raised)
+            (slice_index_or claim.old.items.items claim.old.raised 0) (view_of end.new))
+            ((view_of end.new) ≡ (view_of end.old)) }
+        ensures frame { KeepsOthers claim.old.start (view_of end.old) (view_of end.new) }
+        ensures owns { Owns (view_of end.new) claim.new.start claim.new.items.items claim.new.raised }
         ensures raised { MatchBool result (claim.new.raised ≡ claim.old.raised + 1)
             ((claim.old.raised ≡ length claim.old.items.items) × (claim.new.raised ≡ claim.old.raised)) }
-        ensures effect { SameLines (view_of end.old) (view_of end.new) }
-        ensures owns { Owns (view_of end.new) claim.new.start claim.new.items.items claim.new.raised }
+        ensures claim { (claim.new.start ≡ claim.old.start) × (claim.new.items.items ≡ claim.old.items.items) }
         ensures trace { MatchBool result (Raised N (view_of end.old) claim.old.start claim.old.items.items
             claim.old.raised (view_of end.new)) ((view_of end.new) ≡ (view_of end.old)) }
-        ensures claim { (claim.new.start ≡ claim.old.start) × (claim.new.items.items ≡ claim.old.items.items) }
-        ensures frame { KeepsOthers claim.old.start (view_of end.old) (view_of end.new) }
         ensures handle { IsSameEnd end.old end.new }
     {
         let index = claim.raised;
@@ -269,12 +280,17 @@ impl<const N: usize> ClaimQueue<N> {
         requires { IsEndOf self.now end.old }
         ensures effect { MatchResult result (λ start. PutLine items.now (view_of end.old) (view_of end.new))
             (λ r. SameLines (view_of end.old) (view_of end.new)) }
+        ensures result { IfOk result (λ start. HadRoomAt (view_of end.old) N start (length items.now)
+            (view_of end.new)) }
+        ensures frame { KeepsClaims (view_of end.old) (view_of end.new) }
+        ensures owns { IfOk result (λ start. Owns (view_of end.new) start items.now (length items.now)) }
+        ensures error { IfErr result (λ r. ((view_of end.new).own ≡ (view_of end.old).own)
+            × WhyNotClaimed (view_of end.old) N (length items.now) r (view_of end.new)) }
         ensures raised { AllRaised (view_of end.old).own.runs → AllRaised (view_of end.new).own.runs }
         ensures shut { (view_of end.old).seen.object.shut ≡ true → 0 < length items.now → length items.now ≤ N
             → MatchResult result (λ start. ⊥) (λ refusal. refusal ≡ refusals.Closed) }
         ensures trace { MatchResult result (λ start. IsPut N (view_of end.old) start items.now (view_of end.new))
             (λ r. Refused N (view_of end.old) (length items.now) r (view_of end.new)) }
-        ensures frame { KeepsClaims (view_of end.old) (view_of end.new) }
         ensures handle { IsSameEnd end.old end.new }
     {
         let start = self.claim_places(end, items, &mut NoPause)?;
@@ -293,11 +309,16 @@ impl<const N: usize> ClaimQueue<N> {
         requires { IsEndOf self.now end.old }
         ensures effect { MatchResult result (λ start. PutLine items.now (view_of end.old) (view_of end.new))
             (λ r. SameLines (view_of end.old) (view_of end.new)) }
+        ensures result { IfOk result (λ start. HadRoomAt (view_of end.old) N start (length items.now)
+            (view_of end.new)) }
+        ensures frame { KeepsClaims (view_of end.old) (view_of end.new) }
+        ensures owns { IfOk result (λ start. Owns (view_of end.new) start items.now (length items.now)) }
+        ensures error { IfErr result (λ r. ((view_of end.new).own ≡ (view_of end.old).own)
+            × WhyNotPut (view_of end.old) N (length items.now) r (view_of end.new)) }
         ensures raised { AllRaised (view_of end.old).own.runs → AllRaised (view_of end.new).own.runs }
         ensures shut { (view_of end.old).seen.object.shut ≡ true → 0 < length items.now → length items.now ≤ N
             → MatchResult result (λ start. ⊥) (λ refusal. refusal ≡ refusals.Closed) }
         ensures trace { PutAnswer N (view_of end.old) items.now result (view_of end.new) }
-        ensures frame { KeepsClaims (view_of end.old) (view_of end.new) }
         ensures handle { IsSameEnd end.old end.new }
     {
         let backoff = Backoff::new();

@@ -2,7 +2,9 @@
 ghost use Rattle.std.specs.Prelude.{◌≡◌, ◌+◌, ◌-◌, ◌<◌, ◌≤◌, IfOk, IfErr, MatchResult};
 ghost use Rattle.std.specs.Mem.Slots.{slots_items, slots_len, IsFull};
 ghost use Rattle.claim_queue.specs.Claims.{KeepsClaims};
-ghost use Rattle.claim_queue.specs.Closings.{ShutNow, ClosedNow, left_at, left_from};
+ghost use Rattle.claim_queue.specs.Client.{HasShut};
+ghost use Rattle.claim_queue.specs.Closings.{ClosedNow, left_at, left_from};
+ghost use Rattle.claim_queue.specs.Evidence.{ShutNow};
 ghost use Rattle.table_theory.specs.Ledgers.{WereOpen};
 ghost use Rattle.claim_queue.specs.declared.layout.TheConstants.{MOST_PLACES};
 ghost use Rattle.table_theory.specs.declared.positions.TheConstants.{POSITIONS};
@@ -66,8 +68,9 @@ impl<const N: usize> ClaimQueue<N> {
     pub fn shut(&self, end: &mut QueueEnd<N>) -> bool
         requires { IsEndOf self.now end.old }
         ensures effect { SameLines (view_of end.old) (view_of end.new) }
-        ensures trace { ShutNow (view_of end.old) result (view_of end.new) }
+        ensures result { HasShut (view_of end.old) result (view_of end.new) }
         ensures frame { KeepsClaims (view_of end.old) (view_of end.new) }
+        ensures trace { ShutNow (view_of end.old) result (view_of end.new) }
         ensures handle { IsSameEnd end.old end.new }
     {
         // linearization point: the queue is shut. One fetch-or suffices: it sets the mark whatever the head is, and the

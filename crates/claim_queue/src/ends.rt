@@ -2,7 +2,8 @@
 ghost use Rattle.std.specs.Prelude.{◌≡◌, ◌+◌, ◌≤◌, ◌<◌, [], ◌++◌, IfOk};
 ghost use Rattle.claim_queue.specs.Rules.{newcomer, InvHeldOf};
 ghost use Rattle.claim_queue.specs.Claims.{KeepsClaims};
-ghost use Rattle.claim_queue.specs.Endings.{SplitBy, IsNewEnd, JoinedBy};
+ghost use Rattle.claim_queue.specs.Endings.{IsNewEnd};
+ghost use Rattle.claim_queue.specs.Evidence.{SplitBy, JoinedBy};
 ghost use Rattle.claim_queue.specs.declared.layout.TheConstants.{MOST_PLACES};
 ghost use Rattle.claim_queue.specs.Layout.{width};
 ghost use Rattle.claim_queue.specs.Lines.{lines_put, lines_taken};

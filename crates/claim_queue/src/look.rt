@@ -4,8 +4,10 @@ ghost use Rattle.std.specs.Prelude.{◌≡◌, ◌+◌, ◌<◌, ◌≤◌, min}
 ghost use Rattle.table_theory.specs.declared.positions.TheConstants.{POSITIONS};
 ghost use Rattle.table_theory.specs.Positioned.{Grows, tail_of};
 ghost use Rattle.claim_queue.specs.Claims.{KeepsClaims};
+ghost use Rattle.claim_queue.specs.Client.{LookedAt};
+ghost use Rattle.claim_queue.specs.Evidence.{HasLooked};
 ghost use Rattle.claim_queue.specs.Lines.{SameLines};
-ghost use Rattle.claim_queue.specs.Walks.{AreRaised, IsNotRaised, HasWalked, LookAgrees, HasLooked};
+ghost use Rattle.claim_queue.specs.Walks.{AreRaised, IsNotRaised, HasWalked, LookAgrees};
 
 use crate::ends::{ClaimQueue, QueueEnd};
 use crate::layout::SHUT;
@@ -68,8 +70,9 @@ impl<const N: usize> ClaimQueue<N> {
         requires { IsEndOf self.now end.old }
         ensures effect { SameLines (view_of end.old) (view_of end.new) }
         ensures result { LookAgrees N result (view_of end.new).seen.object }
-        ensures trace { HasLooked N (view_of end.old) result (view_of end.new) }
         ensures frame { KeepsClaims (view_of end.old) (view_of end.new) }
+        ensures moments { LookedAt (view_of end.old) result (view_of end.new) }
+        ensures trace { HasLooked N (view_of end.old) result (view_of end.new) }
         ensures handle { IsSameEnd end.old end.new }
     {
         // The tail is loaded first: the head never falls, so the head loaded after it is not below this tail.

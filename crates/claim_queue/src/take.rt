@@ -1,11 +1,14 @@
 //! Takings: an end reads the items that are raised from the tail on, and takes them by one compare-and-swap of the
 //! tail.
-ghost use Rattle.std.specs.Prelude.{◌≡◌, ◌+◌, ◌-◌, ◌<◌, ◌≤◌, ◌∷◌, [], length, MatchResult, MatchBool, IsFalse};
+ghost use Rattle.std.specs.Prelude.{◌≡◌, ◌+◌, ◌-◌, ◌<◌, ◌≤◌, ◌∷◌, [], length, MatchResult, MatchBool, IfOk, IfErr};
+ghost use Rattle.std.specs.Prelude.{IsFalse};
 ghost use Rattle.table_theory.specs.declared.positions.TheConstants.{POSITIONS};
 ghost use Rattle.table_theory.specs.Positioned.{tail_of};
 ghost use Rattle.claim_queue.specs.Claims.{KeepsClaims};
+ghost use Rattle.claim_queue.specs.Client.{WereFirst, WhyNotTaken};
+ghost use Rattle.claim_queue.specs.Evidence.{TookItems, RefusedTake, PausedTake};
 ghost use Rattle.claim_queue.specs.Lines.{SameLines, TookLine};
-ghost use Rattle.claim_queue.specs.Takings.{TookItems, RefusedTake, PausedTake, IsLine, IsBegun, IsOne, IsNone};
+ghost use Rattle.claim_queue.specs.Takings.{IsLine, IsBegun, IsOne, IsNone};
 ghost use Rattle.claim_queue.specs.Reads.{HasFound, IsScanned, IsStopped, IsRefusedAt};
 
 use crate::ends::{ClaimQueue, QueueEnd};
@@ -38,9 +41,12 @@ impl<const N: usize> ClaimQueue<N> {
         requires { IsEndOf self.now end.old }
         ensures effect { MatchResult result (λ x. TookLine (x ∷ []) (view_of end.old) (view_of end.new))
             (λ r. SameLines (view_of end.old) (view_of end.new)) }
+        ensures result { IfOk result (λ x. WereFirst (view_of end.old) (x ∷ []) (view_of end.new)) }
+        ensures frame { KeepsClaims (view_of end.old) (view_of end.new) }
+        ensures error { IfErr result (λ r. ((view_of end.new).own ≡ (view_of end.old).own)
+            × WhyNotTaken IsNone (view_of end.old) r (view_of end.new)) }
         ensures trace { MatchResult result (λ x. TookItems N (view_of end.old) (x ∷ []) (view_of end.new))
             (λ r. RefusedTake IsNone IsOne N (view_of end.old) r (view_of end.new)) }
-        ensures frame { KeepsClaims (view_of end.old) (view_of end.new) }
         ensures handle { IsSameEnd end.old end.new }
     {
         self.try_take_paused(end, &mut NoPause)
@@ -56,9 +62,12 @@ impl<const N: usize> ClaimQueue<N> {
         requires { IsEndOf self.now end.old }
         ensures effect { MatchResult result (λ x. TookLine (x ∷ []) (view_of end.old) (view_of end.new))
             (λ r. SameLines (view_of end.old) (view_of end.new)) }
+        ensures result { IfOk result (λ x. WereFirst (view_of end.old) (x ∷ []) (view_of end.new)) }
+        ensures frame { KeepsClaims (view_of end.old) (view_of end.new) }
+        ensures error { IfErr result (λ r. ((view_of end.new).own ≡ (view_of end.old).own)
+            × WhyNotTaken IsNone (view_of end.old) r (view_of end.new)) }
         ensures trace { MatchResult result (λ x. TookItems N (view_of end.old) (x ∷ []) (view_of end.new))
             (λ r. RefusedTake IsNone IsOne N (view_of end.old) r (view_of end.new)) }
-        ensures frame { KeepsClaims (view_of end.old) (view_of end.new) }
         ensures handle { IsSameEnd end.old end.new }
         ensures hook { MatchResult result (λ x. P.paused pause.old pause.new)
             (λ r. PausedTake P.paused N (view_of end.old) r (view_of end.new) pause.old pause.new) }
@@ -147,13 +156,16 @@ impl<const N: usize> ClaimQueue<N> {
     ) -> Result<usize, TakeRefusal>
         requires queue { IsEndOf self.now end.old }
         requires empty { line.old.items ≡ [] }
-        ensures line { MatchResult result (λ n. (n ≡ length line.new.items) × IsLine N line.new.items)
-            (λ r. line.new.items ≡ []) }
         ensures effect { MatchResult result (λ n. TookLine line.new.items (view_of end.old) (view_of end.new))
             (λ r. SameLines (view_of end.old) (view_of end.new)) }
+        ensures result { IfOk result (λ n. WereFirst (view_of end.old) line.new.items (view_of end.new)) }
+        ensures frame { KeepsClaims (view_of end.old) (view_of end.new) }
+        ensures error { IfErr result (λ r. ((view_of end.new).own ≡ (view_of end.old).own)
+            × WhyNotTaken (IsBegun N) (view_of end.old) r (view_of end.new)) }
+        ensures line { MatchResult result (λ n. (n ≡ length line.new.items) × IsLine N line.new.items)
+            (λ r. line.new.items ≡ []) }
         ensures trace { MatchResult result (λ n. TookItems N (view_of end.old) line.new.items (view_of end.new))
             (λ r. RefusedTake (IsBegun N) (IsLine N) N (view_of end.old) r (view_of end.new)) }
-        ensures frame { KeepsClaims (view_of end.old) (view_of end.new) }
         ensures handle { IsSameEnd end.old end.new }
     {
         // The tail never falls, and no position is used again: if the compare-and-swap finds this tail, no item was

@@ -1,4 +1,4 @@
--- What several steps tell together.
+-- Facts of several steps together.
 use Rattle.meters.proofs.Common.{◌≡◌, ◌≢◌, ◌⊎◌, inl, inr, ne_eqb, ℕ, suc, ◌+◌, ◌<◌, ◌≤◌, true, false, List, [], ◌∷◌, ◌++◌, length, length-append, filter_map, refl, sym, ap, ◌∙◌, subst, arith, Option, Some, None, append-nil, true≢false, filter_map-append, ∥∥₁_elim, Alarm, AbsState, Step, load, change, IsValidStep, IsValidView, ExtendsTrace, Performed, entries_real, Looked, clock_word, slot_word, word_of, alarm_in, MeterOps, Reading, with_alarm, SeatView, of_meters, Fits, WasSet, WasFired, FoundIn, Gave, NotAdvanced, scan, NotSet}
 use Rattle.std.specs.Prelude.{◌==◌}
 use Rattle.std.proofs.Common.{append_assoc}
@@ -19,7 +19,7 @@ use Rattle.meters.proofs.Clocks.{clock_seen}
 pub made_own : (v w : SeatView) (es : List (Step Reading)) (own : MeterOps) → Performed v es own w → own_of w ≡ own_of (record v { own = own })
 made_own v w es own m = (λ i. own_of (record v { own = m.did i; member = m.member i }))
 
--- two looks, one behind the other
+-- two looks, one after the other
 two_looks : (v u w : SeatView) (es : List (Step Reading)) (word found : ℕ) → Performed v es v.own u → (l : Looked u word found w) → Performed v (es ++ load word found l.at ∷ []) v.own w
 two_looks v u w es word found a l = made_then v u w es (load word found l.at ∷ []) v.own (λ d. d) a l.made
 
@@ -59,7 +59,7 @@ searched_more v u w slot (Some alarm) s f y e = let bits : ℕ = word_of (Some a
 pub no_room : (v w : SeatView) (slot : ℕ) → slot ≡ 16 → Searched v slot w → NotSet v not_set.NoRoom w × DidNothing v w
 no_room v w slot is s = ((s.taken, s.as_many ∙ is, s.full, s.made.adds), made_own v w _ v.own s.made)
 
--- the slot was found empty behind a search
+-- the slot was found empty after a search
 empty_slot : (u x : SeatView) (slot : ℕ) (stood : Option Alarm) → FoundIn u slot stood x → is_some stood ≡ false → Looked u (slot_word slot) 0 x
 empty_slot u x slot None f e = f.looked
 empty_slot u x slot (Some alarm) f e = absurd (true≢false e)
@@ -109,7 +109,7 @@ gave_fired v u w clock slot alarm f due h = let l = f.looked in record {
 pub clock_seat : (v w : SeatView) (clock : ℕ) (es : List (Step Reading)) → ∥ IsValidView of_meters v ∥₁ → IsValidView of_meters w → ExtendsTrace v es w → clock ≤ v.seen.object.clock → clock ≤ w.seen.object.clock
 clock_seat v w clock es x y adds valid = ∥∥₁_elim x le_prop (λ (h : IsValidView of_meters v). let up = clock_seen v w es h y adds in omega arith)
 
--- the clock is no less behind the visit of a slot
+-- the clock is no less after the visit of a slot
 pub clock_on : (v w : SeatView) (clock slot : ℕ) (alarm : Option Alarm) → ∥ IsValidView of_meters v ∥₁ → ∥ IsValidView of_meters w ∥₁ → clock ≤ v.seen.object.clock → Gave v clock slot alarm w → clock ≤ w.seen.object.clock
 clock_on v w clock slot alarm x y valid g = ∥∥₁_elim y le_prop (λ (h : IsValidView of_meters w). clock_seat v w clock (entries_of slot g.visit) x h g.made.adds valid)
 

@@ -4,7 +4,8 @@ ghost use Rattle.std.specs.Mem.Slots.{slots_items, slots_len, IsFull};
 ghost use Rattle.event_theory.specs.declared.alarm.Alarm.{Alarm};
 ghost use Rattle.meters.specs.Layout.{gauges_in, width};
 ghost use Rattle.meters.specs.Words.{SlotsShow, standing};
-ghost use Rattle.meters.specs.Closings.{ClosedNow, WereOpen};
+ghost use Rattle.meters.specs.Closings.{ClosedNow};
+ghost use Rattle.meters.specs.Evidence.{WereOpen};
 
 use crate::ends::{MeterSeat, Meters};
 use crate::layout::{CLOCK, ENDS, FIRST_GAUGE, FIRST_SLOT, GAUGES, SLOTS};

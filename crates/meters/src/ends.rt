@@ -2,7 +2,8 @@
 ghost use Rattle.std.specs.Prelude.{◌≡◌, [], IfOk};
 ghost use Rattle.meters.specs.Layout.{width};
 ghost use Rattle.meters.specs.Rules.{newcomer};
-ghost use Rattle.meters.specs.Endings.{SplitBy, IsNewEnd, JoinedBy};
+ghost use Rattle.meters.specs.Endings.{IsNewEnd};
+ghost use Rattle.meters.specs.Evidence.{SplitBy, JoinedBy};
 ghost use Rattle.meters.specs.Own.{DidSplit, DidBoth, of_meters};
 ghost use Rattle.table_theory.specs.Ledgers.{IsValidView};
 

@@ -4,7 +4,7 @@
 //! functions of `batch_queue::laws` have empty bodies. They are called because the proofs use their clauses.
 ghost use Rattle.std.specs.Prelude.{◌≡◌, ◌+◌, ◌<◌, ◌≤◌, length, take, IfErr, IfOk, MatchResult};
 ghost use Rattle.table_theory.specs.Ledgers.{WereOpen};
-ghost use Rattle.batch_queue.specs.Answers.{WhyNotPut};
+ghost use Rattle.batch_queue.specs.Client.{WhyNotPut};
 ghost use Rattle.batch_queue.specs.Handles as queues;
 ghost use Rattle.batch_queue.specs.Layout.{ends_word};
 ghost use Rattle.batch_queue.specs.Lefts.{items_left};

@@ -1,12 +1,12 @@
 -- The lemmas of the clauses for clients: from the steps of a call to moments of it, and to the notes that were run.
-use Rattle.proc_chain.proofs.Common.{◌≡◌, ◌≢◌, ℕ, ◌+◌, ◌-◌, ◌<◌, ◌≤◌, ◌/◌, Option, true, false, Bool, List, [], ◌∷◌, ◌++◌, map, length, get_or, set, sym, refl, ap, ◌∙◌, subst, arith, length-set, length-append, Batch, Cell, Positions, AbsState, Part, line_of, Step, load, change, Performed, blank, place_at, item_at, stage_at, head_of, tail_of, raised_below, map-append, Me, ChainOps, GatedQueue, View, with_note, with_raise, with_gate, place_word, notes_of, queue_of, Stepped, Found, Raised, run, head_word, tail_word, gate_word}
+use Rattle.proc_chain.proofs.Common.{dite, dec_lt, ◌≡◌, ◌≢◌, ℕ, ◌+◌, ◌-◌, ◌<◌, ◌≤◌, ◌/◌, zero, suc, Option, true, false, Bool, List, [], ◌∷◌, ◌++◌, map, length, set, sym, refl, ap, ◌∙◌, subst, arith, Cell, Positions, AbsState, Part, line_of, Step, load, change, Performed, blank, place_at, item_at, stage_at, head_of, tail_of, raised_below, map-append, Me, ChainOps, GatedQueue, View, with_note, with_raise, with_gate, place_word, notes_of, queue_of, Stepped, Found, Raised, run, head_word, tail_word, gate_word}
 use Rattle.std.proofs.Common.{get_or-set_same}
 use Rattle.std.proofs.lemmas.List.{append-nil, append_assoc}
-use Rattle.table_theory.proofs.Reaching.{adds_after}
+use Rattle.table_theory.proofs.Reaching.{adds_after, adds_none}
 use Rattle.table_theory.specs.Ledgers.{ExtendsTrace}
 use Rattle.table_theory.specs.Moments.{AtSomeMoment, AtTwoMoments}
 use Rattle.proc_chain.specs.Answers.{with_run}
-use Rattle.proc_chain.specs.Client.{OnlyLooked, HasNoRoom, WhyNotChained, PutAt, IsRaisedAt, RanNotes, IsNoneRaised, FoundNoneAt, WhyLeft, HasBoth, HasTheirs}
+use Rattle.proc_chain.specs.Client.{OnlyLooked, WhyNotChained, IsRaisedAt, RanNotes, IsNoneRaised, WasNoneRaised, FoundTimes, FailedLeaves, WhyLeft, HasBoth, HasTheirs}
 use Rattle.std.specs.Prelude.{MatchBool}
 use Rattle.proc_chain.specs.Notes.{notes_taken}
 use Rattle.proc_chain.specs.declared.chaining.ChainRefusal.TheVariants as refusals
@@ -89,16 +89,19 @@ pub why_spent : (v w : View) (head : ℕ) → Found v head_word head w → 42949
 why_spent v w head f past = moment_now v w (load head_word head f.0) v.own (λ o. 4294967296 ≤ head_of o.queue + 1) f.1.made (let is = head_says (load head_word head f.0) refl f.1.real in omega arith)
 
 pub why_full : (v l w : View) (head tail : ℕ) → Found v head_word head l → Found l tail_word tail w → tail + 32 ≤ head → WhyNotChained v (refusals.Full head tail) w
-why_full v l w head tail f g over = (over, record {
-  before = [];
-  first = load head_word head f.0;
-  between = [];
-  second = load tail_word tail g.0;
-  after = [];
-  adds = (both_found v l w head tail f g).adds;
-  holds = (let is = head_says (load head_word head f.0) refl f.1.real in let is' = tail_says (load tail_word tail g.0) refl g.1.real in let grown = g.1.meets.grows in let first = grown.first in let further = grown.further in
-      let same = ap (λ (z : AbsState GatedQueue). z.object.queue.first) f.1.seen in let same' = ap (λ (z : AbsState GatedQueue). z.object.queue.taken) f.1.seen in (omega arith, omega arith, omega arith));
-})
+why_full v l w head tail f g over = (
+  over,
+  record {
+    before = [];
+    first = load head_word head f.0;
+    between = [];
+    second = load tail_word tail g.0;
+    after = [];
+    adds = (both_found v l w head tail f g).adds;
+    holds = (let is = head_says (load head_word head f.0) refl f.1.real in let is' = tail_says (load tail_word tail g.0) refl g.1.real in let grown = g.1.meets.grows in let first = grown.first in let further = grown.further in
+        let same = ap (λ (z : AbsState GatedQueue). z.object.queue.first) f.1.seen in let same' = ap (λ (z : AbsState GatedQueue). z.object.queue.taken) f.1.seen in (omega arith, omega arith, omega arith));
+  },
+)
 
 pub why_lost : (v l b w : View) (head tail found : ℕ) → Found v head_word head l → Found l tail_word tail b → Found b head_word found w → found ≢ head → WhyNotChained v (refusals.Lost found) w
 why_lost v l b w head tail found f g e ne = two_of v b w (λ o. head_of o.queue ≡ head) (λ o. head_of o.queue ≡ found) (λ o later. (head_of o.queue < found) × (head_of later.queue ≡ found)) (ap (λ (z : Part). z.share) (both_found v l b head tail f g).member)
@@ -130,7 +133,7 @@ still_raised q u r head note from below is first items more = let p : ℕ = head
 
 pub who_runs : (v l b w x y : View) (head tail note gate : ℕ) (f : Found v head_word head l) (g : Found l tail_word tail b) (c : Claimed b head note w) (r : Raised w head note (run head note) x) (m : AbsState GatedQueue) (then : ChainOps → ChainOps)
     (s : Stepped x (change gate_word gate m (with_gate m.object 2)) (then (record x.own { owes = false })) y) → head + 1 < 4294967296 → head < tail + 32 → ((d : ChainOps) → (then d).runs ≡ d.runs) → (Gate : ℕ → Type 0) → Gate m.object.gate
-    → (position : ℕ) × PutAt v position note y × AtSomeMoment v y (λ o. IsRaisedAt o position note × Gate o.gate) × (y.seen.object.gate ≡ 2)
+    → (position : ℕ) × (y.own.runs ≡ v.own.runs ++ record { start = position; places = record { item = note; stage = 2 } ∷ [] } ∷ []) × AtSomeMoment v y (λ o. IsRaisedAt o position note × Gate o.gate) × (y.seen.object.gate ≡ 2)
 who_runs v l b w x y head tail note gate f g c r m then s bounded room runs Gate is = let d = chained v l b w x head tail note f g c r y gate m then s bounded room in let grown = s.meets.grows in (
   head,
   ap (λ (z : ChainOps). z.runs) d.1.did ∙ runs (with_run v.own head note),
@@ -168,9 +171,59 @@ met_more v u w gate runner f b = moment_then v u w (change gate_word gate b.0 (w
     b.1.made.adds
 
 -- no note was raised at the tail, and then the gate was met
-pub found_none_at : (v u w : View) (gate : ℕ) → u.member.share ≡ v.member.share → SawNone v u → MetGate gate u w → FoundNoneAt gate v w
+pub found_none_at : (v u w : View) (gate : ℕ) → u.member.share ≡ v.member.share → SawNone v u → MetGate gate u w → AtTwoMoments v w (WasNoneRaised gate)
 found_none_at v u w gate share a b = two_of v u w (λ o. IsNoneRaised o × (o.queue.taken ≡ (queue_of u).taken)) (λ o. (o.queue.taken ≡ (queue_of u).taken) × (o.gate ≡ gate))
-    (λ o later. IsNoneRaised o × (later.queue.taken ≡ o.queue.taken) × (later.gate ≡ gate)) share (λ o later p q. (p.0, q.0 ∙ sym p.1, q.1)) a b
+    (WasNoneRaised gate) share (λ o later p q. (p.0, q.0 ∙ sym p.1, q.1)) a b
+
+-- pairs of steps that found the object so, and other steps
+module _ (P : GatedQueue → GatedQueue → Type 0) where
+  pub found_more : (n : ℕ) (xs ys : List (Step GatedQueue)) → FoundTimes n P xs → FoundTimes n P (xs ++ ys)
+  found_more zero xs ys f = tt
+  found_more (suc n) xs ys (before, first, between, second, after, is, holds, rest) = (
+    before,
+    first,
+    between,
+    second,
+    after ++ ys,
+    ap (λ (z : List (Step GatedQueue)). z ++ ys) is ∙ (append_assoc before (first ∷ (between ++ second ∷ after)) ys ∙ ap (λ (z : List (Step GatedQueue)). before ++ first ∷ z) (append_assoc between (second ∷ after) ys)),
+    holds,
+    found_more n after ys rest,
+  )
+
+  pub found_last : (n : ℕ) (xs ys : List (Step GatedQueue)) → FoundTimes n P xs → FoundTimes (suc zero) P ys → FoundTimes (suc n) P (xs ++ ys)
+  found_last zero xs ys f (before, first, between, second, after, is, holds, rest) = (
+    xs ++ before,
+    first,
+    between,
+    second,
+    after,
+    ap (λ (z : List (Step GatedQueue)). xs ++ z) is ∙ sym (append_assoc xs before (first ∷ (between ++ second ∷ after))),
+    holds,
+    tt,
+  )
+  found_last (suc n) xs ys (before, first, between, second, after, is, holds, rest) l = (
+    before,
+    first,
+    between,
+    second,
+    after ++ ys,
+    ap (λ (z : List (Step GatedQueue)). z ++ ys) is ∙ (append_assoc before (first ∷ (between ++ second ∷ after)) ys ∙ ap (λ (z : List (Step GatedQueue)). before ++ first ∷ z) (append_assoc between (second ∷ after) ys)),
+    holds,
+    found_last n after ys rest l,
+  )
+
+  pub found_once : (v w : View) (s : AtTwoMoments v w P) → FoundTimes (suc zero) P (s.before ++ s.first ∷ (s.between ++ s.second ∷ s.after))
+  found_once v w s = (s.before, s.first, s.between, s.second, s.after, refl, s.holds, tt)
+
+  -- one use more of the limit: a note was run, or the steps `ys` found the object so
+  pub found_on : (count ran more : ℕ) (xs ys : List (Step GatedQueue)) → ran ≤ count → more ≤ 1 → FoundTimes (count - ran) P xs → (more < 1 → FoundTimes (suc zero) P ys) → FoundTimes (count + 1 - (ran + more)) P (xs ++ ys)
+  found_on count ran more xs ys few small f once = dite (dec_lt more 1)
+      (λ none. let e : suc (count - ran) ≡ count + 1 - (ran + more) = omega arith in subst (λ (n : ℕ). FoundTimes n P (xs ++ ys)) e (found_last (count - ran) xs ys f (once none)))
+      (λ no. let e : count - ran ≡ count + 1 - (ran + more) = omega arith in subst (λ (n : ℕ). FoundTimes n P (xs ++ ys)) e (found_more (count - ran) xs ys f))
+
+-- no limit, no step
+pub used_none : (v : View) (limit : ℕ) → limit ≡ 0 → FailedLeaves (limit - 0) v v
+used_none v limit none = record { steps = []; adds = adds_none v; found = subst (λ (n : ℕ). FoundTimes n (WasNoneRaised 2) []) (let e : zero ≡ limit - 0 = omega arith in e) tt }
 
 -- which of the two it was
 pub was_saw : (b : Bool) (v w : View) → MatchBool b (Unit {0}) (SawNone v w) → b ≡ false → SawNone v w
@@ -185,7 +238,7 @@ ran_none v = ([], refl, record { notes = sym (append-nil (notes_of (queue_of v))
 
 -- the end left after other steps
 pub left_on : (v u w : View) (xs : List (Step GatedQueue)) (ran limit : ℕ) → u.member.share ≡ v.member.share → ExtendsTrace v xs u → (ran < limit) × WhyLeft u w → WhyLeft v w
-left_on v u w xs ran limit share a (less, (at, idle)) = (two_after v u w xs (λ o later. IsNoneRaised o × (later.queue.taken ≡ o.queue.taken) × (later.gate ≡ 1)) share a at, idle)
+left_on v u w xs ran limit share a (less, (at, idle)) = (two_after v u w xs (WasNoneRaised 1) share a at, idle)
 
 -- JOINS
 

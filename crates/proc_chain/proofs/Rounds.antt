@@ -1,5 +1,5 @@
 -- The parts of a serving taken together, and the invariant of its loop.
-use Rattle.proc_chain.proofs.Common.{◌≡◌, ◌≢◌, ℕ, zero, suc, ◌+◌, ◌/◌, ◌%◌, ◌<◌, ◌≤◌, Option, Some, None, true, false, Bool, List, [], ◌∷◌, ◌++◌, map, take, length, get_or, sym, refl, ap, ◌∙◌, subst, arith, length-append, props, ∥∥₁_elim, map-append, length-map, dite, ℕ_discrete, dec_le, dec_lt, Me, Seat, Batch, Cell, Positions, AbsState, Part, line_of, Step, load, change, blank, item_of, item_at, stage_at, with_take, tail_of, IsSame, made_on, raised_below, ChainOps, GatedQueue, place_word, raised_word, notes_of, with_taken, with_gate, taking, View, queue_of, Stepped, Found, IsValidChainView, Carries, IsRunner, MadeSince, Serving, tail_word, gate_word}
+use Rattle.proc_chain.proofs.Common.{◌≡◌, ◌≢◌, ℕ, zero, suc, ◌+◌, ◌-◌, ◌/◌, ◌%◌, ◌<◌, ◌≤◌, Option, Some, None, true, false, Bool, List, [], ◌∷◌, ◌++◌, map, take, length, get_or, sym, refl, ap, ◌∙◌, subst, arith, length-append, props, ∥∥₁_elim, map-append, length-map, dite, ℕ_discrete, dec_le, Me, Seat, Batch, Cell, Positions, AbsState, Part, line_of, Step, load, change, blank, item_of, item_at, stage_at, with_take, tail_of, IsSame, made_on, raised_below, ChainOps, GatedQueue, place_word, raised_word, notes_of, with_taken, with_gate, taking, View, queue_of, Stepped, Found, IsValidChainView, Carries, IsRunner, MadeSince, Serving, tail_word, gate_word}
 use Rattle.std.proofs.Common.{drop}
 use Rattle.std.proofs.lemmas.Grind.{flat_map-append}
 use Rattle.std.proofs.lemmas.List.{append-nil, append_assoc, length-take-le, take-append-le}
@@ -7,16 +7,17 @@ use Rattle.std.proofs.Math.Seq.{take-length, take-append_seam}
 use Rattle.std.specs.List.{AllByRecursion, flat_map}
 use Rattle.std.specs.Prelude.{MatchBool}
 use Rattle.table_theory.proofs.Parting.{made_none}
-use Rattle.table_theory.proofs.Reaching.{all_on}
+use Rattle.table_theory.proofs.Reaching.{adds_after, all_on}
 use Rattle.proc_chain.specs.Notes.{notes_taken, alone}
 use Rattle.proc_chain.specs.Steps.{FoundNotRaised, Took, BegunRound, HasLeft}
 use Rattle.proc_chain.specs.Turns.{HasOrGave, HasServed}
 use Rattle.proc_chain.specs.Servings.{Use, took, failed, entries_of, IsUse, notes_run, takings, serving, Leaving, leaving, goes_on, all_uses, HasRun, ServedNow, AllServed}
 use Rattle.proc_chain.specs.declared.serve.Served.TheVariants as served
 use Rattle.proc_chain.specs.declared.running.Turn.{Turn}
-use Rattle.proc_chain.specs.Client.{FoundNoneAt, WhyLeft, IsNoneRaised}
+use Rattle.table_theory.specs.Ledgers.{ExtendsTrace}
+use Rattle.proc_chain.specs.Client.{WasNoneRaised, FoundTimes, WhyLeft}
 use Rattle.proc_chain.specs.Rounds.{used, Ran, RanNote, FoundNone, LeftNow, RoundNow, IsDone, IsUsedUp, SawNone, MetGate}
-use Rattle.proc_chain.proofs.Clients.{found_none_at, two_after, two_then}
+use Rattle.proc_chain.proofs.Clients.{found_none_at, found_on, two_after}
 use Rattle.proc_chain.proofs.Finding.{note_says, mark_says, runner_on, seen_step}
 use Rattle.proc_chain.proofs.Gates.{notes_same, notes_take}
 
@@ -229,7 +230,9 @@ module _ {Q : Type 0} (made : Q → List ℕ → Type 0) (fits : Q → Type 0) w
     pub runner : IsRunner made fits now.me
     pub valid : IsValidChainView now.me.0
     pub since : MadeSince made fits old.me.0 now.me.0
-    pub failed : ran < count → FoundNoneAt 2 old.me.0 now.me.0
+    pub steps : List (Step GatedQueue)
+    pub added : ExtendsTrace old.me.0 steps now.me.0
+    pub failed : FoundTimes (count - ran) (WasNoneRaised 2) steps
 
   module _ (old now : Seat Q View) where
     pub rounds_begin : (gate : ℕ) → IsSame old now → BegunRound old.me.0 gate now.me.0 → now.me.1 ≡ old.me.1 → IsValidChainView now.me.0 → IsRunner made fits old.me → InRounds old now 0 0
@@ -244,11 +247,13 @@ module _ {Q : Type 0} (made : Q → List ℕ → Type 0) (fits : Q → Type 0) w
           runner = runner;
           valid = valid;
           since = since_step v w [] a.served (omega arith) r.taken_within runner.taken_within (made_of old.me r) (made_of now.me runner);
-          failed = λ less. absurd (omega arith);
+          steps = change gate_word gate b.0 (with_gate b.0.object 1) ∷ [];
+          added = a.made.adds;
+          failed = tt;
         }
 
-    pub rounds_on : (next : Seat Q View) (count ran more : ℕ) (one : Use) → InRounds old now count ran → IsSame now next → Ran now.me.0 (entries_of one) (one ∷ []) true false next.me.0 → length (notes_run (one ∷ [])) ≡ more → more ≤ 1 → IsRunner made fits next.me → IsValidChainView next.me.0 → (more < 1 → FoundNoneAt 2 now.me.0 next.me.0) → InRounds old next (count + 1) (ran + more)
-    rounds_on next count ran more one r same u is small runner valid fails = let v : View = old.me.0 in let w : View = now.me.0 in let x : View = next.me.0 in let us : List Use = r.so.uses in
+    pub rounds_on : (next : Seat Q View) (count ran more : ℕ) (one : Use) → InRounds old now count ran → IsSame now next → Ran now.me.0 (entries_of one) (one ∷ []) true false next.me.0 → length (notes_run (one ∷ [])) ≡ more → more ≤ 1 → IsRunner made fits next.me → IsValidChainView next.me.0 → (ys : List (Step GatedQueue)) → ExtendsTrace now.me.0 ys next.me.0 → (more < 1 → FoundTimes (suc zero) (WasNoneRaised 2) ys) → InRounds old next (count + 1) (ran + more)
+    rounds_on next count ran more one r same u is small runner valid ys adds fails = let v : View = old.me.0 in let w : View = now.me.0 in let x : View = next.me.0 in let us : List Use = r.so.uses in
         let few = r.few in let number = r.number in let long = r.long in let n = length-append us (one ∷ []) in let l = length-append (notes_run us) (notes_run (one ∷ [])) in let len = ap length (run_on us (one ∷ [])) in record {
           same = (same.0 ∙ r.same.0, same.1 ∙ r.same.1);
           so = record r.so { uses = us ++ one ∷ [] };
@@ -259,9 +264,9 @@ module _ {Q : Type 0} (made : Q → List ℕ → Type 0) (fits : Q → Type 0) w
           runner = runner;
           valid = valid;
           since = since_then v w x (notes_run (one ∷ [])) r.since (since_step w x (notes_run (one ∷ [])) u.served (omega arith) r.runner.taken_within runner.taken_within (made_of now.me r.runner) (made_of next.me runner)) u.served.notes r.runner.taken_within;
-          failed = λ less. dite (dec_lt ran count)
-              (λ before. two_then v w x (entries_of one) (λ o later. IsNoneRaised o × (later.queue.taken ≡ o.queue.taken) × (later.gate ≡ 2)) (ap (λ (z : Part). z.share) r.all.made.member) (r.failed before) u.made.adds)
-              (λ no. two_after v w x (serving r.so) (λ o later. IsNoneRaised o × (later.queue.taken ≡ o.queue.taken) × (later.gate ≡ 2)) (ap (λ (z : Part). z.share) r.all.made.member) r.all.made.adds (fails (omega arith)));
+          steps = r.steps ++ ys;
+          added = adds_after v w x r.steps ys (ap (λ (z : Part). z.share) r.all.made.member) r.added adds;
+          failed = found_on (WasNoneRaised 2) count ran more r.steps ys r.few small r.failed fails;
         }
 
     -- one serving, by its own uses and entries
@@ -277,8 +282,10 @@ module _ {Q : Type 0} (made : Q → List ℕ → Type 0) (fits : Q → Type 0) w
     pub left_why : (mid w : View) (limit count ran : ℕ) → InRounds old now count ran → count < limit → FoundNone now.me.0 mid → SawNone now.me.0 mid → MetGate 1 mid w × (w.seen.object.gate ≡ 0) → (ran < limit) × WhyLeft old.me.0 w
     left_why mid w limit count ran r below n a b = let few = r.few in (
       omega arith,
-      (two_after old.me.0 now.me.0 w (serving r.so) (λ o later. IsNoneRaised o × (later.queue.taken ≡ o.queue.taken) × (later.gate ≡ 1)) (ap (λ (z : Part). z.share) r.all.made.member) r.all.made.adds (found_none_at now.me.0 mid w 1 (ap (λ (z : Part). z.share) n.5.made.member) a b.0),
-      b.1),
+      (
+        two_after old.me.0 now.me.0 w (serving r.so) (WasNoneRaised 1) (ap (λ (z : Part). z.share) r.all.made.member) r.all.made.adds (found_none_at now.me.0 mid w 1 (ap (λ (z : Part). z.share) n.5.made.member) a b.0),
+        b.1,
+      ),
     )
 
     pub since_done : (mid w : View) (held : List (ℕ × Q)) (count ran : ℕ) → InRounds old now count ran → FoundNone now.me.0 mid → LeftNow mid w → IsValidChainView w → HasOrGave made fits false (w, held) → MadeSince made fits old.me.0 w

@@ -1,9 +1,10 @@
 -- The meaning of each call of a chain for its client: the notes that the end put and ran, and how the queue of notes and
 -- the gate were at a moment of the call.
-use Rattle.std.specs.Prelude.{◌≡◌, ◌≢◌, ◌+◌, ◌-◌, ◌<◌, ◌≤◌, ℕ, Bool, true, false, List, [], ◌∷◌, ◌++◌, length}
+use Rattle.std.specs.Prelude.{◌≡◌, ◌≢◌, ◌+◌, ◌-◌, ◌<◌, ◌≤◌, ℕ, zero, suc, Bool, true, false, List, [], ◌∷◌, ◌++◌, length}
 use Rattle.table_theory.specs.declared.positions.TheConstants.{POSITIONS}
+use Rattle.table_theory.specs.Ledgers.{Step, ExtendsTrace}
 use Rattle.table_theory.specs.Moments.{AtSomeMoment, AtTwoMoments}
-use Rattle.table_theory.specs.Positioned.{head_of, tail_of, item_at, stage_at}
+use Rattle.table_theory.specs.Positioned.{head_of, tail_of, place_at, stage_at}
 use Rattle.proc_chain.specs.declared.chaining.Chained.{Chained}
 use Rattle.proc_chain.specs.declared.chaining.Chained.TheVariants.{Run, Left}
 use Rattle.proc_chain.specs.declared.chaining.ChainRefusal.{ChainRefusal}
@@ -39,25 +40,22 @@ WhyNotChained v (Full head tail) w = (tail + PLACES ≤ head)
 WhyNotChained v (Lost head) w =
     AtTwoMoments v w (λ o later. (head_of o.queue < head) × (head_of later.queue ≡ head))
 
--- the end put this note, in a run of its own at this position, and raised it
-abbrev pub PutAt : View → ℕ → ℕ → View → Type 0
-PutAt v position note w =
-    w.own.runs ≡ v.own.runs ++ record { start = position; places = record { item = note; stage = 2 } ∷ [] } ∷ []
-
 -- this note is at this position, raised
 abbrev pub IsRaisedAt : GatedQueue → ℕ → ℕ → Type 0
-IsRaisedAt o position note = (item_at o.queue (position - o.queue.first) ≡ note)
-    × (2 ≤ stage_at o.queue (position - o.queue.first))
+IsRaisedAt o position note = ((place_at o.queue (position - o.queue.first)).item ≡ note)
+    × (2 ≤ (place_at o.queue (position - o.queue.first)).stage)
 
 -- the gate by which the end that has to run the note is known. Run: no end had the Turn. Left: some end had it
 abbrev pub IsGateOf : Chained → ℕ → Type 0
 IsGateOf (Run turn) gate = gate ≡ IDLE
 IsGateOf Left gate = gate ≢ IDLE
 
--- The meaning of the answer: the end put the note, and at a moment of the call the note was raised and the gate was as
--- the answer says. After the call's last step the gate is More, so a runner that has not seen the note goes on
+-- The meaning of the answer: the end put the note at a position, in a run of its own. At a moment of the call the note
+-- was raised there, and the gate was as the answer says. The call's last step left the gate More, so a runner that has
+-- not seen the note goes on
 abbrev pub WhoRuns : View → ℕ → Chained → View → Type 0
-WhoRuns v note answer w = (position : ℕ) × PutAt v position note w
+WhoRuns v note answer w = (position : ℕ)
+    × (w.own.runs ≡ v.own.runs ++ record { start = position; places = record { item = note; stage = 2 } ∷ [] } ∷ [])
     × AtSomeMoment v w (λ o. IsRaisedAt o position note × IsGateOf answer o.gate) × (w.seen.object.gate ≡ MORE)
 
 -- `serve`, `serve_kept` and `serve_all`
@@ -70,26 +68,39 @@ RanNotes v ran w = (notes : List ℕ) × (length notes ≡ ran) × HasServed v n
 abbrev pub IsNoneRaised : GatedQueue → Type 0
 IsNoneRaised o = stage_at o.queue o.queue.taken < 2
 
--- at a moment of the call no note was raised at the tail; later, with no note more taken, this was the gate
-abbrev pub FoundNoneAt : ℕ → View → View → Type 0
-FoundNoneAt gate v w = AtTwoMoments v w (λ o later. IsNoneRaised o × (later.queue.taken ≡ o.queue.taken)
-    × (later.gate ≡ gate))
+-- at a moment no note was raised at the tail; later, with no note more taken, this was the gate
+abbrev pub WasNoneRaised : ℕ → GatedQueue → GatedQueue → Type 0
+WasNoneRaised gate o later = IsNoneRaised o × (later.queue.taken ≡ o.queue.taken) × (later.gate ≡ gate)
+
+-- among these steps are so many pairs, one pair after the other, whose two steps found the object so
+abbrev pub FoundTimes : ℕ → (GatedQueue → GatedQueue → Type 0) → List (Step GatedQueue) → Type 0
+FoundTimes zero Holds steps = Unit {0}
+FoundTimes (suc n) Holds steps = (before : List (Step GatedQueue)) × (first : Step GatedQueue)
+    × (between : List (Step GatedQueue)) × (second : Step GatedQueue) × (after : List (Step GatedQueue))
+    × (steps ≡ before ++ first ∷ (between ++ second ∷ after)) × Holds first.then.object second.then.object
+    × FoundTimes n Holds after
+
+-- so many leaves failed in the call: no note was raised at the tail, and then the gate was More
+pub record FailedLeaves (times : ℕ) (v w : View) : Type 0 where
+  pub steps : List (Step GatedQueue)
+  pub adds : ExtendsTrace v steps w
+  pub found : FoundTimes times (WasNoneRaised MORE) steps
 
 -- Why the end left: no note was raised at the tail, and then the gate was Running: no notify had come since the last
--- round. After the call's last step the gate is Idle
+-- round. The call's last step left the gate Idle
 abbrev pub WhyLeft : View → View → Type 0
-WhyLeft v w = FoundNoneAt RUNNING v w × (w.seen.object.gate ≡ IDLE)
+WhyLeft v w = AtTwoMoments v w (WasNoneRaised RUNNING) × (w.seen.object.gate ≡ IDLE)
 
--- Why the serving stopped. Done: the limit was not used up, and the end left. More: at most as many notes as the limit
--- were run; if there were fewer, a leave failed, since the gate was More
+-- Why the serving stopped. Done: the limit was not used up, and the end left. More: the limit was used up, by the notes
+-- that were run and by leaves that failed
 abbrev pub WhyServed : View → ℕ → Served → View → Type 0
 WhyServed v limit (Done ran) w = (ran < limit) × WhyLeft v w
-WhyServed v limit (More turn ran) w = (ran ≤ limit) × (ran < limit → FoundNoneAt MORE v w)
+WhyServed v limit (More turn ran) w = (ran ≤ limit) × FailedLeaves (limit - ran) v w
 
 -- the same of `serve_kept`
 abbrev pub WhyServedKept : View → ℕ → ServedKept → View → Type 0
 WhyServedKept v limit (kept.Done ran) w = (ran < limit) × WhyLeft v w
-WhyServedKept v limit (kept.More ran) w = (ran ≤ limit) × (ran < limit → FoundNoneAt MORE v w)
+WhyServedKept v limit (kept.More ran) w = (ran ≤ limit) × FailedLeaves (limit - ran) v w
 
 -- how many notes were run
 abbrev pub number_run : Served → ℕ

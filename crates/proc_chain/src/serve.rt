@@ -1,12 +1,12 @@
 //! Serving a Turn.
-ghost use Rattle.std.specs.Prelude.{◌≡◌, ◌+◌, ◌<◌, ◌≤◌, ℕ, List, true, false, [], ◌∷◌, ◌++◌, MatchBool, MatchOption};
+ghost use Rattle.std.specs.Prelude.{◌≡◌, ◌+◌, ◌-◌, ◌<◌, ◌≤◌, ℕ, List, true, false, [], ◌∷◌, ◌++◌, MatchBool, MatchOption};
 ghost use Rattle.table_theory.specs.Seating.{IsSame};
 ghost use Rattle.proc_chain.specs.Layout.{width};
 ghost use Rattle.proc_chain.specs.Rules.{suits, makes, IsValidChainView};
 ghost use Rattle.proc_chain.specs.Rounds.{RanNote, FoundNone, LeftNow, RoundNow, IsDone, IsUsedUp, SawNone, MetGate};
 ghost use Rattle.proc_chain.specs.Turns.{Carries, IsRunner, HasOrGave, MadeSince};
 ghost use Rattle.proc_chain.specs.Servings.{is_more};
-ghost use Rattle.proc_chain.specs.Client.{FoundNoneAt, RanNotes, WhyLeft, WhyServed, number_run};
+ghost use Rattle.proc_chain.specs.Client.{FailedLeaves, RanNotes, WhyLeft, WhyServed, number_run};
 ghost use Rattle.proc_chain.specs.Evidence.{ServedNow, AllServed};
 ghost use Rattle.proc_chain.specs.declared.layout.TheConstants.{IDLE, RUNNING, MORE};
 
@@ -111,7 +111,7 @@ fn serve_seat<Q: Quaject>(
     ensures served { MatchOption result.0 (IsDone seat.old.me.0 limit result.1 seat.new.me.0)
         (λ turn. IsUsedUp seat.old.me.0 limit result.1 seat.new.me.0) }
     ensures why { MatchOption result.0 ((result.1 < limit) × WhyLeft seat.old.me.0 seat.new.me.0)
-        (λ turn. (result.1 ≤ limit) × (result.1 < limit → FoundNoneAt MORE seat.old.me.0 seat.new.me.0)) }
+        (λ turn. (result.1 ≤ limit) × FailedLeaves (limit - result.1) seat.old.me.0 seat.new.me.0) }
 {
     let mut turn = turn;
     let mut ran = 0u32;

@@ -1,4 +1,4 @@
-use Rattle.claim_queue.proofs.Walking.{head_past, says_of, looked_at}
+use Rattle.claim_queue.proofs.Walking.{head_past, says_of, looked_at, looked_moments}
 use Rattle.claim_queue.proofs.ends.ClaimQueue.look.Goals as goal
 
 pub overflow_sub-head : goal.overflow_sub-head
@@ -9,3 +9,6 @@ returns-clause-result g c = let r = c.count_raised-raised.ensures in says_of _ _
 
 pub returns-clause-trace : goal.returns-clause-trace
 returns-clause-trace g c = looked_at _ _ _ _ _ c.load_tail-tail.ensures.found c.load_head-word.ensures.found g.row.N _ _ _ c.min-most.ensures c.count_raised-raised.ensures.trace
+
+pub returns-clause-moments : goal.returns-clause-moments
+returns-clause-moments g c = looked_moments _ _ _ _ _ c.load_tail-tail.ensures.found c.load_head-word.ensures.found g.row.N _ _ _ c.min-most.ensures c.count_raised-raised.ensures.trace

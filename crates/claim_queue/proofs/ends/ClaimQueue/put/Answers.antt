@@ -1,4 +1,5 @@
 use Rattle.claim_queue.proofs.Common.{rules, sym, ◌∙◌}
+use Rattle.claim_queue.proofs.Clients.{answer_error, answer_result}
 use Rattle.claim_queue.proofs.Putting.{tried_more, lost_by, lost_not_shut, answered}
 use Rattle.claim_queue.proofs.ends.ClaimQueue.put.Goals as goal
 
@@ -12,3 +13,9 @@ loop-preserved g c = let l = c.loop.invariant in let is = sym c.was_lost.ensures
 
 pub returns-then-not-was_lost-clause-trace : goal.returns-then-not-was_lost-clause-trace
 returns-then-not-was_lost-clause-trace g c = answered _ _ _ _ _ _ (sym c.was_lost.ensures ∙ c.if-not-was_lost.true) c.loop.invariant.tried c.try_put-answer.ensures.trace
+
+pub returns-then-not-was_lost-clause-result : goal.returns-then-not-was_lost-clause-result
+returns-then-not-was_lost-clause-result g c = answer_result c.args.end.now _ c.try_put-answer.new.end.ruled _ _ (answered _ _ _ _ _ _ (sym c.was_lost.ensures ∙ c.if-not-was_lost.true) c.loop.invariant.tried c.try_put-answer.ensures.trace)
+
+pub returns-then-not-was_lost-clause-error : goal.returns-then-not-was_lost-clause-error
+returns-then-not-was_lost-clause-error g c = answer_error c.args.end.now _ c.try_put-answer.new.end.ruled _ _ (answered _ _ _ _ _ _ (sym c.was_lost.ensures ∙ c.if-not-was_lost.true) c.loop.invariant.tried c.try_put-answer.ensures.trace)

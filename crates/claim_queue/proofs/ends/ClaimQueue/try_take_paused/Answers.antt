@@ -1,23 +1,45 @@
 use Rattle.claim_queue.proofs.Common.{refl, inr, rules, arith, [], ◌∷◌, IsNone, IsOne}
+use Rattle.claim_queue.proofs.Clients.{take_error, take_result}
 use Rattle.claim_queue.proofs.Emptying.{refused_few, refused_unpaused, passed_meanwhile, took_after}
 use Rattle.claim_queue.proofs.Lining.{took_line}
 use Rattle.claim_queue.proofs.Scanning.{stopped, none_scanned, scanned_more, nothing_found, found_more}
+use Rattle.claim_queue.specs.declared.take.TakeRefusal.TheVariants as takes
 use Rattle.claim_queue.proofs.ends.ClaimQueue.try_take_paused.Goals as goal
 
 pub returns-then-flag-tail-clause-trace : goal.returns-then-flag-tail-clause-trace
 returns-then-flag-tail-clause-trace g c = let f = c.load_flag-flag.ensures in
     refused_few IsNone g.row.N _ _ _ _ _ [] c.load_tail-tail.ensures.found refl (stopped g.row.N _ _ _ _ _ _ [] (omega arith) (none_scanned g.row.N _ _) f.found c.if-flag-tail.true (f.not_mine c.if-flag-tail.true)) IsOne _ _ (omega arith) c.refusal_at.ensures.why
 
+pub returns-then-flag-tail-clause-error : goal.returns-then-flag-tail-clause-error
+returns-then-flag-tail-clause-error g c = let f = c.load_flag-flag.ensures in
+    take_error c.args.end.now _ c.refusal_at.new.end.ruled _ (refused_few IsNone g.row.N _ _ _ _ _ [] c.load_tail-tail.ensures.found refl (stopped g.row.N _ _ _ _ _ _ [] (omega arith) (none_scanned g.row.N _ _) f.found c.if-flag-tail.true (f.not_mine c.if-flag-tail.true)) IsOne _ _ (omega arith) c.refusal_at.ensures.why)
+
 pub returns-then-flag-tail-clause-hook : goal.returns-then-flag-tail-clause-hook
 returns-then-flag-tail-clause-hook g c = let f = c.load_flag-flag.ensures in
     refused_unpaused _ g.row.N _ _ _ _ _ _ _ _ c.load_tail-tail.ensures.found (stopped g.row.N _ _ _ _ _ _ [] (omega arith) (none_scanned g.row.N _ _) f.found c.if-flag-tail.true (f.not_mine c.if-flag-tail.true)) c.refusal_at.ensures.why
 
 pub returns-then-found-tail : goal.returns-then-found-tail
-returns-then-found-tail g c = let t = c.load_tail-tail.ensures in let f = c.load_flag-flag.ensures in let d = c.load_data-item.ensures in
+returns-then-found-tail g c = let t = c.load_tail-tail.ensures in let f = c.load_flag-flag.ensures in let d = c.load_data-item.ensures in let x = c.exchange_tail-found.ensures in
     let passed = passed_meanwhile g.row.N _ _ _ _ _ (c.load_data-item.result ∷ []) t.found (scanned_more g.row.N _ _ _ _ _ _ _ _ [] (omega arith) (none_scanned g.row.N _ _) f.found c.if-flag-tail.false d.found) (found_more _ _ _ _ _ _ _ _ _ [] (omega arith) (nothing_found _ _ t.tail.0) f.found d.found (f.raised c.if-flag-tail.false) d.item)
-    IsOne _ refl (c.exchange_tail-found.ensures.miss c.if-found-tail.true).0 c.if-found-tail.true in record { effect = search rules; trace = inr passed; frame = search rules; handle = search rules; hook = inr (passed, search rules) }
+    IsOne _ refl (x.miss c.if-found-tail.true).0 c.if-found-tail.true in record {
+      effect = search rules;
+      result = search rules;
+      frame = search rules;
+      error = take_error c.args.end.now _ x.queue.1.3 (takes.Lost c.exchange_tail-found.result) (inr passed);
+      trace = inr passed;
+      handle = search rules;
+      hook = inr (passed, search rules);
+    }
 
 pub returns : goal.returns
-returns g c = let t = c.load_tail-tail.ensures in let f = c.load_flag-flag.ensures in let d = c.load_data-item.ensures in
+returns g c = let t = c.load_tail-tail.ensures in let f = c.load_flag-flag.ensures in let d = c.load_data-item.ensures in let x = c.exchange_tail-found.ensures in
     let took = took_after g.row.N _ _ _ _ _ (c.load_data-item.result ∷ []) t.found (scanned_more g.row.N _ _ _ _ _ _ _ _ [] (omega arith) (none_scanned g.row.N _ _) f.found c.if-flag-tail.false d.found) (found_more _ _ _ _ _ _ _ _ _ [] (omega arith) (nothing_found _ _ t.tail.0) f.found d.found (f.raised c.if-flag-tail.false) d.item)
-    _ (c.exchange_tail-found.ensures.hit c.if-found-tail.false) (omega arith) in record { effect = took_line g.row.N _ _ _ took; trace = took; frame = search rules; handle = search rules; hook = search rules }
+    _ (x.hit c.if-found-tail.false) (omega arith) in record {
+      effect = took_line g.row.N _ _ _ took;
+      result = take_result c.args.end.now _ x.queue.1.3 _ took;
+      frame = search rules;
+      error = search rules;
+      trace = took;
+      handle = search rules;
+      hook = search rules;
+    }

@@ -1,5 +1,5 @@
 use Rattle.bindings.proofs.Calls.{◌≤◌, ℕ, length, refl, sym, ap, subst, ◌∙◌, MatchResult, IfErr}
-use Rattle.batch_queue.specs.Answers.{WhyNotPut}
+use Rattle.batch_queue.specs.Client.{WhyNotPut}
 use Rattle.batch_queue.specs.Handles.{view_of, room_of}
 use Rattle.batch_queue.specs.Puts.{IsPut, RefusedPut}
 use Rattle.bindings.proofs.BatchEnds.{put_keeps}

@@ -1,5 +1,5 @@
 use Rattle.bindings.proofs.Calls.{ℕ, length, refl, sym, ap, subst, ◌∙◌, MatchResult, IfErr}
-use Rattle.batch_queue.specs.Answers.{WhyNotPutSome}
+use Rattle.batch_queue.specs.Client.{WhyNotPutSome}
 use Rattle.batch_queue.specs.Handles.{view_of, room_of}
 use Rattle.batch_queue.specs.Puts.{IsPutSome, RefusedSome}
 use Rattle.bindings.proofs.BatchEnds.{put_some_keeps}

@@ -14,7 +14,7 @@ use Rattle.claim_queue.specs.Closings.{ShutNow}
 use Rattle.claim_queue.specs.Puts.{IsLost, raising}
 use Rattle.claim_queue.specs.Takings.{items_of}
 use Rattle.claim_queue.specs.Steps.{Shut}
-use Rattle.claim_queue.proofs.Answered.{answer_own, refused_own, refused_take_own}
+use Rattle.claim_queue.proofs.Answered.{answer_own, claimed_own, did_put, put_own, refused_own, refused_take_own, took_own}
 use Rattle.claim_queue.proofs.Certain.{seen_room, some_room, valid_end}
 use Rattle.claim_queue.proofs.Growing.{real_grows, real_lawful}
 use Rattle.claim_queue.proofs.Heading.{around, both}
@@ -275,6 +275,30 @@ module _ (n : ℕ) (v w : View) (sv : ∥ IsValidView of_queues v ∥₁) (sw : 
     certain (Bool-set _ _) (λ x y. (let p = passes_since of_queues v w (e ∷ []) x y made.adds in ap (λ (z : AbsState Positions). z.object.shut) (sym p.2))),
     (λ k. (made.did k).shuts),
   )
+
+-- AN END THAT SHUTS NOTHING
+
+pub refused_shuts : (n count : ℕ) (v w : View) (r : ClaimRefusal) → Refused n v count r w → w.own.shuts ≡ v.own.shuts
+refused_shuts n count v w r h = let d = refused_own n count v w r h in (λ k. (d.did k).shuts)
+
+pub claimed_shuts : (n : ℕ) (v w : View) (head : ℕ) (items : List ℕ) → ClaimedItems n v head items w → w.own.shuts ≡ v.own.shuts
+claimed_shuts n v w head items h = let d = claimed_own n v w head items h in (λ k. (d.did k).shuts)
+
+pub raised_shuts : (n : ℕ) (v w : View) (start i : ℕ) (items : List ℕ) → Raised n v start items i w → w.own.shuts ≡ v.own.shuts
+raised_shuts n v w start i items (r, is, made) = λ k. (made.did k).shuts
+
+pub put_shuts : (n : ℕ) (v w : View) (start : ℕ) (items : List ℕ) → IsPut n v start items w → w.own.shuts ≡ v.own.shuts
+put_shuts n v w start items h = let d = put_own n v w start items h in (λ k. (d.did k).shuts)
+
+did_shuts : (v : View) (items : List ℕ) (r : Result ℕ ClaimRefusal) → (did_put v items r).shuts ≡ v.own.shuts
+did_shuts v items (Ok start) = refl
+did_shuts v items (Err refusal) = refl
+
+pub answer_shuts : (n : ℕ) (v w : View) (items : List ℕ) (r : Result ℕ ClaimRefusal) → PutAnswer n v items r w → w.own.shuts ≡ v.own.shuts
+answer_shuts n v w items r h = let d = answer_own n v w items r h in (λ k. (d.did k).shuts) ∙ did_shuts v items r
+
+pub took_shuts : (n : ℕ) (v w : View) (items : List ℕ) → TookItems n v items w → w.own.shuts ≡ v.own.shuts
+took_shuts n v w items h = let d = took_own n v w items h in (λ k. (d.did k).shuts)
 
 -- THE ANSWERS OF AN END
 

@@ -109,6 +109,7 @@ impl<const N: usize> ClaimQueue<N> {
             (λ r. SameLines (view_of end.old) (view_of end.new)) }
         ensures result { IfOk result (λ c. HadRoomAt (view_of end.old) N c.start (length items.now) (view_of end.new)) }
         ensures frame { KeepsClaims (view_of end.old) (view_of end.new) }
+        ensures shuts_nothing { (view_of end.new).own.shuts ≡ (view_of end.old).own.shuts }
         ensures owns { IfOk result (λ c. (c.items.items ≡ items.now) × (c.raised ≡ 0)
             × Owns (view_of end.new) c.start c.items.items c.raised) }
         ensures error { IfErr result (λ r. ((view_of end.new).own ≡ (view_of end.old).own)
@@ -136,6 +137,7 @@ impl<const N: usize> ClaimQueue<N> {
             (λ r. SameLines (view_of end.old) (view_of end.new)) }
         ensures result { IfOk result (λ c. HadRoomAt (view_of end.old) N c.start (length items.now) (view_of end.new)) }
         ensures frame { KeepsClaims (view_of end.old) (view_of end.new) }
+        ensures shuts_nothing { (view_of end.new).own.shuts ≡ (view_of end.old).own.shuts }
         ensures owns { IfOk result (λ c. (c.items.items ≡ items.now) × (c.raised ≡ 0)
             × Owns (view_of end.new) c.start c.items.items c.raised) }
         ensures error { IfErr result (λ r. ((view_of end.new).own ≡ (view_of end.old).own)
@@ -244,6 +246,7 @@ impl<const N: usize> ClaimQueue<N> {
             (slice_index_or claim.old.items.items claim.old.raised 0) (view_of end.new))
             ((view_of end.new) ≡ (view_of end.old)) }
         ensures frame { KeepsOthers claim.old.start (view_of end.old) (view_of end.new) }
+        ensures shuts_nothing { (view_of end.new).own.shuts ≡ (view_of end.old).own.shuts }
         ensures owns { Owns (view_of end.new) claim.new.start claim.new.items.items claim.new.raised }
         ensures raised { MatchBool result (claim.new.raised ≡ claim.old.raised + 1)
             ((claim.old.raised ≡ length claim.old.items.items) × (claim.new.raised ≡ claim.old.raised)) }
@@ -283,6 +286,7 @@ impl<const N: usize> ClaimQueue<N> {
         ensures result { IfOk result (λ start. HadRoomAt (view_of end.old) N start (length items.now)
             (view_of end.new)) }
         ensures frame { KeepsClaims (view_of end.old) (view_of end.new) }
+        ensures shuts_nothing { (view_of end.new).own.shuts ≡ (view_of end.old).own.shuts }
         ensures owns { IfOk result (λ start. Owns (view_of end.new) start items.now (length items.now)) }
         ensures error { IfErr result (λ r. ((view_of end.new).own ≡ (view_of end.old).own)
             × WhyNotClaimed (view_of end.old) N (length items.now) r (view_of end.new)) }
@@ -312,6 +316,7 @@ impl<const N: usize> ClaimQueue<N> {
         ensures result { IfOk result (λ start. HadRoomAt (view_of end.old) N start (length items.now)
             (view_of end.new)) }
         ensures frame { KeepsClaims (view_of end.old) (view_of end.new) }
+        ensures shuts_nothing { (view_of end.new).own.shuts ≡ (view_of end.old).own.shuts }
         ensures owns { IfOk result (λ start. Owns (view_of end.new) start items.now (length items.now)) }
         ensures error { IfErr result (λ r. ((view_of end.new).own ≡ (view_of end.old).own)
             × WhyNotPut (view_of end.old) N (length items.now) r (view_of end.new)) }

@@ -71,6 +71,7 @@ impl<const N: usize> ClaimQueue<N> {
         ensures effect { SameLines (view_of end.old) (view_of end.new) }
         ensures result { LookAgrees N result (view_of end.new).seen.object }
         ensures frame { KeepsClaims (view_of end.old) (view_of end.new) }
+        ensures shuts_nothing { (view_of end.new).own.shuts ≡ (view_of end.old).own.shuts }
         ensures moments { LookedAt (view_of end.old) result (view_of end.new) }
         ensures trace { HasLooked N (view_of end.old) result (view_of end.new) }
         ensures handle { IsSameEnd end.old end.new }

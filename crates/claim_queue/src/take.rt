@@ -43,6 +43,7 @@ impl<const N: usize> ClaimQueue<N> {
             (λ r. SameLines (view_of end.old) (view_of end.new)) }
         ensures result { IfOk result (λ x. WereFirst (view_of end.old) (x ∷ []) (view_of end.new)) }
         ensures frame { KeepsClaims (view_of end.old) (view_of end.new) }
+        ensures shuts_nothing { (view_of end.new).own.shuts ≡ (view_of end.old).own.shuts }
         ensures error { IfErr result (λ r. ((view_of end.new).own ≡ (view_of end.old).own)
             × WhyNotTaken IsNone (view_of end.old) r (view_of end.new)) }
         ensures trace { MatchResult result (λ x. TookItems N (view_of end.old) (x ∷ []) (view_of end.new))
@@ -64,6 +65,7 @@ impl<const N: usize> ClaimQueue<N> {
             (λ r. SameLines (view_of end.old) (view_of end.new)) }
         ensures result { IfOk result (λ x. WereFirst (view_of end.old) (x ∷ []) (view_of end.new)) }
         ensures frame { KeepsClaims (view_of end.old) (view_of end.new) }
+        ensures shuts_nothing { (view_of end.new).own.shuts ≡ (view_of end.old).own.shuts }
         ensures error { IfErr result (λ r. ((view_of end.new).own ≡ (view_of end.old).own)
             × WhyNotTaken IsNone (view_of end.old) r (view_of end.new)) }
         ensures trace { MatchResult result (λ x. TookItems N (view_of end.old) (x ∷ []) (view_of end.new))
@@ -160,6 +162,7 @@ impl<const N: usize> ClaimQueue<N> {
             (λ r. SameLines (view_of end.old) (view_of end.new)) }
         ensures result { IfOk result (λ n. WereFirst (view_of end.old) line.new.items (view_of end.new)) }
         ensures frame { KeepsClaims (view_of end.old) (view_of end.new) }
+        ensures shuts_nothing { (view_of end.new).own.shuts ≡ (view_of end.old).own.shuts }
         ensures error { IfErr result (λ r. ((view_of end.new).own ≡ (view_of end.old).own)
             × WhyNotTaken (IsBegun N) (view_of end.old) r (view_of end.new)) }
         ensures line { MatchResult result (λ n. (n ≡ length line.new.items) × IsLine N line.new.items)

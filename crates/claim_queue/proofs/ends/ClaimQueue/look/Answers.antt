@@ -12,3 +12,6 @@ returns-clause-trace g c = looked_at _ _ _ _ _ c.load_tail-tail.ensures.found c.
 
 pub returns-clause-moments : goal.returns-clause-moments
 returns-clause-moments g c = looked_moments _ _ _ _ _ c.load_tail-tail.ensures.found c.load_head-word.ensures.found g.row.N _ _ _ c.min-most.ensures c.count_raised-raised.ensures.trace
+
+pub returns-clause-shuts_nothing : goal.returns-clause-shuts_nothing
+returns-clause-shuts_nothing g c = let made = (looked_at _ _ _ _ _ c.load_tail-tail.ensures.found c.load_head-word.ensures.found g.row.N _ _ _ c.min-most.ensures c.count_raised-raised.ensures.trace).made in (λ k. (made.did k).shuts)

@@ -1,5 +1,5 @@
 use Rattle.claim_queue.proofs.Common.{rules, sym, ◌∙◌}
-use Rattle.claim_queue.proofs.Clients.{answer_error, answer_result}
+use Rattle.claim_queue.proofs.Clients.{answer_error, answer_result, answer_shuts}
 use Rattle.claim_queue.proofs.Putting.{tried_more, lost_by, lost_not_shut, answered}
 use Rattle.claim_queue.proofs.ends.ClaimQueue.put.Goals as goal
 
@@ -19,3 +19,6 @@ returns-then-not-was_lost-clause-result g c = answer_result c.args.end.now _ c.t
 
 pub returns-then-not-was_lost-clause-error : goal.returns-then-not-was_lost-clause-error
 returns-then-not-was_lost-clause-error g c = answer_error c.args.end.now _ c.try_put-answer.new.end.ruled _ _ (answered _ _ _ _ _ _ (sym c.was_lost.ensures ∙ c.if-not-was_lost.true) c.loop.invariant.tried c.try_put-answer.ensures.trace)
+
+pub returns-then-not-was_lost-clause-shuts_nothing : goal.returns-then-not-was_lost-clause-shuts_nothing
+returns-then-not-was_lost-clause-shuts_nothing g c = answer_shuts g.row.N _ _ c.args.items.now c.try_put-answer.result (answered _ _ _ _ _ _ (sym c.was_lost.ensures ∙ c.if-not-was_lost.true) c.loop.invariant.tried c.try_put-answer.ensures.trace)

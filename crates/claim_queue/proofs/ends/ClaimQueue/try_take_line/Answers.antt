@@ -1,5 +1,5 @@
-use Rattle.claim_queue.proofs.Common.{rules, ap, ◌≡◌, ◌+◌, inr, arith, ℕ, length, IsBegun, IsLine}
-use Rattle.claim_queue.proofs.Clients.{line_error, take_result}
+use Rattle.claim_queue.proofs.Common.{rules, ap, ◌≡◌, ◌+◌, inr, arith, ℕ, length, IsBegun, IsLine, QueueOps}
+use Rattle.claim_queue.proofs.Clients.{line_error, take_result, took_shuts}
 use Rattle.claim_queue.proofs.Emptying.{refused_few, passed_meanwhile, took_after}
 use Rattle.claim_queue.proofs.Lining.{took_line}
 use Rattle.claim_queue.proofs.Scanning.{nothing_found}
@@ -31,8 +31,15 @@ returns g c = let s = c.if-not-scan.ensures.trace in let x = c.exchange_tail-fou
       effect = took_line g.row.N _ _ _ t;
       result = take_result c.args.end.now _ x.queue.1.3 _ t;
       frame = search rules;
+      shuts_nothing = took_shuts g.row.N _ _ _ t;
       error = search rules;
       line = (n, s.1);
       trace = t;
       handle = search rules;
     }
+
+pub returns-then-not-scan-clause-shuts_nothing : goal.returns-then-not-scan-clause-shuts_nothing
+returns-then-not-scan-clause-shuts_nothing g c = ap (λ (z : QueueOps). z.shuts) (returns-then-not-scan-clause-error g c).0
+
+pub returns-then-found-tail-clause-shuts_nothing : goal.returns-then-found-tail-clause-shuts_nothing
+returns-then-found-tail-clause-shuts_nothing g c = ap (λ (z : QueueOps). z.shuts) (returns-then-found-tail-clause-error g c).0

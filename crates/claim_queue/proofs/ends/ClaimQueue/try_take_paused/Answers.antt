@@ -1,5 +1,5 @@
-use Rattle.claim_queue.proofs.Common.{refl, inr, rules, arith, [], ◌∷◌, IsNone, IsOne}
-use Rattle.claim_queue.proofs.Clients.{take_error, take_result}
+use Rattle.claim_queue.proofs.Common.{refl, inr, rules, arith, [], ◌∷◌, ap, IsNone, IsOne, QueueOps}
+use Rattle.claim_queue.proofs.Clients.{take_error, take_result, took_shuts}
 use Rattle.claim_queue.proofs.Emptying.{refused_few, refused_unpaused, passed_meanwhile, took_after}
 use Rattle.claim_queue.proofs.Lining.{took_line}
 use Rattle.claim_queue.proofs.Scanning.{stopped, none_scanned, scanned_more, nothing_found, found_more}
@@ -21,11 +21,12 @@ returns-then-flag-tail-clause-hook g c = let f = c.load_flag-flag.ensures in
 pub returns-then-found-tail : goal.returns-then-found-tail
 returns-then-found-tail g c = let t = c.load_tail-tail.ensures in let f = c.load_flag-flag.ensures in let d = c.load_data-item.ensures in let x = c.exchange_tail-found.ensures in
     let passed = passed_meanwhile g.row.N _ _ _ _ _ (c.load_data-item.result ∷ []) t.found (scanned_more g.row.N _ _ _ _ _ _ _ _ [] (omega arith) (none_scanned g.row.N _ _) f.found c.if-flag-tail.false d.found) (found_more _ _ _ _ _ _ _ _ _ [] (omega arith) (nothing_found _ _ t.tail.0) f.found d.found (f.raised c.if-flag-tail.false) d.item)
-    IsOne _ refl (x.miss c.if-found-tail.true).0 c.if-found-tail.true in record {
+    IsOne _ refl (x.miss c.if-found-tail.true).0 c.if-found-tail.true in let error = take_error c.args.end.now _ x.queue.1.3 (takes.Lost c.exchange_tail-found.result) (inr passed) in record {
       effect = search rules;
       result = search rules;
       frame = search rules;
-      error = take_error c.args.end.now _ x.queue.1.3 (takes.Lost c.exchange_tail-found.result) (inr passed);
+      shuts_nothing = ap (λ (z : QueueOps). z.shuts) error.0;
+      error = error;
       trace = inr passed;
       handle = search rules;
       hook = inr (passed, search rules);
@@ -38,8 +39,12 @@ returns g c = let t = c.load_tail-tail.ensures in let f = c.load_flag-flag.ensur
       effect = took_line g.row.N _ _ _ took;
       result = take_result c.args.end.now _ x.queue.1.3 _ took;
       frame = search rules;
+      shuts_nothing = took_shuts g.row.N _ _ _ took;
       error = search rules;
       trace = took;
       handle = search rules;
       hook = search rules;
     }
+
+pub returns-then-flag-tail-clause-shuts_nothing : goal.returns-then-flag-tail-clause-shuts_nothing
+returns-then-flag-tail-clause-shuts_nothing g c = ap (λ (z : QueueOps). z.shuts) (returns-then-flag-tail-clause-error g c).0

@@ -8,7 +8,7 @@ use turn_dispatch::{Begun, Idle};
 pub enum TurnResult {
     /// All its steps were done, and it was retired. If it wasn't, the free elements have no position left, and the hand
     /// holds it.
-    Ended(bool),
+    Retired(bool),
     /// Its next step was tried, and it went on.
     Ran(Rescheduled),
 }
@@ -17,5 +17,5 @@ pub enum TurnResult {
 #[derive(Drop)]
 pub enum TurnOutcome {
     Idle(Idle),
-    TurnResult(Begun, TurnResult),
+    OfElement(Begun, TurnResult),
 }

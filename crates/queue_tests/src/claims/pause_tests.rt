@@ -79,7 +79,7 @@ fn plays<R: Abort + Wait>(rt: &R, alloc: Global, script: &Script) {
     };
     assert!(rt; is_answered(&queue, &mut end, &script.call, &mut held));
     assert!(rt; held.done);
-    does(rt, &queue, &mut end, script.taken_within);
+    does(rt, &queue, &mut end, script.following);
     does(rt, held.queue, &mut held.end, script.other);
 }
 

@@ -8,10 +8,10 @@ use Rattle.bindings.specs.Hiding.{is_some}
 use Rattle.bindings.specs.Lending.{holding}
 
 abbrev as_full : Handle → Payload → (b : Bool) × (b ≡ true) → Handle
-as_full h w p = record { hidden = record { at = h.hidden.at; value = Some w }; full = p.0; reported = p.1 }
+as_full h w p = record { hidden = record { at = h.hidden.at; value = Some w }; full = p.0; agrees = p.1 }
 
 abbrev with_maybe : (h : Handle) (m : Option Payload) → h.full ≡ is_some m → Handle
-with_maybe h m t = record { hidden = record { at = h.hidden.at; value = m }; full = h.full; reported = t }
+with_maybe h m t = record { hidden = record { at = h.hidden.at; value = m }; full = h.full; agrees = t }
 
 pub still_holding : (h : Handle) (w : Payload) (t : h.full ≡ true) → is_some h.hidden.value ≡ true → as_full h w (h.full, t) ≡ holding h w
 still_holding h w t full = sym (ap (as_full h w) (contract' t))

@@ -17,7 +17,7 @@ leading h w = record { at = h.at; value = Some w }
 
 -- the handle, now with the contents w
 abbrev pub holding : Handle → Payload → Handle
-holding h w = record { hidden = leading h.hidden w; full = true; reported = refl }
+holding h w = record { hidden = leading h.hidden w; full = true; agrees = refl }
 
 -- after the loan, the pointer leads to what the borrower left there
 abbrev pub LendsHidden : MutBor Hidden → MutBor Payload → Fml

@@ -10,7 +10,7 @@ invariant_of-self-clause-known c = let x = c.args.self.now in let t = c.try_put 
 
 pub returns : goal.returns
 returns c = let t = c.try_put in let e = t.ensures in let v = view_of c.args.self.now.end in let w = view_of t.new.end in let items = c.args.items.now in let at = ap room_of c.deref.ensures in record {
-  handle = ((refl, e.handle), refl);
+  same = ((refl, e.handle), refl);
   effect = e.effect;
   error = subst (λ (room : ℕ). IfErr t.result (λ r. WhyNotPut v room (length items) r w)) at e.error;
   shut = λ saw some few. e.shut saw some (subst (λ (room : ℕ). length items ≤ room) (sym at) few);

@@ -10,7 +10,7 @@ invariant_of-self-clause-known c = let x = c.args.self.now in let t = c.try_put_
 
 pub returns : goal.returns
 returns c = let t = c.try_put_some in let e = t.ensures in let v = view_of c.args.self.now.end in let w = view_of t.new.end in let items = c.args.items.now in let at = ap room_of c.deref.ensures in record {
-  handle = ((refl, e.handle), refl);
+  same = ((refl, e.handle), refl);
   effect = e.effect;
   error = subst (λ (room : ℕ). IfErr t.result (λ r. WhyNotPutSome v room (length items) r w)) at e.error;
   shut = e.shut;

@@ -9,7 +9,7 @@ invariant_of-self-clause-known c = let x = c.args.self.now in let t = c.try_take
 
 pub returns : goal.returns
 returns c = let t = c.try_take in let e = t.ensures in let v = view_of c.args.self.now.end in let w = view_of t.new.end in let most = length c.args.items.now in let at = ap room_of c.deref.ensures in record {
-  handle = ((refl, e.handle), refl);
+  same = ((refl, e.handle), refl);
   effect = e.effect;
   error = e.error;
   trace = subst (λ (room : ℕ). MatchResult t.result (λ n. TookBatches room v most (take n t.new.items) w) (λ r. RefusedTake room v most r w)) at e.trace;

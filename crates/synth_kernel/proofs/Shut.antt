@@ -141,7 +141,7 @@ module _ {G : Type 0} (ran : RunsOf G) (refused : RefusalsOf G) (shown : TornDow
               did = record {
                 shared = ready.shared;
                 plan_is = refl;
-                noted = logged.2;
+                reported = logged.2;
                 boot = boot_shut shut;
                 worked = worked shut is_shut;
                 was_shown = seen;

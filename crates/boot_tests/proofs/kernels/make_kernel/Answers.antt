@@ -12,7 +12,7 @@ pub returns-clause-prepared : goal.returns-clause-prepared
 returns-clause-prepared g c =
     let o = c.in-Ok.made in let e = c.in-Ok.ensures in
     c.in-Ok-post_all.ensures.prepared o.shared.plan (c.first_is_prepared.ensures.prepared o.shared.plan o.shared.threads o.station.parts c.prepare_station-station.result.parts
-    e.hand c.prepare_station-station.ensures.prepared e.did e.unused)
+    e.hand c.prepare_station-station.ensures.prepared e.effect e.unused)
 
 pub returns-clause-number : goal.returns-clause-number
 returns-clause-number g c =

@@ -51,7 +51,7 @@ returns g c =
       number = all ∙ ap (λ z. z + length o.shared.plan.ttys) many;
       inputs = c.add_devices-works.ensures.lines;
       parts = c.in_ok-works-2.ensures.parts;
-      prepared = c.in_ok-works-2.ensures.prepared o.shared.plan (first_prepared o.shared.plan o.shared.threads o.station.parts c.prepare_station-station.result.parts m.hand p.prepared m.did m.unused);
+      prepared = c.in_ok-works-2.ensures.prepared o.shared.plan (first_prepared o.shared.plan o.shared.threads o.station.parts c.prepare_station-station.result.parts m.hand p.prepared m.effect m.unused);
       none_on = c.in_ok-works-2.ensures.none_on free.0;
       free = λ k past below. c.in_ok-works-2.ensures.free k (let long = c.args.gates.ok.0 in let p = past in omega arith) below;
       room = subst (λ (z : ℕ). HasPlaces o.shared z c.in_ok-room.room) (c.len-processors.ensures ∙ c.args.gates.ok.0) c.in_ok-room.ensures;

@@ -11,6 +11,7 @@ enum { MARK = 97 };
 static struct synth_raw_answer answer;
 static struct synth_raw_moved moved;
 static struct synth_raw_state state;
+static const struct synth_raw_state lost = {SYNTH_LOST, 0x30000};
 static struct synth_positions found;
 static size_t taken;
 static int losses, calls;
@@ -19,7 +20,12 @@ static struct synth_batch batch;
 static struct synth_queue queue;
 static struct synth_chain chain;
 static struct synth_seat seat;
-static struct synth_hand hand;
+static struct synth_hand hand, giver, receiver;
+
+/* What the park and the start of a give do; how often the start is LOST before; the calls that the wrong hand made. */
+static bool parks;
+static uint32_t starts;
+static int start_losses, wrong_hands;
 
 #ifdef __cplusplus
 extern "C" {
@@ -171,14 +177,57 @@ struct synth_raw_moved synth_raw_hand_try_wait_at(struct synth_hand *end, uint32
 
 struct synth_raw_state synth_raw_hand_try_start(struct synth_hand *end, uint32_t element, uint32_t *started)
 {
-    (void)end, (void)element, (void)started;
+    (void)element;
+    calls++;
+    wrong_hands += end == &giver;
+    if (start_losses > 0) {
+        start_losses--;
+        return lost;
+    }
+    *started = starts;
     return state;
 }
 
 struct synth_raw_state synth_raw_hand_try_park(struct synth_hand *end, uint32_t element, bool *parked)
 {
-    (void)end, (void)element, (void)parked;
+    (void)element;
+    calls++;
+    wrong_hands += end == &receiver;
+    if (losses > 0) {
+        losses--;
+        return lost;
+    }
+    *parked = parks;
     return state;
+}
+
+int32_t synth_raw_hand_stop(struct synth_hand *end, uint32_t element, bool *was_clear)
+{
+    (void)element;
+    calls++;
+    wrong_hands += end == &receiver;
+    *was_clear = true;
+    return SYNTH_OK;
+}
+
+int32_t synth_raw_hand_holds(struct synth_hand *end, uint32_t element, bool *held)
+{
+    (void)element;
+    *held = end == &giver;
+    return SYNTH_OK;
+}
+
+int32_t synth_raw_hand_pc(struct synth_hand *end, uint32_t element, uint64_t *steps)
+{
+    (void)end, (void)element, (void)steps;
+    return SYNTH_NOT_HELD;
+}
+
+int32_t synth_raw_hand_serves(struct synth_hand *end, uint32_t processor, bool *served)
+{
+    (void)processor;
+    *served = end == &giver;
+    return SYNTH_OK;
 }
 
 struct synth_raw_state synth_raw_hand_try_deliver(struct synth_hand *end, uint32_t element, uint32_t *signals)
@@ -364,6 +413,35 @@ static void states(void)
     ROW(seen.pending == 0xffff && seen.is_stopping && seen.is_parked, true);
 }
 
+/* One give whose park and start are LOST so often, and then do this. */
+static void is_given(int park_losses, bool parked, int losses_of_start, uint32_t started, synth_code want)
+{
+    losses = park_losses;
+    parks = parked;
+    start_losses = losses_of_start;
+    starts = started;
+    calls = wrong_hands = 0;
+    ROW(synth_hand_give(&giver, &receiver, 1), want);
+    ROW(calls, 1 + park_losses + 1 + (parked ? losses_of_start + 1 : 0));
+    ROW(wrong_hands, 0);
+}
+
+static void gives(void)
+{
+    is_answered(SYNTH_OK, 0, 0);
+    is_given(0, true, 0, SYNTH_START_HELD, SYNTH_OK);
+    is_given(3, true, 0, SYNTH_START_HELD, SYNTH_OK);
+    is_given(0, true, 17, SYNTH_START_HELD, SYNTH_OK);
+    is_given(2, true, 1, SYNTH_START_HELD, SYNTH_OK);
+    is_given(0, false, 0, SYNTH_START_HELD, SYNTH_LOST);
+    is_given(1, false, 0, SYNTH_START_NOT_STOPPED, SYNTH_LOST);
+    is_given(0, true, 0, SYNTH_START_NOT_STOPPED, SYNTH_TAKEN);
+    is_given(1, true, 2, SYNTH_START_NOT_STOPPED, SYNTH_TAKEN);
+    is_given(0, true, 0, SYNTH_START_CLEARED, SYNTH_TAKEN);
+    is_given(0, true, 1, SYNTH_START_CLEARED, SYNTH_TAKEN);
+    ROW(synth_hand_give(&receiver, &giver, 1), SYNTH_NOT_HELD);
+}
+
 int main(void)
 {
     puts_and_notes();
@@ -372,5 +450,6 @@ int main(void)
     meters();
     elements();
     states();
+    gives();
     return rows_end("answers");
 }

@@ -1,7 +1,8 @@
 /*
  * Four workers, each in a thread of its own, take elements from all element queues, run them, park and start them,
- * send them signals, and move them on, as pseudorandom numbers say. No element is ever held by two; each step and each
- * signal is counted once. Prints one line. Status 1: an element was held twice, or the table's counts are others.
+ * give them to a second hand, send them signals, and move them on, as pseudorandom numbers say. No element is ever held
+ * by two; each step and each signal is counted once. Prints one line. Status 1: an element was held twice, or the
+ * table's counts are others.
  */
 #include "synthesis.h"
 #include <pthread.h>
@@ -13,10 +14,10 @@ enum { WORKERS = 4, ELEMENTS = 64, WAITS = 16, SIGNALS = 16, TURNS = 50000 };
 
 /* What a worker works with, and what it did. */
 struct worker {
-    struct synth_hand hand;
+    struct synth_hand hand, other;
     uint32_t processor;
     uint32_t random;
-    unsigned long steps, raised, delivered, faults;
+    unsigned long steps, raised, delivered, given, faults;
 };
 
 static void must(synth_code code, const char *what)
@@ -115,25 +116,50 @@ static void run(struct worker *worker, uint32_t element)
     }
 }
 
+/*
+ * Gives an element that the worker holds to its other hand, half of the times. Returns the hand that holds it then, or
+ * null if another worker has started it meanwhile.
+ */
+static struct synth_hand *give(struct worker *worker, uint32_t element)
+{
+    if (below(worker, 2) == 0) {
+        return &worker->hand;
+    }
+    let_go(worker, element);
+    synth_code code = synth_hand_give(&worker->hand, &worker->other, element);
+    if (code == SYNTH_TAKEN) {
+        return NULL;
+    }
+    hold(worker, element);
+    if (code == SYNTH_OK) {
+        worker->given++;
+        return &worker->other;
+    }
+    if (code != SYNTH_STOPPED && code != SYNTH_LOST) {
+        must(code, "give");
+    }
+    return &worker->hand;
+}
+
 /* One try to park the element, which is done where it is to stop, or else to move it to a queue. */
-static bool move(struct worker *worker, uint32_t element)
+static bool move(struct worker *worker, struct synth_hand *hand, uint32_t element)
 {
     uint32_t wait = below(worker, WAITS), ticket = 0;
     bool parked = false;
-    synth_code code = synth_hand_try_park(&worker->hand, element, &parked, NULL);
+    synth_code code = synth_hand_try_park(hand, element, &parked, NULL);
     if (code != SYNTH_OK || parked) {
         return code == SYNTH_OK;
     }
     switch (below(worker, 4)) {
     case 0:
-        return synth_hand_try_ready(&worker->hand, element, NULL) == SYNTH_OK;
+        return synth_hand_try_ready(hand, element, NULL) == SYNTH_OK;
     case 1:
-        return synth_hand_try_retire(&worker->hand, element, NULL) == SYNTH_OK;
+        return synth_hand_try_retire(hand, element, NULL) == SYNTH_OK;
     case 2:
-        return synth_hand_try_wait(&worker->hand, element, wait, NULL, NULL) == SYNTH_OK;
+        return synth_hand_try_wait(hand, element, wait, NULL, NULL) == SYNTH_OK;
     default:
-        must(synth_hand_ticket(&worker->hand, wait, &ticket), "ticket");
-        return synth_hand_try_wait_at(&worker->hand, element, wait, ticket, NULL, NULL) == SYNTH_OK;
+        must(synth_hand_ticket(hand, wait, &ticket), "ticket");
+        return synth_hand_try_wait_at(hand, element, wait, ticket, NULL, NULL) == SYNTH_OK;
     }
 }
 
@@ -152,8 +178,12 @@ static void *work(void *given)
             continue;
         }
         run(worker, element);
+        struct synth_hand *hand = give(worker, element);
+        if (hand == NULL) {
+            continue;
+        }
         let_go(worker, element);
-        while (!move(worker, element)) {
+        while (!move(worker, hand, element)) {
             sched_yield();
         }
     }
@@ -167,6 +197,8 @@ static struct worker workers[WORKERS + 1];
 static void add_up(struct worker *last, struct worker *worker)
 {
     must(synth_hand_join(&last->hand, &worker->hand), "join");
+    must(synth_hand_join(&last->hand, &worker->other), "join of the other hand");
+    last->given += worker->given;
     last->steps += worker->steps;
     last->raised += worker->raised;
     last->delivered += worker->delivered;
@@ -197,6 +229,7 @@ int main(void)
         workers[i].processor = 7 - i;
         workers[i].random = i;
         must(synth_hand_split(&last->hand, 1u << (7 - i), &workers[i].hand), "split");
+        must(synth_hand_split(&last->hand, 0, &workers[i].other), "split of the other hand");
         must(pthread_create(&threads[i], NULL, work, &workers[i]), "a thread");
     }
     for (int i = 0; i < WORKERS; i++) {
@@ -206,5 +239,5 @@ int main(void)
     must(synth_hand_finish(&last->hand, &places), "finish");
     unsigned long faults = last->faults + faults_at_end(last, &places);
     printf("many_hands: %d elements, %lu faults\n", ELEMENTS, faults);
-    return faults != 0 || last->steps == 0 || last->delivered == 0;
+    return faults != 0 || last->steps == 0 || last->delivered == 0 || last->given == 0;
 }

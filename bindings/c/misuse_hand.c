@@ -467,6 +467,96 @@ static void freed_handles(void)
     ROW(synth_hand_finish(&hand, &places), SYNTH_EMPTY_HANDLE);
 }
 
+/* The hand holds the element, whose stop bit is clear. */
+static void is_held_by(struct synth_hand *hand, uint32_t number)
+{
+    ROW(synth_hand_holds(hand, number, &held), SYNTH_OK);
+    ROW(held, true);
+    state(synth_hand_try_park(hand, number, &parked, &found), SYNTH_OK);
+    ROW(parked, false);
+}
+
+/* A give with handles or a number that are wrong. */
+static void wrong_gives(struct synth_hand *from, struct synth_hand *to)
+{
+    static struct synth_hand other;
+    ROW(synth_hand_give(&none, to, 0), SYNTH_EMPTY_HANDLE);
+    ROW(synth_hand_give(from, &none, 0), SYNTH_EMPTY_HANDLE);
+    ROW(synth_hand_give(&none, &other, 0), SYNTH_EMPTY_HANDLE);
+    ROW(synth_hand_give(from, from, 0), SYNTH_EMPTY_HANDLE);
+    ROW(synth_hand_give(from, from, ELEMENTS), SYNTH_EMPTY_HANDLE);
+    ROW(synth_hand_give(&none, to, ELEMENTS), SYNTH_EMPTY_HANDLE);
+    ROW(synth_hand_give(from, &none, ELEMENTS), SYNTH_EMPTY_HANDLE);
+    ROW(synth_hand_give(from, to, ELEMENTS), SYNTH_BAD_NUMBER);
+    ROW(synth_hand_give(from, to, UINT32_MAX), SYNTH_BAD_NUMBER);
+    ROW(synth_hand_give(to, from, 0), SYNTH_NOT_HELD);
+    ROW(synth_hand_give(from, to, 1), SYNTH_NOT_HELD);
+    is_held_by(from, 0);
+}
+
+/* Gives from one hand to another. */
+static void gives(void)
+{
+    struct synth_hand from = SYNTH_HAND_INIT, to = SYNTH_HAND_INIT;
+    ROW(synth_hand_new(0, &from), SYNTH_OK);
+    ROW(synth_hand_split(&from, 1u << 7, &to), SYNTH_OK);
+    taken(synth_hand_try_free(&from, &element, &tail), SYNTH_OK);
+    ROW(synth_hand_signal(&to, 0, 7, &raised), SYNTH_OK);
+    ROW(synth_hand_step_done(&from, 0, &steps), SYNTH_OK);
+    wrong_gives(&from, &to);
+    ROW(synth_hand_on(&from, 3, 0), SYNTH_OK);
+    ROW(synth_hand_give(&from, &to, 0), SYNTH_NOT_HELD);
+    ROW(synth_hand_off(&from, 3, &element), SYNTH_OK);
+
+    /* Somebody wants it stopped: the bit stays set. */
+    ROW(synth_hand_stop(&to, 0, &was_clear), SYNTH_OK);
+    ROW(synth_hand_give(&from, &to, 0), SYNTH_STOPPED);
+    state(synth_hand_try_start(&to, 0, &started, &found), SYNTH_OK);
+    ROW(started, SYNTH_START_CLEARED);
+    is_held_by(&from, 0);
+
+    ROW(synth_hand_give(&from, &to, 0), SYNTH_OK);
+    is_held_by(&to, 0);
+    ROW(synth_hand_give(&from, &to, 0), SYNTH_NOT_HELD);
+    ROW(synth_hand_pc(&to, 0, &steps), SYNTH_OK);
+    ROW(steps, 1);
+    ROW(synth_hand_give(&to, &from, 0), SYNTH_OK);
+    is_held_by(&from, 0);
+    ROW(synth_hand_join(&to, &from), SYNTH_OK);
+    ROW(synth_hand_finish(&to, &places), SYNTH_OK);
+    is_at(0, SYNTH_PLACE_HELD, 0);
+    ROW(places.stops == 0 && places.pc[0] == 1 && places.pending[0] == 1u << 7, true);
+}
+
+/* Gives to a hand of another table that has what only one hand of a table has. */
+static void gives_to_strangers(void)
+{
+    struct synth_hand first = SYNTH_HAND_INIT, second = SYNTH_HAND_INIT, stranger = SYNTH_HAND_INIT;
+    ROW(synth_hand_new(0, &first), SYNTH_OK);
+    ROW(synth_hand_new(0, &stranger), SYNTH_OK);
+    taken(synth_hand_try_free(&first, &element, &tail), SYNTH_OK);
+    ROW(synth_hand_give(&first, &stranger, 0), SYNTH_OTHER_OBJECT);
+    ROW(synth_hand_give(&first, &stranger, 1), SYNTH_NOT_HELD);
+    ROW(synth_hand_give(&first, &stranger, ELEMENTS), SYNTH_BAD_NUMBER);
+    is_held_by(&first, 0);
+
+    /* One that serves no processor of the other one's. */
+    ROW(synth_hand_split(&first, 0, &second), SYNTH_OK);
+    ROW(synth_hand_give(&first, &second, 0), SYNTH_OK);
+    taken(synth_hand_try_free(&stranger, &element, &tail), SYNTH_OK);
+    ROW(synth_hand_give(&second, &stranger, 0), SYNTH_OTHER_OBJECT);
+    ROW(synth_hand_on(&stranger, 5, 0), SYNTH_OK);
+    ROW(synth_hand_stop(&second, 0, &was_clear), SYNTH_OK);
+    ROW(synth_hand_give(&second, &stranger, 0), SYNTH_OTHER_OBJECT);
+    ROW(synth_hand_finish(&stranger, &places), SYNTH_OK);
+    is_at(0, SYNTH_PLACE_PROCESSOR, 5);
+    ROW(places.stops, 0);
+    ROW(synth_hand_join(&first, &second), SYNTH_OK);
+    ROW(synth_hand_finish(&first, &places), SYNTH_OK);
+    is_at(0, SYNTH_PLACE_HELD, 0);
+    ROW(places.stops, 1);
+}
+
 /* A hand that is split off from the one before, again and again, can't be split in the end. */
 static void split_often(void)
 {
@@ -504,6 +594,8 @@ int main(void)
     waits();
     stops();
     sent_signals();
+    gives();
+    gives_to_strangers();
     freed_handles();
     split_often();
     return rows_end("misuse_hand");

@@ -68,6 +68,7 @@ static void run_and_stop(void)
     ROW(synth_hand_stop(&last, element, &is), SYNTH_OK);
     ROW(synth_hand_try_park(&other, element, &is, NULL), SYNTH_OK);
     ROW(synth_hand_try_start(&last, element, &started, NULL), SYNTH_OK);
+    ROW(synth_hand_give(&last, &other, element), SYNTH_OK);
 }
 
 static void ask_for_none(void)

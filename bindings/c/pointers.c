@@ -33,8 +33,8 @@ static const function calls[] = {
     CALL(synth_hand_try_wake), CALL(synth_hand_notify), CALL(synth_hand_try_wake_before),
     CALL(synth_hand_try_ready), CALL(synth_hand_try_retire), CALL(synth_hand_try_wait), CALL(synth_hand_ticket),
     CALL(synth_hand_try_wait_at), CALL(synth_hand_stop), CALL(synth_hand_try_start), CALL(synth_hand_try_park),
-    CALL(synth_hand_signal), CALL(synth_hand_pending), CALL(synth_hand_try_deliver), CALL(synth_hand_finish),
-    CALL(synth_hand_free),
+    CALL(synth_hand_give), CALL(synth_hand_signal), CALL(synth_hand_pending), CALL(synth_hand_try_deliver),
+    CALL(synth_hand_finish), CALL(synth_hand_free),
 };
 
 enum { CALLS = sizeof calls / sizeof *calls };

@@ -115,7 +115,7 @@ static void use_all(struct handles *all)
 }
 
 /* The same of thread elements. */
-static void use_hands(struct synth_hand *hand)
+static void use_hands(struct synth_hand *hand, struct synth_hand *other)
 {
     ROW(synth_hand_try_free(hand, NULL, NULL), SYNTH_OK);
     ROW(synth_hand_holds(hand, 0, NULL), SYNTH_OK);
@@ -138,6 +138,8 @@ static void use_hands(struct synth_hand *hand)
     ROW(synth_hand_stop(hand, 0, NULL), SYNTH_OK);
     ROW(synth_hand_try_park(hand, 0, NULL, NULL), SYNTH_OK);
     ROW(synth_hand_try_start(hand, 0, NULL, NULL), SYNTH_OK);
+    ROW(synth_hand_give(hand, other, 0), SYNTH_OK);
+    ROW(synth_hand_give(other, hand, 0), SYNTH_OK);
     ROW(synth_hand_try_retire(hand, 0, NULL), SYNTH_OK);
 }
 
@@ -154,7 +156,7 @@ int main(void)
     make_all(all);
     ROW(mprotect(page, sizeof *all, PROT_READ), 0);
     use_all(all);
-    use_hands(&all->hand);
+    use_hands(&all->hand, &all->hand_part);
     ROW(mprotect(page, sizeof *all, PROT_READ | PROT_WRITE), 0);
     free_all(all);
     munmap(page, sizeof *all);

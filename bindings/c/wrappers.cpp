@@ -96,6 +96,8 @@ std::string_view name_of(synth_codes code)
         CODE(NotHeld, NOT_HELD);
         CODE(NotServed, NOT_SERVED);
         CODE(AllWoken, ALL_WOKEN);
+        CODE(Stopped, STOPPED);
+        CODE(Taken, TAKEN);
         CODE(Run, RUN);
         CODE(Left, LEFT);
         CODE(Note, NOTE);
@@ -738,6 +740,29 @@ void hands_wait()
     ROW(hand.finish().code(), Code::EmptyHandle);
 }
 
+/* An element from one hand to another. */
+void hands_give()
+{
+    Hand hand = Hand::make().value(), other = hand.split(1u << 3).value(), stranger = Hand::make().value();
+    ROW(number_in(hand.try_free().element), 0);
+    ROW(hand.give(hand, 0), Code::EmptyHandle);
+    Hand none;
+    ROW(hand.give(none, 0), Code::EmptyHandle);
+    ROW(none.give(hand, 64), Code::EmptyHandle);
+    ROW(hand.give(other, 64), Code::BadNumber);
+    ROW(other.give(hand, 0), Code::NotHeld);
+    ROW(hand.give(stranger, 0), Code::OtherObject);
+    ROW(hand.stop(0).value(), true);
+    ROW(hand.give(other, 0), Code::Stopped);
+    ROW(hand.try_start(0).value == synthesis::Started::Cleared, true);
+    ROW(hand.give(other, 0), Code::Ok);
+    ROW(other.holds(0).value() && !hand.holds(0).value(), true);
+    ROW(other.give(hand, 0), Code::Ok);
+    ROW(hand.join(std::move(other)), Code::Ok);
+    auto totals = hand.finish();
+    ROW(totals && totals->places[0].kind == synthesis::PlaceKind::Held && totals->stops == 0, true);
+}
+
 /* Waits whose time is over, by a clock that is not ours; and tickets. */
 void waits_in_vain()
 {
@@ -819,6 +844,7 @@ int main()
     lines();
     hands();
     hands_wait();
+    hands_give();
     waits_in_vain();
     repeated_tries();
     return rows_end("wrappers");

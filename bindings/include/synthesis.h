@@ -144,6 +144,8 @@ enum synth_codes {
     SYNTH_NOT_HELD = 13,    /**< the hand doesn't hold the element */
     SYNTH_NOT_SERVED = 14,  /**< the hand doesn't serve the processor */
     SYNTH_ALL_WOKEN = 15,   /**< each place that was claimed before the notify is taken */
+    SYNTH_STOPPED = 16,     /**< the element's stop bit is set */
+    SYNTH_TAKEN = 17,       /**< another hand has taken the element */
     SYNTH_RUN = 20,         /**< the note is chained, and this handle runs notes from now on */
     SYNTH_LEFT = 21,        /**< the note is chained, and the handle that runs notes is given it */
     SYNTH_NOTE = 22,        /**< the next note */
@@ -312,8 +314,8 @@ struct synth_batch_status {
 };
 
 /**
- * A look for whoever watches the queue: `head` less `tail` is its depth. If `published` stays where it is, below `head`,
- * a thread is held up within its put, and so are the takers of what was put after it.
+ * A look for whoever watches the queue: `head` less `tail` is its depth. If `published` stays where it is, below
+ * `head`, a thread is held up within its put, and so are the takers of what was put after it.
  * @return SYNTH_EMPTY_HANDLE.
  */
 SYNTH_CALL_ synth_code synth_batch_look(const struct synth_batch *batch, struct synth_batch_status *status);
@@ -809,6 +811,7 @@ SYNTH_CALL_ synth_code synth_line_free_out(struct synth_line_out *output);
  *     held           try_wait, try_wait_at       a wait queue
  *     held           try_park                    its stop cell, if its stop bit is set
  *     held           try_retire                  free elements
+ *     held           give                        held by another hand, by way of its stop cell
  *
  * HANDS. An end of the table is a hand, and each worker has its own. What a hand holds no other hand can move, nor
  * what it has put on a processor. A hand serves some of the processors, which no other hand serves. Any hand may make
@@ -1076,6 +1079,22 @@ SYNTH_MUST_USE SYNTH_CALL_ synth_code synth_hand_try_start(struct synth_hand *SY
 SYNTH_MUST_USE SYNTH_CALL_ synth_code synth_hand_try_park(struct synth_hand *SYNTH_RESTRICT_ hand, uint32_t element,
                                                           bool *SYNTH_RESTRICT_ parked,
                                                           struct synth_element_state *SYNTH_RESTRICT_ state);
+
+/**
+ * Gives an element that `giver` holds to `receiver`, another hand of the same table. Both are the calling thread's.
+ * This is no atomic step: `giver` sets the stop bit (stop) and parks the element (try_park), and then `receiver` starts
+ * it (try_start). A park or a start that is LOST is made again. Between the park and the start the element is in its
+ * stop cell, where any hand may start it. A stop by another hand meanwhile is undone: the start clears the bit.
+ * @return SYNTH_EMPTY_HANDLE: either one, or they are one handle; SYNTH_BAD_NUMBER; SYNTH_NOT_HELD: `giver` doesn't
+ * hold it; SYNTH_OTHER_OBJECT: both have the element, or serve one processor, as no two hands of one table do;
+ * SYNTH_STOPPED: the stop bit was set already, so somebody wants the element stopped; SYNTH_LOST: another hand cleared
+ * the stop bit before the park, and `giver` holds the element still; SYNTH_TAKEN: another hand started the element
+ * first, so neither `giver` nor `receiver` holds it. After the other refusals all is as it was. Hands of two tables
+ * that have nothing in common are not found out: the element then stays in its stop cell, and the start is made on the
+ * element of this number in the other table.
+ */
+SYNTH_MUST_USE SYNTH_CALL_ synth_code synth_hand_give(struct synth_hand *giver, struct synth_hand *receiver,
+                                                      uint32_t element);
 
 /**
  * Makes a signal, 0 to 15, of an element pending, wherever the element is, by one step. `raised` becomes false if it

@@ -36,6 +36,10 @@ const char *synth_code_name(synth_code code)
         return "SYNTH_NOT_SERVED";
     case SYNTH_ALL_WOKEN:
         return "SYNTH_ALL_WOKEN";
+    case SYNTH_STOPPED:
+        return "SYNTH_STOPPED";
+    case SYNTH_TAKEN:
+        return "SYNTH_TAKEN";
     case SYNTH_RUN:
         return "SYNTH_RUN";
     case SYNTH_LEFT:
@@ -101,6 +105,10 @@ const char *synth_code_text(synth_code code)
         return "the hand doesn't serve the processor";
     case SYNTH_ALL_WOKEN:
         return "each place that was claimed before the notify is taken";
+    case SYNTH_STOPPED:
+        return "the element's stop bit is set";
+    case SYNTH_TAKEN:
+        return "another hand has taken the element";
     case SYNTH_RUN:
         return "the note is chained, and this handle runs notes from now on";
     case SYNTH_LEFT:

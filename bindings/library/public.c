@@ -136,6 +136,7 @@ extern inline synth_code synth_hand_try_start(struct synth_hand *restrict hand, 
                                               uint32_t *restrict started, struct synth_element_state *restrict state);
 extern inline synth_code synth_hand_try_park(struct synth_hand *restrict hand, uint32_t element,
                                              bool *restrict parked, struct synth_element_state *restrict state);
+extern inline synth_code synth_hand_give(struct synth_hand *giver, struct synth_hand *receiver, uint32_t element);
 extern inline synth_code synth_hand_signal(struct synth_hand *restrict hand, uint32_t element, uint32_t signal,
                                            bool *restrict raised);
 extern inline synth_code synth_hand_pending(const struct synth_hand *hand, uint32_t element, uint32_t *signals);
@@ -156,3 +157,5 @@ extern inline synth_code synth_queue_taken_(struct synth_raw_answer found, const
 extern inline synth_code synth_hand_taken_(struct synth_raw_answer found, const uint32_t *element, uint32_t *tail);
 extern inline synth_code synth_hand_moved_(struct synth_raw_moved found, uint32_t *head, uint32_t *notifies);
 extern inline synth_code synth_hand_state_(struct synth_raw_state found, struct synth_element_state *state);
+extern inline bool synth_hand_are_apart_(const struct synth_hand *one, const struct synth_hand *two,
+                                         uint32_t element);

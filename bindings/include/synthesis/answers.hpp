@@ -31,6 +31,8 @@ enum class [[nodiscard]] Code : std::int32_t {
     NotHeld = SYNTH_NOT_HELD,
     NotServed = SYNTH_NOT_SERVED,
     AllWoken = SYNTH_ALL_WOKEN,
+    Stopped = SYNTH_STOPPED,
+    Taken = SYNTH_TAKEN,
     Run = SYNTH_RUN,
     Left = SYNTH_LEFT,
     Note = SYNTH_NOTE,
@@ -66,6 +68,8 @@ enum class [[nodiscard]] Code : std::int32_t {
     case Code::NotHeld: return "SYNTH_NOT_HELD";
     case Code::NotServed: return "SYNTH_NOT_SERVED";
     case Code::AllWoken: return "SYNTH_ALL_WOKEN";
+    case Code::Stopped: return "SYNTH_STOPPED";
+    case Code::Taken: return "SYNTH_TAKEN";
     case Code::Run: return "SYNTH_RUN";
     case Code::Left: return "SYNTH_LEFT";
     case Code::Note: return "SYNTH_NOTE";

@@ -175,8 +175,8 @@ public:
         return detail::value_of(code, count);
     }
 
-    /// A look for whoever watches the queue: its tail, how far it is published, its head, whether it is shut. The numbers
-    /// were found one after the other, and may have changed since. EmptyHandle.
+    /// A look for whoever watches the queue: its tail, how far it is published, its head, whether it is shut. The
+    /// numbers were found one after the other, and may have changed since. EmptyHandle.
     Expected<BatchStatus> look() const noexcept
     {
         BatchStatus status = {};

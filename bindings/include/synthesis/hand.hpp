@@ -303,6 +303,16 @@ public:
         return detail::state_answer(code, parked, found);
     }
 
+    /// Gives an element that this hand holds to another hand of the same thread and table: a stop and a park by this
+    /// hand, and then a start by `receiver`. It is no atomic step, as synthesis.h explains. EmptyHandle: either one, or
+    /// they are one hand; BadNumber; NotHeld; OtherObject, if it is found out; Stopped: the stop bit was set already;
+    /// Lost: another hand cleared it, and this hand holds the element still; Taken: another hand started the element
+    /// first, so neither of the two holds it.
+    Code give(Hand &receiver, std::uint32_t element) noexcept
+    {
+        return detail::as_code(synth_hand_give(raw(), receiver.raw(), element));
+    }
+
     /// Makes a signal of an element pending. The value is whether it was not pending before. EmptyHandle; BadNumber.
     Expected<bool> signal(std::uint32_t element, std::uint32_t signal) noexcept
     {

@@ -218,6 +218,55 @@ SYNTH_CALL_ synth_code synth_hand_try_park(struct synth_hand *SYNTH_RESTRICT_ ha
     return synth_hand_state_(found, state);
 }
 
+/* Whether both hands have what only one hand of a table has: the element, or a processor. */
+SYNTH_CALL_ bool synth_hand_are_apart_(const struct synth_hand *one, const struct synth_hand *two, uint32_t element)
+{
+    bool serves = false, also = false;
+    uint32_t processor;
+    if (synth_hand_pc(two, element, SYNTH_NULL_) == SYNTH_OK) {
+        return true;
+    }
+    for (processor = 0; processor < 8 && !(serves && also); processor++) {
+        synth_hand_serves(one, processor, &serves);
+        synth_hand_serves(two, processor, &also);
+    }
+    return serves && also;
+}
+
+/* Each LOST is a change of the element's state by another hand. */
+SYNTH_CALL_ synth_code synth_hand_give(struct synth_hand *giver, struct synth_hand *receiver, uint32_t element)
+{
+    bool held = false, was_clear = false, parked = false;
+    uint32_t started = SYNTH_START_NOT_STOPPED;
+    synth_code code = giver == receiver ? SYNTH_EMPTY_HANDLE : synth_hand_holds(giver, element, &held);
+    if (code != SYNTH_EMPTY_HANDLE) {
+        code = synth_hand_holds(receiver, element, SYNTH_NULL_);
+    }
+    if (code != SYNTH_OK) {
+        return code;
+    }
+    if (!held) {
+        return SYNTH_NOT_HELD;
+    }
+    if (synth_hand_are_apart_(giver, receiver, element)) {
+        return SYNTH_OTHER_OBJECT;
+    }
+    synth_hand_stop(giver, element, &was_clear);
+    if (!was_clear) {
+        return SYNTH_STOPPED;
+    }
+    do {
+        code = synth_hand_try_park(giver, element, &parked, SYNTH_NULL_);
+    } while (code == SYNTH_LOST);
+    if (!parked) {
+        return SYNTH_LOST;
+    }
+    do {
+        code = synth_hand_try_start(receiver, element, &started, SYNTH_NULL_);
+    } while (code == SYNTH_LOST);
+    return started == SYNTH_START_HELD ? SYNTH_OK : SYNTH_TAKEN;
+}
+
 SYNTH_CALL_ synth_code synth_hand_signal(struct synth_hand *SYNTH_RESTRICT_ hand, uint32_t element, uint32_t signal,
                                          bool *SYNTH_RESTRICT_ raised)
 {

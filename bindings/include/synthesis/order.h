@@ -1,7 +1,8 @@
 /*
- * What is declared to ThreadSanitizer of the library, whose steps it doesn't see. All that a thread did before SYNTH_RELEASE_
- * of a carrier is visible after a later SYNTH_ACQUIRE_ of it. The library does that; here it is only declared. Without
- * ThreadSanitizer both are nothing. Two carriers may share a word, so a race may be missed, but none is made up.
+ * What is declared to ThreadSanitizer of the library, whose steps it doesn't see. All that a thread did before
+ * SYNTH_RELEASE_ of a carrier is visible after a later SYNTH_ACQUIRE_ of it. The library does that; here it is only
+ * declared. Without ThreadSanitizer both are nothing. Two carriers may share a word, so a race may be missed, but none
+ * is made up.
  */
 #ifndef SYNTHESIS_ORDER_H
 #define SYNTHESIS_ORDER_H

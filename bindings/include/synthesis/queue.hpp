@@ -162,8 +162,8 @@ public:
         return detail::run_answer(code, count, tail);
     }
 
-    /// A look for whoever watches the queue: its tail, its head, how many items are raised from the tail on, whether it is
-    /// shut. The numbers were found one after the other, and may have changed since. EmptyHandle.
+    /// A look for whoever watches the queue: its tail, its head, how many items are raised from the tail on, whether it
+    /// is shut. The numbers were found one after the other, and may have changed since. EmptyHandle.
     Expected<QueueStatus> look() const noexcept
     {
         QueueStatus status = {};

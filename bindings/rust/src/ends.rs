@@ -194,9 +194,14 @@ impl<H: Handle> Share<H> {
         self.handle.join(&mut locked(&self.rest).dropped);
     }
 
+    /// Whether both ends are of one object.
+    pub(crate) fn is_of_one(&self, other: &Share<H>) -> bool {
+        Arc::ptr_eq(&self.rest, &other.rest)
+    }
+
     /// Joins another end to this one. One of another object comes back.
     pub(crate) fn join(&mut self, mut other: Share<H>) -> Result<(), Share<H>> {
-        if !Arc::ptr_eq(&self.rest, &other.rest) {
+        if !self.is_of_one(&other) {
             return Err(other);
         }
         if !other.handle.is_plain() {

@@ -1,11 +1,13 @@
 //! Thread elements: what a scheduler keeps of its threads.
 
+mod giving;
 mod moves;
 mod places;
 mod processors;
 mod states;
 mod takings;
 
+pub use giving::GiveError;
 pub use moves::MoveError;
 pub use places::{Place, Places};
 pub use processors::{NotHeldError, OffError, OnError, StepError};

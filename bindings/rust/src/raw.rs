@@ -203,6 +203,8 @@ numbers! {
         NOT_HELD = 13,
         NOT_SERVED = 14,
         ALL_WOKEN = 15,
+        STOPPED = 16,
+        TAKEN = 17,
         RUN = 20,
         LEFT = 21,
         NOTE = 22,

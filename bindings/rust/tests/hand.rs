@@ -1,17 +1,18 @@
 //! Thread elements from several threads, and their errors.
 
 use std::error::Error;
-use std::sync::atomic::{AtomicU64, Ordering::SeqCst};
+use std::sync::atomic::{AtomicI32, AtomicU64, Ordering::SeqCst};
 use std::thread;
 use synthesis_kernel::hand::{
-    Hand, MoveError, NewError, NotHeldError, OffError, OnError, Place, Signalled, SplitError, Started, StateError,
-    StepError, TakeError,
+    GiveError, Hand, MoveError, NewError, NotHeldError, OffError, OnError, Place, Signalled, SplitError, Started,
+    StateError, StepError, TakeError,
 };
 use synthesis_kernel::{CloseError, Element, Processor, Processors, Signal, WaitNumber};
 
 const WORKERS: u8 = 4;
 const STEPS: u64 = 200;
 const TURNS: u64 = 100;
+const GIVES: u32 = 50_000;
 
 fn element(number: u8) -> Element {
     Element::new(number).unwrap()
@@ -213,6 +214,100 @@ fn stops_and_signals_come_where_the_element_is() {
 }
 
 #[test]
+fn gives_are_refused_in_order() {
+    let mut hand = Hand::new().unwrap();
+    let mut other = hand.split(Processors::NONE).unwrap();
+    let mut stranger = Hand::new().unwrap();
+    let one = hand.try_free().unwrap();
+    assert_eq!(hand.step_done(one), Ok(1));
+    assert_eq!(other.give(&mut hand, one), Err(GiveError::NotHeld));
+    assert_eq!(hand.give(&mut other, element(1)), Err(GiveError::NotHeld));
+    assert_eq!(hand.give(&mut stranger, element(1)), Err(GiveError::NotHeld));
+    hand.on(processor(0), one).unwrap();
+    assert_eq!(hand.give(&mut other, one), Err(GiveError::NotHeld));
+    assert_eq!(hand.off(processor(0)), Ok(one));
+    // A hand that serves no processor is known to be of another table, too.
+    assert_eq!((hand.stop(one), hand.give(&mut other, one)), (true, Err(GiveError::Stopped)));
+    assert_eq!(other.give(&mut stranger, one), Err(GiveError::NotHeld));
+    assert_eq!(hand.give(&mut stranger, one), Err(GiveError::OtherTable));
+    assert_eq!((other.try_start(one), hand.give(&mut other, one)), (Ok(Started::Cleared), Ok(())));
+    assert_eq!(other.give(&mut stranger, one), Err(GiveError::OtherTable));
+    assert!(other.holds(one) && !hand.holds(one) && !stranger.holds(one));
+    assert_eq!((other.try_park(one), other.pc(one)), (Ok(false), Ok(1)));
+    assert_eq!(other.give(&mut hand, one), Ok(()));
+    hand.join(other).unwrap();
+    let (places, others) = (hand.close().unwrap(), stranger.close().unwrap());
+    assert_eq!((places.places[..2].to_vec(), places.stops), (vec![Place::Held, Place::Free], 0));
+    assert_eq!((others.places, others.stops), ([Place::Free; 64], 0));
+}
+
+/// Counts a holder of the element, who has to be alone.
+fn hold(holders: &AtomicI32) {
+    assert_eq!(holders.fetch_add(1, SeqCst), 0);
+}
+
+fn let_go(holders: &AtomicI32) {
+    assert_eq!(holders.fetch_sub(1, SeqCst), 1);
+}
+
+/// Starts elements that are in their stop cells, gives each to its other hand, and parks it. Returns the hands, and how
+/// many gives there were.
+fn give_often(mut hands: [Hand; 2], seed: u32, holders: &[AtomicI32; 64]) -> ([Hand; 2], u64) {
+    let (mut random, mut given) = (seed, 0);
+    let [one, two] = &mut hands;
+    for _ in 0..GIVES {
+        random = random.wrapping_mul(1_664_525).wrapping_add(1_013_904_223);
+        let chosen = Element::new((random >> 16) as u8 % 4).unwrap();
+        let holders = &holders[usize::from(chosen)];
+        // A start may clear the stop bit of an element that another thread is giving.
+        if one.try_start(chosen) != Ok(Started::Held) {
+            continue;
+        }
+        hold(holders);
+        let_go(holders);
+        let holder = match one.give(two, chosen) {
+            Ok(()) => {
+                given += 1;
+                &mut *two
+            }
+            Err(GiveError::Stopped | GiveError::Lost) => &mut *one,
+            Err(GiveError::Taken) => continue,
+            Err(error) => panic!("{error}"),
+        };
+        hold(holders);
+        assert!(holder.holds(chosen));
+        let_go(holders);
+        while holder.try_park(chosen) != Ok(true) {
+            holder.stop(chosen);
+        }
+    }
+    (hands, given)
+}
+
+#[test]
+fn what_is_given_has_one_holder() {
+    let mut last = Hand::new().unwrap();
+    while let Ok(element) = last.try_free() {
+        assert_eq!((last.stop(element), last.try_park(element)), (true, Ok(true)));
+    }
+    let holders = [const { AtomicI32::new(0) }; 64];
+    let pairs = [1, 2].map(|seed| (seed, [0, 1].map(|_| last.split(Processors::NONE).unwrap())));
+    let mut given = 0;
+    thread::scope(|scope| {
+        let holders = &holders;
+        let threads = pairs.map(|(seed, hands)| scope.spawn(move || give_often(hands, seed, holders)));
+        for thread in threads {
+            let (hands, by_one) = thread.join().unwrap();
+            hands.into_iter().for_each(|hand| last.join(hand).unwrap());
+            given += by_one;
+        }
+    });
+    assert!(given > 0);
+    let places = last.close().unwrap();
+    assert_eq!((places.places, places.stops), ([Place::Stopped; 64], u64::MAX));
+}
+
+#[test]
 fn what_a_dropped_hand_had_is_taken_over() {
     assert_eq!(Hand::new_at(u32::MAX - 63).unwrap_err(), NewError::BadFirst);
     let mut hand = Hand::new().unwrap();
@@ -274,7 +369,7 @@ fn sets_of_processors_are_made_of_processors() {
 
 #[test]
 fn errors_say_why() {
-    let errors: [(Box<dyn Error>, &str); 16] = [
+    let errors: [(Box<dyn Error>, &str); 21] = [
         (Box::new(NewError::BadFirst), "the first position is over 4,294,967,231"),
         (Box::new(NewError::OutOfMemory), "out of memory"),
         (Box::new(SplitError::NotServed), "the hand doesn't serve the processor"),
@@ -291,6 +386,11 @@ fn errors_say_why() {
         (Box::new(MoveError::Moved { notifies: 2 }), "the number of notifies is 2"),
         (Box::new(MoveError::Lost { head: 3, notifies: 1 }), "another hand moved the head to 3, notifies 1"),
         (Box::new(StateError::NotHeld), "the hand doesn't hold the element"),
+        (Box::new(GiveError::NotHeld), "the hand doesn't hold the element"),
+        (Box::new(GiveError::OtherTable), "the hands are of two tables"),
+        (Box::new(GiveError::Stopped), "the element's stop bit is set"),
+        (Box::new(GiveError::Lost), "another hand cleared the stop bit"),
+        (Box::new(GiveError::Taken), "another hand has taken the element"),
     ];
     for (error, words) in errors {
         assert_eq!(error.to_string(), words);

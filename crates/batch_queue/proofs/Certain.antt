@@ -35,5 +35,5 @@ tail_goes_on old new entries a = by_both old new le_prop (λ x y. (grows_since (
 pub room_seen : (w : View) → InvHeldOf w → w.seen.object.room ≡ w.first.room
 room_seen w r = ap (λ (z : AbsState BatchState). z.object.room) r.seen ∙ sym (first_room r.key r.state r.rule r.number w r.here)
 
-pub seen_room : (queue : BatchQueue) (end : BatchEnd) → IsEndOf queue end → (view_of end).seen.object.room ≡ room_of queue
+pub seen_room : {C : Type 0} (queue : BatchQueue C) (end : BatchEnd) → IsEndOf queue end → (view_of end).seen.object.room ≡ room_of queue
 seen_room queue end is = ∥∥₁_elim end.ruled (ℕ_set _ _) (λ r. room_seen (view_of end) r ∙ (end.room ∙ (ap (λ (t : TableId). t.slots) is ∙ queue.sized.1)))

@@ -1,19 +1,18 @@
 -- The meaning of the mark of a position at which a batch is parted.
-use Rattle.batch_queue.proofs.Common.{HasStop, POSITIONS, append_assoc, tail_word, BatchState, EndRecord, Found, Grows, IsStop, IsWithin, List, Performed, MarkSays, AbsState, Parted, Step, View, [], ap, arith, at_last, change, dec_lt, dite, false, get_or, inl, inr, length, load, mark_word, phase_at, refl, subst, sym, true, mark_of, with_part, with_parting, ℕ, ℕ_discrete, ⊎_elim, ◌%◌, ◌++◌, ◌+◌, ◌/◌, ◌<◌, ◌∙◌, ◌∷◌, ◌≡◌, ◌≢◌, ◌≤◌, ◌⊎◌}
+use Rattle.batch_queue.proofs.Common.{HasStop, POSITIONS, tail_word, BatchState, EndRecord, Found, Grows, IsStop, IsWithin, List, Performed, MarkSays, AbsState, Parted, Step, View, [], ap, arith, at_last, change, dec_lt, dite, false, get_or, inl, inr, length, load, mark_word, phase_at, refl, subst, sym, true, mark_of, with_part, with_parting, ℕ, ℕ_discrete, ⊎_elim, ◌%◌, ◌++◌, ◌+◌, ◌/◌, ◌<◌, ◌∙◌, ◌∷◌, ◌≡◌, ◌≢◌, ◌≤◌, ◌⊎◌}
 use Rattle.std.specs.Prelude.{Bool, MatchBool, IsTrue}
 use Rattle.std.proofs.Common.{true≢false}
 use Rattle.table_theory.proofs.Parting.{made_on}
 use Rattle.batch_queue.specs.Moments.{MarkChanged}
 use Rattle.batch_queue.specs.Parts.{FoundRest, LostWithin, PartedLook, StoppedWithin, WhyNoStop, already, changed, given, meanwhile, not_parted, parted, passed, with_parts}
 use Rattle.batch_queue.specs.Walks.{LeadsOn}
-use Rattle.table_theory.proofs.Reaching.{adds_after}
-use Rattle.table_theory.specs.Ledgers.{ExtendsTrace}
 use Rattle.table_theory.specs.declared.views.Part.{Part}
 use Rattle.batch_queue.proofs.Growing.{batch_below, claimed_at, freed_taken, grows_trans, real_grows}
 use Rattle.batch_queue.proofs.Looking.{found_tail, step_next}
 use Rattle.batch_queue.proofs.Stepping.{step_real}
 use Rattle.batch_queue.proofs.Stops.{rest_on, within_on}
-use Rattle.batch_queue.proofs.Timing.{was_so_now}
+use Rattle.table_theory.proofs.Moments.{moment_now}
+use Rattle.batch_queue.proofs.Quiet.{others_after, others_then}
 use Rattle.batch_queue.proofs.Walking.{found_real, mark_at, seen_room}
 
 pub none_parted : (d : EndRecord) → d ≡ with_parts d 0
@@ -33,20 +32,8 @@ pub odd_on : (p mark : ℕ) → (LeadsOn 0 p mark → ⊥) → p < mark / 2 → 
 odd_on p mark none past = dite (ℕ_discrete (mark % 2) 0) (λ even. absurd (none (even, past))) (λ odd. (omega arith, past))
 
 -- a mark was changed during a longer call
-changed_on : (v u c w : View) (xs ys : List (Step BatchState)) {a b : EndRecord} → Performed v xs a u → Performed c ys b w → u.member.share ≡ v.member.share → c.member.share ≡ v.member.share → MarkChanged u c → MarkChanged v w
-changed_on v u c w xs ys m n share share' (p, h) = let rest : List (Step BatchState) = h.between ++ h.second ∷ h.after in let l : List (Step BatchState) = h.before ++ h.first ∷ rest in
-    let is : (xs ++ l) ++ ys ≡ (xs ++ h.before) ++ h.first ∷ (h.between ++ h.second ∷ (h.after ++ ys)) = append_assoc xs l ys ∙ (ap (λ (z : List (Step BatchState)). xs ++ z) (append_assoc h.before (h.first ∷ rest) ys ∙ ap (λ (z : List (Step BatchState)). h.before ++ h.first ∷ z) (append_assoc h.between (h.second ∷ h.after) ys)) ∙ sym (append_assoc xs h.before (h.first ∷ (h.between ++ h.second ∷ (h.after ++ ys))))) in (
-      p,
-      record {
-        before = xs ++ h.before;
-        first = h.first;
-        between = h.between;
-        second = h.second;
-        after = h.after ++ ys;
-        adds = subst (λ (z : List (Step BatchState)). ExtendsTrace v z w) is (adds_after v c w (xs ++ l) ys share' (adds_after v u c xs l share m.adds h.adds) n.adds);
-        holds = h.holds;
-      },
-    )
+changed_on : (v u c w : View) (p : ℕ) (xs ys : List (Step BatchState)) {a b : EndRecord} → Performed v xs a u → Performed c ys b w → u.member.share ≡ v.member.share → c.member.share ≡ v.member.share → MarkChanged u p c → MarkChanged v p w
+changed_on v u c w p xs ys m n share share' h = others_then v c w ys _ share' (others_after v u c xs _ share m.adds h) n.adds
 
 -- a mark that was found is the one that the queue had
 pub mark_found : (room : ℕ) (v u : View) (p mark : ℕ) → Found v (mark_word room p) mark u → u.first.room ≡ room → mark_of u.seen.object p ≡ mark
@@ -121,8 +108,11 @@ module _ (room : ℕ) (v u : View) (p end mark : ℕ) (f : Found v (mark_word ro
       later_rooms : w.first.room ≡ room
       later_rooms = ap (λ (z : BatchState). z.room) g.made.adds.first ∙ still_rooms
 
-      pub mark_changed : MarkChanged v w
-      mark_changed = (p, record { before = []; first = one; between = []; second = two; after = []; adds = both.adds; holds = λ e. ne (sym (mark_found room u w p found g later_rooms) ∙ (sym e ∙ mark_found room v u p mark f still_rooms)) })
+      pub mark_changed : MarkChanged v p w
+      mark_changed = record {
+        moments = record { before = []; first = one; between = []; second = two; after = []; adds = both.adds; holds = λ e. ne (sym (mark_found room u w p found g later_rooms) ∙ (sym e ∙ mark_found room v u p mark f still_rooms)) };
+        quiet = (refl, tt);
+      }
 
 -- THE STOP WITHIN A BATCH
 
@@ -164,8 +154,8 @@ stopped_within room tail last end v u w f p = record {
 pub passed_within : (room tail last now : ℕ) (v u : View) → tail ≤ v.seen.object.taken → now ≢ tail → Found v tail_word now u → LostWithin room tail last now v u
 passed_within room tail last now v u low ne f = let is = (found_tail v u now f).0 in let g = f.grows.taken in passed (omega arith) u.seen f.made
 
-pub passed_why : (tail now : ℕ) (v u : View) → tail ≤ v.seen.object.taken → now ≢ tail → Found v tail_word now u → WhyNoStop tail now v u
-passed_why tail now v u low ne f = let is = (found_tail v u now f).0 in let g = f.grows.taken in inl (was_so_now v u (load tail_word now u.seen) v.own _ f.made (omega arith, sym is))
+pub passed_why : (tail last now : ℕ) (v u : View) → tail ≤ v.seen.object.taken → now ≢ tail → Found v tail_word now u → WhyNoStop tail last now v u
+passed_why tail last now v u low ne f = let is = (found_tail v u now f).0 in let g = f.grows.taken in inl (moment_now v u (load tail_word now u.seen) v.own _ f.made (omega arith, sym is))
 
 module _ (room tail last finish now : ℕ) (v u c w : View) (f : Found v tail_word tail u) (p : PartedLook room last finish false u c) (t : Found c tail_word now w) where
   abbrev again : List (Step BatchState)
@@ -186,8 +176,8 @@ module _ (room tail last finish now : ℕ) (v u c w : View) (f : Found v tail_wo
   now_is : w.seen.object.taken ≡ now
   now_is = sym (found_tail c w now t).0
 
-  pub lost_why : tail ≤ last → ((last < c.seen.object.taken) ⊎ MarkChanged u c) → WhyNoStop tail now v w
+  pub lost_why : tail ≤ last → ((last < c.seen.object.taken) ⊎ MarkChanged u last c) → WhyNoStop tail last now v w
   lost_why low h = let g = t.grows.taken in let is = now_is in let last_step = load tail_word now w.seen in ⊎_elim
       (λ past. inl record { before = again ++ p.entries; step = last_step; after = []; adds = all.adds; holds = (let l : last < c.seen.object.taken = past in omega arith, now_is) })
-      (λ m. inr (record { before = again ++ p.entries; step = last_step; after = []; adds = all.adds; holds = now_is }, changed_on v u c w again end f.made t.made (ap (λ (z : Part). z.share) f.made.member) (ap (λ (z : Part). z.share) (p.made.member ∙ f.made.member)) m))
+      (λ m. inr (record { before = again ++ p.entries; step = last_step; after = []; adds = all.adds; holds = now_is }, changed_on v u c w last again end f.made t.made (ap (λ (z : Part). z.share) f.made.member) (ap (λ (z : Part). z.share) (p.made.member ∙ f.made.member)) m))
       h

@@ -1,7 +1,13 @@
 -- A taking: what was taken is in the buffer, and its places are given back.
-use Rattle.batch_queue.proofs.Common.{BatchState, Cell, EndRecord, List, Performed, Me, Released, Step, View, [], ap, arith, cells, change, drop, items_of, length, map, map-append, mark_word, no_slots, positions_of, refl, subst, suc, sym, take, taking, with_no_slots, with_back, with_taking, zero, ℕ, ◌++◌, ◌+◌, ◌∙◌, ◌∷◌, ◌≡◌}
+use Rattle.batch_queue.proofs.Common.{BatchState, Cell, EndRecord, List, Performed, Me, Released, Step, View, [], ap, append_assoc, arith, cells, change, drop, inl, inr, items_of, length, load, tail_word, with_taken, ⊎_elim, ◌⊎◌, map, map-append, mark_word, no_slots, positions_of, refl, subst, suc, sym, take, taking, with_no_slots, with_back, with_taking, zero, ℕ, ◌++◌, ◌+◌, ◌∙◌, ◌∷◌, ◌≡◌}
 use Rattle.std.proofs.Math.Seq.{take-append_seam}
+use Rattle.std.specs.Prelude.{min}
+use Rattle.table_theory.proofs.Moments.{two_map, two_then}
 use Rattle.table_theory.proofs.Parting.{made_on}
+use Rattle.table_theory.specs.Ledgers.{ExtendsTrace}
+use Rattle.batch_queue.specs.Client.{TookAllThatFit, WereFirst}
+use Rattle.batch_queue.specs.Moments.{AtTwoMoments}
+use Rattle.batch_queue.specs.Object.{NoneFits}
 use Rattle.table_theory.specs.Positioned.{item_of}
 use Rattle.table_theory.specs.declared.views.Part.{Part}
 use Rattle.table_theory.specs.Batches.{line_of}
@@ -84,3 +90,23 @@ took_first room most count items old new v w many is t = subst (λ (z : List ℕ
 
 pub filled : (room most count : ℕ) (items old new : List ℕ) (v w : View) → count ≡ length items → new ≡ items ++ drop count old → (t : TookBatches room v most items w) → FilledBuffer count old new v w
 filled room most count items old new v w many is t = record { line = items; some_item = (let s = t.3.some_item in omega arith); long = sym many; buffer = is; took = took_line room most items v w t }
+
+-- THE MOMENT OF THE TAKING
+
+pub were_first : (room most : ℕ) (items : List ℕ) (v w : View) → TookBatches room v most items w → WereFirst v items w
+were_first room most items v w (tail, mark, m, t) = let e : Step BatchState = change tail_word tail t.at_taking (with_taken t.at_taking.object (tail + length items)) in let back : Step BatchState = change (mark_word room tail) mark m (with_back m.object tail (tail + length items)) in let first : Step BatchState = load tail_word tail t.at_tail in record {
+  before = first ∷ t.loads;
+  step = e;
+  after = back ∷ [];
+  adds = subst (λ (z : List (Step BatchState)). ExtendsTrace v z w) (ap (λ (z : List (Step BatchState)). first ∷ z) (append_assoc t.loads (e ∷ []) (back ∷ []))) t.added.adds;
+  holds = (t.first, t.added.did);
+}
+
+-- no batch more fitted, and then the places were given back
+pub fit_all : (room most n tail : ℕ) (v w u : View) (m' : Me ℕ View) → v.own.held ≡ no_slots → u.member.share ≡ v.member.share → w ≡ u → Released w (mark_word room tail) tail (tail + n) 2 m'
+    → (n ≡ min most room) ⊎ AtTwoMoments v u (λ o later. (o.taken ≡ later.taken) × NoneFits o (later.taken + n) (later.taken + min most room) × (u.own ≡ with_taking v.own later n)) → TookAllThatFit v room most n m'.0
+fit_all room most n tail v w u m' bare share same p h = let e : Step BatchState = change (mark_word room tail) p.found p.at (with_back p.at.object tail (tail + n)) in ⊎_elim
+    (λ full. inl full)
+    (λ s. inr (two_map v m'.0 _ _ (λ o later t. (t.0, t.1, p.step.made.did ∙ (p.given refl ∙ line_own v.own w.own later n (ap (λ (z : View). z.own) same ∙ t.2) bare)))
+    (two_then v u m'.0 (e ∷ []) _ share s (subst (λ (z : View). ExtendsTrace z (e ∷ []) m'.0) same p.step.made.adds))))
+    h

@@ -1,12 +1,16 @@
 -- The steps of a taking, taken together.
-use Rattle.batch_queue.proofs.Common.{HasFound, IsStop, IsRest, inl, ⊎_elim, phase_at, ◌⊎◌, BatchState, EndRecord, Found, Grows, IsEdge, List, Performed, Me, Step, Took, View, [], ap, append_assoc, arith, change, concat, concat-append, drop, inr, items_of, length, length-append, load, mark_word, refl, slots_of, subst, sym, tail_word, take, with_taken, with_taking, ℕ, ◌++◌, ◌+◌, ◌-◌, ◌/◌, ◌<◌, ◌∙◌, ◌∷◌, ◌≡◌, ◌≢◌, ◌≤◌}
+use Rattle.batch_queue.proofs.Common.{HasFound, IsStop, IsRest, inl, ⊎_elim, phase_at, ◌⊎◌, BatchState, EndRecord, Found, Grows, IsEdge, List, Performed, Me, Step, Took, View, [], ap, append_assoc, arith, change, dec_lt, dite, concat, concat-append, drop, inr, items_of, length, length-append, load, mark_word, refl, slots_of, subst, sym, tail_word, take, with_taken, with_taking, ℕ, ◌++◌, ◌+◌, ◌-◌, ◌/◌, ◌<◌, ◌∙◌, ◌∷◌, ◌≡◌, ◌≢◌, ◌≤◌}
 use Rattle.std.proofs.Math.Seq.{drop-append_seam, take-append_seam}
 use Rattle.std.specs.Prelude.{min}
 use Rattle.std.proofs.lemmas.List.{length-drop, length-take-le}
+use Rattle.table_theory.proofs.Moments.{moment_now, two_after, two_of}
 use Rattle.table_theory.proofs.Parting.{made_then}
+use Rattle.table_theory.specs.declared.views.Part.{Part}
+use Rattle.batch_queue.specs.Moments.{AtTwoMoments}
+use Rattle.batch_queue.specs.Object.{NoneFits}
 use Rattle.batch_queue.specs.Client.{WhyNotTaken}
 use Rattle.batch_queue.specs.Takings.{AreBatches, AreFirst, HasTaken, RefusedTake}
-use Rattle.batch_queue.specs.Walks.{Followed, FollowedBy, LeadsOn, Passed}
+use Rattle.batch_queue.specs.Walks.{Followed, FollowedBy, LeadsOn, Passed, StoppedUp}
 use Rattle.batch_queue.specs.declared.refusals.TakeRefusal.TheVariants.{Lost}
 use Rattle.batch_queue.proofs.Looking.{found_tail}
 use Rattle.batch_queue.proofs.Stepping.{step_real}
@@ -123,3 +127,25 @@ module _ (room most : ℕ) (v u c : View) (tail new : ℕ) (rooms : v.first.room
           slots = t.slots ∙ ap (λ (z : ℕ). slots_of z tail items) (ap (λ (z : BatchState). z.room) made.adds.first ∙ rooms);
         },
       )
+
+-- WHAT COULD NOT BE TAKEN
+
+-- at a moment at which the tail was already that of the taking, no batch more fitted
+pub took_most : (room most : ℕ) (v u b c : View) (tail mark new least n : ℕ) (m : Me ℕ View) → Found v tail_word tail u → Found u (mark_word room tail) mark b → least ≡ min most room → c.member.share ≡ b.member.share → c.own ≡ v.own → Took c tail new m → tail < new → new ≤ tail + least → (new < tail + least → StoppedUp tail new (tail + least) b c) → n ≡ new - tail
+    → (n ≡ min most room) ⊎ AtTwoMoments v m.0 (λ o later. (o.taken ≡ later.taken) × NoneFits o (later.taken + n) (later.taken + min most room) × (m.0.own ≡ with_taking v.own later n))
+took_most room most v u b c tail mark new least n m x y is share same t less far up long =
+    let before : List (Step BatchState) = load tail_word tail u.seen ∷ load (mark_word room tail) mark b.seen ∷ [] in
+    let made : Performed v before v.own b = made_then v u b (load tail_word tail u.seen ∷ []) (load (mark_word room tail) mark b.seen ∷ []) v.own (λ d. d) x.made y.made in
+    let e : Step BatchState = change tail_word tail t.at (with_taken t.at.object new) in
+    let Q : BatchState → Type 0 = (λ later. (later.taken ≡ tail) × Grows c.seen.object later × (m.0.own ≡ with_taking v.own later n)) in
+    let own : m.0.own ≡ with_taking v.own t.at.object n = t.step.made.did ∙ ((λ i. with_taking (same i) t.at.object (new - tail)) ∙ ap (with_taking v.own t.at.object) (sym long)) in
+    dite (dec_lt new (tail + least))
+    (λ short. inr (two_after v b m.0 before _ (ap (λ (z : Part). z.share) made.member) made.adds
+    (two_of b c m.0 _ Q (λ o later. (o.taken ≡ later.taken) × NoneFits o (later.taken + n) (later.taken + min most room) × (m.0.own ≡ with_taking v.own later n)) share
+    (λ o later p k. (let was = (found_tail v u tail x).0 in let g0 = y.grows.taken in let g1 = p.0.taken in let g2 = p.1.taken in let g3 = k.1.taken in let at = k.0 in (
+      omega arith,
+      subst (λ (z : ℕ). NoneFits o z (later.taken + min most room)) (let a : new ≡ later.taken + n = omega arith in a) (subst (λ (z : ℕ). NoneFits o new z) (let a : tail + least ≡ later.taken + min most room = omega arith in a) (p.4 (omega arith))),
+      k.2,
+    )))
+    (up short) (moment_now c m.0 e (with_taking c.own t.at.object (new - tail)) Q t.step.made (t.tail_is, t.step.grows, own)))))
+    (λ full. inl (omega arith))

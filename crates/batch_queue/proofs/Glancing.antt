@@ -1,5 +1,5 @@
 -- Why nothing is taken, by the tail and its mark.
-use Rattle.batch_queue.proofs.Common.{IsStop, IsRest, ⊎_elim, BatchState, Found, Lawful, List, Performed, SHUT, Step, View, WordsShow, [], ap, arith, dec_lt, dite, get_or, head_word, inl, inr, load, mark_word, phase_at, refl, subst, sym, tail_word, ℕ, ◌+◌, ◌/◌, ◌<◌, ◌∙◌, ◌∷◌, ◌≡◌, ◌≢◌, ◌≤◌}
+use Rattle.batch_queue.proofs.Common.{IsStop, IsRest, ⊎_elim, ◌⊎◌, BatchState, Found, Lawful, List, Performed, SHUT, Step, View, WordsShow, [], ap, arith, dec_lt, dite, get_or, head_word, inl, inr, load, mark_word, phase_at, refl, subst, sym, tail_word, ℕ, ◌+◌, ◌/◌, ◌<◌, ◌∙◌, ◌∷◌, ◌≡◌, ◌≢◌, ◌≤◌}
 use Rattle.std.proofs.Common.{◌*◌}
 use Rattle.std.specs.Prelude.{min}
 use Rattle.batch_queue.specs.Layout as layout
@@ -56,6 +56,31 @@ module _ (room most : ℕ) (v u b : View) (tail mark : ℕ) (x : Found v tail_wo
 
   pub batch_at : b.seen.object.taken ≡ tail → LeadsOn 0 tail mark → IsStop b.seen.object tail × IsRest b.seen.object.batches tail (mark / 2) × (phase_at b.seen.object tail ≡ 1)
   batch_at at on = let r = found_real u b (mark_word room tail) mark y in mark_batch b.seen.object r.words tail mark r.lawful r.shows at word_is on
+
+  pub tail_seen : AtSomeMoment v b (λ o. o.taken ≡ tail)
+  tail_seen = record { before = []; step = one; after = two ∷ []; adds = made.adds; holds = tail_is }
+
+  -- nothing was published at the tail, or the tail had moved on
+  pub none_seen : (LeadsOn 0 tail mark → ⊥) → AtSomeMoment v b (λ o. (tail < o.taken) ⊎ (phase_at o tail ≡ 0))
+  none_seen none = record {
+    before = one ∷ [];
+    step = two;
+    after = [];
+    adds = made.adds;
+    holds = dite (dec_lt tail b.seen.object.taken) (λ past. inl past) (λ here. inr (none_at (let g = y.grows.taken in let was = tail_is in omega arith) none));
+  }
+
+  -- a mark that leads past the places is that of a later lap
+  pub far_seen : LeadsOn 0 tail mark → tail + room < mark / 2 → AtSomeMoment v b (λ o. (tail < o.taken) ⊎ (phase_at o tail ≡ 0))
+  far_seen on far = record {
+    before = one ∷ [];
+    step = two;
+    after = [];
+    adds = made.adds;
+    holds = inl (dite (dec_lt tail b.seen.object.taken) (λ past. past) (λ here. (let at : b.seen.object.taken ≡ tail = (let g = y.grows.taken in let was = tail_is in omega arith) in let is = (batch_at at on).1 in
+        let l = seen_lawful b y.ruled in let within = edge_within b.seen.object.batches (mark / 2) (batch_end b.seen.object.batches _ _ is.batch) in let w = l.within in let a = freed_taken b.seen.object l in
+        let same : b.seen.object.room ≡ room = seen_room b y.ruled ∙ (ap (λ (z : BatchState). z.room) made.adds.first ∙ rooms) in absurd (omega arith))));
+  }
 
   module _ (none : LeadsOn 0 tail mark → ⊥) where
     -- the head and the tail were loaded

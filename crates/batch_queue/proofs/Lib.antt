@@ -24,7 +24,8 @@ mod Turning
 mod Looking
 mod Dividing
 mod Stopping
-mod Timing
+mod Quiet
+mod Going
 mod Claims
 mod Putting
 mod Glancing
@@ -40,3 +41,5 @@ mod Trying
 mod Unrivalled
 mod SoleTaking
 mod Peeking
+pub mod Under
+pub mod Permits

@@ -5,10 +5,11 @@ use Rattle.table_theory.proofs.Listing.{distinct}
 use Rattle.table_theory.proofs.Parting.{made_then}
 use Rattle.table_theory.specs.Listing.{Distinct}
 use Rattle.table_theory.specs.declared.views.Part.{Part}
-use Rattle.batch_queue.specs.Moments.{AtSomeMoment, AtTwoMoments, IsGivenBackTo}
+use Rattle.batch_queue.specs.Moments.{AtSomeMoment, BeforeChanges, ChangedByOthers, IsGivenBackTo}
 use Rattle.batch_queue.specs.Walks.{StoppedAt, Followed, Helped, HelpedBy, LookedFree, exchanged, still, overtaken, at_once, by_help}
 use Rattle.batch_queue.proofs.Growing.{freed_taken, grows_trans, real_grows, taken_claimed}
-use Rattle.batch_queue.proofs.Timing.{changed_by, was_so_after, was_so_map, was_so_now, was_so_then}
+use Rattle.table_theory.proofs.Moments.{moment_after, moment_map, moment_then}
+use Rattle.batch_queue.proofs.Quiet.{others_by, quiet_map}
 use Rattle.batch_queue.proofs.Stepping.{honest, step_real}
 use Rattle.batch_queue.proofs.Walking.{found_real}
 
@@ -57,8 +58,11 @@ pub free_passed : (v w : View) (free r : ℕ) → Found v free_word r w → r �
 free_passed v w free r f ne low = let e = found_free v w r f in let is = e.0 in let g = f.grows.freed in (omega arith, e.0, e.1)
 
 -- at the moment of that step it was further on
-pub free_past : (v w : View) (free r : ℕ) → Found v free_word r w → r ≢ free → free ≤ v.seen.object.freed → AtSomeMoment v w (λ o. free < o.freed)
-free_past v w free r f ne low = was_so_now v w (load free_word r w.seen) v.own _ f.made (let p = free_passed v w free r f ne low in let is = p.1 in let less = p.0 in omega arith)
+pub free_past : (v w : View) (free r : ℕ) → Found v free_word r w → r ≢ free → free ≤ v.seen.object.freed → BeforeChanges v w (λ o. (free < o.freed) × (o.freed ≡ r))
+free_past v w free r f ne low = record {
+  moment = record { before = []; step = load free_word r w.seen; after = []; adds = f.made.adds; holds = (let p = free_passed v w free r f ne low in let is = p.1 in let less = p.0 in (omega arith, sym is)) };
+  quiet = tt;
+}
 
 pub helped_none : (v w : View) (free to r : ℕ) → to ≡ free → free ≤ v.seen.object.freed → Found v free_word r w → Helped free to r v w
 helped_none v w free to r same low f = record {
@@ -101,17 +105,17 @@ looked_help room new first free moved v u w f less h = record {
 
 -- nothing further on was given back at one moment of the help
 pub exact_help : (room free to : ℕ) (v u w : View) (loads ys : List (Step BatchState)) → Performed v loads v.own u → Performed u ys v.own w → u.seen.object.freed ≡ free → StoppedAt free to v u → AtSomeMoment v w (λ o. Grows v.seen.object o × IsGivenBackTo o to)
-exact_help room free to v u w loads ys m n is s = was_so_then v u w ys _ (ap (λ (z : Part). z.share) m.member) (was_so_map v u _ _ (λ o h. let g = h.1.freed in (h.0, h.2 (omega arith))) s) n.adds
+exact_help room free to v u w loads ys m n is s = moment_then v u w ys _ (ap (λ (z : Part). z.share) m.member) (moment_map v u _ _ (λ o h. let g = h.1.freed in (h.0, h.2 (omega arith))) s) n.adds
 
 -- the same, of the whole look
 pub exact_look : (room new first free : ℕ) (moved : Bool) (v u w : View) → Found v free_word first u → AtSomeMoment u w (λ o. Grows u.seen.object o × IsGivenBackTo o free) → AtSomeMoment v w (λ o. Grows v.seen.object o × IsGivenBackTo o free)
-exact_look room new first free moved v u w f s = was_so_map v w _ _ (λ o h. (grows_trans v.seen.object u.seen.object o f.grows h.0, h.1))
-    (was_so_after v u w _ _ (ap (λ (z : Part). z.share) f.made.member) f.made.adds s)
+exact_look room new first free moved v u w f s = moment_map v w _ _ (λ o h. (grows_trans v.seen.object u.seen.object o f.grows h.0, h.1))
+    (moment_after v u w _ _ (ap (λ (z : Part). z.share) f.made.member) f.made.adds s)
 
 -- at the free position a walk begins
 pub none_given : (v w : View) (free : ℕ) → Found v free_word free w → HasBack w free free
 none_given v w free f = inr ((λ i a b. absurd (omega arith)), subst (IsEdge w.seen.object.takings) (sym (found_free v w free f).0) (seen_lawful w f.ruled).freed_edge)
 
 -- another end moved the free position on
-pub passed_look : (v u w : View) (first : ℕ) → Found v free_word first u → AtSomeMoment u w (λ o. first < o.freed) → AtTwoMoments v w (λ o later. o.freed < later.freed)
-passed_look v u w first f s = changed_by v u w (load free_word first u.seen) v.own _ f.made (was_so_map u w _ _ (λ o less. (let is = (found_free v u first f).0 in omega arith)) s)
+pub passed_look : (v u w : View) (first free : ℕ) → Found v free_word first u → BeforeChanges u w (λ o. (first < o.freed) × (o.freed ≡ free)) → ChangedByOthers v w (λ o later. (o.freed < later.freed) × (later.freed ≡ free))
+passed_look v u w first free f s = others_by v u w (load free_word first u.seen) v.own (λ o later. (o.freed < later.freed) × (later.freed ≡ free)) f.made refl (quiet_map u w _ _ (λ o h. (let is = (found_free v u first f).0 in let less = h.0 in (omega arith, h.1))) s)

@@ -1,13 +1,13 @@
 -- The steps of a taking of some items, taken together.
-use Rattle.batch_queue.proofs.Common.{BatchState, EndRecord, Found, Grows, IsStop, List, Performed, Me, Released, Step, Took, View, [], ap, arith, cells, change, drop, inl, inr, items_of, length, length-drop, length-take-le, line_of, load, map, map-append, mark_word, no_slots, positions_of, refl, slots_of, subst, sym, tail_word, take, taking, with_no_slots, with_back, with_taken, with_taking, ℕ, ⊎_elim, ◌++◌, ◌+◌, ◌/◌, ◌-◌, ◌<◌, ◌∙◌, ◌∷◌, ◌≡◌, ◌≢◌, ◌≤◌}
+use Rattle.batch_queue.proofs.Common.{BatchState, EndRecord, Found, Grows, IsStop, List, Performed, Me, Released, Step, Took, View, [], ap, append_assoc, ◌⊎◌, arith, cells, change, drop, inl, inr, items_of, length, length-drop, length-take-le, line_of, load, map, map-append, mark_word, no_slots, positions_of, refl, slots_of, subst, sym, tail_word, take, taking, with_no_slots, with_back, with_taken, with_taking, ℕ, ⊎_elim, ◌++◌, ◌+◌, ◌/◌, ◌-◌, ◌<◌, ◌∙◌, ◌∷◌, ◌≡◌, ◌≢◌, ◌≤◌}
 use Rattle.std.specs.Prelude.{min}
 use Rattle.std.proofs.Math.Seq.{take-append_seam}
 use Rattle.table_theory.proofs.Parting.{made_on}
 use Rattle.table_theory.specs.declared.views.Part.{Part}
 use Rattle.batch_queue.specs.Lines.{SameLines}
-use Rattle.batch_queue.specs.Parts.{AreSome, FilledSome, FoundStop, HasTakenSome, LostStop, MayPart, PartedBy, RefusedSomeBy, SameSome, StopBy, TookSome, WhyNoStop, WhyNotTakenSome, all, already, meanwhile, no_more, one_more, parted, within, with_parts}
-use Rattle.batch_queue.specs.Client.{WhyNotTaken}
-use Rattle.batch_queue.specs.Takings.{IsNone, NoneBy, with_line}
+use Rattle.batch_queue.specs.Parts.{AreSome, FilledSome, FoundStop, HasTakenSome, LostStop, MayPart, PartedBy, StoppedShort, RefusedSomeBy, SameSome, StopBy, TookSome, WhyNoStop, WhyNotTakenSome, all, already, meanwhile, no_more, one_more, parted, within, with_parts}
+use Rattle.batch_queue.specs.Client.{PartsOnlyIfFull, TookAllPublished, TookThen, WereSome, WhyNotTaken}
+use Rattle.batch_queue.specs.Takings.{IsNone, NoneBy, RefusedTake, TookBatches, with_line}
 use Rattle.batch_queue.specs.declared.refusals.TakeRefusal.{TakeRefusal}
 use Rattle.batch_queue.specs.declared.refusals.TakeRefusal.TheVariants.{Empty, ShortBuffer, Lost, Closed}
 use Rattle.batch_queue.proofs.Filling.{items_of_cells, part_items}
@@ -15,8 +15,13 @@ use Rattle.batch_queue.proofs.Growing.{real_lawful, taken_claimed}
 use Rattle.batch_queue.proofs.Looking.{found_tail}
 use Rattle.batch_queue.proofs.Stepping.{step_real}
 use Rattle.batch_queue.proofs.Dividing.{made_none_parted}
-use Rattle.batch_queue.proofs.Stopping.{changed_after}
-use Rattle.batch_queue.proofs.Timing.{changed_by, was_so_after, was_so_map}
+use Rattle.batch_queue.proofs.Quiet.{others_after}
+use Rattle.batch_queue.proofs.Walking.{seen_room}
+use Rattle.batch_queue.specs.Moments.{AtSomeMoment, MarkChanged}
+use Rattle.table_theory.proofs.Moments.{moment_after, moment_map, moment_now, moment_then, two_after, two_by, two_map, two_of, two_then}
+use Rattle.table_theory.specs.Ledgers.{ExtendsTrace}
+use Rattle.batch_queue.specs.Object.{LacksUpTo}
+use Rattle.std.specs.Prelude.{Result, Ok, Err, IfOk, MatchResult}
 
 -- a batch is parted once, or none
 parted_once : (room p end parts : ℕ) (es : List (Step BatchState)) → PartedBy room p end parts es → parts ≤ 1
@@ -92,14 +97,19 @@ module _ (room most : ℕ) (v u b w : View) (tail first now : ℕ) (x : Found v 
   made_before : Performed v before v.own b
   made_before = made_on v u b (load tail_word tail u.seen ∷ []) (load (mark_word room tail) first b.seen ∷ []) v.own v.own x.made (subst (λ (z : EndRecord). Performed u (load (mark_word room tail) first b.seen ∷ []) z b) x.made.did y.made)
 
-  no_stop_lost : WhyNoStop tail now b w → WhyNotTakenSome v most (Lost now) w
-  no_stop_lost h = let is = (found_tail v u tail x).0 in ⊎_elim
-      (λ s. inl (changed_by v u w (load tail_word tail u.seen) v.own _ x.made (was_so_map u w _ _ (λ o t. (let less = t.0 in omega arith, t.1)) (was_so_after u b w (load (mark_word room tail) first b.seen ∷ []) _ (ap (λ (z : Part). z.share) y.made.member) y.made.adds s))))
-      (λ t. inr (was_so_after v b w before _ (ap (λ (z : Part). z.share) made_before.member) made_before.adds t.0, changed_after v b w before made_before t.1))
+  no_stop_lost : v.first.room ≡ room → WhyNoStop tail (tail + min most room) now b w → WhyNotTakenSome v most (Lost now) w
+  no_stop_lost rooms h = let is = (found_tail v u tail x).0 in let same : u.seen.object.room ≡ room = seen_room u x.ruled ∙ (ap (λ (z : BatchState). z.room) x.made.adds.first ∙ rooms) in let share : b.member.share ≡ v.member.share = ap (λ (z : Part). z.share) made_before.member in ⊎_elim
+      (λ s. inl (two_by v u w (load tail_word tail u.seen) v.own _ x.made (moment_map u w _ _ (λ o t. (let less = t.0 in omega arith, t.1)) (moment_after u b w (load (mark_word room tail) first b.seen ∷ []) _ (ap (λ (z : Part). z.share) y.made.member) y.made.adds s))))
+      (λ t. inr (moment_after v b w before _ share made_before.adds t.0, tail + min most room, last_at same is t.1, others_after v b w before _ share made_before.adds t.1))
       h
+    where
+      last_at : u.seen.object.room ≡ room → tail ≡ u.seen.object.taken → MarkChanged b (tail + min most room) w → AtSomeMoment v w (λ o. tail + min most room ≡ o.taken + min most o.room)
+      last_at same is c = moment_then v b w (c.moments.before ++ c.moments.first ∷ (c.moments.between ++ c.moments.second ∷ c.moments.after)) _ (ap (λ (z : Part). z.share) made_before.member)
+          (record { before = []; step = load tail_word tail u.seen; after = load (mark_word room tail) first b.seen ∷ []; adds = made_before.adds; holds = λ i. is i + min most (sym same i) })
+          c.moments.adds
 
-  pub no_stop_error : (r : TakeRefusal) → r ≡ Lost now → WhyNoStop tail now b w → WhyNotTakenSome v most r w
-  no_stop_error r is h = subst (λ (z : TakeRefusal). WhyNotTakenSome v most z w) (sym is) (no_stop_lost h)
+  pub no_stop_error : (r : TakeRefusal) → v.first.room ≡ room → r ≡ Lost now → WhyNoStop tail (tail + min most room) now b w → WhyNotTakenSome v most r w
+  no_stop_error r rooms is h = subst (λ (z : TakeRefusal). WhyNotTakenSome v most z w) (sym is) (no_stop_lost rooms h)
 
   no_stop_by : LostStop room tail (min most room) first now b w → RefusedSomeBy (λ parts entries. Performed v entries (with_parts v.own parts) w) room most (Lost now)
   no_stop_by l = inr (inr record {
@@ -180,6 +190,57 @@ filled_some room most count items old new v w many is (tail, mark, m, t) = let m
 pub took_some_first : (room most count : ℕ) (items old new : List ℕ) (v w : View) → count ≡ length items → new ≡ items ++ drop count old → TookSome room v most items w → TookSome room v most (take count new) w
 took_some_first room most count items old new v w many is t = subst (λ (z : List ℕ). TookSome room v most z w) (sym ((λ i. take (many i) (is i)) ∙ take-append_seam items (drop count old))) t
 
+-- THE MOMENT OF THE TAKING
+
+pub were_some : (room most : ℕ) (items : List ℕ) (v w : View) → TookSome room v most items w → WereSome v items w
+were_some room most items v w (tail, mark, m, t) = let e : Step BatchState = change tail_word tail t.at_taking (with_taken t.at_taking.object (tail + length items)) in let back : Step BatchState = change (mark_word room tail) mark m (with_back m.object tail (tail + length items)) in let first : Step BatchState = load tail_word tail t.at_tail in record {
+  before = first ∷ t.looks;
+  step = e;
+  after = back ∷ [];
+  adds = subst (λ (z : List (Step BatchState)). ExtendsTrace v z w) (ap (λ (z : List (Step BatchState)). first ∷ z) (append_assoc t.looks (e ∷ []) (back ∷ []))) t.added.adds;
+  holds = (t.first, λ k. (t.added.did k).takes);
+}
+
+-- a batch was parted, or none, and only if the taking was full
+parts_full : (room tail most to parts : ℕ) (es : List (Step BatchState)) → StopBy room tail most to parts es → (parts ≡ 0) ⊎ (to ≡ tail + most)
+parts_full room tail most to parts es (all f is none) = inl none
+parts_full room tail most to parts es (no_more mark r nothing none) = inl none
+parts_full room tail most to parts es (one_more at mark more r on is fits none) = inl none
+parts_full room tail most to parts es (within at mark before after again r on far is by are) = inr is
+
+pub parts_if_full : (room most count : ℕ) (items : List ℕ) (v w : View) → count ≡ length items → TookSome room v most items w → PartsOnlyIfFull v room most count w
+parts_if_full room most count items v w long (tail, mark, m, t) = let own : w.own.parts ≡ v.own.parts + t.parts = ap (λ (z : EndRecord). z.parts) t.added.did in ⊎_elim
+    (λ none. inl (omega arith))
+    (λ full. inr (omega arith))
+    (parts_full room tail (min most room) _ t.parts t.looks t.stops)
+
+-- at a moment at which the tail was already that of the taking, an item up to the next one was not published
+pub took_short : (room most : ℕ) (v u b c : View) (tail mark new least n : ℕ) (m : Me ℕ View) → Found v tail_word tail u → Found u (mark_word room tail) mark b → least ≡ min most room → c.member.share ≡ b.member.share → c.own.takes ≡ v.own.takes → Took c tail new m → tail < new → (new ≡ tail + least) ⊎ StoppedShort tail new b c → n ≡ new - tail → TookAllPublished v room most n m.0
+took_short room most v u b c tail mark new least n m x y is share same t less h long =
+    let before : List (Step BatchState) = load tail_word tail u.seen ∷ load (mark_word room tail) mark b.seen ∷ [] in
+    let made : Performed v before v.own b = made_on v u b (load tail_word tail u.seen ∷ []) (load (mark_word room tail) mark b.seen ∷ []) v.own v.own x.made (subst (λ (z : EndRecord). Performed u (load (mark_word room tail) mark b.seen ∷ []) z b) x.made.did y.made) in
+    let e : Step BatchState = change tail_word tail t.at (with_taken t.at.object new) in
+    let Q : BatchState → Type 0 = (λ later. (later.taken ≡ tail) × Grows c.seen.object later × TookThen v n later m.0) in
+    let took : TookThen v n t.at.object m.0 = (λ k. (t.step.made.did k).takes) ∙ (λ k. same k ++ taking (positions_of t.at.object) (sym long k) ∷ []) in ⊎_elim
+    (λ full. inl (omega arith))
+    (λ s. inr (two_after v b m.0 before _ (ap (λ (z : Part). z.share) made.member) made.adds
+    (two_of b c m.0 _ Q (λ o later. (o.taken ≡ later.taken) × LacksUpTo o (later.taken + n) × TookThen v n later m.0) share
+    (λ o later p k. (let was = (found_tail v u tail x).0 in let g0 = y.grows.taken in let g1 = p.0.taken in let g2 = p.1.taken in let g3 = k.1.taken in let at = k.0 in (
+      omega arith,
+      subst (LacksUpTo o) (let a : new ≡ later.taken + n = omega arith in a) (p.2 (omega arith)),
+      k.2,
+    )))
+    s (moment_now c m.0 e (with_taking c.own t.at.object (new - tail)) Q t.step.made (t.tail_is, t.step.grows, took)))))
+    h
+
+-- and then the places were given back
+pub short_all : (room most n tail : ℕ) (v w u : View) (m' : Me ℕ View) → u.member.share ≡ v.member.share → w ≡ u → Released w (mark_word room tail) tail (tail + n) 2 m' → TookAllPublished v room most n u → TookAllPublished v room most n m'.0
+short_all room most n tail v w u m' share same p h = let e : Step BatchState = change (mark_word room tail) p.found p.at (with_back p.at.object tail (tail + n)) in ⊎_elim
+    (λ full. inl full)
+    (λ s. inr (two_map v m'.0 _ _ (λ o later t. (t.0, t.1, (λ k. (p.step.made.did k).takes) ∙ ((λ k. (p.given refl k).takes) ∙ ((λ k. (same k).own.takes) ∙ t.2))))
+    (two_then v u m'.0 (e ∷ []) _ share s (subst (λ (z : View). ExtendsTrace z (e ∷ []) m'.0) same p.step.made.adds))))
+    h
+
 -- WHERE NOTHING WAS TAKEN
 
 same_made : (v w : View) (parts : ℕ) (entries : List (Step BatchState)) → parts ≤ 1 → Performed v entries (with_parts v.own parts) w → SameSome v w
@@ -202,3 +263,8 @@ empty_error v w most (Empty at) none h = h
 empty_error v w most (ShortBuffer at count) none h = (none, h)
 empty_error v w most (Lost now) none h = inl h
 empty_error v w most Closed none h = h
+
+-- nothing is taken into it
+pub empty_took : (room most : ℕ) (new : List ℕ) (v w : View) (r : Result ℕ TakeRefusal) → most ≡ 0 → MatchResult r (λ n. TookBatches room v most (take n new) w) (λ e. RefusedTake room v most e w) → IfOk r (λ n. WereSome v (take n new) w × TookAllPublished v room most n w × PartsOnlyIfFull v room most n w)
+empty_took room most new v w (Ok n) none h = let a = h.3.some_item in let b = h.3.within in absurd (omega arith)
+empty_took room most new v w (Err e) none h = tt

@@ -1,7 +1,7 @@
 -- A put: the claim, and the store that publishes it.
 use Rattle.std.specs.Prelude.{min}
 use Rattle.batch_queue.proofs.Turning.{take_whole}
-use Rattle.batch_queue.proofs.Common.{Batch, BatchState, Cell, EndRecord, HasRun, List, Performed, Me, Released, Step, View, [], ap, append_assoc, arith, at_last, blank, change, fresh, get_elem?, get_or, length, length-append, length-map, map, map-append, mark_word, no_slots, raised_run, refl, run, set, some, some-injective, subst, suc, sym, take, with_up, with_published, with_run, with_stage, zero, ℕ, ◌++◌, ◌+◌, ◌∙◌, ◌∷◌, ◌≡◌, ◌≤◌}
+use Rattle.batch_queue.proofs.Common.{Batch, BatchState, Cell, EndRecord, HasRun, List, Performed, Me, Released, Step, View, [], ap, append_assoc, arith, at_last, blank, change, fresh, head_word, inl, inr, load, with_batch, get_elem?, get_or, length, length-append, length-map, map, map-append, mark_word, no_slots, raised_run, refl, run, set, some, some-injective, subst, suc, sym, take, with_up, with_published, with_run, with_stage, zero, ℕ, ◌++◌, ◌+◌, ◌∙◌, ◌∷◌, ◌≡◌, ◌≤◌}
 use Rattle.table_theory.proofs.Moving.{last}
 use Rattle.table_theory.proofs.Parting.{made_on}
 use Rattle.table_theory.specs.Listing.{Distinct}
@@ -11,7 +11,12 @@ use Rattle.table_theory.specs.Batches.{line_of}
 use Rattle.batch_queue.specs.Lines.{PutLine}
 use Rattle.batch_queue.specs.Puts.{Fits, HasClaimed, IsPut, IsPutSome, PutBy, RefusedClaimBy, RefusedPut, RefusedSome, published, with_put}
 use Rattle.std.proofs.Common.{Result, Err, ◌<◌}
-use Rattle.std.specs.Prelude.{MatchResult}
+use Rattle.std.specs.Prelude.{IfErr, MatchResult}
+use Rattle.table_theory.proofs.Moments.{moment_then}
+use Rattle.table_theory.specs.Ledgers.{ExtendsTrace}
+use Rattle.batch_queue.specs.Client.{HasPut, HasUsedRoom, WhyNotClaimed, WhyNotPut, WhyNotPutSome}
+use Rattle.batch_queue.specs.Moments.{IsOpenAt}
+use Rattle.batch_queue.proofs.Quiet.{others_then}
 use Rattle.batch_queue.specs.Own.{OnlyLoads}
 use Rattle.batch_queue.specs.declared.refusals.PutRefusal.{PutRefusal}
 use Rattle.batch_queue.specs.declared.refusals.PutRefusal.TheVariants.{NoItems, TooLong, Closed, Spent, Full, Lost}
@@ -129,3 +134,46 @@ refused_some room items v w q r is more h = subst (λ (z : Result (ℕ × ℕ) P
 
 pub put_front : (room want start n : ℕ) (items xs : List ℕ) (v w : View) (m m' : Me ℕ View) → xs ≡ take n items → v.own.held ≡ no_slots → HasClaimed room want v start (take n items) m → w ≡ m.0 → Released w (mark_word room start) start (start + length xs) 0 m' → PutBy (λ entries. Performed v entries (with_put v.own start (take n items)) m'.0) room want start (take n items)
 put_front room want start n items xs v w m m' is bare h same p = put_of room want start (take n items) v w m m' bare h same (subst (λ (z : List ℕ). Released w (mark_word room start) start (start + length z) 0 m') is p)
+
+-- THE POSITION
+
+pub has_put : (room want start : ℕ) (items : List ℕ) (v w : View) (m m' : Me ℕ View) → v.own.held ≡ no_slots → HasClaimed room want v start items m → w ≡ m.0 → Released w (mark_word room start) start (start + length items) 0 m' → HasPut v start items m'.0
+has_put room want start items v w m m' bare h same p = let c = h.claim in let e : Step BatchState = change (mark_word room start) p.found p.at (with_up p.at.object start (start + length items)) in (
+  moment_then v m.0 m'.0 (e ∷ []) (λ o. IsOpenAt o start) (ap (λ (z : Part). z.share) c.added.member)
+      (record { before = load head_word start c.at_head ∷ c.looks; step = change head_word start c.at_claim (with_batch c.at_claim.object items); after = []; adds = c.added.adds; holds = h.at })
+      (subst (λ (z : View). ExtendsTrace z (e ∷ []) m'.0) same p.step.made.adds),
+  (put_of room want start items v w m m' bare h same p).2.added.did,
+)
+
+pub has_put_front : (room want start n : ℕ) (items xs : List ℕ) (v w : View) (m m' : Me ℕ View) → xs ≡ take n items → v.own.held ≡ no_slots → HasClaimed room want v start (take n items) m → w ≡ m.0 → Released w (mark_word room start) start (start + length xs) 0 m' → HasPut v start (take n items) m'.0
+has_put_front room want start n items xs v w m m' is bare h same p = has_put room want start (take n items) v w m m' bare h same (subst (λ (z : List ℕ). Released w (mark_word room start) start (start + length z) 0 m') is p)
+
+-- and the room that was used
+pub used_then : (room want start n : ℕ) (v u w z : View) (e : Step BatchState) (own : EndRecord) → u.member.share ≡ v.member.share → w ≡ u → Performed w (e ∷ []) own z → HasUsedRoom v room want start n u → HasUsedRoom v room want start n z
+used_then room want start n v u w z e own share same m (inl all) = inl all
+used_then room want start n v u w z e own share same m (inr (free, end, inl s)) = inr (free, end, inl (moment_then v u z (e ∷ []) _ share s (subst (λ (y : View). ExtendsTrace y (e ∷ []) z) same m.adds)))
+used_then room want start n v u w z e own share same m (inr (free, end, inr s)) = inr (free, end, inr (others_then v u z (e ∷ []) _ share s (subst (λ (y : View). ExtendsTrace y (e ∷ []) z) same m.adds)))
+
+-- WHY NOTHING WAS PUT
+
+why_claim : (room count : ℕ) (v w : View) (r : PutRefusal) → Fits room count → WhyNotClaimed v room count count r w → WhyNotPut v room count r w
+why_claim room count v w NoItems fits h = absurd h
+why_claim room count v w TooLong fits h = absurd h
+why_claim room count v w Closed fits h = (fits, h)
+why_claim room count v w Spent fits h = (fits, h)
+why_claim room count v w (Full head free) fits h = (fits, h)
+why_claim room count v w (Lost head) fits h = (fits, h)
+
+pub why_all : (room most count : ℕ) (v w : View) (q : Result ℕ PutRefusal) (r : PutRefusal) → q ≡ Err r → Fits room count → most ≡ count → WhyNotClaimed v room most count r w → IfErr q (λ e. WhyNotPut v room count e w)
+why_all room most count v w q r is fits all h = subst (λ (z : Result ℕ PutRefusal). IfErr z (λ e. WhyNotPut v room count e w)) (sym is) (why_claim room count v w r fits (subst (λ (z : ℕ). WhyNotClaimed v room z count r w) all h))
+
+why_front : (room count : ℕ) (v w : View) (r : PutRefusal) → 0 < count → WhyNotClaimed v room (min count room) 1 r w → WhyNotPutSome v room count r w
+why_front room count v w NoItems more h = absurd h
+why_front room count v w TooLong more h = absurd h
+why_front room count v w Closed more h = (more, h)
+why_front room count v w Spent more h = (more, h)
+why_front room count v w (Full head free) more h = (more, h)
+why_front room count v w (Lost head) more h = (more, h)
+
+pub why_some : (room count : ℕ) (v w : View) (q : Result (ℕ × ℕ) PutRefusal) (r : PutRefusal) → q ≡ Err r → 0 < count → WhyNotClaimed v room (min count room) 1 r w → IfErr q (λ e. WhyNotPutSome v room count e w)
+why_some room count v w q r is more h = subst (λ (z : Result (ℕ × ℕ) PutRefusal). IfErr z (λ e. WhyNotPutSome v room count e w)) (sym is) (why_front room count v w r more h)

@@ -1,13 +1,12 @@
 -- An end with the whole share always finds the end of a taking of some items: no other end changes a mark meanwhile.
-use Rattle.batch_queue.proofs.Common.{BatchState, EndRecord, IsValidView, IsValidStep, IsWhole, Lawful, List, Performed, MarkSays, AbsState, Step, View, [], ap, append_assoc, arith, items_of, length, load, mark_of, mark_word, of_batches, refl, subst, sym, tail_word, with_part, ℕ, ⊎_elim, ◌++◌, ◌+◌, ◌/◌, ◌<◌, ◌∙◌, ◌∷◌, ◌≡◌, ◌≤◌}
+use Rattle.batch_queue.proofs.Common.{BatchState, EndRecord, IsValidView, IsValidStep, IsWhole, Lawful, List, Performed, MarkSays, AbsState, Step, View, [], ap, append_assoc, arith, items_of, length, load, mark_word, of_batches, refl, subst, sym, tail_word, with_part, ℕ, ⊎_elim, ◌++◌, ◌+◌, ◌/◌, ◌<◌, ◌∙◌, ◌∷◌, ◌≡◌, ◌≤◌}
 use Rattle.std.specs.List.{AllByRecursion}
 use Rattle.table_theory.specs.Courses.{Continues}
 use Rattle.table_theory.proofs.Reaching.{all_after, alone_since}
-use Rattle.table_theory.proofs.Saying.{at_word}
 use Rattle.batch_queue.specs.declared.refusals.TakeRefusal.TheVariants as not_taken
 use Rattle.batch_queue.specs.Parts.{LostBy, NoStop, NotPartedBy, PartedBy, PassedStop, Reached, RefusedTakeSome, StopBy, after_walk, all, already, at_tail, changed, given, meanwhile, no_more, not_parted, one_more, parted, passed, with_parts, within}
 use Rattle.batch_queue.specs.Takings.{PassedEmpty}
-use Rattle.batch_queue.specs.Walks.{FollowedBy, IsWalk, LeadsOn, Walk, end_of, walked}
+use Rattle.batch_queue.specs.Walks.{IsWalk, LeadsOn, Walk, end_of, walked}
 use Rattle.batch_queue.proofs.Growing.{freed_taken, taken_claimed}
 use Rattle.batch_queue.proofs.Reporting.{mark_is, tail_says}
 use Rattle.batch_queue.proofs.Unrivalled.{followed_stays, passed_empty, take_not_lost}

@@ -1,19 +1,19 @@
 -- The end of a taking of some items, by all loads and the parting that led there.
-use Rattle.batch_queue.proofs.Common.{BatchState, EndRecord, Found, HasStop, List, Performed, AbsState, Step, View, [], ap, arith, inl, inr, load, mark_word, append_assoc, refl, subst, sym, tail_word, ℕ, ⊎_elim, ◌++◌, ◌+◌, ◌/◌, ◌<◌, ◌∙◌, ◌∷◌, ◌≡◌, ◌≤◌}
-use Rattle.table_theory.proofs.Parting.{made_on}
-use Rattle.batch_queue.specs.Parts.{FoundRest, FoundStop, LostStop, LostWithin, Reached, StoppedWithin, WhyNoStop, after_walk, all, at_tail, no_more, not_parted, one_more, passed, within, with_parts}
-use Rattle.std.specs.Prelude.{Result, Ok, Err, MatchResult}
-use Rattle.table_theory.proofs.Reaching.{adds_after}
-use Rattle.table_theory.specs.Ledgers.{ExtendsTrace}
+use Rattle.batch_queue.proofs.Common.{BatchState, EndRecord, Found, Grows, HasStop, IsRest, List, POSITIONS, dec_le, dite, ◌⊎◌, Performed, AbsState, Step, View, [], ap, arith, inl, inr, load, mark_word, refl, subst, sym, tail_word, ℕ, ⊎_elim, ◌++◌, ◌+◌, ◌/◌, ◌<◌, ◌∙◌, ◌∷◌, ◌≡◌, ◌≤◌}
+use Rattle.table_theory.proofs.Parting.{made_on, made_then}
+use Rattle.batch_queue.specs.Parts.{FoundRest, FoundStop, LostStop, LostWithin, Reached, StoppedShort, StoppedWithin, WhyNoStop, after_walk, all, at_tail, no_more, not_parted, one_more, passed, within, with_parts}
+use Rattle.std.specs.Prelude.{Result, Ok, Err, IfOk, MatchResult}
 use Rattle.table_theory.specs.declared.views.Part.{Part}
-use Rattle.batch_queue.specs.Moments.{MarkChanged}
+use Rattle.batch_queue.proofs.Quiet.{others_after}
 use Rattle.batch_queue.specs.declared.refusals.TakeRefusal.{TakeRefusal}
 use Rattle.batch_queue.specs.declared.refusals.TakeRefusal.TheVariants.{Lost}
-use Rattle.batch_queue.proofs.Timing.{was_so_after}
-use Rattle.batch_queue.specs.Walks.{Followed, FollowedBy, LeadsOn, Passed}
+use Rattle.table_theory.proofs.Moments.{moment_after, moment_map, moment_then}
+use Rattle.batch_queue.specs.Walks.{Followed, FollowedBy, LeadsOn, Passed, StoppedUp}
 use Rattle.batch_queue.proofs.Dividing.{made_none_parted}
-use Rattle.batch_queue.proofs.Walking.{up_more}
-use Rattle.batch_queue.proofs.Whole.{batch_end}
+use Rattle.batch_queue.proofs.Growing.{grows_refl, grows_trans}
+use Rattle.batch_queue.proofs.Stops.{rest_on}
+use Rattle.batch_queue.proofs.Walking.{edge_within, found_real, up_at, up_more}
+use Rattle.batch_queue.proofs.Whole.{batch_end, one_batch}
 
 -- what was passed up to the first mark
 pub first_rest : (v : View) (tail e : ℕ) → FoundRest v tail tail e → Passed 0 v tail e
@@ -79,36 +79,22 @@ module _ (room tail most first : ℕ) (on : LeadsOn 0 tail first) where
 
 -- WHAT CAME OF IT, AFTER OTHER STEPS
 
-pub changed_after : (v u w : View) (xs : List (Step BatchState)) {a : EndRecord} → Performed v xs a u → MarkChanged u w → MarkChanged v w
-changed_after v u w xs m (p, h) = (
-  p,
-  record {
-    before = xs ++ h.before;
-    first = h.first;
-    between = h.between;
-    second = h.second;
-    after = h.after;
-    adds = subst (λ (z : List (Step BatchState)). ExtendsTrace v z w) (sym (append_assoc xs h.before (h.first ∷ (h.between ++ h.second ∷ h.after)))) (adds_after v u w xs (h.before ++ h.first ∷ (h.between ++ h.second ∷ h.after)) (ap (λ (z : Part). z.share) m.member) m.adds h.adds);
-    holds = h.holds;
-  },
-)
-
-pub why_after : (tail now : ℕ) (v u w : View) (xs : List (Step BatchState)) {a : EndRecord} → Performed v xs a u → WhyNoStop tail now u w → WhyNoStop tail now v w
-why_after tail now v u w xs m h = let share = ap (λ (z : Part). z.share) m.member in ⊎_elim
-    (λ s. inl (was_so_after v u w xs _ share m.adds s))
-    (λ t. inr (was_so_after v u w xs _ share m.adds t.0, changed_after v u w xs m t.1))
+pub why_after : (tail last now : ℕ) (v u w : View) (xs : List (Step BatchState)) {a : EndRecord} → Performed v xs a u → WhyNoStop tail last now u w → WhyNoStop tail last now v w
+why_after tail last now v u w xs m h = let share = ap (λ (z : Part). z.share) m.member in ⊎_elim
+    (λ s. inl (moment_after v u w xs _ share m.adds s))
+    (λ t. inr (moment_after v u w xs _ share m.adds t.0, others_after v u w xs _ share m.adds t.1))
     h
 
 abbrev Stops : ℕ → ℕ → Result ℕ TakeRefusal → View → View → Type 0
-Stops tail last r u w = MatchResult r (λ to. (to ≡ last) × HasStop w tail last) (λ e. (now : ℕ) × (e ≡ Lost now) × WhyNoStop tail now u w)
+Stops tail last r u w = MatchResult r (λ to. (to ≡ last) × HasStop w tail last) (λ e. (now : ℕ) × (e ≡ Lost now) × WhyNoStop tail last now u w)
 
 abbrev Traces : ℕ → ℕ → ℕ → ℕ → Result ℕ TakeRefusal → View → View → Type 0
 Traces room tail last end r u w = MatchResult r (λ to. StoppedWithin room tail last end u w) (λ e. (now : ℕ) × (e ≡ Lost now) × LostWithin room tail last now u w)
 
 pub stops_after : (tail most : ℕ) (r : Result ℕ TakeRefusal) (v u w : View) (xs : List (Step BatchState)) {a : EndRecord} → 0 < most → Performed v xs a u → Stops tail (tail + most) r u w
-    → MatchResult r (λ to. HasStop w tail to × (tail < to) × (to ≤ tail + most)) (λ e. (now : ℕ) × (e ≡ Lost now) × WhyNoStop tail now v w)
+    → MatchResult r (λ to. HasStop w tail to × (tail < to) × (to ≤ tail + most)) (λ e. (now : ℕ) × (e ≡ Lost now) × WhyNoStop tail (tail + most) now v w)
 stops_after tail most (Ok to) v u w xs some_item m (is, h) = (subst (HasStop w tail) (sym is) h, omega arith, omega arith)
-stops_after tail most (Err e) v u w xs some_item m (now, is, h) = (now, is, why_after tail now v u w xs m h)
+stops_after tail most (Err e) v u w xs some_item m (now, is, h) = (now, is, why_after tail (tail + most) now v u w xs m h)
 
 pub traces_after : (room tail most first at mark : ℕ) (r : Result ℕ TakeRefusal) (v u w : View) (pre : List (Step BatchState)) → LeadsOn 0 tail first → ((m : AbsState BatchState) → Reached room tail most at mark (load (mark_word room tail) first m ∷ pre)) → LeadsOn 0 at mark → tail + most < mark / 2 → Performed v pre v.own u → Stops tail (tail + most) r u w → Traces room tail (tail + most) (mark / 2) r u w
     → MatchResult r (λ to. FoundStop room tail most first to v w) (λ e. (now : ℕ) × (e ≡ Lost now) × LostStop room tail most first now v w)
@@ -121,3 +107,50 @@ rest_more room most tail from at mark v u w rooms low started up f t on = ⊎_el
     (λ past. inl past)
     (λ a. inr (a.0, a.2))
     (up_more room u w tail at mark low started (⊎_elim (λ past. inl past) (λ a. inr a.0) up) t (ap (λ (z : BatchState). z.room) t.made.adds.first ∙ (ap (λ (z : BatchState). z.room) f.made.adds.first ∙ rooms)) on)
+
+-- WHAT WAS NOT PUBLISHED
+
+pub full_after : (tail most : ℕ) (r : Result ℕ TakeRefusal) (v u w : View) → Stops tail (tail + most) r u w → IfOk r (λ to. (to ≡ tail + most) ⊎ StoppedShort tail to v w)
+full_after tail most (Ok to) v u w (is, h) = inl is
+full_after tail most (Err e) v u w h = tt
+
+-- nothing was published where the walk ended
+pub none_short : (room last tail from at mark : ℕ) (v u w : View) → v.first.room ≡ room → tail ≤ at → Passed 0 u tail at → Followed 0 last room from at v u → Grows v.seen.object u.seen.object → Found u (mark_word room at) mark w → (LeadsOn 0 at mark → ⊥) → StoppedShort tail at v w
+none_short room last tail from at mark v u w rooms on led f g t none = let e : Step BatchState = load (mark_word room at) mark w.seen in let o : BatchState = w.seen.object in let bounded = (found_real u w (mark_word room at) mark t).shows.bounded in record {
+  before = f.loads;
+  step = e;
+  after = [];
+  adds = (made_then v u w f.loads (e ∷ []) v.own (λ d. d) f.made t.made).adds;
+  holds = (
+    grows_trans v.seen.object u.seen.object o g t.grows,
+    grows_refl o,
+    λ low. (
+      at,
+      omega arith,
+      ⊎_elim (λ y. y) (λ y. (let far = y.2 in let below = edge_within o.batches y.0 (batch_end o.batches _ _ y.1.batch) in absurd (omega arith)))
+          (up_at POSITIONS room tail at mark u w on (ap (λ (z : BatchState). z.room) f.made.adds.first ∙ rooms) led t (λ leads far. none leads) low),
+    ),
+  );
+}
+
+-- the rests of batches from one position on have one end
+same_end : (bs : List (List ℕ)) (p a b : ℕ) → IsRest bs p a → IsRest bs p b → a ≡ b
+same_end bs p a b x y = let x0 = x.from in let x1 = x.some_item in let y0 = y.from in let y1 = y.some_item in dite (dec_le y.start x.start)
+    (λ le. (one_batch bs x.start a y.start b x.batch y.batch (omega arith) le (omega arith)).1)
+    (λ gt. sym (one_batch bs y.start b x.start a y.batch x.batch (omega arith) (omega arith) (omega arith)).1)
+
+-- a batch that fits was published after the walk ended
+pub more_short : (room last tail from at mark : ℕ) (v u w : View) → v.first.room ≡ room → tail ≤ at → tail ≤ u.seen.object.taken → Passed 0 u tail at → Followed 0 last room from at v u → StoppedUp tail at last v u → Found u (mark_word room at) mark w → LeadsOn 0 at mark → mark / 2 ≤ last → StoppedShort tail (mark / 2) v w
+more_short room last tail from at mark v u w rooms on started led f s t leads fits = moment_then v u w (load (mark_word room at) mark w.seen ∷ []) _ (ap (λ (z : Part). z.share) f.made.member)
+    (moment_map v u _ _ (λ o h. (let g = grows_trans o u.seen.object w.seen.object h.1 t.grows in let after = leads.1 in (
+      h.0,
+      g,
+      λ low. ⊎_elim
+          (λ none. (at, omega arith, none))
+          (λ y. absurd (⊎_elim
+          (λ past. (let l : tail < w.seen.object.taken = past in omega arith))
+          (λ a. (let same = same_end w.seen.object.batches at y.0 (mark / 2) (rest_on o.batches w.seen.object.batches g.more.0 at y.0 g.more.1 y.1) a.1 in let far = y.2 in omega arith))
+          (rest_more room last tail from at mark v u w rooms on started led f t leads)))
+          (h.4 (let l = g.taken in omega arith)),
+    ))) s)
+    t.made.adds

@@ -1,14 +1,15 @@
 -- Puts and takings that are retried.
-use Rattle.batch_queue.proofs.Common.{BatchState, List, Performed, Step, View, [], ap, append-nil, append_assoc, arith, drop, inl, inr, length, map, refl, subst, sym, take, true, false, ℕ, ◌++◌, ◌∙◌, ◌∷◌, ◌≡◌}
+use Rattle.batch_queue.proofs.Common.{BatchState, EndRecord, List, Performed, Step, View, [], ap, append-nil, append_assoc, arith, drop, inl, inr, length, map, refl, subst, sym, take, true, false, ℕ, ⊎_elim, ◌++◌, ◌+◌, ◌∙◌, ◌∷◌, ◌≡◌}
 use Rattle.std.proofs.Common.{true≢false, Result, Ok, Err}
-use Rattle.std.specs.Prelude.{MatchResult, IfErr, IfOk}
+use Rattle.std.specs.Prelude.{MatchResult, IfErr, IfOk, min}
 use Rattle.std.specs.List.{AllByRecursion}
 use Rattle.table_theory.proofs.Looking.{looks_on, looks_made}
 use Rattle.table_theory.proofs.Parting.{made_none, made_then}
 use Rattle.table_theory.proofs.Reaching.{adds_none, all_on}
 use Rattle.table_theory.specs.Ledgers.{ExtendsTrace, OnlyLoads}
 use Rattle.table_theory.specs.declared.views.Part.{Part}
-use Rattle.batch_queue.specs.Client.{WhyNotPut, WhyNotTaken}
+use Rattle.batch_queue.specs.Client.{HasPut, TookAllThatFit, WereFirst, WhyNotPut, WhyNotTaken}
+use Rattle.batch_queue.specs.Object.{NoneFits}
 use Rattle.table_theory.specs.Batches.{line_of}
 use Rattle.batch_queue.specs.Lines.{PutLine, SameLines, TookLine}
 use Rattle.batch_queue.specs.Puts.{IsPut, IsLostTry, PutAnswer, RefusedPut, RefusedPutBy, is_lost, tried, with_put}
@@ -17,7 +18,8 @@ use Rattle.batch_queue.specs.declared.refusals.PutRefusal.{PutRefusal}
 use Rattle.batch_queue.specs.declared.refusals.PutRefusal.TheVariants.{NoItems, TooLong, Closed, Spent, Full, Lost}
 use Rattle.batch_queue.specs.declared.refusals.TakeRefusal.{TakeRefusal}
 use Rattle.batch_queue.specs.declared.refusals.TakeRefusal.TheVariants as takes
-use Rattle.batch_queue.proofs.Timing.{changed_after, was_so_after}
+use Rattle.table_theory.proofs.Moments.{moment_after, moment_map, two_after, two_map}
+use Rattle.batch_queue.proofs.Quiet.{others_after}
 
 tried_on : (xs ys : List (List (Step BatchState))) → tried (xs ++ ys) ≡ tried xs ++ tried ys
 tried_on [] ys = refl
@@ -28,7 +30,7 @@ pub looks_adds : (v u : View) (xs : List (Step BatchState)) → OnlyLoads v xs u
 looks_adds v u [] h = subst (λ (z : View). ExtendsTrace v [] z × (z.member ≡ v.member)) (sym h) (adds_none v, refl)
 looks_adds v u (x ∷ xs) h = (h.adds, h.member)
 
-looks_own : (v u : View) (xs : List (Step BatchState)) → OnlyLoads v xs u → u.own ≡ v.own
+pub looks_own : (v u : View) (xs : List (Step BatchState)) → OnlyLoads v xs u → u.own ≡ v.own
 looks_own v u [] h = ap (λ (z : View). z.own) h
 looks_own v u (x ∷ xs) h = h.did
 
@@ -100,17 +102,18 @@ pub why_put : (room count : ℕ) (v u w : View) (r : PutRefusal) → Tried room 
 why_put room count v u w r ([], all, a) h = subst (λ (z : View). WhyNotPut z room count r w) a h
 why_put room count v u w NoItems (t ∷ ts, all, a) (none, same) = let fits = all.0.1.0 in absurd (let some = fits.0 in omega arith)
 why_put room count v u w TooLong (t ∷ ts, all, a) (long, same) = let fits = all.0.1.0 in absurd (let few = fits.1 in omega arith)
-why_put room count v u w Closed (t ∷ ts, all, a) h = let l = looks_adds v u (tried (t ∷ ts)) a in was_so_after v u w (tried (t ∷ ts)) _ (ap (λ (z : Part). z.share) l.1) l.0 h
-why_put room count v u w Spent (t ∷ ts, all, a) h = let l = looks_adds v u (tried (t ∷ ts)) a in was_so_after v u w (tried (t ∷ ts)) _ (ap (λ (z : Part). z.share) l.1) l.0 h
-why_put room count v u w (Full head free) (t ∷ ts, all, a) (over, h) = let l = looks_adds v u (tried (t ∷ ts)) a in (over, was_so_after v u w (tried (t ∷ ts)) _ (ap (λ (z : Part). z.share) l.1) l.0 h)
-why_put room count v u w (Lost head) (t ∷ ts, all, a) h = let l = looks_adds v u (tried (t ∷ ts)) a in changed_after v u w (tried (t ∷ ts)) _ (ap (λ (z : Part). z.share) l.1) l.0 h
+why_put room count v u w Closed (t ∷ ts, all, a) (fits, h) = let l = looks_adds v u (tried (t ∷ ts)) a in (fits, moment_after v u w (tried (t ∷ ts)) _ (ap (λ (z : Part). z.share) l.1) l.0 h)
+why_put room count v u w Spent (t ∷ ts, all, a) (fits, h) = let l = looks_adds v u (tried (t ∷ ts)) a in (fits, moment_after v u w (tried (t ∷ ts)) _ (ap (λ (z : Part). z.share) l.1) l.0 h)
+why_put room count v u w (Full head free) (t ∷ ts, all, a) (fits, (bounded, over, h)) = let l = looks_adds v u (tried (t ∷ ts)) a in (fits, (bounded, over, two_after v u w (tried (t ∷ ts)) _ (ap (λ (z : Part). z.share) l.1) l.0 h))
+why_put room count v u w (Lost head) (t ∷ ts, all, a) (fits, inl h) = let l = looks_adds v u (tried (t ∷ ts)) a in (fits, inl (two_after v u w (tried (t ∷ ts)) _ (ap (λ (z : Part). z.share) l.1) l.0 h))
+why_put room count v u w (Lost head) (t ∷ ts, all, a) (fits, inr (h, k)) = let l = looks_adds v u (tried (t ∷ ts)) a in let share = ap (λ (z : Part). z.share) l.1 in (fits, inr (moment_after v u w (tried (t ∷ ts)) _ share l.0 h, others_after v u w (tried (t ∷ ts)) _ share l.0 k))
 
 pub put_error : (room count : ℕ) (v u w : View) (r : Result ℕ PutRefusal) → Tried room count v u → IfErr r (λ e. WhyNotPut u room count e w) → IfErr r (λ e. WhyNotPut v room count e w)
 put_error room count v u w (Ok start) t h = h
 put_error room count v u w (Err e) t h = why_put room count v u w e t h
 
 -- what was put, and that nothing else was, of the whole call
-looks_lines : (v u : View) (xs : List (Step BatchState)) → OnlyLoads v xs u → SameLines v u
+pub looks_lines : (v u : View) (xs : List (Step BatchState)) → OnlyLoads v xs u → SameLines v u
 looks_lines v u xs h = let own = looks_own v u xs h in (record { puts = (λ k. map line_of (own k).runs); takes = (λ k. map line_of (own k).takes); share = ap (λ (z : Part). z.share) (looks_adds v u xs h).1 }, λ k. (own k).parts)
 
 same_then : (v u w : View) → SameLines v u → SameLines u w → SameLines v w
@@ -125,6 +128,14 @@ took_then line v u w a b = (record { puts = b.0.puts ∙ a.0.puts; takes = b.0.t
 pub put_effect : (room : ℕ) (items : List ℕ) (v u w : View) (r : Result ℕ PutRefusal) → Tried room (length items) v u → MatchResult r (λ start. PutLine items u w) (λ e. SameLines u w) → MatchResult r (λ start. PutLine items v w) (λ e. SameLines v w)
 put_effect room items v u w (Ok start) (tries, all, a) h = put_then items v u w (looks_lines v u (tried tries) a) h
 put_effect room items v u w (Err e) (tries, all, a) h = same_then v u w (looks_lines v u (tried tries) a) h
+
+-- where the items were put, of the whole call
+pub put_result : (room : ℕ) (items : List ℕ) (v u w : View) (r : Result ℕ PutRefusal) → Tried room (length items) v u → IfOk r (λ start. HasPut u start items w) → IfOk r (λ start. HasPut v start items w)
+put_result room items v u w (Ok start) (tries, all, a) h = let l = looks_adds v u (tried tries) a in (
+  moment_after v u w (tried tries) _ (ap (λ (z : Part). z.share) l.1) l.0 h.0,
+  h.1 ∙ ap (λ (z : EndRecord). with_put z start items) (looks_own v u (tried tries) a),
+)
+put_result room items v u w (Err e) t h = tt
 
 -- a lost answer is not that the queue is shut
 pub lost_not_shut : {A : Type 0} (r : Result ℕ PutRefusal) → is_lost r ≡ true → MatchResult r (λ start. ⊥) (λ e. e ≡ Closed) → A
@@ -182,14 +193,26 @@ refused_at_last room most v u w line r is (tries, all, a) h = let at = refused_t
     (is, tries, all, at.2 (λ z. Performed v (tried tries ++ z) v.own w) (made_then v u w (tried tries) at.0 v.own (λ d. d) a at.1))
 
 why_taken : (room most : ℕ) (v u w : View) (r : TakeRefusal) → Waited room most v u → WhyNotTaken u most r w → WhyNotTaken v most r w
-why_taken room most v u w (takes.Empty at) (tries, all, a) (h, k) = (was_so_after v u w (tried tries) _ (ap (λ (z : Part). z.share) a.member) a.adds h, was_so_after v u w (tried tries) _ (ap (λ (z : Part). z.share) a.member) a.adds k)
-why_taken room most v u w (takes.ShortBuffer at count) (tries, all, a) (long, h) = (long, was_so_after v u w (tried tries) _ (ap (λ (z : Part). z.share) a.member) a.adds h)
-why_taken room most v u w (takes.Lost now) (tries, all, a) h = changed_after v u w (tried tries) _ (ap (λ (z : Part). z.share) a.member) a.adds h
-why_taken room most v u w takes.Closed (tries, all, a) h = was_so_after v u w (tried tries) _ (ap (λ (z : Part). z.share) a.member) a.adds h
+why_taken room most v u w (takes.Empty at) (tries, all, a) (h, k) = (moment_after v u w (tried tries) _ (ap (λ (z : Part). z.share) a.member) a.adds h, moment_after v u w (tried tries) _ (ap (λ (z : Part). z.share) a.member) a.adds k)
+why_taken room most v u w (takes.ShortBuffer at count) (tries, all, a) (long, h) = (long, moment_after v u w (tried tries) _ (ap (λ (z : Part). z.share) a.member) a.adds h)
+why_taken room most v u w (takes.Lost now) (tries, all, a) h = two_after v u w (tried tries) _ (ap (λ (z : Part). z.share) a.member) a.adds h
+why_taken room most v u w takes.Closed (tries, all, a) h = moment_after v u w (tried tries) _ (ap (λ (z : Part). z.share) a.member) a.adds h
 
 pub take_error : (room most : ℕ) (v u w : View) (r : Result ℕ TakeRefusal) → Waited room most v u → IfErr r (λ e. WhyNotTaken u most e w) → IfErr r (λ e. WhyNotTaken v most e w)
 take_error room most v u w (Ok n) t h = h
 take_error room most v u w (Err e) t h = why_taken room most v u w e t h
+
+-- what was taken, of the whole call
+pub take_result_in : (room : ℕ) (old now new : List ℕ) (v u w : View) (r : Result ℕ TakeRefusal) → now ≡ old → Waited room (length old) v u → IfOk r (λ n. WereFirst u (take n new) w × TookAllThatFit u room (length now) n w)
+    → IfOk r (λ n. WereFirst v (take n new) w × TookAllThatFit v room (length old) n w)
+take_result_in room old now new v u w (Ok n) same (tries, all, a) (h, k) = let share = ap (λ (z : Part). z.share) a.member in let long : length now ≡ length old = ap length same in (
+  moment_after v u w (tried tries) _ share a.adds (moment_map u w _ _ (λ o t. (t.0, t.1 ∙ ap (λ (z : EndRecord). with_line z o (length (take n new))) a.did)) h),
+  ⊎_elim
+      (λ full. inl (full ∙ ap (λ (z : ℕ). min z room) long))
+      (λ t. inr (two_after v u w (tried tries) _ share a.adds (two_map u w _ _ (λ o later y. (y.0, subst (λ (z : ℕ). NoneFits o (later.taken + n) (later.taken + min z room)) long y.1, y.2 ∙ ap (λ (z : EndRecord). with_line z later n) a.did)) t)))
+      k,
+)
+take_result_in room old now new v u w (Err e) same t h = tt
 
 waited_lines : (room most : ℕ) (v u : View) → Waited room most v u → SameLines v u
 waited_lines room most v u (tries, all, a) = (record { puts = (λ k. map line_of (a.did k).runs); takes = (λ k. map line_of (a.did k).takes); share = ap (λ (z : Part). z.share) a.member }, λ k. (a.did k).parts)

@@ -5,7 +5,8 @@ use Rattle.atomic_table.specs.declared.shared.Seat.{Seat}
 use Rattle.table_theory.proofs.Parting.{made_none, made_then}
 use Rattle.table_theory.specs.declared.views.Part.{Part}
 use Rattle.batch_queue.specs.Moments.{IsGivenBackTo}
-use Rattle.batch_queue.specs.Walks.{LeadsOn, Walk, IsWalk, at_most, at_mark, Followed, Passed, Starts, StoppedAt, end_of, walked}
+use Rattle.batch_queue.specs.Object.{NoneFits}
+use Rattle.batch_queue.specs.Walks.{LeadsOn, Walk, IsWalk, at_most, at_mark, Followed, Passed, Starts, StoppedAt, StoppedUp, end_of, walked}
 use Rattle.batch_queue.proofs.Growing.{freed_taken, taken_claimed, claimed_at, grows_refl, grows_trans}
 use Rattle.batch_queue.proofs.Whole.{edge_on, edge_batch, batch_end, concat_grows}
 use Rattle.batch_queue.proofs.Stepping.{first_room, step_real}
@@ -112,6 +113,20 @@ given_at most room base p mark v w all on rooms started passed f short free = le
     (λ is. not_given o r.words base p mark r.lawful r.shows (omega arith) on is.0 is.1 (ap (λ (z : ℕ). get_or r.words (mark_word z p) 0) same ∙ sym r.is) (λ leads far. short leads (omega arith)))
     (passed_grows 1 v w base p f.grows passed)
 
+-- at the end of what was found published no batch can be taken
+pub not_up : (o : BatchState) (words : List ℕ) (p mark most : ℕ) → Lawful o → WordsShow o words → o.taken ≤ p → IsEdge o.batches p → get_or words (mark_word o.room p) 0 ≡ mark → (LeadsOn 0 p mark → mark / 2 ≤ most → ⊥) → NoneFits o p most
+not_up o words p mark most l h on edge is short = dite (dec_lt 0 (phase_at o p))
+    (λ some. (let up : 1 ≤ phase_at o p = omega arith in let t = edge_batch o.batches p edge (claimed_at o l p up) in let less = t.2 in let e = sym is ∙ h.batch_mark p t.0 t.1 t.2 on up in
+    inr (t.0, record { start = p; batch = t.1; from = omega arith; some_item = t.2 }, dite (dec_lt most t.0) (λ y. y) (λ no. absurd (short (omega arith, omega arith) (omega arith))))))
+    (λ low. inl (omega arith))
+
+pub up_at : (most room base p mark : ℕ) (v w : View) → base ≤ p → v.first.room ≡ room → Passed 0 v base p → Found v (mark_word room p) mark w → (LeadsOn 0 p mark → mark / 2 ≤ most → ⊥) → w.seen.object.taken ≤ base → NoneFits w.seen.object p most
+up_at most room base p mark v w on rooms passed f short at = let o : BatchState = w.seen.object in let r = found_real v w (mark_word room p) mark f in
+    let same : o.room ≡ room = seen_room w f.ruled ∙ (ap (λ (z : BatchState). z.room) f.made.adds.first ∙ rooms) in
+    ⊎_elim (λ past. absurd (let l : base < o.taken = past in omega arith))
+    (λ is. not_up o r.words p mark most r.lawful r.shows (omega arith) is.1 (ap (λ (z : ℕ). get_or r.words (mark_word z p) 0) same ∙ sym r.is) short)
+    (passed_grows 0 v w base p f.grows passed)
+
 -- THE STEPS
 
 walked_on : (room p : ℕ) (xs ys : Walk) → walked room p (xs ++ ys) ≡ walked room p xs ++ walked room (end_of p xs) ys
@@ -170,4 +185,20 @@ stopped_at parity most room base from to mark v u w odd all on low rooms g start
   after = [];
   adds = made.adds;
   holds = (grows_trans v.seen.object u.seen.object w.seen.object g f.grows, grows_refl w.seen.object, given_at most room base to mark u w all (omega arith) rooms (subst (λ (z : ℕ). Starts z u base) odd started) (subst (λ (z : ℕ). Passed z u base to) odd passed) f (subst (λ (z : ℕ). LeadsOn z to mark → mark / 2 ≤ most → ⊥) odd short));
+}
+
+-- at the moment of the last mark no batch could be taken from there on
+pub stopped_up : (parity most room base from to mark : ℕ) (v u w : View) → parity ≡ 0 → from ≤ to → base ≤ from → u.first.room ≡ room → Grows v.seen.object u.seen.object → Passed parity u base to → Follows parity most room from to v u → Found u (mark_word room to) mark w → (LeadsOn parity to mark → mark / 2 ≤ most → ⊥) → StoppedUp base to most v w
+stopped_up parity most room base from to mark v u w even on low rooms g passed h f short = let e : Step BatchState = load (mark_word room to) mark w.seen in let made = made_then v u w (walked room from h.walk) (e ∷ []) v.own (λ d. d) h.made f.made in record {
+  before = walked room from h.walk;
+  step = e;
+  after = [];
+  adds = made.adds;
+  holds = (
+    grows_trans v.seen.object u.seen.object w.seen.object g f.grows,
+    grows_refl w.seen.object,
+    (found_real u w (mark_word room to) mark f).lawful,
+    seen_room w f.ruled,
+    λ at. up_at most room base to mark u w (omega arith) rooms (subst (λ (z : ℕ). Passed z u base to) even passed) f (subst (λ (z : ℕ). LeadsOn z to mark → mark / 2 ≤ most → ⊥) even short) at,
+  );
 }

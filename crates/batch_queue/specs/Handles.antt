@@ -14,7 +14,7 @@ abbrev pub call_of : BatchEnd → ℕ
 call_of end = end.seat.id
 
 -- the number of places of the queue
-abbrev pub room_of : BatchQueue → ℕ
+abbrev pub room_of : {C : Type 0} → BatchQueue C → ℕ
 room_of queue = queue.room
 
 -- the end has the whole share: every other end was joined
@@ -26,7 +26,7 @@ abbrev pub IsDivisible : BatchEnd → Type 0
 IsDivisible end = 2 ≤ end.seat.me.0.member.share
 
 -- the end is an end of this queue
-abbrev pub IsEndOf : BatchQueue → BatchEnd → Type 0
+abbrev pub IsEndOf : {C : Type 0} → BatchQueue C → BatchEnd → Type 0
 IsEndOf queue end = end.seat.table_id ≡ queue.table.shared.table_id
 
 -- both are the same end of the same queue, at two moments

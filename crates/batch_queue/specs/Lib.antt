@@ -20,3 +20,4 @@ pub mod Takings
 pub mod Hints
 pub mod Parts
 pub mod Evidence
+pub mod Plain

@@ -51,6 +51,14 @@ pub record IsRest (batches : List (List ℕ)) (p e : ℕ) : Type 0 where
   pub from : start ≤ p
   pub some_item : p < e
 
+-- no batch can be taken from this position on: nothing is published there, or a batch that ends past the limit
+abbrev pub NoneFits : BatchState → ℕ → ℕ → Type 0
+NoneFits o p limit = (phase_at o p ≡ 0) ⊎ ((e : ℕ) × IsRest o.batches p e × (limit < e))
+
+-- this position or one before it is not published
+abbrev pub LacksUpTo : BatchState → ℕ → Type 0
+LacksUpTo o to = (p : ℕ) × (p ≤ to) × (phase_at o p ≡ 0)
+
 -- the position is published, and lies within a batch that ends at e, after its first position
 abbrev pub IsWithin : BatchState → ℕ → ℕ → Type 0
 IsWithin o p e = (rest : IsRest o.batches p e) × (rest.start < p) × (1 ≤ phase_at o p)

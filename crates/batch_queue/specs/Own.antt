@@ -1,10 +1,11 @@
 -- An end's own part of its view: its runs, its takings, how often it shut the queue and parted a batch, and the slots
 -- that it holds.
 use Rattle.std.specs.Prelude.{◌≡◌, ℕ, ◌+◌, ◌<◌, ◌≤◌, List, [], ◌∷◌, ◌++◌, length, slice_set}
-use Rattle.std.specs.Prelude.{slice_index_or, Bool, if◌then◌else◌}
+use Rattle.std.specs.Prelude.{slice_index_or, Bool, if◌then◌else◌, map}
 use mathlib.Core.Option.{some}
 use lib.ListN.{get_elem?}
 use Rattle.table_theory.specs.declared.queues.Batch.{Batch}
+use Rattle.table_theory.specs.declared.queues.Cell.{Cell}
 use Rattle.table_theory.specs.declared.queues.QueueView.{QueueView}
 use Rattle.table_theory.specs.declared.views.EndState.{EndState}
 pub use Rattle.table_theory.specs.Batches.{run, taking}
@@ -69,6 +70,18 @@ with_taking d o n = record d {
   takes = d.takes ++ taking (positions_of o) n ∷ [];
   held = holding 2 o.taken n;
 }
+
+-- the place of an item that is published
+abbrev pub published : ℕ → Cell
+published item = record { item = item; stage = 2 }
+
+-- the record with one more run, all of it published
+abbrev pub with_put : EndRecord → ℕ → List ℕ → EndRecord
+with_put d start items = record d { runs = d.runs ++ record { start = start; places = map published items } ∷ [] }
+
+-- the record with one more taking, of n items from the tail on
+abbrev pub with_line : EndRecord → BatchState → ℕ → EndRecord
+with_line d o n = record d { takes = d.takes ++ taking (positions_of o) n ∷ [] }
 
 -- the run whose slots an end holds, of which nothing is published
 pub record HasRun (d : EndRecord) : Type 0 where

@@ -1,5 +1,5 @@
 -- Answers of a taking of up to a given number of items, which may part the last batch.
-use Rattle.std.specs.Prelude.{◌≡◌, ◌≢◌, ◌⊎◌, ◌+◌, ◌/◌, ◌<◌, ◌≤◌, ℕ, min, List, [], ◌∷◌, ◌++◌, length, take, drop}
+use Rattle.std.specs.Prelude.{◌≡◌, ◌≢◌, ◌⊎◌, ◌+◌, ◌/◌, ◌<◌, ◌≤◌, ℕ, min, List, [], ◌∷◌, ◌++◌, length, drop}
 use Rattle.std.specs.Prelude.{Bool, MatchBool}
 use Rattle.atomic_table.specs.Table.{Me}
 use Rattle.table_theory.specs.declared.views.AbsState.{AbsState}
@@ -11,9 +11,10 @@ use Rattle.batch_queue.specs.declared.rule.BatchState.{BatchState}
 use Rattle.batch_queue.specs.declared.rule.EndRecord.{EndRecord}
 use Rattle.batch_queue.specs.Client.{WhyNotTaken}
 use Rattle.batch_queue.specs.Layout.{tail_word, mark_word}
+pub use Rattle.batch_queue.specs.Lines.{AreSome}
 use Rattle.batch_queue.specs.Lines.{lines_put, lines_taken, times_parted}
 use Rattle.batch_queue.specs.Moments.{AtSomeMoment, MarkChanged}
-use Rattle.batch_queue.specs.Object.{items_of, phase_at, IsRest, IsStop, with_back, with_part, with_taken}
+use Rattle.batch_queue.specs.Object.{phase_at, Grows, IsRest, LacksUpTo, with_back, with_part, with_taken}
 use Rattle.batch_queue.specs.Own.{View, with_taking}
 use Rattle.batch_queue.specs.Slots.{slots_of}
 use Rattle.batch_queue.specs.Steps.{HoldsRange}
@@ -95,6 +96,11 @@ abbrev pub FoundRest : View → ℕ → ℕ → ℕ → Type 0
 FoundRest v tail p e = (tail < v.seen.object.taken)
     ⊎ (((i : ℕ) → tail ≤ i → i < e → 1 ≤ phase_at v.seen.object i) × IsRest v.seen.object.batches p e)
 
+-- At a moment of the search for the end of a taking, an item up to `to` was not published; or the tail passed `base`
+abbrev pub StoppedShort : ℕ → ℕ → View → View → Type 0
+StoppedShort base to v w = AtSomeMoment v w (λ o. Grows v.seen.object o × Grows o w.seen.object
+    × (w.seen.object.taken ≤ base → LacksUpTo o to))
+
 -- the end found where the taking ends, after it found the mark `first` at the tail
 pub record FoundStop (room tail most first to : ℕ) (v w : View) : Type 0 where
   pub loads : List (Step BatchState)
@@ -124,15 +130,10 @@ pub data LostWithin (room tail last now : ℕ) (v w : View) : Type 0 where
       → Performed v (load tail_word tail again ∷ (after ++ load tail_word now end ∷ [])) v.own w
       → LostWithin room tail last now v w
 
--- the tail was `now` at a moment of the call: past the earlier tail, or a mark was changed during the call
-abbrev pub WhyNoStop : ℕ → ℕ → View → View → Type 0
-WhyNoStop tail now v w = AtSomeMoment v w (λ o. (tail < o.taken) × (o.taken ≡ now))
-    ⊎ (AtSomeMoment v w (λ o. o.taken ≡ now) × MarkChanged v w)
-
--- The items taken are the first ones left, and after them a batch ends or was parted
-pub record AreSome (o : BatchState) (items : List ℕ) : Type 0 where
-  pub items_are : take (length items) (drop o.taken (items_of o)) ≡ items
-  pub stop : IsStop o (o.taken + length items)
+-- the tail was `now` at a moment of the call: past the earlier tail, or other ends changed the mark of `last`
+abbrev pub WhyNoStop : ℕ → ℕ → ℕ → View → View → Type 0
+WhyNoStop tail last now v w = AtSomeMoment v w (λ o. (tail < o.taken) × (o.taken ≡ now))
+    ⊎ (AtSomeMoment v w (λ o. o.taken ≡ now) × MarkChanged v last w)
 
 -- The tail was loaded, the end of a taking of up to `most` items was found, and then a compare-and-swap moved the tail
 -- there. Added says which list has these entries, given the moment of the compare-and-swap and the number of partings
@@ -195,12 +196,13 @@ abbrev pub RefusedTakeSome : ℕ → View → ℕ → TakeRefusal → View → T
 RefusedTakeSome room v most refusal w = ((most ≡ 0) × RefusedTake room v most refusal w)
     ⊎ RefusedSomeBy (λ parts entries. Performed v entries (with_parts v.own parts) w) room most refusal
 
--- The meaning of a refused taking of some items. ShortBuffer comes only if the buffer has no room. Lost also comes if a
--- mark was changed during the call
+-- The meaning of a refused taking of some items. ShortBuffer comes only if the buffer has no room. Lost also comes if
+-- other ends changed the mark of the position at which the taking had to end, `most` items past an earlier tail
 abbrev pub WhyNotTakenSome : View → ℕ → TakeRefusal → View → Type 0
 WhyNotTakenSome v most (ShortBuffer at count) w = (most ≡ 0) × WhyNotTaken v most (ShortBuffer at count) w
 WhyNotTakenSome v most (Lost now) w = WhyNotTaken v most (Lost now) w
-    ⊎ (AtSomeMoment v w (λ o. o.taken ≡ now) × MarkChanged v w)
+    ⊎ (AtSomeMoment v w (λ o. o.taken ≡ now) × (last : ℕ)
+    × AtSomeMoment v w (λ o. last ≡ o.taken + min most o.room) × MarkChanged v last w)
 WhyNotTakenSome v most refusal w = WhyNotTaken v most refusal w
 
 -- the end parted at most one batch more

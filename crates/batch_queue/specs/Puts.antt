@@ -1,9 +1,8 @@
 -- Answers of puts: all entries that a put added, and how their numbers compare.
-use Rattle.std.specs.Prelude.{◌≡◌, ◌⊎◌, ◌+◌, ◌<◌, ◌≤◌, ℕ, Bool, true, false, List, [], ◌∷◌, ◌++◌, length, map, min}
+use Rattle.std.specs.Prelude.{◌≡◌, ◌⊎◌, ◌+◌, ◌<◌, ◌≤◌, ℕ, Bool, true, false, List, [], ◌∷◌, ◌++◌, length, min}
 use Rattle.std.specs.Prelude.{take, Result, Ok, Err}
 use Rattle.std.specs.List.{AllByRecursion}
 use Rattle.atomic_table.specs.Table.{Me}
-use Rattle.table_theory.specs.declared.queues.Cell.{Cell}
 use Rattle.table_theory.specs.declared.views.AbsState.{AbsState}
 use Rattle.table_theory.specs.Ledgers.{Step, load, change, Performed}
 use Rattle.table_theory.specs.Listing.{Distinct}
@@ -11,25 +10,15 @@ use Rattle.batch_queue.specs.declared.layout.TheConstants.{POSITIONS, SHUT}
 use Rattle.batch_queue.specs.declared.refusals.PutRefusal.{PutRefusal}
 use Rattle.batch_queue.specs.declared.refusals.PutRefusal.TheVariants.{NoItems, TooLong, Closed, Spent, Full, Lost}
 use Rattle.batch_queue.specs.declared.rule.BatchState.{BatchState}
-use Rattle.batch_queue.specs.declared.rule.EndRecord.{EndRecord}
 use Rattle.batch_queue.specs.Layout.{head_word, mark_word}
+use Rattle.batch_queue.specs.Moments.{IsOpenAt}
 use Rattle.batch_queue.specs.Object.{with_batch, with_up}
+pub use Rattle.batch_queue.specs.Own.{published, with_put}
 use Rattle.batch_queue.specs.Own.{View, OnlyLoads, with_run}
+pub use Rattle.batch_queue.specs.Lines.{Fits}
 use Rattle.batch_queue.specs.Slots.{slots_of}
 use Rattle.batch_queue.specs.Steps.{HoldsRange, IsClaim}
 use Rattle.batch_queue.specs.Walks.{FreeBy}
-
--- a batch in a queue of `room` places can have `count` items: at least 1, and at most `room`
-abbrev pub Fits : ℕ → ℕ → Type 0
-Fits room count = (0 < count) × (count ≤ room)
-
--- the place of an item that is published
-abbrev pub published : ℕ → Cell
-published item = record { item = item; stage = 2 }
-
--- the end has one run more, all of it published
-abbrev pub with_put : EndRecord → ℕ → List ℕ → EndRecord
-with_put d start items = record d { runs = d.runs ++ record { start = start; places = map published items } ∷ [] }
 
 -- The head was loaded, then the free position, and then a compare-and-swap of that head claimed positions for the
 -- items: of `want` items as many as there was room for. Added says which list has these entries
@@ -49,6 +38,7 @@ pub record ClaimedBy (Added : List (Step BatchState) → Type 0) (room want star
 -- the items were claimed, and the end holds the slots of their positions
 pub record HasClaimed (room want : ℕ) (v : View) (start : ℕ) (items : List ℕ) (m : Me ℕ View) : Type 0 where
   pub claim : ClaimedBy (λ entries. Performed v entries (with_run v.own start items) m.0) room want start items
+  pub at : IsOpenAt claim.at_claim.object start
   pub apart : Distinct m.0.own.runs
   pub range : HoldsRange 0 start (length items) m.0
   pub is : IsClaim start items m.0

@@ -8,12 +8,12 @@ use Rattle.table_theory.specs.declared.queues.Batch.{Batch}
 use Rattle.table_theory.specs.declared.views.AbsState.{AbsState}
 use Rattle.table_theory.specs.Listing.{ViewsShow}
 use Rattle.table_theory.specs.Ledgers.{TableInv, first_of}
+use Rattle.table_theory.specs.Protocols.{Condition, HoldsWith, placed_lines}
 use Rattle.table_theory.specs.Ruled as ruled
 use Rattle.table_theory.specs.Sharing.{total}
 use Rattle.batch_queue.specs.declared.rule.BatchState.{BatchState}
 use Rattle.batch_queue.specs.declared.rule.EndRecord.{EndRecord}
 use Rattle.batch_queue.specs.declared.rule.Shape.{Shape}
-use Rattle.batch_queue.specs.Layout.{ends_word}
 use Rattle.batch_queue.specs.Object.{items_of, phase_at, IsBatch, Grows, empty}
 use Rattle.batch_queue.specs.Own.{View, nothing_did, part_of, of_batches, Holds, HasRun}
 use Rattle.batch_queue.specs.Placed.{positions_of}
@@ -73,6 +73,14 @@ pub record Rule (key : Shape) (s : State ℕ View) : Type 0 where
   -- the slot of a position that is claimed and not published, or taken and not given back, is held by an end
   pub owned : (i : ℕ) → i < length (items_of now.object)
       → (phase_at now.object i ≡ 0) ⊎ (phase_at now.object i ≡ 2) → IsHeld s.views i
+
+-- the protocol allows what the end put and took; the queue's first position is 0
+abbrev pub KeepsTo : Condition → View → Type 0
+KeepsTo allows v = allows 0 (placed_lines v.own.runs) (placed_lines v.own.takes)
+
+-- the rule of a queue under a client's protocol: the rule holds, and the protocol allows what each end put and took
+abbrev pub RuleWith : Condition → Shape → State ℕ View → Type 0
+RuleWith allows key s = HoldsWith (Rule key) (KeepsTo allows) s
 
 -- the view of the first end of a new queue
 abbrev pub newcomer : Shape → View

@@ -8,6 +8,7 @@ use Rattle.atomic_table.specs.declared.shared.Seat.{Seat}
 use Rattle.table_theory.specs.declared.views.AbsState.{AbsState}
 use Rattle.table_theory.specs.Ledgers.{load, change, Performed}
 use Rattle.table_theory.specs.Ledgers as ends
+use Rattle.table_theory.specs.Protocols.{Condition, IsKept}
 use Rattle.batch_queue.specs.declared.layout.TheConstants.{MOST_PLACES, POSITIONS, SHUT}
 use Rattle.batch_queue.specs.declared.rule.BatchState.{BatchState}
 use Rattle.batch_queue.specs.declared.rule.EndRecord.{EndRecord}
@@ -16,7 +17,7 @@ use Rattle.batch_queue.specs.Object.{items_of, phase_at, IsEdge, IsStop, with_ba
 use Rattle.batch_queue.specs.Object.{with_freed, with_shut, with_part, Grows}
 use Rattle.batch_queue.specs.Own.{View, HasRun, with_run, with_taking, with_published, with_no_slots}
 use Rattle.batch_queue.specs.Own.{with_shutting, with_parting}
-use Rattle.batch_queue.specs.Rules.{InvHeldOf}
+use Rattle.batch_queue.specs.Rules.{Rule, KeepsTo, InvHeldOf}
 use Rattle.batch_queue.specs.Slots.{slots_of}
 
 -- the seat is a live end of this table, which is the table of a queue of `room` places, a power of two
@@ -82,6 +83,10 @@ pub record Released (v : View) (word start end x : ℕ) (m : Me ℕ View) : Type
 abbrev pub releases : Step ℕ → Me ℕ View → ℕ → Me ℕ View → Type 0
 releases st m r m' = Stays m.0 m'.0 × Released m.0 st.word m.0.own.held.start
     (m.0.own.held.start + m.0.own.held.count) m.0.own.held.phase m'
+
+-- in a queue under a client's protocol: the protocol allows what each end put and took by then
+abbrev pub releases_under : Condition → Step ℕ → Me ℕ View → ℕ → Me ℕ View → Type 0
+releases_under allows st m r m' = releases st m r m' × IsKept Rule (KeepsTo allows) m'.0
 
 -- the end holds the slots of `count` positions from `start` on, in this phase, and at least one slot
 pub record HoldsRange (phase start count : ℕ) (v : View) : Type 0 where

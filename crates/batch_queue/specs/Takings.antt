@@ -1,8 +1,8 @@
 -- Answers of takings: all entries that a taking added, and how their numbers compare.
-use Rattle.std.specs.Prelude.{◌≡◌, ◌≢◌, ◌⊎◌, ◌+◌, ◌/◌, ◌<◌, ◌≤◌, ℕ, min, List, [], ◌∷◌, ◌++◌, length, drop, take}
+use Rattle.std.specs.Prelude.{◌≡◌, ◌≢◌, ◌⊎◌, ◌+◌, ◌/◌, ◌<◌, ◌≤◌, ℕ, min, List, [], ◌∷◌, ◌++◌, length}
 use Rattle.std.specs.Prelude.{Bool, true, false, IsTrue, IsFalse}
 use Rattle.std.specs.Prelude.{Result, Ok, Err}
-use Rattle.std.specs.List.{AllByRecursion, concat}
+use Rattle.std.specs.List.{AllByRecursion}
 use Rattle.atomic_table.specs.Table.{Me}
 use Rattle.table_theory.specs.declared.views.AbsState.{AbsState}
 use Rattle.table_theory.specs.Ledgers.{Step, load, change, Performed}
@@ -10,43 +10,15 @@ use Rattle.batch_queue.specs.declared.layout.TheConstants.{SHUT}
 use Rattle.batch_queue.specs.declared.refusals.TakeRefusal.{TakeRefusal}
 use Rattle.batch_queue.specs.declared.refusals.TakeRefusal.TheVariants.{Empty, ShortBuffer, Lost, Closed}
 use Rattle.batch_queue.specs.declared.rule.BatchState.{BatchState}
-use Rattle.batch_queue.specs.declared.rule.EndRecord.{EndRecord}
 use Rattle.batch_queue.specs.Layout.{head_word, tail_word, mark_word}
-use Rattle.batch_queue.specs.Lines.{TookLine}
-use Rattle.batch_queue.specs.Object.{items_of, IsEdge, with_back, with_taken}
-use Rattle.batch_queue.specs.Own.{View, taking, with_taking}
-use Rattle.batch_queue.specs.Placed.{positions_of}
+pub use Rattle.batch_queue.specs.Lines.{AreBatches, AreFirst, FilledBuffer}
+use Rattle.batch_queue.specs.Object.{with_back, with_taken}
+pub use Rattle.batch_queue.specs.Own.{with_line}
+use Rattle.batch_queue.specs.Own.{View, with_taking}
 use Rattle.batch_queue.specs.Puts.{tried}
 use Rattle.batch_queue.specs.Slots.{slots_of}
 use Rattle.batch_queue.specs.Steps.{Found, HoldsRange}
 use Rattle.batch_queue.specs.Walks.{LeadsOn, FollowedBy}
-
--- the first n of the buffer are the items that were taken, as one line; the others stay
-pub record FilledBuffer (n : ℕ) (old new : List ℕ) (v w : View) : Type 0 where
-  pub line : List ℕ
-  pub some_item : 0 < n
-  pub long : length line ≡ n
-  pub buffer : new ≡ line ++ drop n old
-  pub took : TookLine line v w
-
--- the first batches left have these items
-pub record AreBatches (o : BatchState) (items : List ℕ) : Type 0 where
-  pub before : List (List ℕ)
-  pub batches : List (List ℕ)
-  pub after : List (List ℕ)
-  pub all : before ++ (batches ++ after) ≡ o.batches
-  pub from : length (concat before) ≡ o.taken
-  pub items_are : concat batches ≡ items
-
--- The first items left are these, and a batch ends after them. If a batch ends at the tail, they are whole batches
-pub record AreFirst (o : BatchState) (items : List ℕ) : Type 0 where
-  pub items_are : take (length items) (drop o.taken (items_of o)) ≡ items
-  pub end : IsEdge o.batches (o.taken + length items)
-  pub whole : IsEdge o.batches o.taken → AreBatches o items
-
--- the record with one more taking, of n items from the tail on
-abbrev pub with_line : EndRecord → BatchState → ℕ → EndRecord
-with_line d o n = record d { takes = d.takes ++ taking (positions_of o) n ∷ [] }
 
 -- The tail was loaded, and marks of published batches were followed from it, as far as they lead within the buffer and
 -- the places. Then a compare-and-swap of that tail took the items, which were the first ones left. Added says which

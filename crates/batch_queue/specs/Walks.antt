@@ -6,7 +6,7 @@ use Rattle.table_theory.specs.Ledgers.{Step, load, change, Performed}
 use Rattle.batch_queue.specs.declared.rule.BatchState.{BatchState}
 use Rattle.batch_queue.specs.Layout.{free_word, mark_word}
 use Rattle.batch_queue.specs.Moments.{AtSomeMoment, IsGivenBackTo}
-use Rattle.batch_queue.specs.Object.{with_freed, Grows}
+use Rattle.batch_queue.specs.Object.{with_freed, Grows, Lawful, NoneFits}
 use Rattle.batch_queue.specs.Own.{View}
 use Rattle.batch_queue.specs.Steps.{HasFound, HasBack}
 
@@ -73,6 +73,12 @@ Passed (suc parity) v from to = HasBack v from to
 abbrev pub StoppedAt : ℕ → ℕ → View → View → Type 0
 StoppedAt base position v w = AtSomeMoment v w (λ o. Grows v.seen.object o × Grows o w.seen.object
     × (o.freed ≤ base → IsGivenBackTo o position))
+
+-- A moment of a walk along published batches, from `base` to this position. If the tail was not past `base` then, no
+-- batch could be taken from this position on within the limit `most`
+abbrev pub StoppedUp : ℕ → ℕ → ℕ → View → View → Type 0
+StoppedUp base position most v w = AtSomeMoment v w (λ o. Grows v.seen.object o × Grows o w.seen.object × Lawful o
+    × (o.room ≡ w.first.room) × (o.taken ≤ base → NoneFits o position most))
 
 -- The last step of moving on the free position `first`, after the walk led to `to`: a compare-and-swap moved it on; or
 -- nothing was given back, and it was loaded again; or another end had moved it to `found`

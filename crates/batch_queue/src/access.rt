@@ -11,10 +11,11 @@ use crate::layout::place;
 use crate::rule::View;
 use crate::steps::Words;
 use atomic_table::Seat;
+use table_theory::protocol::Protocol;
 
 /// Writes these items into the slots that the end holds, which are those of the positions from `start` on.
-pub(crate) fn write_items(
-    words: &Words,
+pub(crate) fn write_items<C: Protocol>(
+    words: &Words<C>,
     seat: &mut Seat<u64, View>,
     room: usize,
     start: u64,
@@ -36,7 +37,7 @@ pub(crate) fn write_items(
 }
 
 // The value of the first slot that the end holds.
-fn peek_item(words: &Words, seat: &mut Seat<u64, View>, slot: usize) -> u64
+fn peek_item<C: Protocol>(words: &Words<C>, seat: &mut Seat<u64, View>, slot: usize) -> u64
     requires queue { seat.old.table_id ≡ words.now.table_id }
     requires front { (value : ℕ) × (seat.old.me.1 ≡ (slot, value) ∷ rest seat.old.me.1) }
     ensures result { seat.old.me.1 ≡ (slot, result) ∷ rest seat.old.me.1 }
@@ -47,8 +48,8 @@ fn peek_item(words: &Words, seat: &mut Seat<u64, View>, slot: usize) -> u64
 }
 
 /// Reads the slots that the end holds, which are those of the positions from `start` on, into the first of `items`.
-pub(crate) fn read_items(
-    words: &Words,
+pub(crate) fn read_items<C: Protocol>(
+    words: &Words<C>,
     seat: &mut Seat<u64, View>,
     room: usize,
     start: u64,

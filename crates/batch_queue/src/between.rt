@@ -1,34 +1,45 @@
 //! The state between any two steps of any threads.
 
 ghost use Rattle.std.specs.Prelude.{◌≡◌, ℕ};
+ghost use mathlib.Core.Option.{some};
+ghost use lib.ListN.{get_elem?};
 ghost use Rattle.atomic_table.specs.Table.{State};
 ghost use Rattle.batch_queue.specs.declared.rule.Shape.{Shape};
 ghost use Rattle.batch_queue.specs.Own.{View};
 ghost use Rattle.batch_queue.specs.Between.{ShowsQueue, ShowsEnds};
+ghost use Rattle.batch_queue.specs.Rules.{KeepsTo};
 
 use crate::ends::BatchQueue;
 use crate::rule::{BatchRule, Shape, View};
 use atomic_table::{Shared, TableRule};
+use table_theory::protocol::Protocol;
 
 /// A state for which the rule holds is a lawful queue of the core, shown by the words, the slots and the lists of the
 /// ends. All items of a batch are raised, or none, and no two batches overlap.
 ///
 /// Every atomic step of this crate keeps the rule, so the rule holds between any two steps of any ends.
-pub fn between_steps()
+pub fn between_steps<C: Protocol>()
     ensures { (key : Shape) (state : State ℕ View)
-        → ⟦<BatchRule as TableRule<u64, View, Shape>>⟧.holds key state → ShowsQueue key state }
+        → ⟦<BatchRule<C> as TableRule<u64, View, Shape>>⟧.holds key state → ShowsQueue key state }
 {}
 
 /// In a state for which the rule holds, the ends word is the number of ends that exist. Their steps, all in one order,
 /// lead from the empty queue to the queue that is shown.
-pub fn ends_between_steps()
+pub fn ends_between_steps<C: Protocol>()
     ensures { (key : Shape) (state : State ℕ View)
-        → ⟦<BatchRule as TableRule<u64, View, Shape>>⟧.holds key state → ShowsEnds key state }
+        → ⟦<BatchRule<C> as TableRule<u64, View, Shape>>⟧.holds key state → ShowsEnds key state }
 {}
 
-impl BatchQueue {
+/// In a state for which the rule holds, the protocol allows what each end put and took.
+pub fn protocol_between_steps<C: Protocol>()
+    ensures { (key : Shape) (state : State ℕ View)
+        → ⟦<BatchRule<C> as TableRule<u64, View, Shape>>⟧.holds key state
+        → (j : ℕ) (v : View) → get_elem? state.views j ≡ some v → KeepsTo C.allows v }
+{}
+
+impl<C: Protocol> BatchQueue<C> {
     /// The table of the queue. By its type, the table has the rule of `between_steps`.
-    pub fn table(&self) -> &Shared<u64, View, Shape, BatchRule>
+    pub fn table(&self) -> &Shared<u64, View, Shape, BatchRule<C>>
         ensures { result.now ≡ self.now.table.shared }
     {
         &self.table.shared

@@ -2,8 +2,9 @@
 use crate::rule::{BatchRule, BatchState, EndRecord, Shape, View};
 use table_theory::end_steps::EndsRule;
 use table_theory::last_end::CountRule;
+use table_theory::protocol::Protocol;
 
-impl CountRule<u64, View, Shape> for BatchRule {
+impl<C: Protocol> CountRule<u64, View, Shape> for BatchRule<C> {
     ghost use Rattle.table_theory.specs.Plays.{HasTallied};
     ghost use Rattle.batch_queue.specs.Layout.{ends_word};
     ghost use Rattle.batch_queue.specs.Rules.{InvHeldOf};
@@ -11,7 +12,7 @@ impl CountRule<u64, View, Shape> for BatchRule {
     ghost tallied = { λ id. HasTallied InvHeldOf ends_word };
 }
 
-impl EndsRule<u64, EndRecord, BatchState, Shape> for BatchRule {
+impl<C: Protocol> EndsRule<u64, EndRecord, BatchState, Shape> for BatchRule<C> {
     ghost use Rattle.batch_queue.specs.Own.{nothing_did, did_both};
     ghost use Rattle.batch_queue.specs.Rules.{newcomer, InvHeldOf};
 

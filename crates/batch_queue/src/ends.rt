@@ -3,6 +3,7 @@ ghost use Rattle.std.specs.Prelude.{◌≡◌, ◌+◌, ◌<◌, ◌≤◌, [], 
 ghost use Rattle.batch_queue.specs.Layout.{width, IsPowerOfTwo};
 ghost use Rattle.batch_queue.specs.Own.{no_slots};
 ghost use Rattle.batch_queue.specs.Rules.{newcomer, InvHeldOf};
+ghost use Rattle.batch_queue.specs.Client.{GoesOn, IsLater};
 ghost use Rattle.batch_queue.specs.Endings.{IsNewEnd};
 ghost use Rattle.batch_queue.specs.Evidence.{SplitBy, JoinedBy};
 ghost use Rattle.batch_queue.specs.Lines.{lines_put, lines_taken, times_parted};
@@ -15,10 +16,12 @@ use event_theory::OutOfMemory;
 use std::alloc::Global;
 use std::marker::Brand;
 use table_theory::end_steps::{count_down, count_up, split_off, take_in};
+use table_theory::protocol::{Free, Protocol};
 
+/// A queue under the client's protocol C. Under `Free`, every put is allowed.
 #[derive(Drop)]
-pub struct BatchQueue {
-    pub(crate) table: Table<u64, View, Shape, BatchRule, Global>,
+pub struct BatchQueue<C: Protocol = Free> {
+    pub(crate) table: Table<u64, View, Shape, BatchRule<C>, Global>,
     pub(crate) room: usize,
     ghost sized: { (table.shared.table_id.words ≡ width room) × (table.shared.table_id.slots ≡ room) },
     ghost shaped: { table.shared.key.room ≡ room },
@@ -40,13 +43,13 @@ pub struct BatchEnd {
     ghost ruled: { ∥ InvHeldOf seat.me.0 ∥₁ },
 }
 
-impl BatchQueue {
+impl<C: Protocol> BatchQueue<C> {
     ghost use Rattle.batch_queue.specs.Handles.{view_of, room_of, IsDivisible, IsEndOf, IsSameEnd, AreOfOneQueue};
 
-    /// An empty queue of `room` places, and its only end.
+    /// An empty queue of `room` places under the protocol C, and its only end.
     ///
     /// Condition: the number of places is a power of two, at most 2^24.
-    pub fn new(alloc: Global, room: usize) -> Result<(BatchQueue, BatchEnd), OutOfMemory>
+    pub fn new_as(alloc: Global, room: usize) -> Result<(BatchQueue<C>, BatchEnd), OutOfMemory>
         requires { (0 < room) × (room ≤ MOST_PLACES) × IsPowerOfTwo room }
         ensures { IfOk result (λ r. IsEndOf r.0 r.1 × (room_of r.0 ≡ room)
             × (view_of r.1 ≡ newcomer (record { room = room }))) }
@@ -75,6 +78,8 @@ impl BatchQueue {
             × (lines_taken (view_of end.new) ≡ lines_taken (view_of end.old))
             × (times_parted (view_of end.new) ≡ times_parted (view_of end.old)) }
         ensures result { IsNewEnd (view_of end.old) (view_of end.new) (view_of result) }
+        ensures owns { (view_of end.new).member.share + (view_of result).member.share ≡ (view_of end.old).member.share }
+        ensures frame { GoesOn (view_of end.old) (view_of end.new) }
         ensures trace { SplitBy (view_of end.old) (view_of end.new) }
         ensures handle { IsSameEnd end.old end.new × AreOfOneQueue end.old result }
     {
@@ -90,7 +95,11 @@ impl BatchQueue {
         requires { IsEndOf self.now end.old × IsEndOf self.now other }
         ensures effect { (lines_put (view_of end.new) ≡ lines_put (view_of end.old) ++ lines_put (view_of other))
             × (lines_taken (view_of end.new) ≡ lines_taken (view_of end.old) ++ lines_taken (view_of other))
-            × (times_parted (view_of end.new) ≡ times_parted (view_of end.old) + times_parted (view_of other)) }
+            × (times_parted (view_of end.new) ≡ times_parted (view_of end.old) + times_parted (view_of other))
+            × ((view_of end.new).own.shuts ≡ (view_of end.old).own.shuts + (view_of other).own.shuts) }
+        ensures owns { (view_of end.new).member.share ≡ (view_of end.old).member.share + (view_of other).member.share }
+        ensures frame { IsLater (view_of end.old).seen.object (view_of end.new).seen.object
+            × IsLater (view_of other).seen.object (view_of end.new).seen.object }
         ensures trace { JoinedBy (view_of end.old) (view_of other) (view_of end.new) }
         ensures handle { IsSameEnd end.old end.new }
     {
@@ -98,5 +107,20 @@ impl BatchQueue {
         take_in::<_, _, _, _, _, Brand>(&self.table.shared, &mut end.seat, seat);
         // linearization point: one end less is counted, after the other end was taken in
         count_down(&self.table.shared, &mut end.seat, ENDS);
+    }
+}
+
+impl BatchQueue {
+    ghost use Rattle.batch_queue.specs.Handles.{view_of, room_of, IsEndOf};
+
+    /// An empty queue of `room` places, and its only end.
+    ///
+    /// Condition: the number of places is a power of two, at most 2^24.
+    pub fn new(alloc: Global, room: usize) -> Result<(BatchQueue, BatchEnd), OutOfMemory>
+        requires { (0 < room) × (room ≤ MOST_PLACES) × IsPowerOfTwo room }
+        ensures { IfOk result (λ r. IsEndOf r.0 r.1 × (room_of r.0 ≡ room)
+            × (view_of r.1 ≡ newcomer (record { room = room }))) }
+    {
+        BatchQueue::new_as(alloc, room)
     }
 }

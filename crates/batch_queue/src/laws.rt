@@ -38,6 +38,8 @@ ghost use Rattle.batch_queue.specs.Placed.{positions_of, raised_run};
 ghost use Rattle.batch_queue.specs.Puts.{RefusedPut, RefusedSome};
 ghost use Rattle.batch_queue.specs.Takings.{RefusedTake};
 
+use table_theory::protocol::Protocol;
+
 /// The list of an end is true: each entry that a call adds is a real step. The step found a lawful queue that the words
 /// showed, and the number in its word, and made one event, or none. Real steps lead from the queue that the end had
 /// seen to each of these entries, in their order. The last of them left the queue that the end sees then.
@@ -69,8 +71,8 @@ pub fn joins_are_true()
 /// An end sees a queue with as many places as its own queue has, at least one. If the queue was shut it stays shut, and
 /// its tail never falls. Some views list the queue, this end's view among them. An end with the whole share lists it
 /// alone.
-pub fn ends_list_queues()
-    ensures room { (queue : BatchQueue) (end : BatchEnd) → IsEndOf queue end
+pub fn ends_list_queues<C: Protocol>()
+    ensures room { (queue : BatchQueue C) (end : BatchEnd) → IsEndOf queue end
         → ((view_of end).seen.object.room ≡ room_of queue) × (0 < room_of queue) }
     ensures shut { (old new : BatchEnd) (entries : List (Step BatchState))
         → ExtendsTrace (view_of old) entries (view_of new)
@@ -249,14 +251,14 @@ pub fn joins_are_apart()
 {}
 
 /// A call of an end with the whole share never returns Lost: no other end steps between its steps.
-pub fn only_ends_are_never_lost()
+pub fn only_ends_are_never_lost<C: Protocol>()
     ensures put { (old new : BatchEnd) (room count head : ℕ) → IsOnlyEnd old
         → RefusedPut room (view_of old) count (not_put.Lost head) (view_of new) → ⊥ }
     ensures put_some { (old new : BatchEnd) (room count head : ℕ) → IsOnlyEnd old
         → RefusedSome room (view_of old) count (not_put.Lost head) (view_of new) → ⊥ }
     ensures take { (old new : BatchEnd) (room most tail : ℕ) → IsOnlyEnd old
         → RefusedTake room (view_of old) most (not_taken.Lost tail) (view_of new) → ⊥ }
-    ensures take_some { (queue : BatchQueue) (old new : BatchEnd) (most tail : ℕ) → IsEndOf queue old → IsOnlyEnd old
+    ensures take_some { (queue : BatchQueue C) (old new : BatchEnd) (most tail : ℕ) → IsEndOf queue old → IsOnlyEnd old
         → RefusedTakeSome (room_of queue) (view_of old) most (not_taken.Lost tail) (view_of new) → ⊥ }
 {}
 

@@ -28,6 +28,11 @@
 //! giving back, producers can't use these places: once the other places are used up, puts are Full. An end that is
 //! dropped is never joined, so the queue can't be closed any more; everything else still works.
 //!
+//! A queue can be made under a client's protocol (`new_as`): a condition on each end, by the batches that it put and
+//! the lines that it took. A put has to meet the condition (`try_put_as`, `try_put_some_as`, `put_as`). A taking says
+//! what the protocol allowed each end to put (`try_take_as`, `try_take_some_as`, `take_as`). The plain calls are those
+//! of a queue that allows every put.
+//!
 //! `BatchRule`, `BatchState`, `EndRecord`, `HeldSlots`, `Shape` and `View` are for the proofs alone: the contracts
 //! about the lists of the ends use them.
 #![tactic(auto)]
@@ -51,7 +56,7 @@ mod steps;
 mod take;
 mod walk;
 
-pub use between::{between_steps, ends_between_steps};
+pub use between::{between_steps, ends_between_steps, protocol_between_steps};
 pub use close::Closed;
 pub use ends::{BatchEnd, BatchQueue};
 pub use layout::MOST_PLACES;

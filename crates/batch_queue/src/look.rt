@@ -1,11 +1,13 @@
 //! A look at a queue, for monitoring: how many items are in the queue, how many of them are published, and whether the
 //! queue is shut.
-ghost use Rattle.std.specs.Prelude.{◌≡◌, ◌≤◌, ◌<◌};
+ghost use Rattle.std.specs.Prelude.{◌≡◌, ◌⊎◌, ◌+◌, ◌≤◌, ◌<◌};
 ghost use Rattle.table_theory.specs.Seating.{IsSame};
+ghost use Rattle.batch_queue.specs.Client.{GoesOn, LookedAt};
 ghost use Rattle.batch_queue.specs.Evidence.{Looked};
 ghost use Rattle.batch_queue.specs.Hints.{FoundUp, IsUpTo};
 ghost use Rattle.batch_queue.specs.Lines.{SameLines};
-ghost use Rattle.batch_queue.specs.Object.{Grows};
+ghost use Rattle.batch_queue.specs.Moments.{AtSomeMoment};
+ghost use Rattle.batch_queue.specs.Object.{Grows, phase_at};
 ghost use Rattle.batch_queue.specs.Steps.{IsSeated, Stays};
 ghost use Rattle.batch_queue.specs.declared.layout.TheConstants.{POSITIONS};
 
@@ -17,6 +19,7 @@ use crate::steps::Words;
 use crate::take::load_tail;
 use crate::walk::{PUBLISHED, leads_on, load_mark, walk};
 use atomic_table::Seat;
+use table_theory::protocol::Protocol;
 
 /// The positions that a look at a queue found. They were loaded one after the other, and may have moved on since.
 #[derive(Clone, Copy, Debug, PartialEq, Eq, Drop)]
@@ -33,12 +36,19 @@ pub struct QueueLook {
 }
 
 // Returns the tail, and the position up to which items from the tail on are found published.
-fn find_published(words: &Words, seat: &mut Seat<u64, View>, room: usize) -> (u64, u64)
+fn find_published<C: Protocol>(
+    words: &Words<C>,
+    seat: &mut Seat<u64, View>,
+    room: usize,
+) -> (u64, u64)
     requires queue { IsSeated room words.now.table_id seat.old }
     ensures queue { IsSame seat.old seat.new × Stays seat.old.me.0 seat.new.me.0 }
     ensures slots { seat.new.me.1 ≡ seat.old.me.1 }
+    ensures tail_at { AtSomeMoment seat.old.me.0 seat.new.me.0 (λ o. o.taken ≡ result.0) }
     ensures tail { result.0 ≤ seat.new.me.0.seen.object.taken }
     ensures up { (result.0 ≤ result.1) × IsUpTo seat.new.me.0 result.0 result.1 }
+    ensures most { (result.1 ≡ result.0 + room) ⊎ AtSomeMoment seat.old.me.0 seat.new.me.0 (λ o. (result.0 < o.taken)
+        ⊎ (phase_at o result.1 ≡ 0)) }
     ensures trace { FoundUp room result.0 result.1 seat.old.me.0 seat.new.me.0 }
 {
     // The tail is loaded first. Items that are published stay so, whether or not they are then taken.
@@ -55,7 +65,7 @@ fn find_published(words: &Words, seat: &mut Seat<u64, View>, room: usize) -> (u6
     (tail, to)
 }
 
-impl BatchQueue {
+impl<C: Protocol> BatchQueue<C> {
     ghost use Rattle.batch_queue.specs.Handles.{view_of, room_of, IsEndOf, IsSameEnd};
 
     /// Loads the tail, the marks of the batches that are published from there on, and then the head. It makes at most
@@ -65,6 +75,8 @@ impl BatchQueue {
         ensures effect { SameLines (view_of end.old) (view_of end.new) }
         ensures result { (result.tail ≤ result.published) × (result.tail ≤ result.head)
             × IsUpTo (view_of end.new) result.tail result.published }
+        ensures moments { LookedAt (view_of end.old) (room_of self.now) result (view_of end.new) }
+        ensures frame { GoesOn (view_of end.old) (view_of end.new) }
         ensures trace { Looked (room_of self.now) (view_of end.old) result (view_of end.new) }
         ensures handle { IsSameEnd end.old end.new }
     {

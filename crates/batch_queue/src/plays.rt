@@ -1,10 +1,11 @@
 //! The report of each step to its end. These types are for the proofs alone.
 ghost use Rattle.std.specs.Prelude.{ℕ, List, []};
-ghost use Rattle.batch_queue.specs.Steps.{finds, claims, releases, takes_tail, frees, shuts, parts};
+ghost use Rattle.batch_queue.specs.Steps.{finds, claims, releases_under, takes_tail, frees, shuts, parts};
 
 use crate::rule::View;
 use atomic_table::Play;
 use std::marker::{Brand, PhantomData};
+use table_theory::protocol::Protocol;
 
 pub struct Finds;
 
@@ -29,10 +30,13 @@ impl<J: ClaimItems> Play<u64, View> for Claims<J> {
     ghost then = { claims J.items };
 }
 
-pub struct Releases;
+/// A publication or a giving back, under the client's protocol C.
+pub struct Releases<C> {
+    client: PhantomData<C>,
+}
 
-impl Play<u64, View> for Releases {
-    ghost then = { releases };
+impl<C: Protocol> Play<u64, View> for Releases<C> {
+    ghost then = { releases_under C.allows };
 }
 
 pub struct Takes;

@@ -1,6 +1,8 @@
 //! The rule of the table. Its types are for the proofs alone: no program except the queue makes a value of them.
 use atomic_table::TableRule;
 use std::collections::LinkedList;
+use std::marker::PhantomData;
+use table_theory::protocol::Protocol;
 use table_theory::queues::Batch;
 use table_theory::views::EndState;
 
@@ -47,12 +49,15 @@ pub struct BatchState {
 /// The view of an end: what it did, its steps, and all ends' steps up to its own last step.
 pub type View = EndState<EndRecord, BatchState>;
 
-pub struct BatchRule;
+/// The rule of a queue under the client's protocol C.
+pub struct BatchRule<C> {
+    client: PhantomData<C>,
+}
 
-impl TableRule<u64, View, Shape> for BatchRule {
-    ghost use Rattle.batch_queue.specs.Rules.{Rule, newcomer};
+impl<C: Protocol> TableRule<u64, View, Shape> for BatchRule<C> {
+    ghost use Rattle.batch_queue.specs.Rules.{RuleWith, newcomer};
 
-    ghost holds = { Rule };
+    ghost holds = { RuleWith C.allows };
 
     ghost first = { newcomer };
 }

@@ -1,9 +1,11 @@
 //! The atomic steps: the loads, the compare-and-swaps, the fetch-or, and the store that publishes a run or gives a
 //! taking back.
-ghost use Rattle.std.specs.Prelude.{◌≡◌, ◌≢◌, ◌+◌, ◌/◌, ◌<◌, ◌≤◌, ℕ, List, [], length};
+ghost use Rattle.std.specs.Prelude.{◌≡◌, ◌≢◌, ◌+◌, ◌/◌, ◌<◌, ◌≤◌, ℕ, List, [], ◌∷◌, ◌++◌, length};
+ghost use Rattle.table_theory.specs.Protocols.{IsKept, placed_lines};
 ghost use Rattle.table_theory.specs.Seating.{IsSame};
 ghost use Rattle.batch_queue.specs.declared.layout.TheConstants.{FIRST_MARK, POSITIONS};
 ghost use Rattle.batch_queue.specs.Layout.{head_word, tail_word, free_word, mark_word};
+ghost use Rattle.batch_queue.specs.Rules.{Rule, KeepsTo};
 ghost use Rattle.batch_queue.specs.Slots.{slots_of};
 ghost use Rattle.batch_queue.specs.Steps.{IsSeated, Stays, Found, Claimed, Released, HoldsRange, IsClaim};
 ghost use Rattle.batch_queue.specs.Steps.{HasStop, HasBack, Took, Freed, Parted, Shut};
@@ -13,10 +15,11 @@ use crate::layout::{FREE, HEAD, SHUT, TAIL, mark_word};
 use crate::plays::{ClaimItems, Claims, Finds, Frees, PartPosition, Parts, Releases, Shuts, Takes};
 use crate::rule::{BatchRule, Shape, View};
 use atomic_table::{Seat, Shared};
+use table_theory::protocol::Protocol;
 
-pub(crate) type Words = Shared<u64, View, Shape, BatchRule>;
+pub(crate) type Words<C> = Shared<u64, View, Shape, BatchRule<C>>;
 
-pub(crate) fn load(words: &Words, seat: &mut Seat<u64, View>, word: usize) -> u64
+pub(crate) fn load<C: Protocol>(words: &Words<C>, seat: &mut Seat<u64, View>, word: usize) -> u64
     requires queue { (seat.old.table_id ≡ words.now.table_id) × (word < words.now.table_id.words) }
     requires live { 1 ≤ seat.old.me.0.member.ends }
     ensures queue { IsSame seat.old seat.new × Stays seat.old.me.0 seat.new.me.0 }
@@ -27,8 +30,8 @@ pub(crate) fn load(words: &Words, seat: &mut Seat<u64, View>, word: usize) -> u6
 }
 
 /// Claims the positions from the head on for the items, and takes their slots.
-pub(crate) fn exchange_head<J: ClaimItems>(
-    words: &Words,
+pub(crate) fn exchange_head<C: Protocol, J: ClaimItems>(
+    words: &Words<C>,
     seat: &mut Seat<u64, View>,
     head: u64,
     new: u64,
@@ -40,6 +43,8 @@ pub(crate) fn exchange_head<J: ClaimItems>(
     requires items { (items.now ≡ J.items) × (0 < length items.now) }
     requires new { (new ≡ head + length items.now) × (new < POSITIONS) }
     requires room { new ≤ seat.old.me.0.seen.object.freed + seat.old.me.0.first.room }
+    requires protocol { C.allows 0 (placed_lines seat.old.me.0.own.runs ++ (head, J.items) ∷ [])
+        (placed_lines seat.old.me.0.own.takes) }
     ensures queue { IsSame seat.old seat.new × Stays seat.old.me.0 seat.new.me.0 }
     ensures hit { result ≡ head → Claimed seat.old.me.0 head J.items seat.new.me }
     ensures miss { result ≢ head → (seat.new.me.1 ≡ seat.old.me.1)
@@ -50,8 +55,8 @@ pub(crate) fn exchange_head<J: ClaimItems>(
 }
 
 /// Publishes the items of the end's run, and gives their slots back to the table: by one store.
-pub(crate) fn publish(
-    words: &Words,
+pub(crate) fn publish<C: Protocol>(
+    words: &Words<C>,
     seat: &mut Seat<u64, View>,
     room: usize,
     start: u64,
@@ -65,12 +70,17 @@ pub(crate) fn publish(
     ensures published { Released seat.old.me.0 (mark_word room start) start (start + length items.now) 0 seat.new.me }
 {
     let end = start + items.len() as u64;
-    words.store::<Releases>(seat, mark_word(room, start), 2 * end);
+    words.store::<Releases<C>>(seat, mark_word(room, start), 2 * end);
 }
 
 /// Takes the positions from the tail up to `new`, and their slots: all of them were found published, and at `new` a
 /// batch ends or was parted.
-pub(crate) fn exchange_tail(words: &Words, seat: &mut Seat<u64, View>, tail: u64, new: u64) -> u64
+pub(crate) fn exchange_tail<C: Protocol>(
+    words: &Words<C>,
+    seat: &mut Seat<u64, View>,
+    tail: u64,
+    new: u64,
+) -> u64
     requires queue { (seat.old.table_id ≡ words.now.table_id) × (FIRST_MARK ≤ words.now.table_id.words) }
     requires live { 1 ≤ seat.old.me.0.member.ends }
     requires bare { (seat.old.me.1 ≡ []) × (seat.old.me.0.own.held.count ≡ 0) }
@@ -85,8 +95,8 @@ pub(crate) fn exchange_tail(words: &Words, seat: &mut Seat<u64, View>, tail: u64
 
 /// Parts the batch that ends at `end`, at this position, if the mark is still the mark that was found. That mark says
 /// nothing of the position. After the step a taking may end there, and another may begin.
-pub(crate) fn exchange_mark<J: PartPosition>(
-    words: &Words,
+pub(crate) fn exchange_mark<C: Protocol, J: PartPosition>(
+    words: &Words<C>,
     seat: &mut Seat<u64, View>,
     room: usize,
     position: u64,
@@ -109,8 +119,8 @@ pub(crate) fn exchange_mark<J: PartPosition>(
 }
 
 /// Gives the places of the end's taking back, with whatever is in their slots: by one store.
-pub(crate) fn give_back(
-    words: &Words,
+pub(crate) fn give_back<C: Protocol>(
+    words: &Words<C>,
     seat: &mut Seat<u64, View>,
     room: usize,
     start: u64,
@@ -121,13 +131,19 @@ pub(crate) fn give_back(
     requires slots { (values : List ℕ) × (seat.old.me.1 ≡ slots_of room start values) × (length values ≡ count) }
     ensures queue { IsSame seat.old seat.new × Stays seat.old.me.0 seat.new.me.0 }
     ensures given { Released seat.old.me.0 (mark_word room start) start (start + count) 2 seat.new.me }
+    ensures kept { IsKept Rule (KeepsTo C.allows) seat.new.me.0 }
 {
     let end = start + count as u64;
-    words.store::<Releases>(seat, mark_word(room, start), 2 * end + 1);
+    words.store::<Releases<C>>(seat, mark_word(room, start), 2 * end + 1);
 }
 
 /// Moves the window on over places that were found given back.
-pub(crate) fn exchange_free(words: &Words, seat: &mut Seat<u64, View>, free: u64, new: u64) -> u64
+pub(crate) fn exchange_free<C: Protocol>(
+    words: &Words<C>,
+    seat: &mut Seat<u64, View>,
+    free: u64,
+    new: u64,
+) -> u64
     requires queue { (seat.old.table_id ≡ words.now.table_id) × (FIRST_MARK ≤ words.now.table_id.words) }
     requires live { 1 ≤ seat.old.me.0.member.ends }
     requires back { HasBack seat.old.me.0 free new × (free < new) }
@@ -139,7 +155,7 @@ pub(crate) fn exchange_free(words: &Words, seat: &mut Seat<u64, View>, free: u64
     words.compare_exchange::<Frees>(seat, FREE, free, new)
 }
 
-pub(crate) fn or_head(words: &Words, seat: &mut Seat<u64, View>) -> u64
+pub(crate) fn or_head<C: Protocol>(words: &Words<C>, seat: &mut Seat<u64, View>) -> u64
     requires queue { (seat.old.table_id ≡ words.now.table_id) × (FIRST_MARK ≤ words.now.table_id.words) }
     requires live { 1 ≤ seat.old.me.0.member.ends }
     ensures queue { IsSame seat.old seat.new × Stays seat.old.me.0 seat.new.me.0 }

@@ -3,16 +3,18 @@ ghost use Rattle.std.specs.Prelude.{◌≡◌, ◌≢◌, ◌+◌, ◌<◌, ◌�
 ghost use Rattle.table_theory.specs.Seating.{IsSame};
 ghost use Rattle.batch_queue.specs.declared.layout.TheConstants.{FIRST_MARK, POSITIONS};
 ghost use Rattle.batch_queue.specs.Layout.{free_word, mark_word};
-ghost use Rattle.batch_queue.specs.Moments.{AtSomeMoment, AtTwoMoments, IsGivenBackTo};
+ghost use Rattle.batch_queue.specs.Moments.{AtSomeMoment, BeforeChanges, ChangedByOthers, IsGivenBackTo};
 ghost use Rattle.batch_queue.specs.Object.{Grows};
 ghost use Rattle.batch_queue.specs.Rules.{InvHeldOf};
 ghost use Rattle.batch_queue.specs.Steps.{IsSeated, Stays, Found, HasBack};
 ghost use Rattle.batch_queue.specs.Walks.{Followed, Helped, HelpedBy, LeadsOn, LookedFree, Passed, Starts, StoppedAt};
+ghost use Rattle.batch_queue.specs.Walks.{StoppedUp};
 
 use crate::layout::{FREE, mark_word};
 use crate::rule::View;
 use crate::steps::{Words, exchange_free, load};
 use atomic_table::Seat;
+use table_theory::protocol::Protocol;
 
 /// The parity of the mark of a batch that is published.
 pub(crate) const PUBLISHED: u64 = 0;
@@ -20,8 +22,8 @@ pub(crate) const PUBLISHED: u64 = 0;
 /// The parity of the mark of a taking whose places are given back.
 pub(crate) const GIVEN_BACK: u64 = 1;
 
-pub(crate) fn load_mark(
-    words: &Words,
+pub(crate) fn load_mark<C: Protocol>(
+    words: &Words<C>,
     seat: &mut Seat<u64, View>,
     room: usize,
     position: u64,
@@ -44,8 +46,8 @@ pub(crate) fn leads_on(parity: u64, position: u64, mark: u64) -> bool
 /// Follows marks of this parity from `from` on, no further than to `most`. Returns the position to which they lead.
 ///
 /// Condition: by what the end has found, all positions from `base` to `from` are published, or all are given back.
-pub(crate) fn walk(
-    words: &Words,
+pub(crate) fn walk<C: Protocol>(
+    words: &Words<C>,
     seat: &mut Seat<u64, View>,
     room: usize,
     base: u64,
@@ -66,6 +68,7 @@ pub(crate) fn walk(
     ensures on { (from ≤ result) × (result ≤ most) }
     ensures stopped { parity ≡ 1 → most ≡ base + room → result < most
         → StoppedAt base result seat.old.me.0 seat.new.me.0 }
+    ensures stopped_up { parity ≡ 0 → result < most → StoppedUp base result most seat.old.me.0 seat.new.me.0 }
     ensures trace { Followed parity most room from result seat.old.me.0 seat.new.me.0 }
 {
     let mut at = from;
@@ -90,7 +93,7 @@ pub(crate) struct FreeLook {
     pub(crate) moved: bool,
 }
 
-pub(crate) fn load_free(words: &Words, seat: &mut Seat<u64, View>) -> u64
+pub(crate) fn load_free<C: Protocol>(words: &Words<C>, seat: &mut Seat<u64, View>) -> u64
     requires queue { (seat.old.table_id ≡ words.now.table_id) × (FIRST_MARK ≤ words.now.table_id.words) }
     requires live { 1 ≤ seat.old.me.0.member.ends }
     ensures queue { IsSame seat.old seat.new × Stays seat.old.me.0 seat.new.me.0 }
@@ -102,7 +105,7 @@ pub(crate) fn load_free(words: &Words, seat: &mut Seat<u64, View>) -> u64
 }
 
 // Moves the free position from `free` to `to`, if `to` is further on. Returns the free position that was found.
-fn move_free(words: &Words, seat: &mut Seat<u64, View>, free: u64, to: u64) -> u64
+fn move_free<C: Protocol>(words: &Words<C>, seat: &mut Seat<u64, View>, free: u64, to: u64) -> u64
     requires queue { (seat.old.table_id ≡ words.now.table_id) × (FIRST_MARK ≤ words.now.table_id.words) }
     requires live { 1 ≤ seat.old.me.0.member.ends }
     requires back { HasBack seat.old.me.0 free to × (free ≤ to) × (free ≤ seat.old.me.0.seen.object.freed) }
@@ -112,7 +115,8 @@ fn move_free(words: &Words, seat: &mut Seat<u64, View>, free: u64, to: u64) -> u
     ensures hit { result ≡ free → (seat.old.me.0.seen.object.freed ≡ free)
         × (to ≤ seat.new.me.0.seen.object.freed) × (to < POSITIONS) }
     ensures miss { result ≢ free → (free < result) × (result ≡ seat.new.me.0.seen.object.freed) × (result < POSITIONS) }
-    ensures passed { result ≢ free → AtSomeMoment seat.old.me.0 seat.new.me.0 (λ o. free < o.freed) }
+    ensures passed { result ≢ free → BeforeChanges seat.old.me.0 seat.new.me.0 (λ o. (free < o.freed)
+        × (o.freed ≡ result)) }
     ensures trace { Helped free to result seat.old.me.0 seat.new.me.0 }
 {
     if to == free {
@@ -124,7 +128,12 @@ fn move_free(words: &Words, seat: &mut Seat<u64, View>, free: u64, to: u64) -> u
 }
 
 /// Moves the free position on over places that are given back.
-fn help(words: &Words, seat: &mut Seat<u64, View>, room: usize, free: u64) -> FreeLook
+fn help<C: Protocol>(
+    words: &Words<C>,
+    seat: &mut Seat<u64, View>,
+    room: usize,
+    free: u64,
+) -> FreeLook
     requires queue { IsSeated room words.now.table_id seat.old }
     requires ruled { ∥ InvHeldOf seat.old.me.0 ∥₁ }
     requires free { (free ≡ seat.old.me.0.seen.object.freed) × (free < POSITIONS) }
@@ -135,7 +144,8 @@ fn help(words: &Words, seat: &mut Seat<u64, View>, room: usize, free: u64) -> Fr
     ensures free { (result.free ≤ seat.new.me.0.seen.object.freed) × (result.free < POSITIONS) }
     ensures result { IsFalse result.moved → result.free < free + room → AtSomeMoment seat.old.me.0 seat.new.me.0
         (λ o. Grows seat.old.me.0.seen.object o × IsGivenBackTo o result.free) }
-    ensures passed { IsTrue result.moved → AtSomeMoment seat.old.me.0 seat.new.me.0 (λ o. free < o.freed) }
+    ensures passed { IsTrue result.moved → BeforeChanges seat.old.me.0 seat.new.me.0 (λ o. (free < o.freed)
+        × (o.freed ≡ result.free)) }
     ensures trace { HelpedBy room free result.free result.moved seat.old.me.0 seat.new.me.0 }
 {
     let to = walk(
@@ -162,8 +172,8 @@ fn help(words: &Words, seat: &mut Seat<u64, View>, room: usize, free: u64) -> Fr
 
 /// Loads the free position. If there is not enough room for a claim up to `new`, moves it on over places that are given
 /// back.
-pub(crate) fn look_free(
-    words: &Words,
+pub(crate) fn look_free<C: Protocol>(
+    words: &Words<C>,
     seat: &mut Seat<u64, View>,
     room: usize,
     new: u64,
@@ -176,7 +186,8 @@ pub(crate) fn look_free(
     ensures result { IsFalse result.moved → result.free + room < new
         → new ≤ seat.old.me.0.seen.object.freed + room + room → AtSomeMoment seat.old.me.0 seat.new.me.0
         (λ o. Grows seat.old.me.0.seen.object o × IsGivenBackTo o result.free) }
-    ensures passed { IsTrue result.moved → AtTwoMoments seat.old.me.0 seat.new.me.0 (λ o later. o.freed < later.freed) }
+    ensures passed { IsTrue result.moved → ChangedByOthers seat.old.me.0 seat.new.me.0 (λ o later.
+        (o.freed < later.freed) × (later.freed ≡ result.free)) }
     ensures trace { LookedFree room new result.free result.moved seat.old.me.0 seat.new.me.0 }
 {
     // One load suffices: the free position never falls, so the room that it shows is really there.

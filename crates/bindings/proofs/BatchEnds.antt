@@ -15,7 +15,7 @@ use Rattle.std.specs.Prelude.{Result, Ok, Err, MatchResult}
 use Rattle.atomic_table.specs.Seated.{TableId}
 use Rattle.table_theory.specs.declared.views.AbsState.{AbsState}
 use Rattle.batch_queue.specs.declared.ends.BatchEnd.{BatchEnd}
-use Rattle.batch_queue.specs.declared.ends.BatchQueue.{BatchQueue}
+use Rattle.batch_queue.specs.Plain.{BatchQueue}
 use Rattle.batch_queue.specs.declared.refusals.PutRefusal.{PutRefusal}
 use Rattle.batch_queue.specs.declared.refusals.TakeRefusal.{TakeRefusal}
 use Rattle.batch_queue.specs.declared.rule.BatchState.{BatchState}

@@ -3,7 +3,7 @@ use Rattle.std.specs.Prelude.{◌≡◌, ◌≤◌, List, ℕ, take, Result, Ok,
 use Rattle.std.specs.Arc.{arc_value}
 use Rattle.table_theory.specs.Sharing.{the_whole}
 use Rattle.batch_queue.specs.declared.ends.BatchEnd.{BatchEnd}
-use Rattle.batch_queue.specs.declared.ends.BatchQueue.{BatchQueue}
+use Rattle.batch_queue.specs.Plain.{BatchQueue}
 use Rattle.batch_queue.specs.Closings.{ClosedNow}
 use Rattle.batch_queue.specs.Handles.{view_of, room_of}
 use Rattle.bindings.specs.QueueTaking.{IsKeptFrom}

@@ -2,7 +2,7 @@
 use Rattle.std.specs.Prelude.{◌≡◌, ◌≤◌, ℕ, List, map, take, Some, Result, Ok, Err}
 use Rattle.std.specs.Arc.{arc_value}
 use Rattle.table_theory.specs.Sharing.{the_whole}
-use Rattle.claim_queue.specs.declared.ends.ClaimQueue.{ClaimQueue}
+use Rattle.claim_queue.specs.Plain.{ClaimQueue}
 use Rattle.claim_queue.specs.declared.ends.QueueEnd.{QueueEnd}
 use Rattle.claim_queue.specs.Handles.{first_of, view_of}
 use Rattle.claim_queue.specs.Closings.{ClosedNow}

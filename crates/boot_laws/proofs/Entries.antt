@@ -1,5 +1,5 @@
 -- What a turn did, by its step, if it tried one.
-use Rattle.boot_laws.proofs.Common.{Line, subst, ◌≡◌, inl, inr, ℕ, ◌+◌, Bool, true, false, List, [], ◌∷◌, ◌++◌, refl, sym, ap, ◌∙◌, Option, Some, None, if◌then◌else◌, BootPlan, QueueIndex, Step, AtQueue, idle_queue, queues_add, Tended, Begun, counted_step, retired, StepOutcome, TurnResult, TurnOutcome, Moved, SayAnswer, WakeDone, Account, ◌⊕◌, is_done, IsOutcomeOf, queues_by, raised_by, heard_by, saw_shut, LogEntry, entry_account, tending, outcome_account, gone, FollowsPlan, OutcomeFollows, turn_saw_shut, Key, step_of, said_line}
+use Rattle.boot_laws.proofs.Common.{Line, subst, ◌≡◌, inl, inr, ℕ, ◌+◌, Bool, true, false, List, [], ◌∷◌, ◌++◌, refl, sym, ap, ◌∙◌, Option, Some, None, if◌then◌else◌, BootPlan, QueueIndex, Step, AtQueue, idle_queue, queues_add, Tended, Begun, counted_step, retired, StepOutcome, TurnResult, TurnOutcome, SayAnswer, WakeDone, Account, ◌⊕◌, is_done, IsOutcomeOf, queues_by, heard_by, saw_shut, LogEntry, entry_account, tending, outcome_account, FollowsPlan, OutcomeFollows, turn_saw_shut, Key, step_of, said_line}
 use Rattle.std.proofs.Common.{◌⊎◌}
 use Rattle.boot_data.specs.declared.plan.Step.TheVariants as steps
 use Rattle.turn_io.specs.Accounts.{at_each, both_queue}
@@ -7,8 +7,8 @@ use Rattle.turn_io.proofs.Adding.{each_adds}
 use Rattle.processor.specs.declared.step_outcome.StepOutcome.TheVariants as step_outcomes
 use Rattle.processor.specs.declared.outcome.TurnResult.TheVariants as hads
 use Rattle.processor.specs.declared.outcome.TurnOutcome.TheVariants as outcomes
-use Rattle.processor.specs.declared.sending.Moved.TheVariants as moveds
 use Rattle.processor.specs.Entries.{count_of, outcome_saw_shut}
+use Rattle.processor.proofs.Trying.{gone_done, raises_done}
 
 -- what a turn did by its step: at the queues, the steps done and what was heard
 abbrev pub Tried : Type 0
@@ -45,14 +45,6 @@ none_retired : (moved : Bool) (element number : ℕ) → (retired moved element 
 none_retired true element number = refl
 none_retired false element number = refl
 
-none_gone : (moved : Moved) (element number : ℕ) → (gone moved element number).done ≡ []
-none_gone (moveds.Freed moved) element number = none_retired moved element number
-none_gone moved element number = refl
-
-none_raised : (step_outcome : StepOutcome) → (raised_by step_outcome).done ≡ []
-none_raised (step_outcomes.Signal thread signal answer) = refl
-none_raised step_outcome = refl
-
 counted_one : (b : Bool) (element number : ℕ) → (counted_step (count_of b number) element number).done ≡ (if b then (element, number) ∷ [] else [])
 counted_one true element number = refl
 counted_one false element number = refl
@@ -79,7 +71,7 @@ module _ (plan : BootPlan) where
     is = p.is;
     outcome_is = p.step_outcome;
     queues = none_before (queues_by d line);
-    done = (λ i. (none_raised d i ++ (counted_step (p.counts i) begun.element begun.number).done) ++ none_gone sent.moved begun.element (begun.number + 1) i)
+    done = (λ i. (raises_done d i ++ (counted_step (p.counts i) begun.element begun.number).done) ++ gone_done sent.moved begun.element (begun.number + 1) i)
         ∙ (ap (λ z. z ++ []) (counted_one (is_done d) begun.element begun.number) ∙ append_none (is_done d) (begun.element, begun.number));
     heard = refl;
     told_is = refl;

@@ -7,7 +7,8 @@ use Rattle.processor.specs.Accounts.{unheard}
 use Rattle.processor.specs.Logs.{Climbs, numbers_done}
 use Rattle.processor.specs.Preparing.{IsPrepared}
 use Rattle.processor.proofs.Summing.{accounts_add, joined_account}
-use Rattle.boot_laws.proofs.Totals.{all_of, sum_more}
+use Rattle.boot_laws.proofs.Totals.{all_of}
+use Rattle.processor.proofs.Logging.{sum_on}
 
 -- LISTS
 
@@ -65,7 +66,7 @@ module _ (plan : BootPlan) where
   all_heard_by [] [] z = refl
   all_heard_by [] (s ∷ ss) z = absurd z
   all_heard_by (l ∷ ls) [] z = absurd z
-  all_heard_by (l ∷ ls) (s ∷ ss) z = (λ i. (z.0.did i).heard ++ all_heard_by ls ss z.1 i) ∙ ap (λ a. a.heard) (sym (sum_more l (all_of ls)))
+  all_heard_by (l ∷ ls) (s ∷ ss) z = (λ i. (z.0.did i).heard ++ all_heard_by ls ss z.1 i) ∙ ap (λ a. a.heard) (sym (sum_on l (all_of ls)))
 
   -- the stations that were joined to the first come to what their logs do
   all_joined : (logs : List (List LogEntry)) (first : Parts) (stations : List Parts) (last : Parts) → AllZip (Leaves plan) logs stations → AllJoined first stations last
@@ -77,7 +78,7 @@ module _ (plan : BootPlan) where
       all_joined ls j.0 ss last left.1 j.2
       ∙ (ap (λ z. unheard z ⊕ unheard (total_of ls)) (joined_account first s j.0 j.1 ∙ ap (λ z. account first ⊕ unheard z) left.0.did)
       ∙ (accounts_add.regroups (unheard (account first)) (unheard (sum_of l)) (unheard (total_of ls))
-      ∙ ap (λ z. unheard (account first) ⊕ unheard z) (sym (sum_more l (all_of ls)))))
+      ∙ ap (λ z. unheard (account first) ⊕ unheard z) (sym (sum_on l (all_of ls)))))
 
   -- so they worked together
   pub worked_together : (logs : List (List LogEntry)) (first : Parts) (stations : List Parts) (last : Parts) → WereJoined plan logs first stations last → WorkedTogether plan logs (done_by first stations last)

@@ -13,7 +13,8 @@ use Rattle.processor.specs.Logs.{numbers_done, Climbs}
 use Rattle.boot_laws.specs.Agreements.{ThreadAgrees, StepsAgree, was_retired}
 use Rattle.boot_laws.specs.ClosedTables as closed
 use Rattle.boot_laws.specs.Endings.{FreedSpare}
-use Rattle.boot_laws.proofs.Totals.{all_of, all_did, sum_more, all_planned}
+use Rattle.boot_laws.proofs.Totals.{all_of, all_did, all_planned}
+use Rattle.processor.proofs.Logging.{sum_on}
 use Rattle.boot_laws.proofs.Turns.{all_work, all_over}
 use Rattle.boot_laws.proofs.Undone.{none_in}
 
@@ -49,7 +50,7 @@ all_climb : (x top : ℕ) (logs : List (List LogEntry)) → AllByRecursion (λ l
 all_climb x top [] z below = tt
 all_climb x top (l ∷ ls) z below =
     let parts : (n : ℕ) → count_by (same_key (x, n)) (total_of (l ∷ ls)).hand.done ≡ count_by (same_key (x, n)) (sum_of l).hand.done + count_by (same_key (x, n)) (total_of ls).hand.done =
-    λ n. ap (λ (a : Account). count_by (same_key (x, n)) a.hand.done) (sum_more l (all_of ls)) ∙ many_more (same_key (x, n)) (sum_of l).hand.done (total_of ls).hand.done in (
+    λ n. ap (λ (a : Account). count_by (same_key (x, n)) a.hand.done) (sum_on l (all_of ls)) ∙ many_more (same_key (x, n)) (sum_of l).hand.done (total_of ls).hand.done in (
       climbs_below (numbers_done l x) 0 z.0.0 top (omega arith)
           (λ n some. below n (let e = numbered x n (sum_of l).hand.done in let p = parts n in omega arith)) z.0.1,
       all_climb x top ls z.1 (λ n some. below n (let p = parts n in omega arith)),

@@ -1,15 +1,9 @@
 -- What the processors did together.
-use Rattle.boot_laws.proofs.Common.{Done, ◌≡◌, List, [], ◌∷◌, ◌++◌, sym, ap, ◌∙◌, flat_map, AllByRecursion, BootPlan, QueueIndex, queues_add, all_append, Account, ◌⊕◌, LogEntry, entry_account, FollowsPlan, sum_of, preparing, WorkedTogether, total_of}
-use Rattle.processor.proofs.Summing.{accounts_add}
+use Rattle.boot_laws.proofs.Common.{Done, ◌≡◌, List, [], ◌∷◌, ap, ◌∙◌, flat_map, AllByRecursion, BootPlan, QueueIndex, queues_add, all_append, Account, ◌⊕◌, LogEntry, FollowsPlan, preparing, WorkedTogether, total_of}
 
 -- the lists, one after the other
 abbrev pub all_of : {A : Type 0} → List (List A) → List A
 all_of lists = flat_map (λ list. list) lists
-
--- two logs, one after the other, come to what both come to
-pub sum_more : (l m : List LogEntry) → sum_of (l ++ m) ≡ sum_of l ⊕ sum_of m
-sum_more [] m = sym (accounts_add.none_first (sum_of m))
-sum_more (entry ∷ l) m = ap (λ z. entry_account entry ⊕ z) (sum_more l m) ∙ sym (accounts_add.regroups (entry_account entry) (sum_of l) (sum_of m))
 
 -- all turns are as the plan has them
 pub all_planned : (plan : BootPlan) (logs : List (List LogEntry)) → AllByRecursion (AllByRecursion (FollowsPlan plan)) logs → AllByRecursion (FollowsPlan plan) (all_of logs)

@@ -1,6 +1,7 @@
 -- The shares of devices come back with their raw ttys.
 use Rattle.boot_objects.proofs.Common.{◌≡◌, ℕ, suc, ◌+◌, Bool, true, false, List, [], ◌∷◌, length, Some, refl, sym, ap, subst, ◌∙◌, arith, ◌==◌, if◌then◌else◌, slice_get, Small, Large, QueueOps, ChainEnd, Ghosts, Shared, Parts, Shares, no_shares, both_shares, shares_add, RawTty, AtQueue, Stake, no_stake, idle_queue, at_one, stake, stakes, chain_stake, chain_stakes, by_sizes, Device, opening_shares, device_shares, all_shares, AreWhole, port_stakes, note_stake, note_stakes, raw_ports, raw_notes, TookRaws, HasWholes}
 use Rattle.std.proofs.Math.Nat.{add-zero}
+use Rattle.turn_io.proofs.Telling.{none_more}
 use Rattle.processor.specs.Accounts.{shares}
 use Rattle.processor.proofs.Summing.{shares_swap}
 use Rattle.quajects.specs.Raws.{end_of}
@@ -19,9 +20,6 @@ raw_shares raw chain ttys = record no_shares { queues = by_index (λ q. (port_st
 
 note_share : {Q W : Type 0} {g : Ghosts Q W} (ends : List (ChainEnd Q W g)) (k : ℕ) → (chain_stakes ends k).share ≡ (note_stakes ends k).share
 note_share ends k = chain_share_is ends k ∙ sym (at_map note_stake (λ (s : Stake AtQueue). s.share) (no_stake idle_queue) ends k)
-
-none_more : (a b : ℕ) → a ≡ b → a ≡ b + 0
-none_more a b e = e ∙ sym (add-zero b)
 
 took_shares : (raw chain : ℕ) (ttys : List RawTty) (old new : Parts) → TookRaws raw chain ttys old new → shares new ≡ both_shares (shares old) (raw_shares raw chain ttys)
 took_shares raw chain ttys old new t = λ i. record {

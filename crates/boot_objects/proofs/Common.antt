@@ -2,7 +2,7 @@
 pub use Rattle.std.proofs.Common.{Bool, List, None, Option, Some, [], ap, append_assoc, arith, false, get_or, length, map, refl, rules, set, subst, suc, sym, true, vec_capacity, vec_len, zero, ℕ, ◌*◌, ◌++◌, ◌+◌, ◌-◌, ◌<◌, ◌∙◌, ◌∷◌, ◌≡◌, ◌≤◌}
 pub use Rattle.std.proofs.Math.Logic.{∥∥₁_elim}
 pub use Rattle.std.proofs.Math.Path.{fun_ext}
-pub use Rattle.std.proofs.lemmas.List.{length-map, length_push, map-append}
+pub use Rattle.std.proofs.lemmas.List.{length-map, length_push, map-append, nil_from_length}
 pub use Rattle.std.proofs.lemmas.List.Concat.{flat_map-cons}
 pub use Rattle.std.proofs.lemmas.List.Elements.{All-cons, All-head, All-nil, All-push, All-tail}
 pub use Rattle.std.proofs.lemmas.Option.{slice_get-get_or}
@@ -20,7 +20,7 @@ pub use Rattle.boot_data.specs.declared.plan.QueueIndex.TheVariants.{Large, Smal
 pub use Rattle.claim_queue.specs.Handles.{view_of}
 pub use Rattle.claim_queue.specs.Lines.{line_of, lines_put}
 pub use Rattle.claim_queue.specs.Own.{did_both, nothing_did}
-pub use Rattle.claim_queue.specs.declared.ends.ClaimQueue.{ClaimQueue}
+pub use Rattle.claim_queue.specs.Plain.{ClaimQueue}
 pub use Rattle.claim_queue.specs.declared.ends.QueueEnd.{QueueEnd}
 pub use Rattle.claim_queue.specs.declared.rule.QueueOps.{QueueOps}
 pub use Rattle.meters.specs.Handles.{IsOnlySeat}
@@ -52,7 +52,7 @@ pub use Rattle.turn_io.proofs.Adding.{by_sizes, dids_add, each_adds, queues_add,
 pub use Rattle.turn_io.proofs.ChainParting.{rests}
 pub use Rattle.turn_io.proofs.Places.{as_long}
 pub use Rattle.turn_io.proofs.Using.{used_at}
-pub use Rattle.turn_io.proofs.Walking.{none_left, same_on}
+pub use Rattle.turn_io.proofs.Walking.{same_on}
 pub use Rattle.turn_io.specs.Accounts.{AddsUp, AtChain, AtQueue, Stake, at_each, at_one, both_queue, both_stakes, chain_stake, chain_stakes, idle_chain, idle_queue, no_stake, stake, stakes}
 pub use Rattle.turn_io.specs.EndLists.{AreChainEndsOf, AreEndsOf, AreSameEnds, IsIdle, OnEnd, chain_end_share, chain_end_table, chain_share_at, chain_table, end_call, end_share, end_shuts, end_table, queue_table, share_at}
 pub use Rattle.turn_io.specs.Splits.{IsChainJoined, IsJoined}

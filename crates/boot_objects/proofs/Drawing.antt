@@ -1,5 +1,5 @@
 -- Two lists are drawn from, one of each at a time, and a third grows by what each two give.
-use Rattle.boot_objects.proofs.Common.{◌≡◌, suc, ◌+◌, List, [], ◌∷◌, ◌++◌, map, length, refl, sym, ap, subst, ◌∙◌, arith, append_assoc, none_left}
+use Rattle.boot_objects.proofs.Common.{◌≡◌, suc, ◌+◌, List, [], ◌∷◌, ◌++◌, map, length, refl, sym, ap, subst, ◌∙◌, arith, append_assoc, nil_from_length}
 use Rattle.std.proofs.Common.{length-append, append-nil}
 use Rattle.std.specs.List.{All}
 use Rattle.turn_io.specs.Splits.{AllThree}
@@ -47,7 +47,7 @@ module _ {A B C : Type 0} (R : A → B → C → Type 0) where
 
   pub all_drawn : (all : List A) (others : List B) (drawn left : List A) (rest : List B) (made : List C) → length others ≡ length all → left ≡ [] → Drawn R all others drawn left rest made → AllThree R all others made
   all_drawn all others drawn left rest made long none d =
-      let no_rest : rest ≡ [] = none_left rest (rest_long all others drawn left rest made long d ∙ ap length none) in
+      let no_rest : rest ≡ [] = nil_from_length rest (rest_long all others drawn left rest made long d ∙ ap length none) in
       let f : drawn ≡ all = sym (append-nil drawn) ∙ (ap (λ z. drawn ++ z) (sym none) ∙ d.first) in
       let s : d.used ≡ others = sym (append-nil d.used) ∙ (ap (λ z. d.used ++ z) (sym no_rest) ∙ d.second) in
       subst (λ z. AllThree R z others made) f (subst (λ z. AllThree R drawn z made) s d.each)

@@ -1,12 +1,10 @@
 -- Ends that have done nothing, beside their objects.
-use Rattle.boot_objects.proofs.Common.{◌≡◌, ℕ, Bool, true, false, List, map, length, refl, ap, ◌∙◌, arith, fun_ext, ClaimQueue, QueueEnd, QueueOps, nothing_did, Ghosts, ProcChain, ChainEnd, AnyQuaject, Queues, AtChain, Stake, no_stake, idle_queue, idle_chain, stake, chain_stake, AreEndsOf, AreChainEndsOf, queue_table, end_table, chain_end_table, chain_table, IsIdle, by_sizes, Meters, ThreadTable, Parts, get_or-copies, IsFirstHand, IsFirstSeat, IsIdleEnd, IsIdleChainEnd, IsStock, IsChainStock}
-use Rattle.std.proofs.lemmas.Bool.Decides.{nat_tests}
-use Rattle.std.specs.Prelude.{◌&&◌, nat_lt, slice_index_or}
+use Rattle.boot_objects.proofs.Common.{◌≡◌, ℕ, List, map, length, ap, ◌∙◌, ClaimQueue, QueueEnd, QueueOps, nothing_did, Ghosts, ProcChain, ChainEnd, AnyQuaject, Queues, AtChain, Stake, no_stake, idle_queue, idle_chain, stake, chain_stake, AreEndsOf, AreChainEndsOf, queue_table, end_table, chain_end_table, chain_table, IsIdle, by_sizes, Meters, ThreadTable, Parts, IsFirstHand, IsFirstSeat, IsIdleEnd, IsIdleChainEnd, IsStock, IsChainStock}
 use Rattle.turn_io.specs.Accounts.{lines_of, queue_account, chain_account}
 use Rattle.turn_dispatch.specs.Tallies.{tally}
 use Rattle.processor.specs.Accounts.{account, nothing, shown_in}
-use Rattle.processor.specs.Stations.{IsUnused, no_signals}
-use Rattle.thread_table.specs.Answers.{is_in}
+use Rattle.processor.specs.Stations.{IsUnused}
+use Rattle.processor.proofs.Summing.{none_shown}
 use Rattle.boot_objects.proofs.Summed.{at_map}
 use Rattle.boot_objects.proofs.Zips.{zip_second, zip_same, zip_each}
 
@@ -27,20 +25,6 @@ module _ {g : Ghosts AnyQuaject Queues} where
   idle_chain_at : (chains : List (ProcChain AnyQuaject Queues)) (ends : List (ChainEnd AnyQuaject Queues g)) → IsChainStock chains ends → (k : ℕ) → chain_account ends k ≡ idle_chain
   idle_chain_at chains ends h k = at_map chain_stake (λ (s : Stake AtChain). s.did) (no_stake idle_chain) ends k
       ∙ zip_each IsIdleChainEnd (λ end. (chain_stake end).did) idle_chain (λ chain end idle. λ i. record { notes = idle.puts i; ran = length (idle.takes i) }) chains ends h k
-
-none_in : (s : ℕ) → is_in 0 s ≡ false
-none_in s = grind (arith, nat_tests)
-
-none_shown : shown_in no_signals ≡ (λ e s. false)
-none_shown = fun_ext (λ e. fun_ext (λ s. shut e s (ap (λ z. is_in z s) (get_or-copies 64 0 e) ∙ none_in s)))
-  where
-    shut : (e s : ℕ) → is_in (slice_index_or no_signals e 0) s ≡ false → shown_in no_signals e s ≡ false
-    shut e s none = ap (λ b. nat_lt e 64 && (nat_lt s 16 && b)) none ∙ never (nat_lt e 64) (nat_lt s 16)
-      where
-        never : (a b : Bool) → (a && (b && false)) ≡ false
-        never true true = refl
-        never true false = refl
-        never false b = refl
 
 -- a first station over new ends did nothing
 pub did_nothing : (queues : Queues) (list : List (ProcChain AnyQuaject Queues)) (table : ThreadTable) (meters : Meters) (parts : Parts) → IsStock queues.small.items parts.small.items → IsStock queues.large.items parts.large.items → IsChainStock list parts.chains.items

@@ -4,7 +4,7 @@ use Rattle.std.specs.List.{All}
 use Rattle.std.proofs.lemmas.List.{flat_map_more}
 use Rattle.turn_io.specs.EndLists.{HasRaised}
 use Rattle.table_theory.specs.Listing.{AllRaised}
-use Rattle.turn_io.proofs.Parting.{raised_both}
+use Rattle.quajects.proofs.Joining.{raised_both}
 use Rattle.quajects.specs.Ports.{AllFit}
 use Rattle.boot_objects.specs.Gains.{port_stake}
 

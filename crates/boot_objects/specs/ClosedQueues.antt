@@ -3,7 +3,7 @@ use Rattle.std.specs.Prelude.{◌≡◌, ◌-◌, ◌≤◌, ℕ, List, map, dro
 use Rattle.std.specs.List.{All}
 use Rattle.quajects.specs.declared.ports.Port.{Port}
 use Rattle.claim_queue.specs.declared.close.Closed.{Closed}
-use Rattle.claim_queue.specs.declared.ends.ClaimQueue.{ClaimQueue}
+use Rattle.claim_queue.specs.Plain.{ClaimQueue}
 use Rattle.claim_queue.specs.declared.ends.QueueEnd.{QueueEnd}
 use Rattle.claim_queue.specs.Closings.{ClosedNow}
 use Rattle.claim_queue.specs.Handles.{view_of, first_of}

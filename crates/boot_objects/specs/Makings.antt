@@ -7,7 +7,7 @@ use Rattle.boot_data.specs.declared.plan.Mover.{Mover}
 use Rattle.boot_data.specs.declared.plan.Mover.TheVariants as mover
 use Rattle.boot_data.specs.declared.plan.Way.{Way}
 use Rattle.boot_data.specs.QueueLists.{raw_queue, line_queue}
-use Rattle.claim_queue.specs.declared.ends.ClaimQueue.{ClaimQueue}
+use Rattle.claim_queue.specs.Plain.{ClaimQueue}
 use Rattle.claim_queue.specs.declared.ends.QueueEnd.{QueueEnd}
 use Rattle.claim_queue.specs.Handles as claims
 use Rattle.claim_queue.specs.Handles.{view_of}

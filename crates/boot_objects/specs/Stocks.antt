@@ -1,7 +1,7 @@
 -- The ends from which others are split off: one of each object, in order, with the share of each.
 use Rattle.std.specs.Prelude.{◌≡◌, ℕ, ◌+◌, ◌*◌, ◌<◌, ◌≤◌, List, [], length, map, slice_index_or}
 use Rattle.std.specs.List.{AllZip}
-use Rattle.claim_queue.specs.declared.ends.ClaimQueue.{ClaimQueue}
+use Rattle.claim_queue.specs.Plain.{ClaimQueue}
 use Rattle.claim_queue.specs.declared.ends.QueueEnd.{QueueEnd}
 use Rattle.claim_queue.specs.Handles as queues
 use Rattle.proc_chain.specs.declared.quaject.Quaject.{Ghosts}

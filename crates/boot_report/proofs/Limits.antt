@@ -6,9 +6,6 @@ use Rattle.boot_data.specs.BootPlans.{plan_of}
 use Rattle.boot_data.specs.PlanLimits.{IsPlan}
 
 module _ (plan : BootPlan) where
-  pub few_ttys : length plan.ttys ≤ 2
-  few_ttys = ∥∥₁_elim plan.within le_prop (λ (h : IsPlan (plan_of plan)). h.ttys)
-
   pub few_movers : length plan.movers ≤ 4
   few_movers = ∥∥₁_elim plan.within le_prop (λ (h : IsPlan (plan_of plan)). h.movers)
 

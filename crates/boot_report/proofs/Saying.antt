@@ -15,7 +15,8 @@ use Rattle.processor.proofs.Fitted.{few_steps}
 use Rattle.boot_laws.specs.ClosedTables as closed
 use Rattle.boot_laws.specs.Lines.{AreWhole, QueueSaid, TtySaid, TtyQueuesSaid, MoverSaid, GaugeSaid, AlarmsSaid, ThreadSaid, HeardSaid, name_in}
 use Rattle.boot_report.specs.Made.{IsMade, name_of}
-use Rattle.boot_report.proofs.Limits.{few_ttys, few_movers, few_gauges}
+use Rattle.boot_report.proofs.Limits.{few_movers, few_gauges}
+use Rattle.boot_objects.proofs.Plans.{few_ttys}
 use Rattle.boot_report.proofs.Numbering.{as_many, made_at, mapped_at}
 use Rattle.boot_report.proofs.Shown.{got_left, got_right, counts_are, chain_is, device_is, all_left, said_at, few_is}
 

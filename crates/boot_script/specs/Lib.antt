@@ -18,5 +18,6 @@ pub mod Answers
 pub mod RefusalNames
 pub mod Printed
 pub mod Replays
+pub mod Exits
 pub mod Heard
 pub mod Reports

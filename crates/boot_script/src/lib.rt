@@ -26,6 +26,7 @@ mod declared_names;
 mod draft;
 mod event_lines;
 mod events;
+pub mod exit;
 mod fault;
 pub mod laws;
 mod names;

@@ -1,6 +1,6 @@
 //! Sorting the lines heard, and room for a report.
 
-use crate::fixtures::scripts::plan_if_given;
+use crate::fixtures::plan_if_given;
 use boot_data::HeardPlace;
 use boot_report::*;
 use event_theory::OutOfMemory;

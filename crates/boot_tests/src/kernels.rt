@@ -3,13 +3,14 @@ ghost use Rattle.std.specs.Prelude.{◌≡◌, ◌+◌, ◌≤◌, All, length, 
 ghost use Rattle.boot_threads.specs.Works.{MayWork};
 ghost use Rattle.processor.specs.Preparing.{IsPrepared};
 
-use crate::fixtures::lists::{list_of_two, room_for};
-use crate::fixtures::scripts::plan_of;
+use crate::fixtures::room_for;
 use boot_objects::{Objects, make_objects};
+use boot_script::parse_boot;
 use boot_threads::*;
 use processor::{Shared, Station};
 use spsc_line::LineIn;
 use std::alloc::Global;
+use std::panic::Expect;
 use std::process::Abort;
 use std::sync::Wait;
 use turn_io::NoGate;
@@ -38,7 +39,7 @@ fn make_kernel<R: Abort + Wait>(rt: &R, alloc: Global, gates: Vec<NoGate>, turns
     first_is_prepared();
     first_is_ready();
     works_may_run::<NoGate>();
-    let plan = plan_of(rt, alloc, SCRIPT);
+    let plan = parse_boot(alloc, SCRIPT).expect(rt, "script");
     let Ok(made) = make_objects(alloc, plan) else {
         panic!(rt; "memory")
     };
@@ -81,7 +82,9 @@ fn counted(backs: &[Back<NoGate>]) -> (u64, u64, u64) {
 /// Two processors and the devices of two ttys run, and all come back; no byte was refused.
 #[test]
 fn all_come_back(rt: HostRuntime) {
-    let gates = list_of_two(&rt, rt.alloc(), NoGate, NoGate);
+    let Ok(gates) = vec![in rt.alloc(); NoGate, NoGate] else {
+        panic!(rt; "memory")
+    };
     let Kernel {
         shared,
         station: _rest,

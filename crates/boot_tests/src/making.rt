@@ -1,10 +1,12 @@
 //! The objects of a script.
 
-use crate::fixtures::scripts::{plan_if_given, plan_of};
+use crate::fixtures::plan_if_given;
 use boot_objects::{Objects, make_objects};
+use boot_script::parse_boot;
 use event_theory::OutOfMemory;
 use processor::Shared;
 use std::alloc::Global;
+use std::panic::Expect;
 use std::process::Abort;
 use std::test::*;
 
@@ -30,7 +32,7 @@ fn assert_counts<R: Abort>(rt: &R, made: Objects) {
 /// There are as many of each as the script asks for.
 #[test]
 fn counts_are_those_of_the_script(rt: HostRuntime) {
-    let plan = plan_of(&rt, rt.alloc(), SCRIPT);
+    let plan = parse_boot(rt.alloc(), SCRIPT).expect(&rt, "script");
     let Ok(made) = make_objects(rt.alloc(), plan) else {
         panic!(rt; "memory")
     };

@@ -1,5 +1,6 @@
 -- The results of the processors and the devices, by their works.
 use Rattle.boot_threads.proofs.Common.{◌≡◌, ℕ, zero, suc, ◌+◌, ◌<◌, ◌≤◌, ◌^◌, List, [], ◌∷◌, ◌∙◌, map, take, drop, length, refl, sym, ap, subst, arith, Option, Some, None, Result, Ok, slice_get, AllZip, le_prop, ∥∥₁_elim, BootPlan, PlannedTty, Point, ProcChain, IsEndOf, AnyQuaject, Queues, IsEndAt, end_of, AllThree, Device, AreDevicesOf, Shared, RawTty, LineIn, LineOut, SameIn, SameOut, Work, Worked, GaveBack, IsServing, AreServing, input_of, IsTyped, AreTyped, Back, HasWorked, HasServed}
+use Rattle.std.proofs.lemmas.Option.{same_Some}
 use Rattle.boot_data.specs.QueueLists.{raw_queue}
 use Rattle.boot_data.specs.BootPlans.{plan_of}
 use Rattle.boot_data.specs.PlanLimits.{IsPlan, IsTyped as IsShort}
@@ -17,9 +18,6 @@ use Rattle.boot_threads.specs.Works.{RunsOf, RefusalsOf}
 
 -- LISTS
 
-some_is : {A : Type 0} (x y : A) → ◌≡◌ {A = Option A} (Some x) (Some y) → x ≡ y
-some_is x y e = cc
-
 none_is : {A B : Type 0} (y : A) → ◌≡◌ {A = Option A} None (Some y) → B
 none_is y e = absurd (cc)
 
@@ -34,7 +32,7 @@ three_at S R (x' ∷ xs) [] (z ∷ zs) ws k x y w s r a b c = absurd s
 three_at S R (x' ∷ xs) (y' ∷ ys) [] ws k x y w s r a b c = absurd s
 three_at S R (x' ∷ xs) (y' ∷ ys) (z ∷ zs) [] k x y w s r a b c = absurd r
 three_at S R (x' ∷ xs) (y' ∷ ys) (z ∷ zs) (w' ∷ ws) zero x y w s r a b c =
-    (z, subst (λ u. S u y z) (some_is x' x a) (subst (λ u. S x' u z) (some_is y' y b) s.0), subst (λ u. R z u) (some_is w' w c) r.0)
+    (z, subst (λ u. S u y z) (same_Some x' x a) (subst (λ u. S x' u z) (same_Some y' y b) s.0), subst (λ u. R z u) (same_Some w' w c) r.0)
 three_at S R (x' ∷ xs) (y' ∷ ys) (z ∷ zs) (w' ∷ ws) (suc k) x y w s r a b c = three_at S R xs ys zs ws k x y w s.1 r.1 a b c
 
 -- DEVICES
@@ -72,10 +70,10 @@ typed_at (x ∷ ttys) [] devices typed t p handle device input all a b c d = abs
 typed_at (x ∷ ttys) (h ∷ handles) [] typed t p handle device input all a b c d = absurd all
 typed_at (x ∷ ttys) (h ∷ handles) (e ∷ devices) [] t p handle device input all a b c d = absurd all
 typed_at {H} {N} (x ∷ ttys) (h ∷ handles) (e ∷ devices) (i ∷ typed) zero p handle device input all a b c d =
-    subst (λ (z : LineIn). IsTyped {N = N} (Ok handle) p device.input z) (some_is i input d)
-    (subst (λ (z : Device). IsTyped {N = N} (Ok handle) p z.input i) (some_is e device c)
-    (subst (λ (z : Result H N). IsTyped z p e.input i) (some_is h (Ok handle) b)
-    (subst (λ (z : PlannedTty). IsTyped h z e.input i) (some_is x p a) all.0)))
+    subst (λ (z : LineIn). IsTyped {N = N} (Ok handle) p device.input z) (same_Some i input d)
+    (subst (λ (z : Device). IsTyped {N = N} (Ok handle) p z.input i) (same_Some e device c)
+    (subst (λ (z : Result H N). IsTyped z p e.input i) (same_Some h (Ok handle) b)
+    (subst (λ (z : PlannedTty). IsTyped h z e.input i) (same_Some x p a) all.0)))
 typed_at (x ∷ ttys) (h ∷ handles) (e ∷ devices) (i ∷ typed) (suc t) p handle device input all a b c d = typed_at ttys handles devices typed t p handle device input all.1 a b c d
 
 pub still_line : (i i' : LineIn) (o o' : LineOut) → IsLine i o → SameIn i i' → SameOut o o' → IsLine i' o'
@@ -99,7 +97,7 @@ raws_at shared t count device line tty d s = (
   record {
     named = subst (λ (z : ℕ). z < length shared.chains.items) d.chain_is d.works.chain_named;
     its = λ chain at.
-        let same : s.its ≡ chain = some_is s.its chain (sym s.is ∙ (ap (slice_get shared.chains.items) d.chain_is ∙ at)) in
+        let same : s.its ≡ chain = same_Some s.its chain (sym s.is ∙ (ap (slice_get shared.chains.items) d.chain_is ∙ at)) in
         subst (λ (z : ProcChain AnyQuaject Queues). IsEndOf z tty.chain) same s.chain_end;
   },
 )

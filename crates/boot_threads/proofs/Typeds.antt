@@ -1,8 +1,7 @@
 -- A device that served as many bytes as were typed served those: its runs are in order, and it shut nothing.
 use Rattle.boot_threads.proofs.Common.{◌≡◌, inl, inr, ℕ, Bool, true, false, List, [], ◌∷◌, ◌++◌, ◌∙◌, length, refl, sym, ap, subst, arith, ◌+◌, ◌<◌, ◌%◌, ◌^◌, map, Ok, Err, not, append-nil, length-map, PutByte, end_of, overruns_of, Try, bytes_of, lines_of, refused, PutEach, Served, mod-eq_of_lt, PlannedTty, lines_put, Device, ProcChain, AnyQuaject, RawTty, Queues, LineIn, LineOut, bytes_sent, bytes_received}
 use Rattle.std.specs.List.{concat}
-use Rattle.std.proofs.lemmas.List.{length-append}
-use Rattle.turn_io.proofs.Walking.{none_left}
+use Rattle.std.proofs.lemmas.List.{length-append, nil_from_length}
 use Rattle.boot_objects.specs.DeviceEndings.{AreWithout, DeviceEnded}
 use Rattle.table_theory.specs.Interleaving.{Ascending, InOrder}
 use Rattle.table_theory.proofs.Ordering.{order_none}
@@ -11,7 +10,7 @@ use Rattle.claim_queue.proofs.Answered.{answer_own}
 use Rattle.claim_queue.proofs.Ordered.{answer_order}
 use Rattle.quajects.specs.Settled.{runs_of}
 use Rattle.std.proofs.lemmas.List.Sums.{length-filter, count_by-le-length}
-use Rattle.claim_queue.specs.declared.ends.ClaimQueue.{ClaimQueue}
+use Rattle.claim_queue.specs.Plain.{ClaimQueue}
 use Rattle.claim_queue.specs.Handles.{view_of}
 use Rattle.claim_queue.specs.Lines.{line_of}
 use Rattle.boot_objects.specs.Devices.{IsDevice}
@@ -57,7 +56,7 @@ put_without (t ∷ tries) = without_one t.byte t.put tries (put_without tries)
 pub all_received : {A : Type 0} (xs ys zs : List A) → xs ++ ys ≡ zs → length xs ≡ length zs → xs ≡ zs
 all_received xs ys zs whole long =
     let e = length-append xs ys in let f = ap (λ z. length z) whole in
-    sym (append-nil xs) ∙ ap (λ z. xs ++ z) (sym (none_left ys (omega (arith, e, f, long)))) ∙ whole
+    sym (append-nil xs) ∙ ap (λ z. xs ++ z) (sym (nil_from_length ys (omega (arith, e, f, long)))) ∙ whole
 
 pub served_all : (queues : List (ClaimQueue 64)) (chains : List (ProcChain AnyQuaject Queues)) (raw chain : ℕ) (device : Device) (its : ProcChain AnyQuaject Queues) (p : PlannedTty) (input : LineIn) (line : LineOut) (tty : RawTty)
     → IsDevice queues chains raw chain device → length p.typed < 2 ^ 64 → bytes_sent input ≡ bytes_sent device.input ++ p.typed

@@ -4,7 +4,7 @@ ghost use Rattle.std.specs.List.{All, AllZip, AllByRecursion, slice_get};
 ghost use Rattle.boot_data.specs.declared.boot_plan.BootPlan.{BootPlan};
 ghost use Rattle.boot_data.specs.declared.plan.PlannedTty.{PlannedTty};
 ghost use Rattle.boot_data.specs.Hearing.{Key};
-ghost use Rattle.claim_queue.specs.declared.ends.ClaimQueue.{ClaimQueue};
+ghost use Rattle.claim_queue.specs.Plain.{ClaimQueue};
 ghost use Rattle.turn_dispatch.specs.Holdings.{IsFree};
 ghost use Rattle.meters.specs.declared.ends.Meters.{Meters};
 ghost use Rattle.meters.specs.Handles.{IsOnlySeat};

@@ -13,7 +13,7 @@ pub by_both : {n : ℕ} {X : Type 0} (old new : QueueEnd n) → IsProp X → (Is
 by_both old new prop f = surely.by_both of_queues (view_of old) (view_of new) (valid_end old) (valid_end new) prop f
 
 -- the queue grows from what the end had seen to what it sees
-grows_since : (v w : View) (entries : List (Step Positions)) → ExtendsTrace v entries w → IsValidView of_queues v → IsValidView of_queues w → Grows v.seen.object w.seen.object
+pub grows_since : (v w : View) (entries : List (Step Positions)) → ExtendsTrace v entries w → IsValidView of_queues v → IsValidView of_queues w → Grows v.seen.object w.seen.object
 grows_since v w entries a x y = reaches_grow v.seen w.seen (reaches_since of_queues v w entries x y a)
 
 pub still_shut : {n : ℕ} (old new : QueueEnd n) (entries : List (Step Positions)) → ExtendsTrace (view_of old) entries (view_of new) → (view_of old).seen.object.shut ≡ true → (view_of new).seen.object.shut ≡ true

@@ -203,27 +203,21 @@ module _ (n : ℕ) (v w : View) (sv : ∥ IsValidView of_queues v ∥₁) (sw : 
 
       was_empty : Says → (at : ℕ) → RefusedTake Few Enough n v (Empty at) w → WhyNotTaken Few v (Empty at) w
       was_empty says at r = let short = (says at r).0 in let (_, from, past, few, low) = says at r in let s = r.0 in let q : Positions = s.at_flag.object in let scan : List (Step Positions) = scanned n s.tail s.scan in let flag : Step Positions = load (flag_word n (stop_position s)) s.flag s.at_flag in
-          let last : List (Step Positions) = load head_word r.1 r.2 ∷ load tail_word s.tail r.3 ∷ [] in let here = r.5 in (
-            record {
-              before = load tail_word s.tail s.at_tail ∷ scan;
-              step = flag;
-              after = last;
-              adds = subst (λ (z : List (Step Positions)). ExtendsTrace v (load tail_word s.tail s.at_tail ∷ z) w) (append_assoc scan (flag ∷ []) last) r.8.adds;
-              holds = (
-                (let g : tail_of q ≤ at = omega arith in g),
-                subst (λ (z : ℕ). Few (take (at - z) (left_of q))) (sym from) few,
-                (λ i below. certain le_prop (λ x y. (let up = (found_there v w x y Few Enough n at r rooms short i (omega arith)).0 in let e : s.tail + i - q.first ≡ tail_of q - q.first + i = omega arith in subst (λ (z : ℕ). 2 ≤ stage_at q z) e up))),
-                low,
-              );
-            },
-            record {
-              before = stopping n s;
-              step = load head_word r.1 r.2;
-              after = load tail_word s.tail r.3 ∷ [];
-              adds = r.8.adds;
-              holds = λ shut. certain le_prop (λ x y. (let more = (empty_says v w x y Few Enough n at r rooms short).2 shut in let long = left_length r.2.object in omega arith));
-            },
-          )
+          let last : List (Step Positions) = load head_word r.1 r.2 ∷ load tail_word s.tail r.3 ∷ [] in let here = r.5 in record {
+            before = load tail_word s.tail s.at_tail ∷ scan;
+            first = flag;
+            between = [];
+            second = load head_word r.1 r.2;
+            after = load tail_word s.tail r.3 ∷ [];
+            adds = subst (λ (z : List (Step Positions)). ExtendsTrace v (load tail_word s.tail s.at_tail ∷ z) w) (append_assoc scan (flag ∷ []) last) r.8.adds;
+            holds = (
+              (let g : tail_of q ≤ at = omega arith in g),
+              subst (λ (z : ℕ). Few (take (at - z) (left_of q))) (sym from) few,
+              (λ i below. certain le_prop (λ x y. (let up = (found_there v w x y Few Enough n at r rooms short i (omega arith)).0 in let e : s.tail + i - q.first ≡ tail_of q - q.first + i = omega arith in subst (λ (z : ℕ). 2 ≤ stage_at q z) e up))),
+              low,
+              (λ shut. certain le_prop (λ x y. (let more = (empty_says v w x y Few Enough n at r rooms short).2 shut in let long = left_length r.2.object in omega arith))),
+            );
+          }
 
       tail_moved : (tail now : ℕ) (m k : AbsState Positions) (between : List (Step Positions)) → tail < now → ExtendsTrace v (load tail_word tail m ∷ (between ++ load tail_word now k ∷ [])) w → AtTwoMoments v w (λ q later. (tail_of q < tail_of later) × (tail_of later ≡ now))
       tail_moved tail now m k between past a = let e : Step Positions = load tail_word tail m in let f : Step Positions = load tail_word now k in record {

@@ -8,6 +8,7 @@ pub mod Tallying
 pub mod Reading
 pub mod Following
 pub mod Raising
+pub mod Permits
 pub mod Putting
 pub mod Answered
 pub mod Lining
@@ -18,10 +19,12 @@ pub mod Settling
 pub mod Betweens
 pub mod Lawful
 pub mod Saying
+pub mod Brevity
 pub mod Certain
 pub mod Ordered
 pub mod Heading
 pub mod Historic
+pub mod Under
 pub mod Vacant
 pub mod Clients
 pub mod Common

@@ -22,7 +22,7 @@ abbrev pub IsDivisible : {n : ℕ} → QueueEnd n → Type 0
 IsDivisible end = 2 ≤ end.seat.me.0.member.share
 
 -- the end is an end of this queue
-abbrev pub IsEndOf : {n : ℕ} → ClaimQueue n → QueueEnd n → Type 0
+abbrev pub IsEndOf : {n : ℕ} {C : Type 0} → ClaimQueue n C → QueueEnd n → Type 0
 IsEndOf queue end = end.seat.table_id ≡ queue.table.shared.table_id
 
 -- both are the same end of the same queue, at two moments
@@ -34,5 +34,5 @@ abbrev pub AreOfOneQueue : {n : ℕ} → QueueEnd n → QueueEnd n → Type 0
 AreOfOneQueue one other = other.seat.table_id ≡ one.seat.table_id
 
 -- the queue's first position
-abbrev pub first_of : {n : ℕ} → ClaimQueue n → ℕ
+abbrev pub first_of : {n : ℕ} {C : Type 0} → ClaimQueue n C → ℕ
 first_of queue = queue.first

@@ -12,6 +12,7 @@ pub mod Takings
 pub mod Lines
 pub mod Closings
 pub mod Between
+pub mod Plain
 pub mod Puts
 pub mod Orders
 pub mod Reads

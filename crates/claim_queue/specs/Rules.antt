@@ -4,6 +4,7 @@ use Rattle.table_theory.specs.declared.queues.Positions.{Positions}
 use Rattle.table_theory.specs.declared.views.AbsState.{AbsState}
 use Rattle.table_theory.specs.Ledgers.{first_of, TableInv}
 use Rattle.table_theory.specs.Listing.{ViewsShow}
+use Rattle.table_theory.specs.Protocols.{Condition, HoldsWith, placed_lines}
 use Rattle.table_theory.specs.Ruled as ruled
 use Rattle.table_theory.specs.Sharing.{total}
 use Rattle.atomic_table.specs.Table.{State}
@@ -25,6 +26,14 @@ pub record Rule (key : Shape) (s : State Unit View) : Type 0 where
   pub stands : TableInv of_queues nothing_did (empty key) now s.words s.views
   pub listed : ViewsShow now.object (map part_of s.views)
   pub shut_once : total shuts_of s.views ≡ times_shut now.object
+
+-- the protocol allows what the end put and took
+abbrev pub KeepsTo : Condition → View → Type 0
+KeepsTo allows v = allows v.first.first (placed_lines v.own.runs) (placed_lines v.own.takes)
+
+-- the rule of a queue under a client's protocol: the rule holds, and the protocol allows what each end put and took
+abbrev pub RuleWith : Condition → Shape → State Unit View → Type 0
+RuleWith allows key s = HoldsWith (Rule key) (KeepsTo allows) s
 
 -- the view of the first end of a new queue
 abbrev pub newcomer : Shape → View

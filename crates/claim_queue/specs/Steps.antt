@@ -15,13 +15,14 @@ use Rattle.table_theory.specs.Batches.{IsPast}
 use Rattle.table_theory.specs.Ledgers.{load, change, Performed}
 use Rattle.table_theory.specs.Ledgers as ends
 use Rattle.table_theory.specs.Listing.{number_of, with_stage}
+use Rattle.table_theory.specs.Protocols.{Condition, IsKept}
 use Rattle.table_theory.specs.Positioned.{Grows, with_claim, with_take, with_shut, tail_of, blank}
 use Rattle.claim_queue.specs.Changes.{IsPlace, with_stage_at}
 use Rattle.claim_queue.specs.declared.layout.TheConstants.{SHUT, MOST_PLACES}
 use Rattle.claim_queue.specs.declared.rule.QueueOps.{QueueOps}
 use Rattle.claim_queue.specs.Layout.{head_word, tail_word, width}
 use Rattle.claim_queue.specs.Own.{View, run, taking, with_run, with_changed, with_taking, with_shutting}
-use Rattle.claim_queue.specs.Rules.{InvHeldOf}
+use Rattle.claim_queue.specs.Rules.{Rule, KeepsTo, InvHeldOf}
 
 -- the seat is a live end of this table, which is the table of a queue of `room` places, 1 to MOST_PLACES
 abbrev pub IsSeated : ℕ → TableId → Seat Unit View → Type 0
@@ -89,6 +90,10 @@ Took v tail n w = (at : AbsState Positions)
 abbrev pub takes : Step Unit → Me Unit View → ℕ → Me Unit View → Type 0
 takes st m r m' = Stays m m' × (r ≡ st.first → Took m.0 st.first (st.second - st.first) m'.0)
     × (r ≢ st.first → Found m.0 st.word r m'.0)
+
+-- a taking of a queue under a client's protocol: the protocol allows what each end put and took by then
+abbrev pub takes_under : Condition → Step Unit → Me Unit View → ℕ → Me Unit View → Type 0
+takes_under allows st m r m' = takes st m r m' × IsKept Rule (KeepsTo allows) m'.0
 
 -- the queue was shut, and the step found this head word
 abbrev pub Shut : View → ℕ → View → Type 0

@@ -1,10 +1,11 @@
 //! Claims: an end reserves a run of places by one compare-and-swap of the head, and then raises the places one by one
 //! (Massalin and Pu 1991, the many-producer queue).
-ghost use Rattle.std.specs.Prelude.{◌≡◌, ◌+◌, ◌<◌, ◌≤◌, ℕ, true, length, MatchResult, MatchBool, IfOk, IfErr};
+ghost use Rattle.std.specs.Prelude.{◌≡◌, ◌+◌, ◌*◌, ◌<◌, ◌≤◌, ℕ, true, length, MatchResult, MatchBool, IfOk, IfErr};
 ghost use Rattle.std.specs.Prelude.{slice_index, slice_index_or};
 ghost use Rattle.table_theory.specs.Listing.{AllRaised};
+ghost use Rattle.table_theory.specs.Moments.{StepsAtMost};
 ghost use Rattle.claim_queue.specs.Claims.{Owns, KeepsClaims, KeepsOthers};
-ghost use Rattle.claim_queue.specs.Client.{HadRoomAt, WhyNotClaimed, WhyNotPut, HasRaisedItem};
+ghost use Rattle.claim_queue.specs.Client.{HadRoomAt, MayPut, WhyNotClaimed, WhyNotPut, HasRaisedItem};
 ghost use Rattle.claim_queue.specs.declared.claim.ClaimRefusal.TheVariants as refusals;
 ghost use Rattle.claim_queue.specs.Evidence.{ClaimedItems, Refused, PausedClaim, Raised, IsPut, PutAnswer};
 ghost use Rattle.claim_queue.specs.Lines.{SameLines, PutLine};
@@ -18,6 +19,7 @@ use arrayvec::ArrayVec;
 use crossbeam_utils::Backoff;
 use std::marker::Brand;
 use std::sync::Wait;
+use table_theory::protocol::Protocol;
 use thiserror::Error;
 
 /// A run of places that an end claimed, and how many of them it has raised.
@@ -97,47 +99,27 @@ fn was_lost(answer: &Result<u32, ClaimRefusal>) -> bool
     matches!(answer, Err(ClaimRefusal::Lost { head: _ }))
 }
 
-impl<const N: usize> ClaimQueue<N> {
+impl<const N: usize, C: Protocol> ClaimQueue<N, C> {
     ghost use Rattle.claim_queue.specs.Handles.{view_of, IsEndOf, IsSameEnd};
 
     /// One try to claim a place for each of the items: it loads the head, then the tail, and makes one compare-and-swap
     /// of the head. The items can be taken once they are raised. The refusals are checked in the order in which
     /// `ClaimRefusal` lists them.
-    pub fn try_claim(&self, end: &mut QueueEnd<N>, items: &[u64]) -> Result<Claim<N>, ClaimRefusal>
-        requires { IsEndOf self.now end.old }
-        ensures effect { MatchResult result (λ c. PutLine items.now (view_of end.old) (view_of end.new))
-            (λ r. SameLines (view_of end.old) (view_of end.new)) }
-        ensures result { IfOk result (λ c. HadRoomAt (view_of end.old) N c.start (length items.now) (view_of end.new)) }
-        ensures frame { KeepsClaims (view_of end.old) (view_of end.new) }
-        ensures shuts_nothing { (view_of end.new).own.shuts ≡ (view_of end.old).own.shuts }
-        ensures owns { IfOk result (λ c. (c.items.items ≡ items.now) × (c.raised ≡ 0)
-            × Owns (view_of end.new) c.start c.items.items c.raised) }
-        ensures error { IfErr result (λ r. ((view_of end.new).own ≡ (view_of end.old).own)
-            × WhyNotClaimed (view_of end.old) N (length items.now) r (view_of end.new)) }
-        ensures shut { (view_of end.old).seen.object.shut ≡ true → 0 < length items.now → length items.now ≤ N
-            → MatchResult result (λ claim. ⊥) (λ refusal. refusal ≡ refusals.Closed) }
-        ensures trace { MatchResult result
-            (λ c. ClaimedItems N (view_of end.old) c.start items.now (view_of end.new))
-            (λ r. Refused N (view_of end.old) (length items.now) r (view_of end.new)) }
-        ensures handle { IsSameEnd end.old end.new }
-    {
-        self.try_claim_paused(end, items, &mut NoPause)
-    }
-
-    /// `try_claim`, with a pause just before the compare-and-swap, in which another end may step. A try that is refused
-    /// before its compare-and-swap does not call the pause.
-    pub fn try_claim_paused<P: Pause>(
+    ///
+    /// Condition: the protocol allows the end to put the items.
+    pub fn try_claim_as(
         &self,
         end: &mut QueueEnd<N>,
         items: &[u64],
-        pause: &mut P,
     ) -> Result<Claim<N>, ClaimRefusal>
-        requires { IsEndOf self.now end.old }
+        requires queue { IsEndOf self.now end.old }
+        requires protocol { MayPut C.allows (view_of end.old) items.now }
         ensures effect { MatchResult result (λ c. PutLine items.now (view_of end.old) (view_of end.new))
             (λ r. SameLines (view_of end.old) (view_of end.new)) }
         ensures result { IfOk result (λ c. HadRoomAt (view_of end.old) N c.start (length items.now) (view_of end.new)) }
         ensures frame { KeepsClaims (view_of end.old) (view_of end.new) }
         ensures shuts_nothing { (view_of end.new).own.shuts ≡ (view_of end.old).own.shuts }
+        ensures steps { StepsAtMost 3 (view_of end.old) (view_of end.new) }
         ensures owns { IfOk result (λ c. (c.items.items ≡ items.now) × (c.raised ≡ 0)
             × Owns (view_of end.new) c.start c.items.items c.raised) }
         ensures error { IfErr result (λ r. ((view_of end.new).own ≡ (view_of end.old).own)
@@ -148,12 +130,10 @@ impl<const N: usize> ClaimQueue<N> {
             (λ c. ClaimedItems N (view_of end.old) c.start items.now (view_of end.new))
             (λ r. Refused N (view_of end.old) (length items.now) r (view_of end.new)) }
         ensures handle { IsSameEnd end.old end.new }
-        ensures hook { MatchResult result (λ c. P.paused pause.old pause.new) (λ r. PausedClaim P.paused N
-            (view_of end.old) (length items.now) r (view_of end.new) pause.old pause.new) }
     {
-        let start = self.claim_places(end, items, pause)?;
+        let first = self.claim_places(end, items, &mut NoPause)?;
         Ok(Claim {
-            start,
+            start: first,
             items: copy_of(items),
             raised: 0,
         })
@@ -166,7 +146,8 @@ impl<const N: usize> ClaimQueue<N> {
         items: &[u64],
         pause: &mut P,
     ) -> Result<u32, ClaimRefusal>
-        requires { IsEndOf self.now end.old }
+        requires queue { IsEndOf self.now end.old }
+        requires protocol { MayPut C.allows (view_of end.old) items.now }
         ensures owns { IfOk result (λ start. Owns (view_of end.new) start items.now 0 × (length items.now ≤ N)) }
         ensures shut { (view_of end.old).seen.object.shut ≡ true → 0 < length items.now → length items.now ≤ N
             → MatchResult result (λ start. ⊥) (λ refusal. refusal ≡ refusals.Closed) }
@@ -206,7 +187,7 @@ impl<const N: usize> ClaimQueue<N> {
         pause.between();
         // linearization point: the places are reserved, if the head is unchanged. No position is used again, so an
         // equal head means that no claim came in between.
-        let found = exchange_head::<Brand>(&self.table.shared, &mut end.seat, head, new, items);
+        let found = exchange_head::<C, Brand>(&self.table.shared, &mut end.seat, head, new, items);
         if found == head {
             return Ok(head as u32);
         }
@@ -229,9 +210,9 @@ impl<const N: usize> ClaimQueue<N> {
         let (start, item) = (start as u64, items[index]);
         // The data is stored before the flag, so an end that finds the flag finds the item. Stores suffice: no other
         // end writes the words of this place until the tail has passed it.
-        store_data::<Brand>(&self.table.shared, &mut end.seat, N, start, index, item);
+        store_data::<C, Brand>(&self.table.shared, &mut end.seat, N, start, index, item);
         // linearization point: the item is raised (published)
-        store_flag::<Brand>(&self.table.shared, &mut end.seat, N, start, index);
+        store_flag::<C, Brand>(&self.table.shared, &mut end.seat, N, start, index);
     }
 
     /// Stores the next item of the claim in its data word, and then its flag, which raises the item. If all items were
@@ -247,6 +228,7 @@ impl<const N: usize> ClaimQueue<N> {
             ((view_of end.new) ≡ (view_of end.old)) }
         ensures frame { KeepsOthers claim.old.start (view_of end.old) (view_of end.new) }
         ensures shuts_nothing { (view_of end.new).own.shuts ≡ (view_of end.old).own.shuts }
+        ensures steps { StepsAtMost 2 (view_of end.old) (view_of end.new) }
         ensures owns { Owns (view_of end.new) claim.new.start claim.new.items.items claim.new.raised }
         ensures raised { MatchBool result (claim.new.raised ≡ claim.old.raised + 1)
             ((claim.old.raised ≡ length claim.old.items.items) × (claim.new.raised ≡ claim.old.raised)) }
@@ -279,14 +261,18 @@ impl<const N: usize> ClaimQueue<N> {
     }
 
     /// One try to claim a run; if it succeeds, all items are raised. Returns the position of the first item.
-    pub fn try_put(&self, end: &mut QueueEnd<N>, items: &[u64]) -> Result<u32, ClaimRefusal>
-        requires { IsEndOf self.now end.old }
+    ///
+    /// Condition: the protocol allows the end to put the items.
+    pub fn try_put_as(&self, end: &mut QueueEnd<N>, items: &[u64]) -> Result<u32, ClaimRefusal>
+        requires queue { IsEndOf self.now end.old }
+        requires protocol { MayPut C.allows (view_of end.old) items.now }
         ensures effect { MatchResult result (λ start. PutLine items.now (view_of end.old) (view_of end.new))
             (λ r. SameLines (view_of end.old) (view_of end.new)) }
         ensures result { IfOk result (λ start. HadRoomAt (view_of end.old) N start (length items.now)
             (view_of end.new)) }
         ensures frame { KeepsClaims (view_of end.old) (view_of end.new) }
         ensures shuts_nothing { (view_of end.new).own.shuts ≡ (view_of end.old).own.shuts }
+        ensures steps { StepsAtMost (2 * length items.now + 3) (view_of end.old) (view_of end.new) }
         ensures owns { IfOk result (λ start. Owns (view_of end.new) start items.now (length items.now)) }
         ensures error { IfErr result (λ r. ((view_of end.new).own ≡ (view_of end.old).own)
             × WhyNotClaimed (view_of end.old) N (length items.now) r (view_of end.new)) }
@@ -300,6 +286,132 @@ impl<const N: usize> ClaimQueue<N> {
         let start = self.claim_places(end, items, &mut NoPause)?;
         self.raise_all(end, start, items);
         Ok(start)
+    }
+
+    /// Retries `try_put` while other ends claim first. It returns every other refusal, so it returns Full if takers are
+    /// slow, and never Lost.
+    ///
+    /// Condition: the protocol allows the end to put the items.
+    pub fn put_as<R: Wait>(
+        &self,
+        rt: &R,
+        end: &mut QueueEnd<N>,
+        items: &[u64],
+    ) -> Result<u32, ClaimRefusal>
+        requires queue { IsEndOf self.now end.old }
+        requires protocol { MayPut C.allows (view_of end.old) items.now }
+        ensures effect { MatchResult result (λ start. PutLine items.now (view_of end.old) (view_of end.new))
+            (λ r. SameLines (view_of end.old) (view_of end.new)) }
+        ensures result { IfOk result (λ start. HadRoomAt (view_of end.old) N start (length items.now)
+            (view_of end.new)) }
+        ensures frame { KeepsClaims (view_of end.old) (view_of end.new) }
+        ensures shuts_nothing { (view_of end.new).own.shuts ≡ (view_of end.old).own.shuts }
+        ensures owns { IfOk result (λ start. Owns (view_of end.new) start items.now (length items.now)) }
+        ensures error { IfErr result (λ r. ((view_of end.new).own ≡ (view_of end.old).own)
+            × WhyNotPut (view_of end.old) N (length items.now) r (view_of end.new)) }
+        ensures raised { AllRaised (view_of end.old).own.runs → AllRaised (view_of end.new).own.runs }
+        ensures shut { (view_of end.old).seen.object.shut ≡ true → 0 < length items.now → length items.now ≤ N
+            → MatchResult result (λ start. ⊥) (λ refusal. refusal ≡ refusals.Closed) }
+        ensures trace { PutAnswer N (view_of end.old) items.now result (view_of end.new) }
+        ensures handle { IsSameEnd end.old end.new }
+    {
+        let backoff = Backoff::new();
+        for _ in rt.forever() {
+            let answer = self.try_put_as(end, items);
+            if !was_lost(&answer) {
+                return answer;
+            }
+            backoff.spin();
+        }
+        unreachable!()
+    }
+}
+
+impl<const N: usize> ClaimQueue<N> {
+    ghost use Rattle.claim_queue.specs.Handles.{view_of, IsEndOf, IsSameEnd};
+
+    /// One try to claim a place for each of the items: it loads the head, then the tail, and makes one compare-and-swap
+    /// of the head. The items can be taken once they are raised. The refusals are checked in the order in which
+    /// `ClaimRefusal` lists them.
+    pub fn try_claim(&self, end: &mut QueueEnd<N>, items: &[u64]) -> Result<Claim<N>, ClaimRefusal>
+        requires { IsEndOf self.now end.old }
+        ensures effect { MatchResult result (λ c. PutLine items.now (view_of end.old) (view_of end.new))
+            (λ r. SameLines (view_of end.old) (view_of end.new)) }
+        ensures result { IfOk result (λ c. HadRoomAt (view_of end.old) N c.start (length items.now) (view_of end.new)) }
+        ensures frame { KeepsClaims (view_of end.old) (view_of end.new) }
+        ensures shuts_nothing { (view_of end.new).own.shuts ≡ (view_of end.old).own.shuts }
+        ensures steps { StepsAtMost 3 (view_of end.old) (view_of end.new) }
+        ensures owns { IfOk result (λ c. (c.items.items ≡ items.now) × (c.raised ≡ 0)
+            × Owns (view_of end.new) c.start c.items.items c.raised) }
+        ensures error { IfErr result (λ r. ((view_of end.new).own ≡ (view_of end.old).own)
+            × WhyNotClaimed (view_of end.old) N (length items.now) r (view_of end.new)) }
+        ensures shut { (view_of end.old).seen.object.shut ≡ true → 0 < length items.now → length items.now ≤ N
+            → MatchResult result (λ claim. ⊥) (λ refusal. refusal ≡ refusals.Closed) }
+        ensures trace { MatchResult result
+            (λ c. ClaimedItems N (view_of end.old) c.start items.now (view_of end.new))
+            (λ r. Refused N (view_of end.old) (length items.now) r (view_of end.new)) }
+        ensures handle { IsSameEnd end.old end.new }
+    {
+        self.try_claim_paused(end, items, &mut NoPause)
+    }
+
+    /// `try_claim`, with a pause just before the compare-and-swap, in which another end may step. A try that is refused
+    /// before its compare-and-swap does not call the pause.
+    pub fn try_claim_paused<P: Pause>(
+        &self,
+        end: &mut QueueEnd<N>,
+        items: &[u64],
+        pause: &mut P,
+    ) -> Result<Claim<N>, ClaimRefusal>
+        requires { IsEndOf self.now end.old }
+        ensures effect { MatchResult result (λ c. PutLine items.now (view_of end.old) (view_of end.new))
+            (λ r. SameLines (view_of end.old) (view_of end.new)) }
+        ensures result { IfOk result (λ c. HadRoomAt (view_of end.old) N c.start (length items.now) (view_of end.new)) }
+        ensures frame { KeepsClaims (view_of end.old) (view_of end.new) }
+        ensures shuts_nothing { (view_of end.new).own.shuts ≡ (view_of end.old).own.shuts }
+        ensures steps { StepsAtMost 3 (view_of end.old) (view_of end.new) }
+        ensures owns { IfOk result (λ c. (c.items.items ≡ items.now) × (c.raised ≡ 0)
+            × Owns (view_of end.new) c.start c.items.items c.raised) }
+        ensures error { IfErr result (λ r. ((view_of end.new).own ≡ (view_of end.old).own)
+            × WhyNotClaimed (view_of end.old) N (length items.now) r (view_of end.new)) }
+        ensures shut { (view_of end.old).seen.object.shut ≡ true → 0 < length items.now → length items.now ≤ N
+            → MatchResult result (λ claim. ⊥) (λ refusal. refusal ≡ refusals.Closed) }
+        ensures trace { MatchResult result
+            (λ c. ClaimedItems N (view_of end.old) c.start items.now (view_of end.new))
+            (λ r. Refused N (view_of end.old) (length items.now) r (view_of end.new)) }
+        ensures handle { IsSameEnd end.old end.new }
+        ensures hook { MatchResult result (λ c. P.paused pause.old pause.new) (λ r. PausedClaim P.paused N
+            (view_of end.old) (length items.now) r (view_of end.new) pause.old pause.new) }
+    {
+        let start = self.claim_places(end, items, pause)?;
+        Ok(Claim {
+            start,
+            items: copy_of(items),
+            raised: 0,
+        })
+    }
+
+    /// One try to claim a run; if it succeeds, all items are raised. Returns the position of the first item.
+    pub fn try_put(&self, end: &mut QueueEnd<N>, items: &[u64]) -> Result<u32, ClaimRefusal>
+        requires { IsEndOf self.now end.old }
+        ensures effect { MatchResult result (λ start. PutLine items.now (view_of end.old) (view_of end.new))
+            (λ r. SameLines (view_of end.old) (view_of end.new)) }
+        ensures result { IfOk result (λ start. HadRoomAt (view_of end.old) N start (length items.now)
+            (view_of end.new)) }
+        ensures frame { KeepsClaims (view_of end.old) (view_of end.new) }
+        ensures shuts_nothing { (view_of end.new).own.shuts ≡ (view_of end.old).own.shuts }
+        ensures steps { StepsAtMost (2 * length items.now + 3) (view_of end.old) (view_of end.new) }
+        ensures owns { IfOk result (λ start. Owns (view_of end.new) start items.now (length items.now)) }
+        ensures error { IfErr result (λ r. ((view_of end.new).own ≡ (view_of end.old).own)
+            × WhyNotClaimed (view_of end.old) N (length items.now) r (view_of end.new)) }
+        ensures raised { AllRaised (view_of end.old).own.runs → AllRaised (view_of end.new).own.runs }
+        ensures shut { (view_of end.old).seen.object.shut ≡ true → 0 < length items.now → length items.now ≤ N
+            → MatchResult result (λ start. ⊥) (λ refusal. refusal ≡ refusals.Closed) }
+        ensures trace { MatchResult result (λ start. IsPut N (view_of end.old) start items.now (view_of end.new))
+            (λ r. Refused N (view_of end.old) (length items.now) r (view_of end.new)) }
+        ensures handle { IsSameEnd end.old end.new }
+    {
+        self.try_put_as(end, items)
     }
 
     /// Retries `try_put` while other ends claim first. It returns every other refusal, so it returns Full if takers are
@@ -326,14 +438,6 @@ impl<const N: usize> ClaimQueue<N> {
         ensures trace { PutAnswer N (view_of end.old) items.now result (view_of end.new) }
         ensures handle { IsSameEnd end.old end.new }
     {
-        let backoff = Backoff::new();
-        for _ in rt.forever() {
-            let answer = self.try_put(end, items);
-            if !was_lost(&answer) {
-                return answer;
-            }
-            backoff.spin();
-        }
-        unreachable!()
+        self.put_as(rt, end, items)
     }
 }

@@ -6,6 +6,7 @@ ghost use Rattle.claim_queue.specs.Client.{HasShut};
 ghost use Rattle.claim_queue.specs.Closings.{ClosedNow, left_at, left_from};
 ghost use Rattle.claim_queue.specs.Evidence.{ShutNow};
 ghost use Rattle.table_theory.specs.Ledgers.{WereOpen};
+ghost use Rattle.table_theory.specs.Moments.{StepsAtMost, WhyNotClosed};
 ghost use Rattle.claim_queue.specs.declared.layout.TheConstants.{MOST_PLACES};
 ghost use Rattle.table_theory.specs.declared.positions.TheConstants.{POSITIONS};
 ghost use Rattle.claim_queue.specs.Layout.{width, ends_word};
@@ -19,6 +20,7 @@ use std::alloc::Global;
 use std::marker::Brand;
 use table_theory::OpenEnds;
 use table_theory::last_end::{close_by, count};
+use table_theory::protocol::Protocol;
 
 /// The contents of a closed queue: its first position, how many items were put (claimed) and taken, and the items left,
 /// in the order of their claims. A place that was claimed and never raised has None.
@@ -60,7 +62,7 @@ fn read_left<const N: usize>(
     left
 }
 
-impl<const N: usize> ClaimQueue<N> {
+impl<const N: usize, C: Protocol> ClaimQueue<N, C> {
     ghost use Rattle.claim_queue.specs.Handles.{view_of, first_of, IsEndOf, IsOnlyEnd, IsSameEnd};
 
     /// Shuts the queue for claims, for good; items that were put can still be taken. Returns true if the queue was
@@ -70,6 +72,7 @@ impl<const N: usize> ClaimQueue<N> {
         ensures effect { SameLines (view_of end.old) (view_of end.new) }
         ensures result { HasShut (view_of end.old) result (view_of end.new) }
         ensures frame { KeepsClaims (view_of end.old) (view_of end.new) }
+        ensures steps { StepsAtMost 1 (view_of end.old) (view_of end.new) }
         ensures trace { ShutNow (view_of end.old) result (view_of end.new) }
         ensures handle { IsSameEnd end.old end.new }
     {
@@ -83,13 +86,17 @@ impl<const N: usize> ClaimQueue<N> {
     pub fn close(
         self,
         end: QueueEnd<N>,
-    ) -> Result<Closed<N>, (ClaimQueue<N>, QueueEnd<N>, OpenEnds)>
+    ) -> Result<Closed<N>, (ClaimQueue<N, C>, QueueEnd<N>, OpenEnds)>
         requires { IsEndOf self end }
         ensures only { IsOnlyEnd end.entry → MatchResult result (λ c. Unit {0}) (λ e. ⊥) }
-        ensures closed { IfOk result (λ c. (c.first ≡ first_of self.entry)
+        ensures closed { IfOk result (λ c. (c.first ≡ first_of self)
             × ClosedNow (view_of end.entry) c.first c.put c.taken c.left.items) }
+        ensures error { IfErr result (λ e. WhyNotClosed e.2.others (view_of end.entry) (view_of e.1)) }
+        ensures frame { IfErr result (λ e. SameLines (view_of end.entry) (view_of e.1)
+            × KeepsClaims (view_of end.entry) (view_of e.1)
+            × ((view_of e.1).own.shuts ≡ (view_of end.entry).own.shuts)) }
         ensures trace { IfErr result (λ e. WereOpen ends_word (view_of end.entry) e.2.others (view_of e.1)) }
-        ensures handle { IfErr result (λ e. (e.0 ≡ self.entry) × IsSameEnd end.entry e.1) }
+        ensures handle { IfErr result (λ e. (e.0 ≡ self) × IsSameEnd end.entry e.1) }
     {
         let QueueEnd { seat } = end;
         // One load suffices: if the number is 1, this is the only end, and no other end can step after the load.

@@ -2,9 +2,10 @@
 use crate::rule::{ClaimRule, QueueOps, Shape, View};
 use table_theory::end_steps::EndsRule;
 use table_theory::last_end::CountRule;
+use table_theory::protocol::Protocol;
 use table_theory::queues::Positions;
 
-impl CountRule<(), View, Shape> for ClaimRule {
+impl<C: Protocol> CountRule<(), View, Shape> for ClaimRule<C> {
     ghost use Rattle.table_theory.specs.Plays.{HasTallied};
     ghost use Rattle.claim_queue.specs.Layout.{ends_word};
     ghost use Rattle.claim_queue.specs.Rules.{InvHeldOf};
@@ -12,7 +13,7 @@ impl CountRule<(), View, Shape> for ClaimRule {
     ghost tallied = { λ id. HasTallied InvHeldOf ends_word };
 }
 
-impl EndsRule<(), QueueOps, Positions, Shape> for ClaimRule {
+impl<C: Protocol> EndsRule<(), QueueOps, Positions, Shape> for ClaimRule<C> {
     ghost use Rattle.claim_queue.specs.Own.{nothing_did, did_both};
     ghost use Rattle.claim_queue.specs.Rules.{newcomer, InvHeldOf};
 

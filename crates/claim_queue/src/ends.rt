@@ -15,10 +15,12 @@ use event_theory::OutOfMemory;
 use std::alloc::Global;
 use std::marker::Brand;
 use table_theory::end_steps::{count_down, count_up, split_off, take_in};
+use table_theory::protocol::{Free, Protocol};
 
+/// A queue of `N` places, under the client's protocol C. Under `Free`, every put is allowed.
 #[derive(Drop)]
-pub struct ClaimQueue<const N: usize> {
-    pub(crate) table: Table<(), View, Shape, ClaimRule, Global>,
+pub struct ClaimQueue<const N: usize, C: Protocol = Free> {
+    pub(crate) table: Table<(), View, Shape, ClaimRule<C>, Global>,
     pub(crate) first: u32,
     ghost sized: { (table.shared.table_id.words ≡ width N) × (table.shared.table_id.slots ≡ 0) },
     ghost shaped: { (table.shared.key.first ≡ first) × (table.shared.key.room ≡ N) },
@@ -38,11 +40,11 @@ pub struct QueueEnd<const N: usize> {
     ghost ruled: { ∥ InvHeldOf seat.me.0 ∥₁ },
 }
 
-impl<const N: usize> ClaimQueue<N> {
+impl<const N: usize, C: Protocol> ClaimQueue<N, C> {
     ghost use Rattle.claim_queue.specs.Handles.{view_of, first_of, IsDivisible, IsEndOf, IsSameEnd, AreOfOneQueue};
 
-    /// An empty queue whose first position is `first`, and its only end.
-    pub fn new(alloc: Global, first: u32) -> Result<(ClaimQueue<N>, QueueEnd<N>), OutOfMemory>
+    /// An empty queue under the protocol C, whose first position is `first`, and its only end.
+    pub fn new_as(alloc: Global, first: u32) -> Result<(ClaimQueue<N, C>, QueueEnd<N>), OutOfMemory>
         requires { (1 ≤ N) × (N ≤ MOST_PLACES) }
         ensures { IfOk result (λ r. IsEndOf r.0 r.1 × (first_of r.0 ≡ first)
             × (view_of r.1 ≡ newcomer (record { first = first; room = N }))) }
@@ -72,6 +74,8 @@ impl<const N: usize> ClaimQueue<N> {
         ensures effect { (lines_put (view_of end.new) ≡ lines_put (view_of end.old))
             × (lines_taken (view_of end.new) ≡ lines_taken (view_of end.old)) }
         ensures born { IsNewEnd (view_of end.old) (view_of end.new) (view_of result) }
+        ensures shuts_nothing { (view_of end.new).own.shuts ≡ (view_of end.old).own.shuts }
+        ensures owns { (view_of end.new).member.share + (view_of result).member.share ≡ (view_of end.old).member.share }
         ensures trace { SplitBy (view_of end.old) (view_of end.new) }
         ensures claims { KeepsClaims (view_of end.old) (view_of end.new) }
         ensures handle { IsSameEnd end.old end.new × AreOfOneQueue end.old result }
@@ -89,6 +93,9 @@ impl<const N: usize> ClaimQueue<N> {
         requires { IsEndOf self.now end.old × IsEndOf self.now other }
         ensures effect { (lines_put (view_of end.new) ≡ lines_put (view_of end.old) ++ lines_put (view_of other.entry))
             × (lines_taken (view_of end.new) ≡ lines_taken (view_of end.old) ++ lines_taken (view_of other.entry)) }
+        ensures shuts { (view_of end.new).own.shuts ≡ (view_of end.old).own.shuts + (view_of other.entry).own.shuts }
+        ensures owns { (view_of end.new).member.share
+            ≡ (view_of end.old).member.share + (view_of other.entry).member.share }
         ensures trace { JoinedBy (view_of end.old) (view_of other.entry) (view_of end.new) }
         ensures claims { KeepsClaims (view_of end.old) (view_of end.new)
             × KeepsClaims (view_of other.entry) (view_of end.new) }
@@ -98,5 +105,18 @@ impl<const N: usize> ClaimQueue<N> {
         take_in::<_, _, _, _, _, Brand>(&self.table.shared, &mut end.seat, seat);
         // linearization point: one end less is counted, after the other end was taken in
         count_down(&self.table.shared, &mut end.seat, ENDS);
+    }
+}
+
+impl<const N: usize> ClaimQueue<N> {
+    ghost use Rattle.claim_queue.specs.Handles.{view_of, first_of, IsEndOf};
+
+    /// An empty queue whose first position is `first`, and its only end.
+    pub fn new(alloc: Global, first: u32) -> Result<(ClaimQueue<N>, QueueEnd<N>), OutOfMemory>
+        requires { (1 ≤ N) × (N ≤ MOST_PLACES) }
+        ensures { IfOk result (λ r. IsEndOf r.0 r.1 × (first_of r.0 ≡ first)
+            × (view_of r.1 ≡ newcomer (record { first = first; room = N }))) }
+    {
+        ClaimQueue::new_as(alloc, first)
     }
 }

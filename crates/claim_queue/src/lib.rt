@@ -54,7 +54,7 @@ mod rule;
 mod steps;
 mod take;
 
-pub use between::{between_steps, ends_between_steps};
+pub use between::{between_steps, ends_between_steps, protocol_between_steps};
 pub use claim::{Claim, ClaimRefusal};
 pub use close::Closed;
 pub use ends::{ClaimQueue, QueueEnd};

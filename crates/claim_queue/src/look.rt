@@ -12,6 +12,7 @@ ghost use Rattle.claim_queue.specs.Walks.{AreRaised, IsNotRaised, HasWalked, Loo
 use crate::ends::{ClaimQueue, QueueEnd};
 use crate::layout::SHUT;
 use crate::steps::{load_flag, load_head, load_tail};
+use table_theory::protocol::Protocol;
 
 /// The numbers that a look at a queue found. They were loaded one after the other, and may have changed since.
 #[derive(Clone, Copy, Debug, PartialEq, Eq, Drop)]
@@ -37,7 +38,7 @@ impl QueueLook {
     }
 }
 
-impl<const N: usize> ClaimQueue<N> {
+impl<const N: usize, C: Protocol> ClaimQueue<N, C> {
     ghost use Rattle.claim_queue.specs.Handles.{view_of, IsEndOf, IsSameEnd};
 
     // The number of items that are raised from `tail` on, without a gap, at most `most`.

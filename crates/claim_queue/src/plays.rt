@@ -1,10 +1,11 @@
 //! The report of each step. These types are for the proofs alone.
 ghost use Rattle.std.specs.Prelude.{ℕ, List, []};
-ghost use Rattle.claim_queue.specs.Steps.{finds, claims, writes, takes, shuts};
+ghost use Rattle.claim_queue.specs.Steps.{finds, claims, writes, takes_under, shuts};
 
 use crate::rule::View;
 use atomic_table::Play;
 use std::marker::{Brand, PhantomData};
+use table_theory::protocol::Protocol;
 
 pub struct Finds;
 
@@ -58,10 +59,13 @@ impl<J: Spot> Play<(), View> for StoresFlag<J> {
     ghost then = { writes J.start J.index 2 };
 }
 
-pub struct Takes;
+/// A taking, under the client's protocol C.
+pub struct Takes<C> {
+    client: PhantomData<C>,
+}
 
-impl Play<(), View> for Takes {
-    ghost then = { takes };
+impl<C: Protocol> Play<(), View> for Takes<C> {
+    ghost then = { takes_under C.allows };
 }
 
 pub struct Shuts;

@@ -1,6 +1,8 @@
 //! The rule of the table. Its types are for the proofs alone: no program except the queue makes a value of them.
 use atomic_table::TableRule;
 use std::collections::LinkedList;
+use std::marker::PhantomData;
+use table_theory::protocol::Protocol;
 use table_theory::queues::{Batch, Positions};
 use table_theory::views::EndState;
 
@@ -22,12 +24,15 @@ pub struct QueueOps {
 /// The view of an end: what it did, its steps, and all ends' steps up to its own last step.
 pub type View = EndState<QueueOps, Positions>;
 
-pub struct ClaimRule;
+/// The rule of a queue under the client's protocol C.
+pub struct ClaimRule<C> {
+    client: PhantomData<C>,
+}
 
-impl TableRule<(), View, Shape> for ClaimRule {
-    ghost use Rattle.claim_queue.specs.Rules.{Rule, newcomer};
+impl<C: Protocol> TableRule<(), View, Shape> for ClaimRule<C> {
+    ghost use Rattle.claim_queue.specs.Rules.{RuleWith, newcomer};
 
-    ghost holds = { Rule };
+    ghost holds = { RuleWith C.allows };
 
     ghost first = { newcomer };
 }

@@ -1,11 +1,13 @@
 //! The atomic steps. No signature has a const parameter, since a call of such a function could not choose ghost
 //! members.
-ghost use Rattle.std.specs.Prelude.{◌≡◌, ◌≢◌, ◌+◌, ◌-◌, ◌<◌, ◌≤◌, ℕ, false, length};
+ghost use Rattle.std.specs.Prelude.{◌≡◌, ◌≢◌, ◌+◌, ◌-◌, ◌<◌, ◌≤◌, ℕ, false, [], ◌∷◌, ◌++◌, length};
 ghost use Rattle.table_theory.specs.declared.positions.TheConstants.{POSITIONS};
 ghost use Rattle.table_theory.specs.Positioned.{fresh, tail_of, item_at, stage_at};
+ghost use Rattle.table_theory.specs.Protocols.{IsKept, placed_lines};
 ghost use Rattle.table_theory.specs.Seating.{IsSame};
 ghost use Rattle.claim_queue.specs.Layout.{head_word, tail_word, data_word, flag_word};
 ghost use Rattle.claim_queue.specs.declared.layout.TheConstants.{FIRST_PLACE, MOST_PLACES, SHUT};
+ghost use Rattle.claim_queue.specs.Rules.{Rule, KeepsTo};
 ghost use Rattle.claim_queue.specs.Steps.{IsSeated, IsNear, HasPlace, Stays, Found, Claimed, WroteAt, Took, Shut};
 ghost use Rattle.claim_queue.specs.Takings.{HasRaised};
 
@@ -13,10 +15,11 @@ use crate::layout::{HEAD, SHUT, TAIL, data_word, flag_word};
 use crate::plays::{ClaimItems, Claims, Finds, Shuts, Spot, StoresData, StoresFlag, Takes};
 use crate::rule::{ClaimRule, Shape, View};
 use atomic_table::{Seat, Shared};
+use table_theory::protocol::Protocol;
 
-pub(crate) type Words = Shared<(), View, Shape, ClaimRule>;
+pub(crate) type Words<C> = Shared<(), View, Shape, ClaimRule<C>>;
 
-fn load(words: &Words, seat: &mut Seat<(), View>, word: usize) -> u64
+fn load<C: Protocol>(words: &Words<C>, seat: &mut Seat<(), View>, word: usize) -> u64
     requires queue { (seat.old.table_id ≡ words.now.table_id) × (word < words.now.table_id.words) }
     requires live { 1 ≤ seat.old.me.0.member.ends }
     ensures queue { IsSame seat.old seat.new × Stays seat.old.me seat.new.me }
@@ -25,7 +28,7 @@ fn load(words: &Words, seat: &mut Seat<(), View>, word: usize) -> u64
     words.load::<Finds>(seat, word)
 }
 
-pub(crate) fn load_head(words: &Words, seat: &mut Seat<(), View>) -> u64
+pub(crate) fn load_head<C: Protocol>(words: &Words<C>, seat: &mut Seat<(), View>) -> u64
     requires queue { (seat.old.table_id ≡ words.now.table_id) × (FIRST_PLACE ≤ words.now.table_id.words) }
     requires live { 1 ≤ seat.old.me.0.member.ends }
     ensures queue { IsSame seat.old seat.new × Stays seat.old.me seat.new.me }
@@ -35,7 +38,7 @@ pub(crate) fn load_head(words: &Words, seat: &mut Seat<(), View>) -> u64
     load(words, seat, HEAD)
 }
 
-pub(crate) fn load_tail(words: &Words, seat: &mut Seat<(), View>) -> u64
+pub(crate) fn load_tail<C: Protocol>(words: &Words<C>, seat: &mut Seat<(), View>) -> u64
     requires queue { (seat.old.table_id ≡ words.now.table_id) × (FIRST_PLACE ≤ words.now.table_id.words) }
     requires live { 1 ≤ seat.old.me.0.member.ends }
     ensures queue { IsSame seat.old seat.new × Stays seat.old.me seat.new.me }
@@ -45,8 +48,8 @@ pub(crate) fn load_tail(words: &Words, seat: &mut Seat<(), View>) -> u64
     load(words, seat, TAIL)
 }
 
-pub(crate) fn exchange_head<J: ClaimItems>(
-    words: &Words,
+pub(crate) fn exchange_head<C: Protocol, J: ClaimItems>(
+    words: &Words<C>,
     seat: &mut Seat<(), View>,
     head: u64,
     new: u64,
@@ -57,6 +60,8 @@ pub(crate) fn exchange_head<J: ClaimItems>(
     requires items { (items.now ≡ J.items) × (0 < length items.now) }
     requires room { head + length items.now ≤ tail_of seat.old.me.0.seen.object + seat.old.me.0.first.room }
     requires new { (new ≡ head + length items.now) × (new < POSITIONS) }
+    requires protocol { C.allows seat.old.me.0.first.first
+        (placed_lines seat.old.me.0.own.runs ++ (head, J.items) ∷ []) (placed_lines seat.old.me.0.own.takes) }
     ensures queue { IsSame seat.old seat.new × Stays seat.old.me seat.new.me }
     ensures hit { result ≡ head → Claimed seat.old.me.0 head J.items seat.new.me.0 }
     ensures miss { result ≢ head → Found seat.old.me.0 head_word result seat.new.me.0 }
@@ -66,8 +71,8 @@ pub(crate) fn exchange_head<J: ClaimItems>(
 }
 
 // Stores the item of the place `index` of the end's run that begins at `start`.
-pub(crate) fn store_data<J: Spot>(
-    words: &Words,
+pub(crate) fn store_data<C: Protocol, J: Spot>(
+    words: &Words<C>,
     seat: &mut Seat<(), View>,
     room: usize,
     start: u64,
@@ -83,8 +88,8 @@ pub(crate) fn store_data<J: Spot>(
     words.store::<StoresData<J>>(seat, data_word(room, start as usize + index), item);
 }
 
-pub(crate) fn store_flag<J: Spot>(
-    words: &Words,
+pub(crate) fn store_flag<C: Protocol, J: Spot>(
+    words: &Words<C>,
     seat: &mut Seat<(), View>,
     room: usize,
     start: u64,
@@ -100,7 +105,12 @@ pub(crate) fn store_flag<J: Spot>(
     words.store::<StoresFlag<J>>(seat, word, start + index as u64 + 1);
 }
 
-pub(crate) fn load_flag(words: &Words, seat: &mut Seat<(), View>, room: usize, position: u64) -> u64
+pub(crate) fn load_flag<C: Protocol>(
+    words: &Words<C>,
+    seat: &mut Seat<(), View>,
+    room: usize,
+    position: u64,
+) -> u64
     requires queue { IsSeated room words.now.table_id seat.old }
     requires near { IsNear seat.old.me.0 room position }
     ensures queue { IsSame seat.old seat.new × Stays seat.old.me seat.new.me }
@@ -115,7 +125,12 @@ pub(crate) fn load_flag(words: &Words, seat: &mut Seat<(), View>, room: usize, p
     load(words, seat, flag_word(room, position as usize))
 }
 
-pub(crate) fn load_data(words: &Words, seat: &mut Seat<(), View>, room: usize, position: u64) -> u64
+pub(crate) fn load_data<C: Protocol>(
+    words: &Words<C>,
+    seat: &mut Seat<(), View>,
+    room: usize,
+    position: u64,
+) -> u64
     requires queue { IsSeated room words.now.table_id seat.old }
     requires near { IsNear seat.old.me.0 room position }
     requires raised { 2 ≤ stage_at seat.old.me.0.seen.object (position - seat.old.me.0.seen.object.first) }
@@ -127,7 +142,12 @@ pub(crate) fn load_data(words: &Words, seat: &mut Seat<(), View>, room: usize, p
     load(words, seat, data_word(room, position as usize))
 }
 
-pub(crate) fn exchange_tail(words: &Words, seat: &mut Seat<(), View>, tail: u64, new: u64) -> u64
+pub(crate) fn exchange_tail<C: Protocol>(
+    words: &Words<C>,
+    seat: &mut Seat<(), View>,
+    tail: u64,
+    new: u64,
+) -> u64
     requires queue { (seat.old.table_id ≡ words.now.table_id) × (FIRST_PLACE ≤ words.now.table_id.words) }
     requires live { 1 ≤ seat.old.me.0.member.ends }
     requires new { (tail < new) × (seat.old.me.0.seen.object.first ≤ tail) }
@@ -136,11 +156,12 @@ pub(crate) fn exchange_tail(words: &Words, seat: &mut Seat<(), View>, tail: u64,
     ensures queue { IsSame seat.old seat.new × Stays seat.old.me seat.new.me }
     ensures hit { result ≡ tail → Took seat.old.me.0 tail (new - tail) seat.new.me.0 }
     ensures miss { result ≢ tail → Found seat.old.me.0 tail_word result seat.new.me.0 × (result < POSITIONS) }
+    ensures kept { IsKept Rule (KeepsTo C.allows) seat.new.me.0 }
 {
-    words.compare_exchange::<Takes>(seat, TAIL, tail, new)
+    words.compare_exchange::<Takes<C>>(seat, TAIL, tail, new)
 }
 
-pub(crate) fn or_head(words: &Words, seat: &mut Seat<(), View>) -> u64
+pub(crate) fn or_head<C: Protocol>(words: &Words<C>, seat: &mut Seat<(), View>) -> u64
     requires queue { (seat.old.table_id ≡ words.now.table_id) × (FIRST_PLACE ≤ words.now.table_id.words) }
     requires live { 1 ≤ seat.old.me.0.member.ends }
     ensures queue { IsSame seat.old seat.new × Stays seat.old.me seat.new.me }

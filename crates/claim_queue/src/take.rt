@@ -1,11 +1,12 @@
 //! Takings: an end reads the items that are raised from the tail on, and takes them by one compare-and-swap of the
 //! tail.
-ghost use Rattle.std.specs.Prelude.{◌≡◌, ◌+◌, ◌-◌, ◌<◌, ◌≤◌, ◌∷◌, [], length, MatchResult, MatchBool, IfOk, IfErr};
+ghost use Rattle.std.specs.Prelude.{◌≡◌, ◌+◌, ◌-◌, ◌*◌, ◌<◌, ◌≤◌, ◌∷◌, [], length, MatchResult, MatchBool, IfOk, IfErr};
 ghost use Rattle.std.specs.Prelude.{IsFalse};
 ghost use Rattle.table_theory.specs.declared.positions.TheConstants.{POSITIONS};
+ghost use Rattle.table_theory.specs.Moments.{StepsAtMost};
 ghost use Rattle.table_theory.specs.Positioned.{tail_of};
 ghost use Rattle.claim_queue.specs.Claims.{KeepsClaims};
-ghost use Rattle.claim_queue.specs.Client.{WereFirst, WhyNotTaken};
+ghost use Rattle.claim_queue.specs.Client.{ArePut, EachEndKeeps, WereFirst, WhyNotTaken};
 ghost use Rattle.claim_queue.specs.Evidence.{TookItems, RefusedTake, PausedTake};
 ghost use Rattle.claim_queue.specs.Lines.{SameLines, TookLine};
 ghost use Rattle.claim_queue.specs.Takings.{IsLine, IsBegun, IsOne, IsNone};
@@ -16,6 +17,7 @@ use crate::layout::SHUT;
 use crate::pause::{NoPause, Pause};
 use crate::steps::{exchange_tail, load_data, load_flag, load_head, load_tail};
 use arrayvec::ArrayVec;
+use table_theory::protocol::Protocol;
 use thiserror::Error;
 
 /// Why nothing was taken.
@@ -33,39 +35,41 @@ pub enum TakeRefusal {
     Closed,
 }
 
-impl<const N: usize> ClaimQueue<N> {
+impl<const N: usize, C: Protocol> ClaimQueue<N, C> {
     ghost use Rattle.claim_queue.specs.Handles.{view_of, IsEndOf, IsSameEnd};
 
-    /// One try to take the first item left.
-    pub fn try_take(&self, end: &mut QueueEnd<N>) -> Result<u64, TakeRefusal>
+    /// One try to take the first item left, in a queue under a client's protocol. At the end's last step the protocol
+    /// allowed what each end put and took, so the item is one that an end was allowed to put.
+    pub fn try_take_as(&self, end: &mut QueueEnd<N>) -> Result<u64, TakeRefusal>
         requires { IsEndOf self.now end.old }
         ensures effect { MatchResult result (λ x. TookLine (x ∷ []) (view_of end.old) (view_of end.new))
             (λ r. SameLines (view_of end.old) (view_of end.new)) }
         ensures result { IfOk result (λ x. WereFirst (view_of end.old) (x ∷ []) (view_of end.new)) }
+        ensures protocol { IfOk result (λ x. ArePut C.allows (view_of end.new) (x ∷ [])) }
+        ensures kept { IfOk result (λ x. EachEndKeeps C.allows (view_of end.new)) }
         ensures frame { KeepsClaims (view_of end.old) (view_of end.new) }
         ensures shuts_nothing { (view_of end.new).own.shuts ≡ (view_of end.old).own.shuts }
+        ensures steps { StepsAtMost 4 (view_of end.old) (view_of end.new) }
         ensures error { IfErr result (λ r. ((view_of end.new).own ≡ (view_of end.old).own)
             × WhyNotTaken IsNone (view_of end.old) r (view_of end.new)) }
         ensures trace { MatchResult result (λ x. TookItems N (view_of end.old) (x ∷ []) (view_of end.new))
             (λ r. RefusedTake IsNone IsOne N (view_of end.old) r (view_of end.new)) }
         ensures handle { IsSameEnd end.old end.new }
     {
-        self.try_take_paused(end, &mut NoPause)
+        self.take_first(end, &mut NoPause)
     }
 
-    /// `try_take`, with a pause just before the compare-and-swap, in which another end may step. A try that is refused
-    /// before its compare-and-swap does not call the pause.
-    pub fn try_take_paused<P: Pause>(
-        &self,
-        end: &mut QueueEnd<N>,
-        pause: &mut P,
-    ) -> Result<u64, TakeRefusal>
+    // One try to take the first item left, with a pause before the compare-and-swap.
+    fn take_first<P: Pause>(&self, end: &mut QueueEnd<N>, pause: &mut P) -> Result<u64, TakeRefusal>
         requires { IsEndOf self.now end.old }
         ensures effect { MatchResult result (λ x. TookLine (x ∷ []) (view_of end.old) (view_of end.new))
             (λ r. SameLines (view_of end.old) (view_of end.new)) }
         ensures result { IfOk result (λ x. WereFirst (view_of end.old) (x ∷ []) (view_of end.new)) }
+        ensures protocol { IfOk result (λ x. ArePut C.allows (view_of end.new) (x ∷ [])) }
+        ensures kept { IfOk result (λ x. EachEndKeeps C.allows (view_of end.new)) }
         ensures frame { KeepsClaims (view_of end.old) (view_of end.new) }
         ensures shuts_nothing { (view_of end.new).own.shuts ≡ (view_of end.old).own.shuts }
+        ensures steps { StepsAtMost 4 (view_of end.old) (view_of end.new) }
         ensures error { IfErr result (λ r. ((view_of end.new).own ≡ (view_of end.old).own)
             × WhyNotTaken IsNone (view_of end.old) r (view_of end.new)) }
         ensures trace { MatchResult result (λ x. TookItems N (view_of end.old) (x ∷ []) (view_of end.new))
@@ -146,12 +150,12 @@ impl<const N: usize> ClaimQueue<N> {
         true
     }
 
-    /// One try to take a line: the items up to and with the first 10, or N raised items without a 10 before the last
+    /// One try to take a line, in a queue under a client's protocol: the items up to and with the first 10, or N raised items without a 10 before the last
     /// one. They are appended to `line`, and their number is returned; if the try is refused, the list stays empty. One
     /// compare-and-swap takes all of them, so no other end takes an item between them.
     ///
     /// Condition: the list is empty.
-    pub fn try_take_line(
+    pub fn try_take_line_as(
         &self,
         end: &mut QueueEnd<N>,
         line: &mut ArrayVec<u64, N>,
@@ -161,8 +165,11 @@ impl<const N: usize> ClaimQueue<N> {
         ensures effect { MatchResult result (λ n. TookLine line.new.items (view_of end.old) (view_of end.new))
             (λ r. SameLines (view_of end.old) (view_of end.new)) }
         ensures result { IfOk result (λ n. WereFirst (view_of end.old) line.new.items (view_of end.new)) }
+        ensures protocol { IfOk result (λ n. ArePut C.allows (view_of end.new) line.new.items) }
+        ensures kept { IfOk result (λ n. EachEndKeeps C.allows (view_of end.new)) }
         ensures frame { KeepsClaims (view_of end.old) (view_of end.new) }
         ensures shuts_nothing { (view_of end.new).own.shuts ≡ (view_of end.old).own.shuts }
+        ensures steps { IfOk result (λ n. StepsAtMost (2 * length line.new.items + 2) (view_of end.old) (view_of end.new)) }
         ensures error { IfErr result (λ r. ((view_of end.new).own ≡ (view_of end.old).own)
             × WhyNotTaken (IsBegun N) (view_of end.old) r (view_of end.new)) }
         ensures line { MatchResult result (λ n. (n ≡ length line.new.items) × IsLine N line.new.items)
@@ -187,5 +194,81 @@ impl<const N: usize> ClaimQueue<N> {
             return Err(TakeRefusal::Lost { tail: found as u32 });
         }
         Ok(count)
+    }
+}
+
+impl<const N: usize> ClaimQueue<N> {
+    ghost use Rattle.claim_queue.specs.Handles.{view_of, IsEndOf, IsSameEnd};
+
+    /// One try to take the first item left.
+    pub fn try_take(&self, end: &mut QueueEnd<N>) -> Result<u64, TakeRefusal>
+        requires { IsEndOf self.now end.old }
+        ensures effect { MatchResult result (λ x. TookLine (x ∷ []) (view_of end.old) (view_of end.new))
+            (λ r. SameLines (view_of end.old) (view_of end.new)) }
+        ensures result { IfOk result (λ x. WereFirst (view_of end.old) (x ∷ []) (view_of end.new)) }
+        ensures frame { KeepsClaims (view_of end.old) (view_of end.new) }
+        ensures shuts_nothing { (view_of end.new).own.shuts ≡ (view_of end.old).own.shuts }
+        ensures steps { StepsAtMost 4 (view_of end.old) (view_of end.new) }
+        ensures error { IfErr result (λ r. ((view_of end.new).own ≡ (view_of end.old).own)
+            × WhyNotTaken IsNone (view_of end.old) r (view_of end.new)) }
+        ensures trace { MatchResult result (λ x. TookItems N (view_of end.old) (x ∷ []) (view_of end.new))
+            (λ r. RefusedTake IsNone IsOne N (view_of end.old) r (view_of end.new)) }
+        ensures handle { IsSameEnd end.old end.new }
+    {
+        self.try_take_as(end)
+    }
+
+    /// `try_take`, with a pause just before the compare-and-swap, in which another end may step. A try that is refused
+    /// before its compare-and-swap does not call the pause.
+    pub fn try_take_paused<P: Pause>(
+        &self,
+        end: &mut QueueEnd<N>,
+        pause: &mut P,
+    ) -> Result<u64, TakeRefusal>
+        requires { IsEndOf self.now end.old }
+        ensures effect { MatchResult result (λ x. TookLine (x ∷ []) (view_of end.old) (view_of end.new))
+            (λ r. SameLines (view_of end.old) (view_of end.new)) }
+        ensures result { IfOk result (λ x. WereFirst (view_of end.old) (x ∷ []) (view_of end.new)) }
+        ensures frame { KeepsClaims (view_of end.old) (view_of end.new) }
+        ensures shuts_nothing { (view_of end.new).own.shuts ≡ (view_of end.old).own.shuts }
+        ensures steps { StepsAtMost 4 (view_of end.old) (view_of end.new) }
+        ensures error { IfErr result (λ r. ((view_of end.new).own ≡ (view_of end.old).own)
+            × WhyNotTaken IsNone (view_of end.old) r (view_of end.new)) }
+        ensures trace { MatchResult result (λ x. TookItems N (view_of end.old) (x ∷ []) (view_of end.new))
+            (λ r. RefusedTake IsNone IsOne N (view_of end.old) r (view_of end.new)) }
+        ensures handle { IsSameEnd end.old end.new }
+        ensures hook { MatchResult result (λ x. P.paused pause.old pause.new)
+            (λ r. PausedTake P.paused N (view_of end.old) r (view_of end.new) pause.old pause.new) }
+    {
+        self.take_first(end, pause)
+    }
+
+    /// One try to take a line: the items up to and with the first 10, or N raised items without a 10 before the last
+    /// one. They are appended to `line`, and their number is returned; if the try is refused, the list stays empty. One
+    /// compare-and-swap takes all of them, so no other end takes an item between them.
+    ///
+    /// Condition: the list is empty.
+    pub fn try_take_line(
+        &self,
+        end: &mut QueueEnd<N>,
+        line: &mut ArrayVec<u64, N>,
+    ) -> Result<usize, TakeRefusal>
+        requires queue { IsEndOf self.now end.old }
+        requires empty { line.old.items ≡ [] }
+        ensures effect { MatchResult result (λ n. TookLine line.new.items (view_of end.old) (view_of end.new))
+            (λ r. SameLines (view_of end.old) (view_of end.new)) }
+        ensures result { IfOk result (λ n. WereFirst (view_of end.old) line.new.items (view_of end.new)) }
+        ensures frame { KeepsClaims (view_of end.old) (view_of end.new) }
+        ensures shuts_nothing { (view_of end.new).own.shuts ≡ (view_of end.old).own.shuts }
+        ensures steps { IfOk result (λ n. StepsAtMost (2 * length line.new.items + 2) (view_of end.old) (view_of end.new)) }
+        ensures error { IfErr result (λ r. ((view_of end.new).own ≡ (view_of end.old).own)
+            × WhyNotTaken (IsBegun N) (view_of end.old) r (view_of end.new)) }
+        ensures line { MatchResult result (λ n. (n ≡ length line.new.items) × IsLine N line.new.items)
+            (λ r. line.new.items ≡ []) }
+        ensures trace { MatchResult result (λ n. TookItems N (view_of end.old) line.new.items (view_of end.new))
+            (λ r. RefusedTake (IsBegun N) (IsLine N) N (view_of end.old) r (view_of end.new)) }
+        ensures handle { IsSameEnd end.old end.new }
+    {
+        self.try_take_line_as(end, line)
     }
 }

@@ -8,6 +8,7 @@ use Rattle.std.specs.List.{remove}
 use Rattle.event_theory.specs.declared.event.Event.{Event}
 use Rattle.event_theory.specs.States.{State, step}
 use Rattle.event_theory.specs.Schedules.{Reaches}
+use Rattle.event_theory.proofs.Keeping.Steps.{reaches_more}
 use Rattle.boot_script.specs.Replays.{alone, Replays}
 use Rattle.boot_script.specs.declared.outcome.Replayed.{Replayed}
 use Rattle.boot_script.specs.declared.outcome.Replayed.TheVariants.{AllAllowed, Refused}
@@ -17,10 +18,6 @@ use Rattle.draw.specs.Histories.{RowShows, RowsShow, LastRowsShow, IsRefused, ke
 -- the front of a list of events is one event longer
 pub longer : (events : List (ℕ × Event)) (at : ℕ) (numbered : ℕ × Event) → at < length events → numbered ≡ get_or events at numbered → take (at + 1) events ≡ take at events ++ numbered ∷ []
 longer events at numbered within is = take_more events at numbered within ∙ ap (λ x. take at events ++ x ∷ []) (sym is)
-
-reaches_more : (s : State) (events : List Event) (t : State) (event : Event) (u : State) → Reaches s events t → step event t ≡ Ok u → Reaches s (events ++ event ∷ []) u
-reaches_more s [] t event u there next = (u, ap (step event) (sym there) ∙ next, refl)
-reaches_more s (e ∷ events) t event u there next = (there.0, there.1, reaches_more there.0 events t event u there.2 next)
 
 reaches_numbered : (s : State) (events : List (ℕ × Event)) (t : State) (numbered : ℕ × Event) (u : State) → Reaches s (alone events) t → step numbered.1 t ≡ Ok u → Reaches s (alone (events ++ numbered ∷ [])) u
 reaches_numbered s events t numbered u there next =

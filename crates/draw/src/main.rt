@@ -16,7 +16,8 @@ mod queue_boxes;
 mod shapes;
 mod words;
 
-use program::{no_memory, run_main, usage};
+use boot_script::exit::no_memory;
+use program::{run_main, usage};
 use std::io::ErrorKind;
 use std::process::ExitCode;
 use std::{env, io};
@@ -34,8 +35,8 @@ fn run(host: &HostRuntime) -> io::Result<u8> {
 fn main(rt: HostRuntime) -> ExitCode {
     ExitCode::from(match run(&rt) {
         Ok(status) => status,
-        Err(error) if error.kind() == ErrorKind::OutOfMemory => no_memory(&mut rt.stderr()),
+        Err(error) if error.kind() == ErrorKind::OutOfMemory => no_memory(&mut rt.stderr()).status,
         // a word that is not text
-        Err(_) => usage(&mut rt.stderr()),
+        Err(_) => usage(&mut rt.stderr()).status,
     })
 }

@@ -1,36 +1,24 @@
 //! The exit status of each run, and the words for standard error.
 
-ghost use Rattle.std.specs.Prelude.{◌≡◌, ◌≢◌, IfOk, IfErr, IfSome, OnOk, Result};
-ghost use Rattle.std.specs.Io.KnownBytes.{Appends, Keeps};
+ghost use Rattle.std.specs.Prelude.{◌≡◌, ◌≢◌, IfOk, IfErr, IfSome, Result};
+ghost use Rattle.std.specs.Io.KnownBytes.{Keeps};
 ghost use Rattle.boot_script.specs.declared.outcome.Replayed.{Replayed};
 ghost use Rattle.boot_script.specs.declared.outcome.ReplayFault.{ReplayFault};
 ghost use Rattle.boot_script.specs.Scripts.{text_events};
 ghost use Rattle.boot_script.specs.Replays.{IsReplayFault};
-ghost use Rattle.draw.specs.Drawings.{IsDrawing, IsDrawn, IsDrawingOf, IsExit, IsStatus, exit_code_of, words_of};
-ghost use Rattle.draw.specs.Drawings.{usage_words};
+ghost use Rattle.boot_script.specs.Exits.{IsExit, IsStatus, exit_code_of, words_of};
+ghost use Rattle.draw.specs.Drawings.{IsAnswer, IsDrawing, IsDrawn, IsDrawingOf, usage_words};
 
 use crate::drawing::picture;
 use crate::history::replay_rows;
 use crate::printing::print_picture;
-use boot_script::{ReplayFault, Replayed, ScriptRefusal, parse_events, read_script};
+use boot_script::exit::Exit;
+use boot_script::{ReplayFault, Replayed, ScriptRefusal, exit, parse_events, read_script};
 use std::alloc::Global;
-use std::io;
 use std::io::{Read, Write};
-
-/// The exit status if there are words, since the program takes none.
-const USAGE_FAULT: u8 = 2;
 
 /// One byte more than a script may have, so that a longer one is seen.
 const BUFFER: usize = 65_537;
-
-/// How a run has ended.
-#[derive(Drop)]
-pub struct Exit {
-    /// The exit status.
-    pub status: u8,
-    /// Whether the error stream took all the words for it.
-    pub reported: io::Result<()>,
-}
 
 /// The page with the picture of the list of events that a text says.
 fn draw_page(alloc: Global, script: &[u8]) -> Result<(Replayed, Vec<u8>), ReplayFault>
@@ -96,16 +84,9 @@ pub fn run_on<R: Read, W: Write, E: Write>(
         × IsExit result (exit_code_of answer) (words_of answer) (E.contents errors.old) (E.contents errors.new) }
 {
     if words != 0 {
-        return Exit {
-            status: USAGE_FAULT,
-            reported: tell_usage(errors),
-        };
+        return usage(errors);
     }
-    let answer = draw_on(alloc, reader, writer);
-    Exit {
-        status: status(answer),
-        reported: tell(answer, errors),
-    }
+    exit::after_replay(draw_on(alloc, reader, writer), errors)
 }
 
 /// As `run_on`, for streams that are handed over, with the exit status alone. Faults of the error stream are ignored.
@@ -117,53 +98,14 @@ pub fn run_main<R: Read + Drop, W: Write + Drop, E: Write + Drop>(
     mut errors: E,
 ) -> u8
     ensures usage { words ≢ 0 → result ≡ 2 }
-    ensures drawing { words ≡ 0 → IfSome (R.remaining reader) (λ bytes. IsStatus (text_events bytes) result) }
+    ensures drawing { words ≡ 0 → IfSome (R.remaining reader) (λ bytes. IsStatus IsAnswer (text_events bytes) result) }
 {
     run_on(alloc, words, &mut reader, &mut writer, &mut errors).status
 }
 
-/// Reports that there is no memory, and returns the exit status for that.
-pub fn no_memory<E: Write>(errors: &mut E) -> u8
-    ensures { result ≡ 3 }
+/// Reports how the program is called, as after words.
+pub fn usage<E: Write>(errors: &mut E) -> Exit
+    ensures { IsExit result 2 usage_words (E.contents errors.old) (E.contents errors.new) }
 {
-    let answer = Err(ReplayFault::Memory);
-    let _ = tell(answer, errors);
-    status(answer)
-}
-
-/// Reports how the program is called, and returns the exit status for words.
-pub fn usage<E: Write>(errors: &mut E) -> u8
-    ensures { result ≡ 2 }
-{
-    let _ = tell_usage(errors);
-    USAGE_FAULT
-}
-
-/// The exit status of a drawing.
-fn status(answer: Result<Replayed, ReplayFault>) -> u8
-    ensures { result ≡ exit_code_of answer }
-{
-    match answer {
-        Ok(Replayed::AllAllowed) => 0,
-        Ok(Replayed::Refused { .. }) | Err(ReplayFault::Script(_)) => 1,
-        Err(ReplayFault::Memory) => 3,
-        Err(ReplayFault::Read | ReplayFault::Write) => 5,
-    }
-}
-
-/// Reports why there is no picture. For a printed picture nothing is reported.
-fn tell<E: Write>(answer: Result<Replayed, ReplayFault>, errors: &mut E) -> io::Result<()>
-    ensures { OnOk result (Appends (E.contents errors.old) (E.contents errors.new) (words_of answer)) }
-{
-    match answer {
-        Ok(_) => Ok(()),
-        Err(fault) => writeln!(errors, "{fault}"),
-    }
-}
-
-/// Reports how the program is called.
-fn tell_usage<E: Write>(errors: &mut E) -> io::Result<()>
-    ensures { OnOk result (Appends (E.contents errors.old) (E.contents errors.new) usage_words) }
-{
-    writeln!(errors, "usage: draw < LIST")
+    exit::usage("usage: draw < LIST", errors)
 }

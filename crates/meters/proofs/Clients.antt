@@ -14,7 +14,7 @@ use Rattle.meters.specs.declared.gauges.AdvanceRefusal.TheVariants as not_advanc
 use Rattle.meters.specs.Steps.{WasCancelled, FoundOther}
 use Rattle.meters.specs.declared.alarms.SetRefusal.TheVariants as not_set
 use Rattle.meters.proofs.Codes.{given_back}
-use Rattle.meters.proofs.Following.{Searched, Swept}
+use Rattle.meters.proofs.Following.{IsLate, Searched, Swept}
 use Rattle.meters.proofs.Lawful.{gauge_says, clock_says, slot_says, empty_says, other_says, fire_event, cancel_event}
 
 -- ONE STEP
@@ -203,41 +203,41 @@ late clock found stood fits is (inr less) alarm e = let w : found ≡ word_of (S
     let back : alarm_in found ≡ alarm = ap alarm_in w ∙ given_back alarm (subst Fits e fits) in subst (λ (z : Alarm). clock < z.due) back less
 
 abbrev NoneDue : ℕ → ℕ → Reading → Type 0
-NoneDue clock slot m = (alarm : Alarm) → in_slot m slot ≡ Some alarm → clock < alarm.due
+NoneDue clock slot m = (clock ≤ m.clock) × ((alarm : Alarm) → in_slot m slot ≡ Some alarm → clock < alarm.due)
 
-abbrev Differs : ℕ → Reading → Reading → Type 0
-Differs slot m later = in_slot later slot ≢ in_slot m slot
+abbrev Differs : ℕ → ℕ → Reading → Reading → Type 0
+Differs clock slot m later = (clock ≤ m.clock) × (in_slot later slot ≢ in_slot m slot)
 
 -- the steps say that nothing was to be fired in the slot
 abbrev Over : ℕ → ℕ → List (Step Reading) → Type 0
-Over clock slot es = One es (NoneDue clock slot) ⊎ Two es (Differs slot)
+Over clock slot es = One es (NoneDue clock slot) ⊎ Two es (Differs clock slot)
 
 over_after : (clock slot : ℕ) (xs es : List (Step Reading)) → Over clock slot es → Over clock slot (xs ++ es)
 over_after clock slot xs es (inl s) = inl (one_after xs es _ s)
 over_after clock slot xs es (inr s) = inr (two_after xs es _ s)
 
-visit_over : (clock slot : ℕ) (visit : Visit) (visits : List Visit) → slot < 16 → IsVisit clock visit → AllByRecursion (IsValidStep of_meters) (tour slot (visit ∷ visits)) → gave visit ≡ None → Over clock slot (tour slot (visit ∷ visits))
-visit_over clock slot (stays found m) visits below fit real none = let e : Step Reading = load (slot_word slot) found m in
-    inl (record { before = []; step = e; after = tour (slot + 1) visits; is = refl; holds = late clock found (in_slot m.object slot) (real.0.shows.slots.fit slot below) (slot_says e slot below refl real.0) fit })
-visit_over clock slot (goes alarm m n) visits below fit real none = let zero : word_of (Some alarm) ≡ 0 = ap word_of none in absurd (omega arith)
-visit_over clock slot (went found m other n) visits below fit real none = let e : Step Reading = load (slot_word slot) found m in let f : Step Reading = load (slot_word slot) other n in
-    inr (record { before = []; first = e; between = []; second = f; after = tour (slot + 1) visits; is = refl; holds = λ same. fit.2 (slot_says f slot below refl real.1.0 ∙ (ap word_of same ∙ sym (slot_says e slot below refl real.0))) })
+visit_over : (clock slot : ℕ) (visit : Visit) (visits : List Visit) → slot < 16 → IsVisit clock visit → AllByRecursion (IsValidStep of_meters) (tour slot (visit ∷ visits)) → AllByRecursion (IsLate clock) (tour slot (visit ∷ visits)) → gave visit ≡ None → Over clock slot (tour slot (visit ∷ visits))
+visit_over clock slot (stays found m) visits below fit real past none = let e : Step Reading = load (slot_word slot) found m in
+    inl (record { before = []; step = e; after = tour (slot + 1) visits; is = refl; holds = (past.0, late clock found (in_slot m.object slot) (real.0.shows.slots.fit slot below) (slot_says e slot below refl real.0) fit) })
+visit_over clock slot (goes alarm m n) visits below fit real past none = let zero : word_of (Some alarm) ≡ 0 = ap word_of none in absurd (omega arith)
+visit_over clock slot (went found m other n) visits below fit real past none = let e : Step Reading = load (slot_word slot) found m in let f : Step Reading = load (slot_word slot) other n in
+    inr (record { before = []; first = e; between = []; second = f; after = tour (slot + 1) visits; is = refl; holds = (past.0, λ same. fit.2 (slot_says f slot below refl real.1.0 ∙ (ap word_of same ∙ sym (slot_says e slot below refl real.0)))) })
 
-tour_over : (clock slot : ℕ) (visits : List Visit) → slot + length visits ≤ 16 → AllByRecursion (IsVisit clock) visits → AllByRecursion (IsValidStep of_meters) (tour slot visits) → (k : ℕ) → k < length visits → get_or (map gave visits) k None ≡ None → Over clock (slot + k) (tour slot visits)
-tour_over clock slot [] fits fit real k below none = absurd (omega arith)
-tour_over clock slot (visit ∷ visits) fits fit real zero below none = let z : slot ≡ slot + 0 = omega arith in
-    subst (λ (n : ℕ). Over clock n (tour slot (visit ∷ visits))) z (visit_over clock slot visit visits (omega arith) fit.0 real none)
-tour_over clock slot (visit ∷ visits) fits fit real (suc k) below none = let z : slot + 1 + k ≡ slot + suc k = omega arith in
+tour_over : (clock slot : ℕ) (visits : List Visit) → slot + length visits ≤ 16 → AllByRecursion (IsVisit clock) visits → AllByRecursion (IsValidStep of_meters) (tour slot visits) → AllByRecursion (IsLate clock) (tour slot visits) → (k : ℕ) → k < length visits → get_or (map gave visits) k None ≡ None → Over clock (slot + k) (tour slot visits)
+tour_over clock slot [] fits fit real past k below none = absurd (omega arith)
+tour_over clock slot (visit ∷ visits) fits fit real past zero below none = let z : slot ≡ slot + 0 = omega arith in
+    subst (λ (n : ℕ). Over clock n (tour slot (visit ∷ visits))) z (visit_over clock slot visit visits (omega arith) fit.0 real past none)
+tour_over clock slot (visit ∷ visits) fits fit real past (suc k) below none = let z : slot + 1 + k ≡ slot + suc k = omega arith in
     subst (λ (n : ℕ). Over clock n (tour slot (visit ∷ visits))) z (over_after clock (slot + 1 + k) (entries_of slot visit) (tour (slot + 1) visits)
-    (tour_over clock (slot + 1) visits (omega arith) fit.1 (all_after (IsValidStep of_meters) (entries_of slot visit) (tour (slot + 1) visits) real) k (omega arith) none))
+    (tour_over clock (slot + 1) visits (omega arith) fit.1 (all_after (IsValidStep of_meters) (entries_of slot visit) (tour (slot + 1) visits) real) (all_after (IsLate clock) (entries_of slot visit) (tour (slot + 1) visits) past) k (omega arith) none))
 
 over_moment : (v w : SeatView) (clock slot : ℕ) (es : List (Step Reading)) → ExtendsTrace v es w → Over clock slot es → HasNoneDue clock slot v w
 over_moment v w clock slot es a (inl s) = inl (one_moment v w es _ a s)
 over_moment v w clock slot es a (inr s) = inr (two_moments v w es _ a s)
 
 fires_by : (v w : SeatView) (alarms : List Alarm) (clock : ℕ) (m : AbsState Reading) (visits : List Visit) → length visits ≡ 16 → AllByRecursion (IsVisit clock) visits → alarms ≡ filter_map gave visits
-    → IsValidStep of_meters (load clock_word clock m) → AllByRecursion (IsValidStep of_meters) (tour 0 visits) → ExtendsTrace v (load clock_word clock m ∷ tour 0 visits) w → FiresDue alarms v w
-fires_by v w alarms clock m visits many fit is first real a = let e : Step Reading = load clock_word clock m in record {
+    → IsValidStep of_meters (load clock_word clock m) → AllByRecursion (IsValidStep of_meters) (tour 0 visits) → AllByRecursion (IsLate clock) (tour 0 visits) → ExtendsTrace v (load clock_word clock m ∷ tour 0 visits) w → FiresDue alarms v w
+fires_by v w alarms clock m visits many fit is first real past a = let e : Step Reading = load clock_word clock m in record {
   clock = clock;
   clock_was = record { before = []; step = e; after = tour 0 visits; adds = a; holds = sym (clock_says e refl first).0 };
   due = subst (AllByRecursion (λ (alarm : Alarm). alarm.due ≤ clock)) (sym is) (all_due clock visits fit);
@@ -246,9 +246,9 @@ fires_by v w alarms clock m visits many fit is first real a = let e : Step Readi
   alarms_are = is ∙ given visits;
   fired = record { steps = e ∷ tour 0 visits; adds = a; are = inl (refl, tour_events 0 visits (omega arith) real) };
   others = λ slot below none. (let z : 0 + slot ≡ slot = omega arith in
-      over_moment v w clock slot (e ∷ tour 0 visits) a (over_after clock slot (e ∷ []) (tour 0 visits) (subst (λ (n : ℕ). Over clock n (tour 0 visits)) z (tour_over clock 0 visits (omega arith) fit real slot (omega arith) none))));
+      over_moment v w clock slot (e ∷ tour 0 visits) a (over_after clock slot (e ∷ []) (tour 0 visits) (subst (λ (n : ℕ). Over clock n (tour 0 visits)) z (tour_over clock 0 visits (omega arith) fit real past slot (omega arith) none))));
 }
 
 pub fires_due : (v u w : SeatView) (clock slot : ℕ) (alarms : List Alarm) → slot ≡ 16 → IsValidView of_meters u → Looked v clock_word clock u → Swept u clock slot alarms w → FiresDue alarms v w
 fires_due v u w clock slot alarms is y f s = let m = made_then v u w (load clock_word clock f.at ∷ []) (tour 0 s.visits) v.own (λ d. record d { fired = d.fired ++ filter_map gave s.visits }) f.made s.made in
-    fires_by v w alarms clock f.at s.visits (s.as_many ∙ is) s.fit s.alarms_are (real_one v u (load clock_word clock f.at) y f.made.adds) s.real m.adds
+    fires_by v w alarms clock f.at s.visits (s.as_many ∙ is) s.fit s.alarms_are (real_one v u (load clock_word clock f.at) y f.made.adds) s.real s.late m.adds

@@ -1,5 +1,5 @@
 -- Facts of several steps together.
-use Rattle.meters.proofs.Common.{◌≡◌, ◌≢◌, ◌⊎◌, inl, inr, ne_eqb, ℕ, suc, ◌+◌, ◌<◌, ◌≤◌, true, false, List, [], ◌∷◌, ◌++◌, length, length-append, filter_map, refl, sym, ap, ◌∙◌, subst, arith, Option, Some, None, append-nil, true≢false, filter_map-append, ∥∥₁_elim, Alarm, AbsState, Step, load, change, IsValidStep, IsValidView, ExtendsTrace, Performed, entries_real, Looked, clock_word, slot_word, word_of, alarm_in, MeterOps, Reading, with_alarm, SeatView, of_meters, Fits, WasSet, WasFired, FoundIn, Gave, NotAdvanced, scan, NotSet}
+use Rattle.meters.proofs.Common.{◌≡◌, ◌≢◌, ◌⊎◌, inl, inr, ne_eqb, ℕ, suc, ◌+◌, ◌<◌, ◌≤◌, true, false, List, [], ◌∷◌, ◌++◌, length, length-append, filter_map, refl, sym, ap, ◌∙◌, subst, arith, Option, Some, None, append-nil, true≢false, filter_map-append, ∥∥₁_elim, Alarm, AbsState, Step, load, change, IsValidStep, IsValidView, ExtendsTrace, Performed, entries_real, Looked, clock_word, slot_word, word_of, alarm_in, MeterOps, Reading, with_alarm, with_fired, SeatView, of_meters, Fits, WasSet, WasFired, FoundIn, Gave, NotAdvanced, scan, NotSet}
 use Rattle.std.specs.Prelude.{◌==◌}
 use Rattle.std.proofs.Common.{append_assoc}
 use Rattle.std.proofs.Math.Bridge.{le_prop}
@@ -14,6 +14,7 @@ use Rattle.meters.specs.declared.alarms.SetRefusal.TheVariants as not_set
 use Rattle.meters.specs.declared.gauges.AdvanceRefusal.TheVariants as not_advanced
 use Rattle.meters.proofs.Codes.{given_back}
 use Rattle.meters.proofs.Clocks.{clock_seen}
+use Rattle.meters.proofs.Falling.{clock_then}
 
 -- what an end is that did this, and is among the ends as it was
 pub made_own : (v w : SeatView) (es : List (Step Reading)) (own : MeterOps) → Performed v es own w → own_of w ≡ own_of (record v { own = own })
@@ -118,6 +119,22 @@ pub empty_found : (v w : SeatView) (clock slot bits : ℕ) (stood : Option Alarm
 empty_found v w clock slot bits None is f empty = gave_none v w clock slot None f tt
 empty_found v w clock slot bits (Some alarm) is f empty = absurd (true≢false (sym empty ∙ ne_eqb bits 0 (λ none. omega arith)))
 
+-- the step found the clock at this tick, or past it
+abbrev pub IsLate : ℕ → Step Reading → Type 0
+IsLate clock e = clock ≤ e.then.object.clock
+
+-- each step of a visit found the clock so
+visit_late : (u w : SeatView) (clock slot : ℕ) (visit : Visit) → ∥ IsValidView of_meters u ∥₁ → IsValidView of_meters w → clock ≤ u.seen.object.clock → ExtendsTrace u (entries_of slot visit) w → AllByRecursion (IsLate clock) (entries_of slot visit)
+visit_late u w clock slot visit x y valid a = each visit a
+  where
+    one : (before after : List (Step Reading)) (e : Step Reading) → ExtendsTrace u (before ++ e ∷ after) w → IsLate clock e
+    one before after e a = ∥∥₁_elim x le_prop (λ (h : IsValidView of_meters u). let low = (clock_then u w h y before after e a).0 in omega arith)
+
+    each : (visit : Visit) → ExtendsTrace u (entries_of slot visit) w → AllByRecursion (IsLate clock) (entries_of slot visit)
+    each (stays found m) a = (one [] [] (load (slot_word slot) found m) a, tt)
+    each (goes alarm m n) a = let e : Step Reading = load (slot_word slot) (word_of (Some alarm)) m in let f : Step Reading = change (slot_word slot) (word_of (Some alarm)) n (with_fired n.object slot alarm) in (one [] (f ∷ []) e a, (one (e ∷ []) [] f a, tt))
+    each (went found m other n) a = let e : Step Reading = load (slot_word slot) found m in let f : Step Reading = load (slot_word slot) other n in (one [] (f ∷ []) e a, (one (e ∷ []) [] f a, tt))
+
 -- the slots below this one were visited, and gave these alarms
 pub record Swept (v : SeatView) (clock slot : ℕ) (alarms : List Alarm) (w : SeatView) : Type 0 where
   pub visits : List Visit
@@ -126,20 +143,21 @@ pub record Swept (v : SeatView) (clock slot : ℕ) (alarms : List Alarm) (w : Se
   pub alarms_are : alarms ≡ filter_map gave visits
   pub made : Performed v (tour 0 visits) (record v.own { fired = v.own.fired ++ filter_map gave visits }) w
   pub real : AllByRecursion (IsValidStep of_meters) (tour 0 visits)
+  pub late : AllByRecursion (IsLate clock) (tour 0 visits)
 
 pub swept_none : (v : SeatView) (clock : ℕ) (alarms : List Alarm) → alarms ≡ [] → Swept v clock 0 alarms v
-swept_none v clock alarms none = record { visits = []; as_many = refl; fit = tt; alarms_are = none; made = nothing_more v v [] (made_none v); real = tt }
+swept_none v clock alarms none = record { visits = []; as_many = refl; fit = tt; alarms_are = none; made = nothing_more v v [] (made_none v); real = tt; late = tt }
 
 tour_on : (slot : ℕ) (xs ys : List Visit) → tour slot (xs ++ ys) ≡ tour slot xs ++ tour (slot + length xs) ys
 tour_on slot [] ys = let z : slot + 0 ≡ slot = omega arith in ap (λ (k : ℕ). tour k ys) (sym z)
 tour_on slot (x ∷ xs) ys = let n : ℕ = length xs in let z : slot + suc n ≡ slot + 1 + n = omega arith in
     (λ i. entries_of slot x ++ (tour_on (slot + 1) xs ys ∙ ap (λ (k : ℕ). tour (slot + 1) xs ++ tour k ys) (sym z)) i) ∙ sym (append_assoc (entries_of slot x) (tour (slot + 1) xs) (tour (slot + suc n) ys))
 
-pub swept_more : (v u w : SeatView) (clock slot : ℕ) (alarms new : List Alarm) (alarm : Option Alarm) → Swept v clock slot alarms u → Gave u clock slot alarm w → IsValidView of_meters w → new ≡ alarms ++ filter_map (λ (x : Option Alarm). x) (alarm ∷ []) → Swept v clock (slot + 1) new w
-swept_more v u w clock slot alarms new alarm s g y is = let x : Visit = g.visit in let long = length-append s.visits (x ∷ []) in let n = s.as_many in let z : slot ≡ 0 + length s.visits = omega arith in
+pub swept_more : (v u w : SeatView) (clock slot : ℕ) (alarms new : List Alarm) (alarm : Option Alarm) → Swept v clock slot alarms u → Gave u clock slot alarm w → ∥ IsValidView of_meters u ∥₁ → clock ≤ u.seen.object.clock → IsValidView of_meters w → new ≡ alarms ++ filter_map (λ (x : Option Alarm). x) (alarm ∷ []) → Swept v clock (slot + 1) new w
+swept_more v u w clock slot alarms new alarm s g x' valid y is = let x : Visit = g.visit in let long = length-append s.visits (x ∷ []) in let n = s.as_many in let z : slot ≡ 0 + length s.visits = omega arith in
     let all = sym (filter_map-append gave s.visits (x ∷ [])) in
-    let m : Performed v (tour 0 (s.visits ++ x ∷ [])) (record v.own { fired = v.own.fired ++ filter_map gave (s.visits ++ x ∷ []) }) w = subst (λ (es : List (Step Reading)). Performed v es (record v.own { fired = v.own.fired ++ filter_map gave (s.visits ++ x ∷ []) }) w)
-    (ap (λ (e : List (Step Reading)). tour 0 s.visits ++ e) (sym (append-nil (entries_of slot x))) ∙ (ap (λ (k : ℕ). tour 0 s.visits ++ tour k (x ∷ [])) z ∙ sym (tour_on 0 s.visits (x ∷ []))))
+    let more : tour 0 s.visits ++ entries_of slot x ≡ tour 0 (s.visits ++ x ∷ []) = ap (λ (e : List (Step Reading)). tour 0 s.visits ++ e) (sym (append-nil (entries_of slot x))) ∙ (ap (λ (k : ℕ). tour 0 s.visits ++ tour k (x ∷ [])) z ∙ sym (tour_on 0 s.visits (x ∷ []))) in
+    let m : Performed v (tour 0 (s.visits ++ x ∷ [])) (record v.own { fired = v.own.fired ++ filter_map gave (s.visits ++ x ∷ []) }) w = subst (λ (es : List (Step Reading)). Performed v es (record v.own { fired = v.own.fired ++ filter_map gave (s.visits ++ x ∷ []) }) w) more
     (subst (λ (fired : List Alarm). Performed v (tour 0 s.visits ++ entries_of slot x) (record v.own { fired = fired }) w) (append_assoc v.own.fired (filter_map gave s.visits) (filter_map gave (x ∷ [])) ∙ ap (λ (e : List Alarm). v.own.fired ++ e) all)
     (made_then v u w (tour 0 s.visits) (entries_of slot x) _ (λ d. record d { fired = d.fired ++ filter_map gave (x ∷ []) }) s.made g.made)) in record {
       visits = s.visits ++ x ∷ [];
@@ -148,6 +166,7 @@ swept_more v u w clock slot alarms new alarm s g y is = let x : Visit = g.visit 
       alarms_are = is ∙ ((λ i. s.alarms_are i ++ one g.visit alarm g.alarm_is i) ∙ all);
       made = m;
       real = entries_real of_meters v w (tour 0 (s.visits ++ x ∷ [])) y m.adds;
+      late = subst (AllByRecursion (IsLate clock)) more (all_on (IsLate clock) (tour 0 s.visits) (entries_of slot x) s.late (visit_late u w clock slot x x' y valid g.made.adds));
     }
   where
     one : (visit : Visit) (a : Option Alarm) → a ≡ gave visit → filter_map (λ (x : Option Alarm). x) (a ∷ []) ≡ filter_map gave (visit ∷ [])

@@ -9,6 +9,7 @@ pub mod Falling
 pub mod Finding
 pub mod Following
 pub mod Clients
+pub mod Ending
 pub mod Lone
 pub mod Betweens
 pub mod Opening

@@ -6,6 +6,7 @@ use Rattle.atomic_table.specs.Table.{Me, step, keeps, Allows, Splits, Joins}
 use Rattle.table_theory.specs.Plays.{HasTallied, finds, counts_up, counts_down, counts}
 use Rattle.table_theory.proofs.Stepping.{leads, made_now, acted, upped, downed, valid_event, stands_event, valid_look, found_now, counted_up, valid_up, counted_down, valid_down, tallied_now, stands_split, stands_join}
 use Rattle.table_theory.proofs.Tables.{IsTable, Goes}
+use Rattle.table_theory.proofs.Totals.{one_of}
 use Rattle.table_theory.proofs.Tables as tables
 use Rattle.meters.specs.declared.rule.Tick.{Tick}
 use Rattle.meters.specs.Rules.{IsSound}
@@ -34,11 +35,12 @@ module _ (key : Shape) (n id : ℕ) (me : Me Unit SeatView) where
   v = me.0
 
   pub ups : v.member.ends + 1 ≤ v.member.share → Allows (Rule key) n id me 0 (λ x. (x + 1) % 18446744073709551616) (counts_up IsSound (step n 0 1 0 none) me)
-  ups parts = tables.ups (table key) n id me (counts_up IsSound (step n 0 1 0 none) me) parts (λ s k at _. ((refl, (valid_up k.stands id v at, is_part key.clock k.now.object s.views id v (upped k.stands id v at) k.listed at refl refl)), counted_up k.stands id v at))
+  ups parts = tables.ups (table key) n id me (counts_up IsSound (step n 0 1 0 none) me) parts (λ s k at _. (let some : 1 ≤ k.now.ends + 1 = omega arith in ((refl, (valid_up k.stands id v at, is_part key.clock k.now.object s.views id v (upped k.stands id v at) k.listed at refl refl, some)), counted_up k.stands id v at)))
 
   pub downs : 2 ≤ v.member.ends → Allows (Rule key) n id me 0 (λ x. (x + (18446744073709551616 - 1)) % 18446744073709551616) (counts_down IsSound (step n 0 1 0 none) me)
   downs two = tables.downs (table key) n id me (counts_down IsSound (step n 0 1 0 none) me) two
-      (λ s k at _. ((refl, (valid_down k.stands id v at two, is_part key.clock k.now.object s.views id v (downed k.stands id v at) k.listed at refl refl)), counted_down k.stands id v at))
+      (λ s k at _. (let own = one_of (λ (u : SeatView). u.member.ends) s.views id v at in let all = k.stands.true_ends.ends.counted.counted in let some : 1 ≤ k.now.ends - 1 = omega arith in
+      ((refl, (valid_down k.stands id v at two, is_part key.clock k.now.object s.views id v (downed k.stands id v at) k.listed at refl refl, some)), counted_down k.stands id v at)))
 
   pub tallies : v.member.ends ≡ 1 → Allows (Rule key) n id me 0 (λ x. x) (counts (HasTallied (IsValidView of_meters) 0) (step n 0 0 0 none) me)
   tallies one = tables.looks (table key) n id me (counts (HasTallied (IsValidView of_meters) 0) (step n 0 0 0 none) me) 0 (omega arith) (λ s k at _. (refl, (valid_look k.stands id v at 0, tallied_now k.stands id v at one)))

@@ -1,11 +1,14 @@
 -- What each call promises its client: what it did to the meters, and what its answer means at a moment of the call.
-use Rattle.std.specs.Prelude.{◌≡◌, ◌≢◌, ◌⊎◌, ℕ, ◌+◌, ◌%◌, ◌^◌, ◌<◌, ◌≤◌, Bool, true, false, List, [], ◌∷◌, length}
+use Rattle.std.specs.Prelude.{◌≡◌, ◌≢◌, ◌⊎◌, ℕ, ◌+◌, ◌%◌, ◌^◌, ◌<◌, ◌≤◌, Bool, true, false}
+use Rattle.std.specs.Prelude.{List, [], ◌∷◌, ◌++◌, length}
 use Rattle.std.specs.Prelude.{Option, Some, None, slice_index_or}
 use Rattle.std.specs.List.{AllByRecursion}
 use Rattle.event_theory.specs.declared.alarm.Alarm.{Alarm}
+use Rattle.table_theory.specs.Ends.{Begins}
+use Rattle.table_theory.specs.Ledgers.{Step, ExtendsTrace, both}
 pub use Rattle.table_theory.specs.Moments.{AtSomeMoment, AtTwoMoments, Does}
 use Rattle.meters.specs.Changes.{in_slot, with_tick, with_advance, with_alarm, with_fired, with_cancelled}
-use Rattle.meters.specs.Own.{SeatView}
+use Rattle.meters.specs.Own.{SeatView, did_both}
 use Rattle.meters.specs.Words.{standing}
 use Rattle.meters.specs.declared.alarms.SetRefusal.{SetRefusal}
 use Rattle.meters.specs.declared.alarms.SetRefusal.TheVariants as not_set
@@ -83,11 +86,12 @@ firings slot [] = []
 firings slot (None ∷ answers) = firings (slot + 1) answers
 firings slot (Some alarm ∷ answers) = (slot, alarm) ∷ firings (slot + 1) answers
 
--- Nothing was to be fired in the slot at this clock. At a moment of the call no alarm that was due at it was there, or
--- another end changed the slot during the call.
+-- Nothing was to be fired in the slot at this clock. At a moment of the call the clock had reached it, and no alarm in
+-- the slot was due at it. Or another end changed the slot after such a moment, during the call.
 abbrev pub HasNoneDue : ℕ → ℕ → SeatView → SeatView → Type 0
-HasNoneDue clock slot v w = AtSomeMoment v w (λ m. (alarm : Alarm) → in_slot m slot ≡ Some alarm → clock < alarm.due)
-    ⊎ AtTwoMoments v w (λ m later. in_slot later slot ≢ in_slot m slot)
+HasNoneDue clock slot v w = AtSomeMoment v w (λ m. (clock ≤ m.clock)
+    × ((alarm : Alarm) → in_slot m slot ≡ Some alarm → clock < alarm.due))
+    ⊎ AtTwoMoments v w (λ m later. (clock ≤ m.clock) × (in_slot later slot ≢ in_slot m slot))
 
 -- due, take_due: The alarms were fired, in the order of their slots, each by one step, and all else was left. All were
 -- due at a clock that the meters had at a moment of the call. In each other slot nothing was to be fired at this clock.
@@ -101,3 +105,38 @@ pub record FiresDue (alarms : List Alarm) (v w : SeatView) : Type 0 where
   pub alarms_are : alarms ≡ standing answers
   pub fired : Does Fires (λ m n. n ≡ m) v (firings 0 answers) w
   pub others : (slot : ℕ) → slot < SLOTS → slice_index_or answers slot None ≡ None → HasNoneDue clock slot v w
+
+-- no step of the call changed the number of ends
+pub record KeepsEnds (v w : SeatView) : Type 0 where
+  pub steps : List (Step Reading)
+  pub adds : ExtendsTrace v steps w
+  pub kept : AllByRecursion (λ step. step.next.ends ≡ step.then.ends) steps
+
+-- One step of the call changed the number of ends, and this holds of the number that it found and of the one that it
+-- left. No other step of the call changed the number.
+pub record ChangesEnds (Counts : ℕ → ℕ → Type 0) (v w : SeatView) : Type 0 where
+  pub before : List (Step Reading)
+  pub step : Step Reading
+  pub after : List (Step Reading)
+  pub adds : ExtendsTrace v (before ++ step ∷ after) w
+  pub counts : Counts step.then.ends step.next.ends
+  pub others : AllByRecursion (λ other. other.next.ends ≡ other.then.ends) (before ++ after)
+
+-- split: one step made the number of ends one more
+abbrev pub CountsOneMore : SeatView → SeatView → Type 0
+CountsOneMore v w = ChangesEnds (λ was now. now ≡ was + 1) v w
+
+-- join: one step made the number of ends one less
+abbrev pub CountsOneLess : SeatView → SeatView → Type 0
+CountsOneLess v w = ChangesEnds (λ was now. was ≡ now + 1) v w
+
+-- join: the end with all that both ends had, before the step that counts one end less
+abbrev pub with_all_of : SeatView → SeatView → SeatView
+with_all_of v u = both did_both v u
+
+-- join: both ends were of the same meters, and the end has then seen each step that either had seen
+pub record HasSeenBoth (v u w : SeatView) : Type 0 where
+  pub first : w.first ≡ v.first
+  pub other_first : u.first ≡ v.first
+  pub one : Begins v.course w.course
+  pub other : Begins u.course w.course

@@ -1,4 +1,5 @@
 -- The rule: there are lawful meters that the words and the views show.
+use Rattle.std.specs.Prelude.{◌≤◌}
 use Rattle.table_theory.specs.declared.views.AbsState.{AbsState}
 use Rattle.table_theory.specs.Ledgers.{first_of, IsValidView, TableInv}
 use Rattle.atomic_table.specs.Table.{State}
@@ -17,6 +18,7 @@ pub record Rule (key : Shape) (s : State Unit SeatView) : Type 0 where
 abbrev pub newcomer : Shape → SeatView
 newcomer key = first_of nothing_did (first_reading key.clock)
 
--- the end's list is true, and lists no alarm as set, fired or cancelled more often than it was
+-- The end's list is true, and lists no alarm as set, fired or cancelled more often than it was. The end has seen that
+-- some end exists.
 abbrev pub IsSound : SeatView → Type 0
-IsSound v = IsValidView of_meters v × IsPart v
+IsSound v = IsValidView of_meters v × IsPart v × (1 ≤ v.seen.ends)

@@ -5,7 +5,8 @@ ghost use Rattle.table_theory.specs.Ledgers.{IsValidView};
 ghost use Rattle.meters.specs.declared.layout.TheConstants.{SLOTS};
 ghost use Rattle.meters.specs.Handles.{view_of, IsSeatOf, IsSameSeat};
 ghost use Rattle.meters.specs.Client.{SetsAlarm, WereTakenBefore, WhyNotSet, CancelsAlarm, SlotHad, FiresDue};
-ghost use Rattle.meters.specs.Client.{ChangesNothing};
+ghost use Rattle.meters.specs.Client.{ChangesNothing, KeepsEnds};
+ghost use Rattle.table_theory.specs.Moments.{StepsAtMost};
 ghost use Rattle.meters.specs.Evidence.{SetNow, NotSet, CancelledNow, FiredNow};
 ghost use Rattle.meters.specs.Steps.{FoundIn, Gave};
 ghost use Rattle.meters.specs.Layout.{word_of};
@@ -41,9 +42,11 @@ impl Meters {
             (λ r. ChangesNothing (view_of seat.old) (view_of seat.new)) }
         ensures result { IfOk result (λ slot. (slot < SLOTS)
             × WereTakenBefore slot (view_of seat.old) (view_of seat.new)) }
+        ensures frame { KeepsEnds (view_of seat.old) (view_of seat.new) }
         ensures owns { MatchResult result (λ slot. DidSet alarm (view_of seat.old) (view_of seat.new))
             (λ r. DidNothing (view_of seat.old) (view_of seat.new)) }
         ensures error { IfErr result (λ r. WhyNotSet (view_of seat.old) r (view_of seat.new)) }
+        ensures steps { StepsAtMost 17 (view_of seat.old) (view_of seat.new) }
         ensures trace { MatchResult result (λ slot. SetNow (view_of seat.old) slot alarm (view_of seat.new))
             (λ r. NotSet (view_of seat.old) r (view_of seat.new)) }
         ensures handle { IsSameSeat seat.old seat.new }
@@ -69,8 +72,10 @@ impl Meters {
         ensures effect { MatchBool result (CancelsAlarm slot alarm (view_of seat.old) (view_of seat.new))
             (ChangesNothing (view_of seat.old) (view_of seat.new)) }
         ensures result { SlotHad slot alarm result (view_of seat.old) (view_of seat.new) }
+        ensures frame { KeepsEnds (view_of seat.old) (view_of seat.new) }
         ensures owns { MatchBool result (DidCancel alarm (view_of seat.old) (view_of seat.new))
             (DidNothing (view_of seat.old) (view_of seat.new)) }
+        ensures steps { StepsAtMost 1 (view_of seat.old) (view_of seat.new) }
         ensures trace { CancelledNow (view_of seat.old) slot alarm result (view_of seat.new) }
         ensures handle { IsSameSeat seat.old seat.new }
     {
@@ -115,10 +120,15 @@ impl Meters {
     /// Loads the clock once, and then takes out each alarm that is due at it, slots in order. Each slot is loaded, and
     /// an alarm in it that is due is taken out by one compare-and-swap. An alarm that another end takes first is passed
     /// over.
+    ///
+    /// An alarm that was set before the clock reached this tick, and is due at it, is taken out unless another end
+    /// takes it first.
     pub fn due(&self, seat: &mut MeterSeat) -> ArrayVec<Alarm, SLOTS>
         requires { IsSeatOf self.now seat.old }
         ensures effect { FiresDue result.items (view_of seat.old) (view_of seat.new) }
+        ensures frame { KeepsEnds (view_of seat.old) (view_of seat.new) }
         ensures owns { DidFire result.items (view_of seat.old) (view_of seat.new) }
+        ensures steps { StepsAtMost 33 (view_of seat.old) (view_of seat.new) }
         ensures trace { FiredNow (view_of seat.old) result.items (view_of seat.new) }
         ensures handle { IsSameSeat seat.old seat.new }
     {
@@ -132,7 +142,9 @@ impl Meters {
     pub fn take_due(&self, seat: &mut MeterSeat, fired: &mut ArrayVec<Alarm, SLOTS>)
         requires { IsSeatOf self.now seat.old }
         ensures effect { FiresDue fired.new.items (view_of seat.old) (view_of seat.new) }
+        ensures frame { KeepsEnds (view_of seat.old) (view_of seat.new) }
         ensures owns { DidFire fired.new.items (view_of seat.old) (view_of seat.new) }
+        ensures steps { StepsAtMost 33 (view_of seat.old) (view_of seat.new) }
         ensures trace { FiredNow (view_of seat.old) fired.new.items (view_of seat.new) }
         ensures handle { IsSameSeat seat.old seat.new }
     {

@@ -4,8 +4,12 @@ ghost use Rattle.std.specs.Mem.Slots.{slots_items, slots_len, IsFull};
 ghost use Rattle.event_theory.specs.declared.alarm.Alarm.{Alarm};
 ghost use Rattle.meters.specs.Layout.{gauges_in, width};
 ghost use Rattle.meters.specs.Words.{SlotsShow, standing};
+ghost use Rattle.meters.specs.Client.{ChangesNothing, KeepsEnds};
+ghost use Rattle.table_theory.specs.Moments.{WhyNotClosed};
+ghost use Rattle.table_theory.specs.Moments.{StepsAtMost};
 ghost use Rattle.meters.specs.Closings.{ClosedNow};
 ghost use Rattle.meters.specs.Evidence.{WereOpen};
+ghost use Rattle.meters.specs.Own.{DidNothing};
 
 use crate::ends::{MeterSeat, Meters};
 use crate::layout::{CLOCK, ENDS, FIRST_GAUGE, FIRST_SLOT, GAUGES, SLOTS};
@@ -61,6 +65,11 @@ impl Meters {
         ensures only { IsOnlySeat seat → MatchResult result (λ c. Unit {0}) (λ e. ⊥) }
         ensures closed { IfOk result
             (λ c. ClosedNow (first_of self) (view_of seat) c.gauges c.clock c.alarms.items) }
+        ensures effect { IfErr result (λ e. ChangesNothing (view_of seat) (view_of e.1)) }
+        ensures frame { IfErr result (λ e. KeepsEnds (view_of seat) (view_of e.1)) }
+        ensures owns { IfErr result (λ e. DidNothing (view_of seat) (view_of e.1)) }
+        ensures error { IfErr result (λ e. WhyNotClosed e.2.others (view_of seat) (view_of e.1)) }
+        ensures steps { IfErr result (λ e. StepsAtMost 1 (view_of seat) (view_of e.1)) }
         ensures trace { IfErr result (λ e. WereOpen (view_of seat) e.2.others (view_of e.1)) }
         ensures handle { IfErr result (λ e. (e.0 ≡ self) × IsSameSeat seat e.1) }
     {

@@ -2,9 +2,12 @@
 ghost use Rattle.std.specs.Prelude.{◌≡◌, [], IfOk};
 ghost use Rattle.meters.specs.Layout.{width};
 ghost use Rattle.meters.specs.Rules.{newcomer};
+ghost use Rattle.meters.specs.Client.{CountsOneMore, CountsOneLess, with_all_of, HasSeenBoth, ChangesNothing};
+ghost use Rattle.table_theory.specs.Moments.{StepsAtMost};
 ghost use Rattle.meters.specs.Endings.{IsNewEnd};
 ghost use Rattle.meters.specs.Evidence.{SplitBy, JoinedBy};
 ghost use Rattle.meters.specs.Own.{DidSplit, DidBoth, of_meters};
+ghost use Rattle.meters.specs.Views.{IsPart};
 ghost use Rattle.table_theory.specs.Ledgers.{IsValidView};
 
 use crate::layout::{CLOCK, ENDS, WORDS};
@@ -65,8 +68,11 @@ impl Meters {
     pub fn split(&self, seat: &mut MeterSeat) -> MeterSeat
         requires seat { IsSeatOf self.now seat.old }
         requires parts { IsDivisible seat.old }
+        ensures effect { CountsOneMore (view_of seat.old) (view_of seat.new) }
+        ensures frame { ChangesNothing (view_of seat.old) (view_of seat.new) }
         ensures owns { DidSplit (view_of seat.old) (view_of seat.new) }
         ensures born { IsNewEnd (view_of seat.old) (view_of seat.new) (view_of result) }
+        ensures steps { StepsAtMost 1 (view_of seat.old) (view_of seat.new) }
         ensures trace { SplitBy (view_of seat.old) (view_of seat.new) }
         ensures handle { IsSameSeat seat.old seat.new × AreOfOneTable seat.old result }
     {
@@ -81,7 +87,11 @@ impl Meters {
     /// counts one end less, the first word is loaded once, and the number found there is not used.
     pub fn join(&self, seat: &mut MeterSeat, other: MeterSeat)
         requires { IsSeatOf self.now seat.old × IsSeatOf self.now other }
+        ensures effect { CountsOneLess (with_all_of (view_of seat.old) (view_of other)) (view_of seat.new) }
+        ensures result { HasSeenBoth (view_of seat.old) (view_of other) (view_of seat.new) × IsPart (view_of seat.new) }
+        ensures frame { ChangesNothing (with_all_of (view_of seat.old) (view_of other)) (view_of seat.new) }
         ensures owns { DidBoth (view_of seat.old) (view_of other) (view_of seat.new) }
+        ensures steps { StepsAtMost 1 (with_all_of (view_of seat.old) (view_of other)) (view_of seat.new) }
         ensures trace { JoinedBy (view_of seat.old) (view_of other) (view_of seat.new) }
         ensures handle { IsSameSeat seat.old seat.new }
     {

@@ -3,8 +3,9 @@ ghost use Rattle.std.specs.Prelude.{◌≡◌, ◌<◌, MatchResult, IfOk, IfErr
 ghost use Rattle.meters.specs.declared.layout.TheConstants.{GAUGES};
 ghost use Rattle.meters.specs.Layout.{gauge_word, clock_word};
 ghost use Rattle.meters.specs.Handles.{view_of, IsSeatOf, IsSameSeat};
-ghost use Rattle.meters.specs.Client.{AtSomeMoment, AddsToGauge, GaugeWas, ChangesNothing};
+ghost use Rattle.meters.specs.Client.{AtSomeMoment, AddsToGauge, GaugeWas, ChangesNothing, KeepsEnds};
 ghost use Rattle.meters.specs.Client.{MovesClock, ClockBecame, WhyNotAdvanced};
+ghost use Rattle.table_theory.specs.Moments.{StepsAtMost};
 ghost use Rattle.meters.specs.Evidence.{Ticked, Loaded, AdvancedNow, NotAdvanced};
 ghost use Rattle.meters.specs.Own.{DidNothing, DidTick, DidAdvance};
 
@@ -30,7 +31,9 @@ impl Meters {
         requires { IsSeatOf self.now seat.old × (gauge < GAUGES) }
         ensures effect { AddsToGauge gauge amount (view_of seat.old) (view_of seat.new) }
         ensures result { GaugeWas gauge amount result (view_of seat.old) (view_of seat.new) }
+        ensures frame { KeepsEnds (view_of seat.old) (view_of seat.new) }
         ensures owns { DidTick gauge amount (view_of seat.old) (view_of seat.new) }
+        ensures steps { StepsAtMost 1 (view_of seat.old) (view_of seat.new) }
         ensures trace { Ticked (view_of seat.old) gauge amount result (view_of seat.new) }
         ensures handle { IsSameSeat seat.old seat.new }
     {
@@ -44,7 +47,9 @@ impl Meters {
         ensures effect { ChangesNothing (view_of seat.old) (view_of seat.new) }
         ensures result { AtSomeMoment (view_of seat.old) (view_of seat.new) (λ m.
             slice_index_or m.gauges gauge 0 ≡ result) }
+        ensures frame { KeepsEnds (view_of seat.old) (view_of seat.new) }
         ensures owns { DidNothing (view_of seat.old) (view_of seat.new) }
+        ensures steps { StepsAtMost 1 (view_of seat.old) (view_of seat.new) }
         ensures trace { Loaded (view_of seat.old) (gauge_word gauge) result (view_of seat.new) }
         ensures handle { IsSameSeat seat.old seat.new }
     {
@@ -57,7 +62,9 @@ impl Meters {
         requires { IsSeatOf self.now seat.old }
         ensures effect { ChangesNothing (view_of seat.old) (view_of seat.new) }
         ensures result { AtSomeMoment (view_of seat.old) (view_of seat.new) (λ m. m.clock ≡ result) }
+        ensures frame { KeepsEnds (view_of seat.old) (view_of seat.new) }
         ensures owns { DidNothing (view_of seat.old) (view_of seat.new) }
+        ensures steps { StepsAtMost 1 (view_of seat.old) (view_of seat.new) }
         ensures trace { Loaded (view_of seat.old) clock_word result (view_of seat.new) }
         ensures handle { IsSameSeat seat.old seat.new }
     {
@@ -72,9 +79,11 @@ impl Meters {
         ensures effect { MatchResult result (λ clock. MovesClock (view_of seat.old) (view_of seat.new))
             (λ r. ChangesNothing (view_of seat.old) (view_of seat.new)) }
         ensures result { IfOk result (λ clock. ClockBecame clock (view_of seat.old) (view_of seat.new)) }
+        ensures frame { KeepsEnds (view_of seat.old) (view_of seat.new) }
         ensures owns { MatchResult result (λ clock. DidAdvance clock (view_of seat.old) (view_of seat.new))
             (λ r. DidNothing (view_of seat.old) (view_of seat.new)) }
         ensures error { IfErr result (λ r. WhyNotAdvanced (view_of seat.old) r (view_of seat.new)) }
+        ensures steps { StepsAtMost 2 (view_of seat.old) (view_of seat.new) }
         ensures trace { MatchResult result (λ clock. AdvancedNow (view_of seat.old) clock (view_of seat.new))
             (λ r. NotAdvanced (view_of seat.old) r (view_of seat.new)) }
         ensures handle { IsSameSeat seat.old seat.new }

@@ -19,6 +19,7 @@ ghost use Rattle.meters.specs.declared.gauges.AdvanceRefusal.TheVariants as not_
 ghost use Rattle.meters.specs.Answers.{NotAdvanced, NotSet};
 ghost use Rattle.meters.specs.Changes.{meters_of, IsLawful, in_slot};
 ghost use Rattle.meters.specs.Changes.{with_tick, with_advance, with_alarm, with_fired, with_cancelled};
+ghost use Rattle.meters.specs.Client.{AtSomeMoment, ChangesNothing, HasSeenBoth, WhyNotAdvanced, WhyNotSet};
 ghost use Rattle.meters.specs.Endings.{JoinedBy};
 ghost use Rattle.meters.specs.Events.{Happens, Leads, IsSet};
 ghost use Rattle.meters.specs.Own.{SeatView, of_meters};
@@ -45,9 +46,12 @@ pub fn lists_are_true()
     ensures lawful { (e : Step Reading) → IsValidStep of_meters e → IsLawful e.next.object }
 {}
 
-/// A join: real steps lead from what either end had seen to what the one end sees then. The entry of the step that
-/// counts one end less is real.
+/// A join: real steps lead from what either end had seen to what the one end sees then. The first clause reads only
+/// what a client reads of a join. The entry of the step that counts one end less is real.
 pub fn joins_are_true()
+    ensures both { (old other new : MeterSeat) → HasSeenBoth (view_of old) (view_of other) (view_of new)
+        → ∥ Reaches of_meters (view_of old).seen (view_of new).seen ∥₁
+        × ∥ Reaches of_meters (view_of other).seen (view_of new).seen ∥₁ }
     ensures since { (old other new : MeterSeat) → JoinedBy (view_of old) (view_of other) (view_of new)
         → ∥ Reaches of_meters (view_of old).seen (view_of new).seen ∥₁
         × ∥ Reaches of_meters (view_of other).seen (view_of new).seen ∥₁ }
@@ -55,8 +59,13 @@ pub fn joins_are_true()
         → ∥ IsValidStep of_meters (count_down ends_word t.0.found) ∥₁ }
 {}
 
-/// An end that has the whole is never refused with Lost: no other end makes a step between its steps.
+/// An end that has the whole is never refused with Lost: no other end makes a step between its steps. The first two
+/// clauses read only what a client reads of a call.
 pub fn only_ends_are_never_lost()
+    ensures clock { (old new : MeterSeat) (clock : ℕ) → IsOnlySeat old → ChangesNothing (view_of old) (view_of new)
+        → WhyNotAdvanced (view_of old) (not_advanced.Lost clock) (view_of new) → ⊥ }
+    ensures slot { (old new : MeterSeat) (slot : ℕ) → IsOnlySeat old → ChangesNothing (view_of old) (view_of new)
+        → WhyNotSet (view_of old) (not_set.Lost slot) (view_of new) → ⊥ }
     ensures advance { (old new : MeterSeat) (clock : ℕ) → IsOnlySeat old
         → NotAdvanced (view_of old) (not_advanced.Lost clock) (view_of new) → ⊥ }
     ensures set { (old new : MeterSeat) (slot : ℕ) → IsOnlySeat old
@@ -78,10 +87,12 @@ pub fn numbers_say()
         → IsValidStep of_meters e → e.found ≢ word_of (Some alarm) → in_slot e.then.object slot ≢ Some alarm }
 {}
 
-/// No clock that a call finds is below one that its end had seen. The clock that an entry found is at least what the
-/// end had seen before the call. It is at least what an earlier entry of the call found, and at most what the end sees
-/// then.
+/// No clock that a call finds is below one that its end had seen. The clock at a moment of a call is at least what the
+/// end had seen before the call, and at most what it sees then. So is the clock that an entry found. It is at least
+/// what an earlier entry of the call found.
 pub fn never_below()
+    ensures moment { (old new : MeterSeat) (clock : ℕ) → AtSomeMoment (view_of old) (view_of new) (λ m. m.clock ≡ clock)
+        → ((view_of old).seen.object.clock ≤ clock) × (clock ≤ (view_of new).seen.object.clock) }
     ensures clock { (old new : MeterSeat) (before after : List (Step Reading)) (e : Step Reading)
         → ExtendsTrace (view_of old) (before ++ e ∷ after) (view_of new) → e.word ≡ clock_word
         → ((view_of old).seen.object.clock ≤ e.found) × (e.found ≤ (view_of new).seen.object.clock) }

@@ -30,7 +30,8 @@ use Rattle.batch_queue.specs.Rules.{newcomer}
 use Rattle.batch_queue.specs.Walks.{FreeBy, at_once, by_help}
 use Rattle.pool.specs.Buffers.{all_buffers, times}
 use Rattle.pool.specs.Holdings.{acquired, released, held, is_later, IsFair, IsStocked, ListsFirst}
-use Rattle.pool.proofs.Owners.{in_batch, in_later, released_of, times_released}
+use Rattle.table_theory.proofs.Holding.{in_batch}
+use Rattle.pool.proofs.Owners.{in_later, released_of, times_released}
 use Rattle.pool.proofs.Releasing.{line_is}
 use Rattle.pool.proofs.Steps.{Did, is_put}
 

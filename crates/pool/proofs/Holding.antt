@@ -11,7 +11,6 @@ use mathlib.Core.Option.{some}
 use lib.ListN.{get_elem?}
 use Rattle.table_theory.specs.declared.queues.Batch.{Batch}
 use Rattle.table_theory.specs.Batches.{line_of}
-use Rattle.table_theory.specs.Sharing.{total}
 use Rattle.table_theory.proofs.Owned.{at_joined, at_push}
 use Rattle.table_theory.proofs.Totals.{total_push}
 use Rattle.batch_queue.specs.Lines.{lines_taken}
@@ -22,8 +21,9 @@ use Rattle.table_theory.specs.declared.views.AbsState.{AbsState}
 use Rattle.table_theory.specs.Ledgers.{ExtendsTrace, Reaches, Step}
 use Rattle.pool.specs.Buffers.{all_buffers, times}
 use Rattle.pool.specs.Holdings.{acquired, released, held, is_later, IsFair, HoldsSame, HoldsMore, HoldsLess, Holds, IsStocked, ListsFirst}
-use Rattle.pool.proofs.Counting.{times_concat}
-use Rattle.pool.proofs.Owners.{in_batch, in_later, released_of, times_released}
+use Rattle.table_theory.proofs.Holding.{in_batch}
+use Rattle.table_theory.proofs.Times.{times_concat, total_joined}
+use Rattle.pool.proofs.Owners.{in_later, released_of, times_released}
 
 -- LISTS
 
@@ -113,19 +113,11 @@ module _ (v u w : View) (runs : w.own.runs ≡ v.own.runs ++ u.own.runs) (takes 
   both_released x =
       let a = ap (λ (z : List Batch). times x (released_of z)) runs in let b = times_released x (v.own.runs ++ u.own.runs) in
       let c = times_released x v.own.runs in let d = times_released x u.own.runs in let t = total_joined (in_later x) v.own.runs u.own.runs in omega arith
-    where
-      total_joined : (f : Batch → ℕ) (l r : List Batch) → total f (l ++ r) ≡ total f l + total f r
-      total_joined f [] r = omega arith
-      total_joined f (e ∷ l) r = let h = total_joined f l r in omega arith
 
   both_acquired : (x : ℕ) → times x (acquired w) ≡ times x (acquired v) + times x (acquired u)
   both_acquired x =
       let a = ap (λ (z : List (List ℕ)). times x (concat z)) takes in let b = times_concat x (lines_taken v ++ lines_taken u) in
       let c = times_concat x (lines_taken v) in let d = times_concat x (lines_taken u) in let t = total_joined (times x) (lines_taken v) (lines_taken u) in omega arith
-    where
-      total_joined : (f : List ℕ → ℕ) (l r : List (List ℕ)) → total f (l ++ r) ≡ total f l + total f r
-      total_joined f [] r = omega arith
-      total_joined f (e ∷ l) r = let h = total_joined f l r in omega arith
 
   pub both_fair : w.own.shuts ≡ v.own.shuts + u.own.shuts → IsFair v → IsFair u → IsFair w
   both_fair shuts f g = (λ x. (let a = both_released x in let b = both_acquired x in let h = f.0 x in let i = g.0 x in omega arith), (let s = f.1 in let t = g.1 in omega arith))

@@ -21,12 +21,14 @@ use Rattle.batch_queue.specs.Object.{items_of}
 use Rattle.batch_queue.specs.declared.rule.EndRecord.{EndRecord}
 use Rattle.batch_queue.specs.Own.{View, nothing_did}
 use Rattle.batch_queue.specs.Placed.{positions_of}
+use Rattle.pool.specs.declared.lending.Lending.{Lending}
 use Rattle.pool.specs.declared.pool.Pool.{Pool}
 use Rattle.pool.specs.Buffers.{all_buffers, times}
 use Rattle.pool.specs.Holdings.{released, held, IsFair, IsStocked, ListsFirst}
-use Rattle.pool.proofs.Counting.{all_once, times_append, times_concat, times_split, total_map}
-use Rattle.pool.proofs.Filed.{filed_total}
-use Rattle.pool.proofs.Owners.{first_apart, in_batch, released_of, times_lines}
+use Rattle.table_theory.proofs.Times.{all_once, times_append, times_concat, times_split, total_map}
+use Rattle.table_theory.proofs.Weighing.{filed_total}
+use Rattle.table_theory.proofs.Holding.{first_apart, in_batch, times_lines}
+use Rattle.pool.proofs.Owners.{released_of, times_released}
 use Rattle.pool.proofs.Steps.{DidNothing, looked}
 
 -- SPLITS
@@ -81,7 +83,9 @@ module _ (count : ℕ) (v : View) (lists : ListsFirst count v) where
   first_put x [] l some_put = absurd (let a = filed_total (in_batch 0) [] (v.own.runs ∷ []) l.filed in let b = times_lines 0 v.own.runs in omega arith)
   first_put x (o ∷ log) l some_put =
       let s = l.filed.stands 0 o refl in
-      let a = first_apart x o log (v.own.runs ∷ []) (all_buffers count) l.filed l.adjacent (l.solid 0 o refl) (lists o.1 o.2 (only_list v.own.runs s.0 o.0 o.1 o.2 s.1 s.2) l.adjacent.0) in omega arith
+      let a = first_apart x 0 o log (v.own.runs ∷ []) l.filed l.adjacent (l.solid 0 o refl) in
+      let b = ap (times x) (lists o.1 o.2 (only_list v.own.runs s.0 o.0 o.1 o.2 s.1 s.2) l.adjacent.0) in
+      let c = times_released x v.own.runs in let d = times_lines x v.own.runs in omega arith
 
   -- all buffers are put at least
   all_put : (rest : List (List ℕ)) → v.seen.object.batches ≡ all_buffers count ∷ rest → 0 < count → 0 < times 0 (items_of v.seen.object)
@@ -103,7 +107,7 @@ pub open_same : (v w : View) (others : ℕ) → WereOpen ends_word v others w �
 open_same v w others o = looked v w _ o.tallied.made
 
 -- a pool is its queue and its number of buffers
-pub same_pool : (queue other : BatchQueue) (count : ℕ) (some_one some_other : 0 < count) → queue ≡ other → ◌≡◌ {A = Pool} (record { queue = queue; count = count; some = some_one }) (record { queue = other; count = count; some = some_other })
+pub same_pool : (queue other : BatchQueue Lending) (count : ℕ) (some_one some_other : 0 < count) → queue ≡ other → ◌≡◌ {A = Pool} (record { queue = queue; count = count; some = some_one }) (record { queue = other; count = count; some = some_other })
 same_pool queue other count some_one some_other is = λ i. record { queue = is i; count = count; some = le_prop some_one some_other i }
 
 pub same_takes : (v w : View) → DidNothing v w → lines_taken w ≡ lines_taken v

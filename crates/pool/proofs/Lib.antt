@@ -1,9 +1,8 @@
-mod Counting
-mod Filed
 mod Owners
 mod Steps
 mod Holding
 mod Acquiring
+mod Permits
 mod Releasing
 mod Joining
 mod Filling

@@ -3,6 +3,7 @@
 #![tactic(auto)]
 
 mod between;
+mod lending;
 mod pool;
 mod workers;
 

@@ -9,9 +9,10 @@ ghost use Rattle.batch_queue.specs.Handles as queues;
 ghost use Rattle.batch_queue.specs.Layout.{ends_word};
 ghost use Rattle.batch_queue.specs.Lefts.{items_left};
 ghost use Rattle.batch_queue.specs.Parts.{RefusedTakeSome, TookSome, WhyNotTakenSome};
-ghost use Rattle.pool.specs.Buffers.{all_buffers};
+ghost use Rattle.pool.specs.Buffers.{all_buffers, AreBuffers};
 ghost use Rattle.pool.specs.Holdings.{IsFair, Acquired, Released};
 
+use crate::lending::Lending;
 use batch_queue::laws::{joins_are_true, lists_are_true, never_below, numbers_say};
 use batch_queue::{BatchEnd, BatchQueue, Closed, LeftItems, OpenEnds, PutRefusal, TakeRefusal};
 use event_theory::OutOfMemory;
@@ -24,7 +25,7 @@ pub const MOST_BUFFERS: usize = 16_777_216;
 /// of them as one batch, and then as they were released.
 #[derive(Drop)]
 pub struct Pool {
-    queue: BatchQueue,
+    queue: BatchQueue<Lending>,
     count: usize,
     ghost some: { 0 < count },
 }
@@ -62,24 +63,26 @@ impl Pool {
         ensures holder { IfOk result (λ r. IsOnlyHolder r.1 × HoldsNone r.1) }
     {
         let buffers = all_buffers(alloc, count)?;
-        let (queue, mut end) = BatchQueue::new(alloc, count.next_power_of_two())?;
+        let (queue, mut end) = BatchQueue::new_as(alloc, count.next_power_of_two())?;
         lists_are_true();
         numbers_say();
-        let Ok(_) = queue.try_put(&mut end, buffers.as_slice()) else {
+        let Ok(_) = queue.try_put_as(&mut end, buffers.as_slice()) else {
             unreachable!()
         };
         Ok((Pool { queue, count }, Holder { end }))
     }
 
     /// One try to acquire free buffers: as many as are free and fit the slice, in the order in which they were
-    /// released. Their numbers are then the first of the slice. Returns how many there are. The refusals are those of
-    /// `BatchQueue::try_take_some`, except Closed, since no holder shuts the queue.
+    /// released. Their numbers are then the first of the slice, each below the number of buffers of the pool. Returns
+    /// how many there are. The refusals are those of `BatchQueue::try_take_some`, except Closed, since no holder shuts
+    /// the queue.
     pub fn acquire(&self, holder: &mut Holder, buffers: &mut [u64]) -> Result<usize, TakeRefusal>
         requires { IsHolderOf self.now holder.old }
         ensures pool { IsHolderOf self.now holder.new }
         ensures effect { MatchResult result
             (λ n. Acquired n buffers.old buffers.new (view_of holder.old) (view_of holder.new))
             (λ r. HoldsSame holder.old holder.new × (buffers.new ≡ buffers.old)) }
+        ensures result { IfOk result (λ n. AreBuffers (count_of self.now) (take n buffers.new)) }
         ensures holds { IfOk result (λ n. Holds holder.new (take n buffers.new)) }
         ensures error { IfErr result (λ r. WhyNotTakenSome (view_of holder.old) (length buffers.old) r
             (view_of holder.new)) }
@@ -90,7 +93,7 @@ impl Pool {
         ensures share { SameShare holder.old holder.new }
     {
         lists_are_true();
-        self.queue.try_take_some(&mut holder.end, buffers)
+        self.queue.try_take_some_as(&mut holder.end, buffers)
     }
 
     /// One try to release buffers: all of them or none, as one batch. They are free once the call has published them.
@@ -110,7 +113,7 @@ impl Pool {
     {
         lists_are_true();
         never_below();
-        self.queue.try_put(&mut holder.end, buffers)?;
+        self.queue.try_put_as(&mut holder.end, buffers)?;
         Ok(())
     }
 

@@ -28,12 +28,16 @@ put_note v w note head then runs takes is = record {
 pub both_found : (v l w : View) (head tail : ℕ) (f : Found v head_word head l) (g : Found l tail_word tail w) → Performed v (load head_word head f.0 ∷ load tail_word tail g.0 ∷ []) v.own w
 both_found v l w head tail f g = then_step v l w (load head_word head f.0 ∷ []) v.own (load tail_word tail g.0) (λ d. d) f.1.made g.1
 
+-- and then the head again
+pub three_found : (v l b w : View) (head tail found : ℕ) (f : Found v head_word head l) (g : Found l tail_word tail b) (e : Found b head_word found w) → Performed v (load head_word head f.0 ∷ load tail_word tail g.0 ∷ load head_word found e.0 ∷ []) v.own w
+three_found v l b w head tail found f g e = then_step v b w (load head_word head f.0 ∷ load tail_word tail g.0 ∷ []) v.own (load head_word found e.0) (λ d. d) (both_found v l b head tail f g) e.1
+
 -- another head that is found later is past the first
 pub was_lost : (v l b w : View) (head tail found : ℕ) → Found v head_word head l → Found l tail_word tail b → Found b head_word found w → head + 1 < 4294967296 → head + 1 ≤ tail + 32 → found ≢ head → NotChained v (refusals.Lost found) w
 was_lost v l b w head tail found f g e bounded room ne = let g' = g.1.meets.grows in let e' = e.1.meets.grows in let a = head_says (load head_word head f.0) refl f.1.real in let c = head_says (load head_word found e.0) refl e.1.real in
     let sf = ap (λ (z : AbsState GatedQueue). head_of z.object.queue) f.1.seen in let sg = ap (λ (z : AbsState GatedQueue). head_of z.object.queue) g.1.seen in
     let x = g'.longer in let y = e'.longer in let p = g'.first in let q = e'.first in
-    (head, tail, f.0, g.0, e.0, bounded, omega arith, omega arith, then_step v b w (load head_word head f.0 ∷ load tail_word tail g.0 ∷ []) v.own (load head_word found e.0) (λ d. d) (both_found v l b head tail f g) e.1)
+    (head, tail, f.0, g.0, e.0, bounded, omega arith, omega arith, three_found v l b w head tail found f g e)
 
 -- the run that was just claimed
 pub claimed_at : (v w : View) (head x : ℕ) → Claimed v head x w → get_elem? w.own.runs (number_of head w.own.runs) ≡ some (run head x)

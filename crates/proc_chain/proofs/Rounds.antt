@@ -1,13 +1,13 @@
 -- The parts of a serving taken together, and the invariant of its loop.
-use Rattle.proc_chain.proofs.Common.{◌≡◌, ◌≢◌, ℕ, zero, suc, ◌+◌, ◌-◌, ◌/◌, ◌%◌, ◌<◌, ◌≤◌, Option, Some, None, true, false, Bool, List, [], ◌∷◌, ◌++◌, map, take, length, get_or, sym, refl, ap, ◌∙◌, subst, arith, length-append, props, ∥∥₁_elim, map-append, length-map, dite, ℕ_discrete, dec_le, Me, Seat, Batch, Cell, Positions, AbsState, Part, line_of, Step, load, change, blank, item_of, item_at, stage_at, with_take, tail_of, IsSame, made_on, raised_below, ChainOps, GatedQueue, place_word, raised_word, notes_of, with_taken, with_gate, taking, View, queue_of, Stepped, Found, IsValidChainView, Carries, IsRunner, MadeSince, Serving, tail_word, gate_word}
+use Rattle.proc_chain.proofs.Common.{inl, inr, ◌≡◌, ◌≢◌, ℕ, zero, suc, ◌+◌, ◌-◌, ◌/◌, ◌%◌, ◌<◌, ◌≤◌, Option, Some, None, true, false, Bool, List, [], ◌∷◌, ◌++◌, map, take, length, get_or, sym, refl, ap, ◌∙◌, subst, arith, length-append, props, ∥∥₁_elim, map-append, length-map, dite, ℕ_discrete, dec_le, Me, Seat, Batch, Cell, Positions, AbsState, Part, line_of, Step, load, change, blank, item_of, item_at, stage_at, with_take, tail_of, IsSame, made_on, raised_below, ChainOps, GatedQueue, place_word, raised_word, notes_of, with_taken, with_gate, taking, View, queue_of, Stepped, Found, IsValidChainView, Carries, IsRunner, MadeSince, Serving, tail_word, gate_word}
 use Rattle.std.proofs.Common.{drop}
 use Rattle.std.proofs.lemmas.Grind.{flat_map-append}
 use Rattle.std.proofs.lemmas.List.{append-nil, append_assoc, length-take-le, take-append-le}
 use Rattle.std.proofs.Math.Seq.{take-length, take-append_seam}
 use Rattle.std.specs.List.{AllByRecursion, flat_map}
-use Rattle.std.specs.Prelude.{MatchBool}
+use Rattle.std.specs.Prelude.{◌*◌, MatchBool}
 use Rattle.table_theory.proofs.Parting.{made_none}
-use Rattle.table_theory.proofs.Reaching.{adds_after, all_on}
+use Rattle.table_theory.proofs.Reaching.{all_on}
 use Rattle.proc_chain.specs.Notes.{notes_taken, alone}
 use Rattle.proc_chain.specs.Steps.{FoundNotRaised, Took, BegunRound, HasLeft}
 use Rattle.proc_chain.specs.Turns.{HasOrGave, HasServed}
@@ -15,10 +15,10 @@ use Rattle.proc_chain.specs.Servings.{Use, took, failed, entries_of, IsUse, note
 use Rattle.proc_chain.specs.declared.serve.Served.TheVariants as served
 use Rattle.proc_chain.specs.declared.running.Turn.{Turn}
 use Rattle.table_theory.specs.Ledgers.{ExtendsTrace}
-use Rattle.proc_chain.specs.Client.{WasNoneRaised, FoundTimes, WhyLeft}
-use Rattle.proc_chain.specs.Rounds.{used, Ran, RanNote, FoundNone, LeftNow, RoundNow, IsDone, IsUsedUp, SawNone, MetGate}
-use Rattle.proc_chain.proofs.Clients.{found_none_at, found_on, two_after}
-use Rattle.proc_chain.proofs.Finding.{note_says, mark_says, runner_on, seen_step}
+use Rattle.proc_chain.specs.Client.{KeepGate, FailedLeaves, KeepGateOrBegin, WhyServed}
+use Rattle.proc_chain.specs.Rounds.{used, Ran, RanNote, FoundNone, LeftNow, RoundNow, IsDone, IsUsedUp}
+use Rattle.proc_chain.proofs.Clients.{saw_none, failed_more, failed_on, begin_on}
+use Rattle.proc_chain.proofs.Finding.{gate_says, tail_found, note_says, mark_says, runner_on, seen_step}
 use Rattle.proc_chain.proofs.Gates.{notes_same, notes_take}
 
 no_more : (n : ℕ) → n ≡ n + 0
@@ -37,8 +37,30 @@ takings_on (took note tail m n o ∷ us) more = ap (λ (z : List Batch). taking 
 takings_on (failed tail word gate m n o p ∷ us) more = takings_on us more
 
 -- entries and what was done, one use more
+uses_on : (us : List Use) (one : Use) → flat_map entries_of us ++ entries_of one ≡ flat_map entries_of (us ++ one ∷ [])
+uses_on us one = sym (flat_map-append entries_of us (one ∷ []) ∙ ap (λ (z : List (Step GatedQueue)). flat_map entries_of us ++ z) (append-nil (entries_of one)))
+
+-- a note that was run took three steps, and a failed leave four
+pub cost : (us : List Use) → length (flat_map entries_of us) + length (notes_run us) ≡ 4 * length us
+cost [] = refl
+cost (took note tail m n o ∷ us) = let h = cost us in let e : suc (suc (suc (length (flat_map entries_of us)))) + suc (length (notes_run us)) ≡ 4 * suc (length us) = omega arith in e
+cost (failed tail word gate m n o p ∷ us) = let h = cost us in let e : suc (suc (suc (suc (length (flat_map entries_of us))))) + length (notes_run us) ≡ 4 * suc (length us) = omega arith in e
+
+-- the gate was changed only where a round began
+uses_begin : (us : List Use) → KeepGateOrBegin (flat_map entries_of us)
+uses_begin [] = tt
+uses_begin (took note tail m n o ∷ us) = (inl refl, (inl refl, (inl refl, uses_begin us)))
+uses_begin (failed tail word gate m n o p ∷ us) = (inl refl, (inl refl, (inl refl, (inr refl, uses_begin us))))
+
+servings_begin : (servings : List Serving) → KeepGateOrBegin (flat_map serving servings)
+servings_begin [] = tt
+servings_begin (s ∷ servings) = begin_on (serving s) (flat_map serving servings) (inr refl, uses_begin s.uses) (servings_begin servings)
+
+pub all_begin : (servings : List Serving) → KeepGateOrBegin (flat_map serving servings ++ [])
+all_begin servings = begin_on (flat_map serving servings) [] (servings_begin servings) tt
+
 serving_on : (s : Serving) (one : Use) → serving s ++ entries_of one ≡ serving (record s { uses = s.uses ++ one ∷ [] })
-serving_on s one = ap (λ (z : List (Step GatedQueue)). change gate_word s.gate s.begun (with_gate s.begun.object 1) ∷ z) (sym (flat_map-append entries_of s.uses (one ∷ []) ∙ ap (λ (z : List (Step GatedQueue)). flat_map entries_of s.uses ++ z) (append-nil (entries_of one))))
+serving_on s one = ap (λ (z : List (Step GatedQueue)). change gate_word s.gate s.begun (with_gate s.begun.object 1) ∷ z) (uses_on s.uses one)
 
 takes_on : (l : List Batch) (us more : List Use) → (l ++ takings us) ++ takings more ≡ l ++ takings (us ++ more)
 takes_on l us more = append_assoc l (takings us) (takings more) ∙ ap (λ (z : List Batch). l ++ z) (sym (takings_on us more))
@@ -168,7 +190,7 @@ was_none b v w h is = subst (λ (z : Bool). MatchBool z (RanNote v w) (FoundNone
 
 -- none was raised there
 pub found_none : (v t w : View) (tail found : ℕ) → v.own.runner ≡ true → (queue_of v).taken ≤ length (queue_of v).places → Found v tail_word tail t → IsValidChainView t → FoundNotRaised t (place_word tail) found w → found / 65536 ≢ tail + 1 → FoundNone v w
-found_none v t w tail found r following a h low miss = let r' : t.own.runner ≡ true = (λ i. (a.1.made.did i).runner) ∙ r in (
+found_none v t w tail found r following a h low miss = let r' : t.own.runner ≡ true = (λ i. (a.1.made.did i).runner) ∙ r in let saw = saw_none v t w tail found r a (tail_found v t tail a).0 low miss in (
   tail,
   found,
   a.0,
@@ -176,13 +198,15 @@ found_none v t w tail found r following a h low miss = let r' : t.own.runner ≡
   miss,
   ran_on v t w (load tail_word tail a.0 ∷ []) (load (place_word tail) found low.0 ∷ []) [] [] true true v.own.saw true (ran_look v t tail_word tail a following r)
       (ran_step t w (load (place_word tail) found low.0) (record t.own { saw = true }) true true low.1 refl (λ i. record t.own { runner = r' i; saw = true }) h.lawful.0.taken_within r'),
+  saw.0,
+  saw.1,
 )
 
 pub round_now : (v u w : View) (gate : ℕ) → v.own.runner ≡ true → (queue_of v).taken ≤ length (queue_of v).places → Found v gate_word 2 u → IsValidChainView u → BegunRound u gate w → RoundNow v w
-round_now v u w gate r following f h b = (gate, f.0, b.0, ran_on v u w (load gate_word 2 f.0 ∷ []) (change gate_word gate b.0 (with_gate b.0.object 1) ∷ []) [] [] true true v.own.saw false (ran_look v u gate_word 2 f following r) (ran_gate u w gate 1 b.0 b.1 h.lawful.0.taken_within ((λ i. (f.1.made.did i).runner) ∙ r)))
+round_now v u w gate r following f h b = (gate, f.0, b.0, ran_on v u w (load gate_word 2 f.0 ∷ []) (change gate_word gate b.0 (with_gate b.0.object 1) ∷ []) [] [] true true v.own.saw false (ran_look v u gate_word 2 f following r) (ran_gate u w gate 1 b.0 b.1 h.lawful.0.taken_within ((λ i. (f.1.made.did i).runner) ∙ r)), f.1.meets.turn r, sym (gate_says (load gate_word 2 f.0) refl f.1.real))
 
 pub left_now : (v w : View) → v.own.runner ≡ true → (queue_of v).taken ≤ length (queue_of v).places → HasLeft v w → LeftNow v w
-left_now v w r following l = (l.0, ran_step v w (change gate_word 1 l.0 (with_gate l.0.object 0)) (record v.own { runner = false; saw = false }) false false l.1 refl refl following r)
+left_now v w r following l = (l.0, ran_step v w (change gate_word 1 l.0 (with_gate l.0.object 0)) (record v.own { runner = false; saw = false }) false false l.1 refl refl following r, l.1.meets.turn r, sym (gate_says (change gate_word 1 l.0 (with_gate l.0.object 0)) refl l.1.real), ap (λ (z : AbsState GatedQueue). z.object.gate) l.1.seen)
 
 -- the quaject that was given back
 pub gave_back : {Q : Type 0} (made : Q → List ℕ → Type 0) (fits : Q → Type 0) (m m' : Me Q View) → HasLeft m.0 m'.0 → m'.1 ≡ [] → IsRunner made fits m → HasOrGave made fits false m'
@@ -191,6 +215,21 @@ gave_back made fits m m' l none_held h = let c = h.carries in let served = (left
 -- a leave that failed
 pub failed_one : (v u w : View) (n : FoundNone v u) (r : RoundNow u w) → Ran v (entries_of (failed n.0 n.1 r.0 n.2 n.3 r.1 r.2)) (failed n.0 n.1 r.0 n.2 n.3 r.1 r.2 ∷ []) true false w
 failed_one v u w n r = let a = ran_on v u w (load tail_word n.0 n.2 ∷ load (place_word n.0) n.1 n.3 ∷ []) (load gate_word 2 r.1 ∷ change gate_word r.0 r.2 (with_gate r.2.object 1) ∷ []) [] [] true true true false n.5 r.3 in record { fit = (n.4, tt); made = a.made; served = a.served }
+
+pub failed_now : (v u w : View) (n : FoundNone v u) (r : RoundNow u w) → FailedLeaves (suc zero) (entries_of (failed n.0 n.1 r.0 n.2 n.3 r.1 r.2))
+failed_now v u w n r = (
+  load tail_word n.0 n.2 ∷ [],
+  load (place_word n.0) n.1 n.3,
+  load gate_word 2 r.1,
+  change gate_word r.0 r.2 (with_gate r.2.object 1),
+  [],
+  refl,
+  (refl, tt),
+  (n.6, refl, r.4 ∙ sym n.7, r.5),
+  refl,
+  refl,
+  tt,
+)
 
 -- the quaject at each number of notes taken
 
@@ -230,9 +269,7 @@ module _ {Q : Type 0} (made : Q → List ℕ → Type 0) (fits : Q → Type 0) w
     pub runner : IsRunner made fits now.me
     pub valid : IsValidChainView now.me.0
     pub since : MadeSince made fits old.me.0 now.me.0
-    pub steps : List (Step GatedQueue)
-    pub added : ExtendsTrace old.me.0 steps now.me.0
-    pub failed : FoundTimes (count - ran) (WasNoneRaised 2) steps
+    pub failed : FailedLeaves (count - ran) (flat_map entries_of so.uses)
 
   module _ (old now : Seat Q View) where
     pub rounds_begin : (gate : ℕ) → IsSame old now → BegunRound old.me.0 gate now.me.0 → now.me.1 ≡ old.me.1 → IsValidChainView now.me.0 → IsRunner made fits old.me → InRounds old now 0 0
@@ -247,13 +284,11 @@ module _ {Q : Type 0} (made : Q → List ℕ → Type 0) (fits : Q → Type 0) w
           runner = runner;
           valid = valid;
           since = since_step v w [] a.served (omega arith) r.taken_within runner.taken_within (made_of old.me r) (made_of now.me runner);
-          steps = change gate_word gate b.0 (with_gate b.0.object 1) ∷ [];
-          added = a.made.adds;
           failed = tt;
         }
 
-    pub rounds_on : (next : Seat Q View) (count ran more : ℕ) (one : Use) → InRounds old now count ran → IsSame now next → Ran now.me.0 (entries_of one) (one ∷ []) true false next.me.0 → length (notes_run (one ∷ [])) ≡ more → more ≤ 1 → IsRunner made fits next.me → IsValidChainView next.me.0 → (ys : List (Step GatedQueue)) → ExtendsTrace now.me.0 ys next.me.0 → (more < 1 → FoundTimes (suc zero) (WasNoneRaised 2) ys) → InRounds old next (count + 1) (ran + more)
-    rounds_on next count ran more one r same u is small runner valid ys adds fails = let v : View = old.me.0 in let w : View = now.me.0 in let x : View = next.me.0 in let us : List Use = r.so.uses in
+    pub rounds_on : (next : Seat Q View) (count ran more : ℕ) (one : Use) → InRounds old now count ran → IsSame now next → Ran now.me.0 (entries_of one) (one ∷ []) true false next.me.0 → length (notes_run (one ∷ [])) ≡ more → more ≤ 1 → IsRunner made fits next.me → IsValidChainView next.me.0 → (more < 1 → FailedLeaves (suc zero) (entries_of one)) → (1 ≤ more → KeepGate (entries_of one)) → InRounds old next (count + 1) (ran + more)
+    rounds_on next count ran more one r same u is small runner valid fails keeps = let v : View = old.me.0 in let w : View = now.me.0 in let x : View = next.me.0 in let us : List Use = r.so.uses in
         let few = r.few in let number = r.number in let long = r.long in let n = length-append us (one ∷ []) in let l = length-append (notes_run us) (notes_run (one ∷ [])) in let len = ap length (run_on us (one ∷ [])) in record {
           same = (same.0 ∙ r.same.0, same.1 ∙ r.same.1);
           so = record r.so { uses = us ++ one ∷ [] };
@@ -264,9 +299,7 @@ module _ {Q : Type 0} (made : Q → List ℕ → Type 0) (fits : Q → Type 0) w
           runner = runner;
           valid = valid;
           since = since_then v w x (notes_run (one ∷ [])) r.since (since_step w x (notes_run (one ∷ [])) u.served (omega arith) r.runner.taken_within runner.taken_within (made_of now.me r.runner) (made_of next.me runner)) u.served.notes r.runner.taken_within;
-          steps = r.steps ++ ys;
-          added = adds_after v w x r.steps ys (ap (λ (z : Part). z.share) r.all.made.member) r.added adds;
-          failed = found_on (WasNoneRaised 2) count ran more r.steps ys r.few small r.failed fails;
+          failed = subst (FailedLeaves (count + 1 - (ran + more))) (uses_on us one) (failed_on count ran more (flat_map entries_of us) (entries_of one) r.few small r.failed fails keeps);
         }
 
     -- one serving, by its own uses and entries
@@ -274,17 +307,31 @@ module _ {Q : Type 0} (made : Q → List ℕ → Type 0) (fits : Q → Type 0) w
     one_run w s left ran a number = let us : s.uses ≡ all_uses (s ∷ []) = sym (append-nil s.uses) in let es : serving s ≡ flat_map serving (s ∷ []) = sym (append-nil (serving s)) in
         let b = subst (λ (z : Type 0). z) (λ i. Ran old.me.0 (es i ++ leaving left) (us i) (goes_on left) false w) a in record { fit = b.fit; number = subst (λ (z : List Use). length (notes_run z) ≡ ran) us number; made = b.made; served = b.served }
 
-    pub rounds_done : (mid w : View) (limit count ran : ℕ) → InRounds old now count ran → count < limit → FoundNone now.me.0 mid → LeftNow mid w → IsDone old.me.0 limit ran w
-    rounds_done mid w limit count ran r below n l = let v : View = old.me.0 in let u : View = now.me.0 in let long = r.long in let left : Leaving = record { tail = n.0; word = n.1; low = n.4; at_tail = n.2; at_place = n.3; at_gate = l.0 } in
+    -- and then the end left: all its steps, and the uses of the limit
+    done_run : (mid w : View) (count ran : ℕ) (r : InRounds old now count ran) (n : FoundNone now.me.0 mid) (l : LeftNow mid w) → Ran old.me.0 (serving r.so ++ load tail_word n.0 n.2 ∷ load (place_word n.0) n.1 n.3 ∷ change gate_word 1 l.0 (with_gate l.0.object 0) ∷ []) r.so.uses false false w
+    done_run mid w count ran r n l = let v : View = old.me.0 in let u : View = now.me.0 in let last : List (Step GatedQueue) = load tail_word n.0 n.2 ∷ load (place_word n.0) n.1 n.3 ∷ change gate_word 1 l.0 (with_gate l.0.object 0) ∷ [] in
         let a = ran_on u mid w (load tail_word n.0 n.2 ∷ load (place_word n.0) n.1 n.3 ∷ []) (change gate_word 1 l.0 (with_gate l.0.object 0) ∷ []) [] [] true false true false n.5 l.1 in
-        (r.so, left, omega arith, one_run w r.so (Some left) ran (subst (λ (z : List Use). Ran v (serving r.so ++ leaving (Some left)) z false false w) (append-nil r.so.uses) (ran_on v u w (serving r.so) (leaving (Some left)) r.so.uses [] true false false false r.all a)) r.number)
+        subst (λ (z : List Use). Ran v (serving r.so ++ last) z false false w) (append-nil r.so.uses) (ran_on v u w (serving r.so) last r.so.uses [] true false false false r.all a)
 
-    pub left_why : (mid w : View) (limit count ran : ℕ) → InRounds old now count ran → count < limit → FoundNone now.me.0 mid → SawNone now.me.0 mid → MetGate 1 mid w × (w.seen.object.gate ≡ 0) → (ran < limit) × WhyLeft old.me.0 w
-    left_why mid w limit count ran r below n a b = let few = r.few in (
+    pub rounds_done : (mid w : View) (limit count ran : ℕ) → InRounds old now count ran → count < limit → FoundNone now.me.0 mid → LeftNow mid w → IsDone old.me.0 limit ran w
+    rounds_done mid w limit count ran r below n l = let long = r.long in let left : Leaving = record { tail = n.0; word = n.1; low = n.4; at_tail = n.2; at_place = n.3; at_gate = l.0 } in (r.so, left, omega arith, one_run w r.so (Some left) ran (done_run mid w count ran r n l) r.number)
+
+    pub left_why : (mid w : View) (limit count ran : ℕ) → InRounds old now count ran → count < limit → FoundNone now.me.0 mid → LeftNow mid w → WhyServed old.me.0 limit ran false w
+    left_why mid w limit count ran r below n l = let few = r.few in let look : Step GatedQueue = load (place_word n.0) n.1 n.3 in let leave : Step GatedQueue = change gate_word 1 l.0 (with_gate l.0.object 0) in (
+      count - ran,
+      change gate_word r.so.gate r.so.begun (with_gate r.so.begun.object 1),
+      flat_map entries_of r.so.uses ++ load tail_word n.0 n.2 ∷ [],
       omega arith,
+      (let l = length-append (flat_map entries_of r.so.uses) (load tail_word n.0 n.2 ∷ []) in let c = cost r.so.uses in let long = r.long in let number = r.number in omega arith),
+      refl,
+      failed_more (count - ran) (flat_map entries_of r.so.uses) (load tail_word n.0 n.2 ∷ []) r.failed (refl, tt),
       (
-        two_after old.me.0 now.me.0 w (serving r.so) (WasNoneRaised 1) (ap (λ (z : Part). z.share) r.all.made.member) r.all.made.adds (found_none_at now.me.0 mid w 1 (ap (λ (z : Part). z.share) n.5.made.member) a b.0),
-        b.1,
+        look,
+        leave,
+        subst (λ (z : List (Step GatedQueue)). ExtendsTrace old.me.0 z w) (sym (append_assoc (serving r.so) (load tail_word n.0 n.2 ∷ []) (look ∷ leave ∷ []))) (done_run mid w count ran r n l).made.adds,
+        (n.6, refl, l.2 ∙ sym n.7, l.3),
+        refl,
+        l.4,
       ),
     )
 

@@ -1,10 +1,12 @@
--- The meaning of each call of a chain for its client: the notes that the end put and ran, and how the queue of notes and
--- the gate were at a moment of the call.
-use Rattle.std.specs.Prelude.{◌≡◌, ◌≢◌, ◌+◌, ◌-◌, ◌<◌, ◌≤◌, ℕ, zero, suc, Bool, true, false, List, [], ◌∷◌, ◌++◌, length}
+-- The meaning of each call of a chain for its client: the notes that the end put and ran, and what the steps of the
+-- call found and left in the queue of notes and in the gate. A step is named by its place among the steps of the call,
+-- so no other step of the call can be taken for it.
+use Rattle.std.specs.Prelude.{◌≡◌, ◌≢◌, ◌+◌, ◌-◌, ◌*◌, ◌<◌, ◌≤◌, ◌⊎◌, ℕ, zero, suc, Bool, true, false}
+use Rattle.std.specs.Prelude.{List, [], ◌∷◌, ◌++◌, length}
+use Rattle.std.specs.List.{AllByRecursion}
 use Rattle.table_theory.specs.declared.positions.TheConstants.{POSITIONS}
 use Rattle.table_theory.specs.Ledgers.{Step, ExtendsTrace}
-use Rattle.table_theory.specs.Moments.{AtSomeMoment, AtTwoMoments}
-use Rattle.table_theory.specs.Positioned.{head_of, tail_of, place_at, stage_at}
+use Rattle.table_theory.specs.Positioned.{head_of, tail_of, item_at, stage_at}
 use Rattle.proc_chain.specs.declared.chaining.Chained.{Chained}
 use Rattle.proc_chain.specs.declared.chaining.Chained.TheVariants.{Run, Left}
 use Rattle.proc_chain.specs.declared.chaining.ChainRefusal.{ChainRefusal}
@@ -19,44 +21,56 @@ use Rattle.proc_chain.specs.Notes.{notes_put, notes_taken}
 use Rattle.proc_chain.specs.Own.{View}
 use Rattle.proc_chain.specs.Turns.{HasServed}
 
--- the end is as it was, except for the steps in its list: its notes, its turn and its share are unchanged
-pub record OnlyLooked (v w : View) : Type 0 where
+-- The end's notes and its turn are unchanged. Each step of the call left the queue of notes and the gate as it found
+-- them
+pub record ChangedNothing (v w : View) : Type 0 where
   pub own : w.own ≡ v.own
-  pub member : w.member ≡ v.member
+  pub steps : List (Step GatedQueue)
+  pub adds : ExtendsTrace v steps w
+  pub same : AllByRecursion (λ step. step.next.object ≡ step.then.object) steps
 
 -- `try_chain`
 
--- there is no room for one note more: all places have notes that are left
-abbrev pub HasNoRoom : GatedQueue → Type 0
-HasNoRoom o = o.queue.taken + PLACES ≤ length o.queue.places
-
--- Why a note was refused. Spent: at a moment of the call no position was left. Full: at a moment of the call this was
--- the head and there was no room, and later this was the tail. Lost: another end claimed a place, since the head was
--- before this one at a moment of the call and was this one later, and this end claimed none (`OnlyLooked`)
+-- Why a note was refused; no earlier reason applied. Spent: the call's only step found that no position was left. Full:
+-- the first of two steps found this head and no room, and the second found this tail. Lost: the first of three steps
+-- found a position left, the second found room for it, and the last found this head, past it. So another end claimed
+-- that position, and this end claimed none (`ChangedNothing`)
 abbrev pub WhyNotChained : View → ChainRefusal → View → Type 0
-WhyNotChained v Spent w = AtSomeMoment v w (λ o. POSITIONS ≤ head_of o.queue + 1)
-WhyNotChained v (Full head tail) w = (tail + PLACES ≤ head)
-    × AtTwoMoments v w (λ o later. HasNoRoom o × (head_of o.queue ≡ head) × (tail_of later.queue ≡ tail))
-WhyNotChained v (Lost head) w =
-    AtTwoMoments v w (λ o later. (head_of o.queue < head) × (head_of later.queue ≡ head))
-
--- this note is at this position, raised
-abbrev pub IsRaisedAt : GatedQueue → ℕ → ℕ → Type 0
-IsRaisedAt o position note = ((place_at o.queue (position - o.queue.first)).item ≡ note)
-    × (2 ≤ (place_at o.queue (position - o.queue.first)).stage)
+WhyNotChained v Spent w = (only : Step GatedQueue) × ExtendsTrace v (only ∷ []) w
+    × (POSITIONS ≤ head_of only.then.object.queue + 1)
+WhyNotChained v (Full head tail) w = (first second : Step GatedQueue) × ExtendsTrace v (first ∷ second ∷ []) w
+    × (head + 1 < POSITIONS) × (tail + PLACES ≤ head) × (head_of first.then.object.queue ≡ head)
+    × (first.then.object.queue.taken + PLACES ≤ length first.then.object.queue.places)
+    × (tail_of second.then.object.queue ≡ tail)
+WhyNotChained v (Lost head) w = (first second third : Step GatedQueue)
+    × ExtendsTrace v (first ∷ second ∷ third ∷ []) w × (head_of first.then.object.queue + 1 < POSITIONS)
+    × (head_of first.then.object.queue < tail_of second.then.object.queue + PLACES)
+    × (head_of first.then.object.queue < head) × (head_of third.then.object.queue ≡ head)
 
 -- the gate by which the end that has to run the note is known. Run: no end had the Turn. Left: some end had it
 abbrev pub IsGateOf : Chained → ℕ → Type 0
 IsGateOf (Run turn) gate = gate ≡ IDLE
 IsGateOf Left gate = gate ≢ IDLE
 
--- The meaning of the answer: the end put the note at a position, in a run of its own. At a moment of the call the note
--- was raised there, and the gate was as the answer says. The call's last step left the gate More, so a runner that has
--- not seen the note goes on
-abbrev pub WhoRuns : View → ℕ → Chained → View → Type 0
-WhoRuns v note answer w = (position : ℕ)
-    × (w.own.runs ≡ v.own.runs ++ record { start = position; places = record { item = note; stage = 2 } ∷ [] } ∷ [])
-    × AtSomeMoment v w (λ o. IsRaisedAt o position note × IsGateOf answer o.gate) × (w.seen.object.gate ≡ MORE)
+-- The meaning of the answer. The call made five steps. The first two changed nothing. The third claimed the position at
+-- the head, and the fourth raised the note there, in a run of its own. The last, the notify, found the note raised and
+-- the gate as the answer says. It left the gate More, so a runner that has not seen the note goes on
+pub record WhoRuns (v : View) (note : ℕ) (answer : Chained) (w : View) : Type 0 where
+  pub position : ℕ
+  pub runs : w.own.runs
+      ≡ v.own.runs ++ record { start = position; places = record { item = note; stage = 2 } ∷ [] } ∷ []
+  pub first : Step GatedQueue
+  pub second : Step GatedQueue
+  pub claim : Step GatedQueue
+  pub raise : Step GatedQueue
+  pub notify : Step GatedQueue
+  pub adds : ExtendsTrace v (first ∷ second ∷ claim ∷ raise ∷ notify ∷ []) w
+  pub looked : (first.next.object ≡ first.then.object) × (second.next.object ≡ second.then.object)
+  pub claimed : head_of claim.then.object.queue ≡ position
+  pub raised : (item_at notify.then.object.queue (position - notify.then.object.queue.first) ≡ note)
+      × (2 ≤ stage_at notify.then.object.queue (position - notify.then.object.queue.first))
+  pub gate : IsGateOf answer notify.then.object.gate
+  pub left : (notify.next.object.gate ≡ MORE) × (w.seen.object.gate ≡ MORE)
 
 -- `serve`, `serve_kept` and `serve_all`
 
@@ -64,43 +78,49 @@ WhoRuns v note answer w = (position : ℕ)
 abbrev pub RanNotes : View → ℕ → View → Type 0
 RanNotes v ran w = (notes : List ℕ) × (length notes ≡ ran) × HasServed v notes w
 
--- the first note left is not raised, or no note is left
-abbrev pub IsNoneRaised : GatedQueue → Type 0
-IsNoneRaised o = stage_at o.queue o.queue.taken < 2
+-- a step found the first note left not raised, or no note left, and changed nothing. A later step found this gate, with
+-- no note more taken
+abbrev pub WasNoneRaised : ℕ → Step GatedQueue → Step GatedQueue → Type 0
+WasNoneRaised gate look later = (stage_at look.then.object.queue look.then.object.queue.taken < 2)
+    × (look.next.object ≡ look.then.object) × (later.then.object.queue.taken ≡ look.then.object.queue.taken)
+    × (later.then.object.gate ≡ gate)
 
--- at a moment no note was raised at the tail; later, with no note more taken, this was the gate
-abbrev pub WasNoneRaised : ℕ → GatedQueue → GatedQueue → Type 0
-WasNoneRaised gate o later = IsNoneRaised o × (later.queue.taken ≡ o.queue.taken) × (later.gate ≡ gate)
+-- none of these steps changed the gate
+abbrev pub KeepGate : List (Step GatedQueue) → Type 0
+KeepGate steps = AllByRecursion (λ step. step.next.object.gate ≡ step.then.object.gate) steps
 
--- among these steps are so many pairs, one pair after the other, whose two steps found the object so
-abbrev pub FoundTimes : ℕ → (GatedQueue → GatedQueue → Type 0) → List (Step GatedQueue) → Type 0
-FoundTimes zero Holds steps = Unit {0}
-FoundTimes (suc n) Holds steps = (before : List (Step GatedQueue)) × (first : Step GatedQueue)
-    × (between : List (Step GatedQueue)) × (second : Step GatedQueue) × (after : List (Step GatedQueue))
-    × (steps ≡ before ++ first ∷ (between ++ second ∷ after)) × Holds first.then.object second.then.object
-    × FoundTimes n Holds after
+-- So many leaves failed in these steps, one after the other. At each a step found no note raised at the tail. The next
+-- step found the gate More and changed nothing, and the next began a round. No other of these steps changed the gate
+abbrev pub FailedLeaves : ℕ → List (Step GatedQueue) → Type 0
+FailedLeaves zero steps = KeepGate steps
+FailedLeaves (suc n) steps = (before : List (Step GatedQueue)) × (look leave round : Step GatedQueue)
+    × (after : List (Step GatedQueue)) × (steps ≡ before ++ look ∷ leave ∷ round ∷ after) × KeepGate before
+    × WasNoneRaised MORE look leave × (leave.next.object ≡ leave.then.object) × (round.next.object.gate ≡ RUNNING)
+    × FailedLeaves n after
 
--- so many leaves failed in the call: no note was raised at the tail, and then the gate was More
-pub record FailedLeaves (times : ℕ) (v w : View) : Type 0 where
-  pub steps : List (Step GatedQueue)
-  pub adds : ExtendsTrace v steps w
-  pub found : FoundTimes times (WasNoneRaised MORE) steps
+-- The end left after these steps, by two more. The first found no note raised at the tail. The second, the call's last
+-- step, found the gate Running: no notify had come since the last round. It left the gate Idle
+abbrev pub LeftAfter : View → List (Step GatedQueue) → View → Type 0
+LeftAfter v steps w = (look leave : Step GatedQueue) × ExtendsTrace v (steps ++ look ∷ leave ∷ []) w
+    × WasNoneRaised RUNNING look leave × (leave.next.object.gate ≡ IDLE) × (w.seen.object.gate ≡ IDLE)
 
--- Why the end left: no note was raised at the tail, and then the gate was Running: no notify had come since the last
--- round. The call's last step left the gate Idle
-abbrev pub WhyLeft : View → View → Type 0
-WhyLeft v w = AtTwoMoments v w (WasNoneRaised RUNNING) × (w.seen.object.gate ≡ IDLE)
+-- each of these steps kept the gate, or began a round
+abbrev pub KeepGateOrBegin : List (Step GatedQueue) → Type 0
+KeepGateOrBegin steps = AllByRecursion (λ step.
+    (step.next.object.gate ≡ step.then.object.gate) ⊎ (step.next.object.gate ≡ RUNNING)) steps
 
--- Why the serving stopped. Done: the limit was not used up, and the end left. More: the limit was used up, by the notes
--- that were run and by leaves that failed
-abbrev pub WhyServed : View → ℕ → Served → View → Type 0
-WhyServed v limit (Done ran) w = (ran < limit) × WhyLeft v w
-WhyServed v limit (More turn ran) w = (ran ≤ limit) × FailedLeaves (limit - ran) v w
-
--- the same of `serve_kept`
-abbrev pub WhyServedKept : View → ℕ → ServedKept → View → Type 0
-WhyServedKept v limit (kept.Done ran) w = (ran < limit) × WhyLeft v w
-WhyServedKept v limit (kept.More ran) w = (ran ≤ limit) × FailedLeaves (limit - ran) v w
+-- Why the serving stopped, after so many notes were run; the flag is whether the end still has the Turn. The first step
+-- began a round. Each note that was run took three steps, and each failed leave four. If the end has no Turn: notes run
+-- and failed leaves together were less than the limit, and the end left, after one step more. Else they were the limit;
+-- with the limit 0 the end made no step
+abbrev pub WhyServed : View → ℕ → ℕ → Bool → View → Type 0
+WhyServed v limit ran false w = (failed : ℕ) × (begin : Step GatedQueue) × (steps : List (Step GatedQueue))
+    × (ran + failed < limit) × (length steps ≡ 3 * ran + 4 * failed + 1) × (begin.next.object.gate ≡ RUNNING)
+    × FailedLeaves failed steps × LeftAfter v (begin ∷ steps) w
+WhyServed v limit ran true w = (ran ≤ limit) × (limit ≡ 0 → w ≡ v) × (0 < limit → (begin : Step GatedQueue)
+    × (steps : List (Step GatedQueue)) × ExtendsTrace v (begin ∷ steps) w
+    × (length steps ≡ 3 * ran + 4 * (limit - ran)) × (begin.next.object.gate ≡ RUNNING)
+    × FailedLeaves (limit - ran) steps)
 
 -- how many notes were run
 abbrev pub number_run : Served → ℕ
@@ -111,15 +131,34 @@ abbrev pub number_run_kept : ServedKept → ℕ
 number_run_kept (kept.Done ran) = ran
 number_run_kept (kept.More ran) = ran
 
--- `join`
+-- `split` and `join`
 
--- the end has the notes and the takings of both ends, each list after the other, and the shares of both
+-- The end's notes and its turn are unchanged. The only step that the call added to the end's list made the number of
+-- ends one more
+pub record OneEndMore (v w : View) : Type 0 where
+  pub own : w.own ≡ v.own
+  pub only : Step GatedQueue
+  pub adds : ExtendsTrace v (only ∷ []) w
+  pub counted : only.next ≡ record only.then { ends = only.then.ends + 1 }
+
+-- The end has the notes, the takings and the steps of both ends, each list after the other, and the shares of both. The
+-- only step that the call added made the number of ends one less
 pub record HasBoth (one other w : View) : Type 0 where
   pub puts : notes_put w ≡ notes_put one ++ notes_put other
   pub takes : notes_taken w ≡ notes_taken one ++ notes_taken other
   pub share : w.member.share ≡ one.member.share + other.member.share
+  pub only : Step GatedQueue
+  pub steps : w.steps ≡ one.steps ++ (other.steps ++ only ∷ [])
+  pub counted : only.next ≡ record only.then { ends = only.then.ends - 1 }
 
 -- the end has what both ends had; the end with the Turn comes first (the flag is whether the other end has it)
 abbrev pub HasTheirs : Bool → View → View → View → Type 0
 HasTheirs false v u w = HasBoth v u w
 HasTheirs true v u w = HasBoth u v w
+
+-- `close`
+
+-- why the chain stays open: the call's only step found so many other ends, at least one
+abbrev pub WhyOpen : View → ℕ → View → Type 0
+WhyOpen v others w = (only : Step GatedQueue) × ExtendsTrace v (only ∷ []) w × (only.then.ends ≡ others + 1)
+    × (0 < others)

@@ -7,9 +7,8 @@ use Rattle.proc_chain.specs.declared.rule.ChainOps.{ChainOps}
 use Rattle.proc_chain.specs.declared.rule.GatedQueue.{GatedQueue}
 use Rattle.proc_chain.specs.declared.layout.TheConstants.{IDLE, RUNNING, MORE}
 use Rattle.proc_chain.specs.Layout.{tail_word, gate_word, place_word, mark_of}
-use Rattle.table_theory.specs.Moments.{AtSomeMoment}
+use Rattle.table_theory.specs.Positioned.{stage_at}
 use Rattle.proc_chain.specs.Changes.{with_gate}
-use Rattle.proc_chain.specs.Client.{IsNoneRaised}
 use Rattle.proc_chain.specs.Own.{View, queue_of}
 use Rattle.proc_chain.specs.Turns.{HasServed}
 use Rattle.proc_chain.specs.Servings.{Use, took, entries_of, IsUse, notes_run, takings, Serving, Leaving, HasRun}
@@ -36,20 +35,24 @@ abbrev pub RanNote : View → View → Type 0
 RanNote v w = (note tail : ℕ) × (m n o : AbsState GatedQueue)
     × Ran v (entries_of (took note tail m n o)) (took note tail m n o ∷ []) true false w
 
--- the tail was loaded, and the note at its place was not raised
+-- the tail was loaded, and the note at its place was not raised; no note more was taken after that
 abbrev pub FoundNone : View → View → Type 0
 FoundNone v w = (tail word : ℕ) × (m n : AbsState GatedQueue) × (mark_of word ≢ tail + 1)
     × Ran v (load tail_word tail m ∷ load (place_word tail) word n ∷ []) [] true true w
+    × (stage_at n.object.queue n.object.queue.taken < 2) × (n.object.queue.taken ≡ (queue_of w).taken)
 
--- the end left: the compare-and-swap found the gate Running
+-- the end left: the compare-and-swap found the gate Running, and no note more was taken before it
 abbrev pub LeftNow : View → View → Type 0
 LeftNow v w = (m : AbsState GatedQueue)
     × Ran v (change gate_word RUNNING m (with_gate m.object IDLE) ∷ []) [] false false w
+    × (m.object.queue.taken ≡ (queue_of v).taken) × (m.object.gate ≡ RUNNING) × (w.seen.object.gate ≡ IDLE)
 
--- the end did not leave: the compare-and-swap found the gate More, and a round was begun
+-- the end did not leave: the compare-and-swap found the gate More, no note more was taken before it, and a round was
+-- begun
 abbrev pub RoundNow : View → View → Type 0
 RoundNow v w = (gate : ℕ) × (m n : AbsState GatedQueue)
     × Ran v (load gate_word MORE m ∷ change gate_word gate n (with_gate n.object RUNNING) ∷ []) [] true false w
+    × (m.object.queue.taken ≡ (queue_of v).taken) × (m.object.gate ≡ MORE)
 
 -- the serving left before its limit was used up
 abbrev pub IsDone : View → ℕ → ℕ → View → Type 0
@@ -58,11 +61,3 @@ IsDone v limit ran w = (s : Serving) × (l : Leaving) × (length s.uses < limit)
 -- the serving used its limit up
 abbrev pub IsUsedUp : View → ℕ → ℕ → View → Type 0
 IsUsedUp v limit ran w = (s : Serving) × (length s.uses ≡ limit) × HasRun v (s ∷ []) None ran w
-
--- at a moment of the runner's steps no note was raised at the tail, and no note more was taken after that
-abbrev pub SawNone : View → View → Type 0
-SawNone v w = AtSomeMoment v w (λ o. IsNoneRaised o × (o.queue.taken ≡ (queue_of w).taken))
-
--- at a moment of the runner's steps this was the gate, and no note more was taken before that
-abbrev pub MetGate : ℕ → View → View → Type 0
-MetGate gate v w = AtSomeMoment v w (λ o. (o.queue.taken ≡ (queue_of v).taken) × (o.gate ≡ gate))

@@ -1,7 +1,7 @@
 //! Chaining a note.
 ghost use Rattle.std.specs.Prelude.{◌≡◌, MatchResult, IfOk, IfErr, false, true};
 ghost use Rattle.proc_chain.specs.Answers.{is_run};
-ghost use Rattle.proc_chain.specs.Client.{OnlyLooked, WhoRuns, WhyNotChained};
+ghost use Rattle.proc_chain.specs.Client.{ChangedNothing, WhoRuns, WhyNotChained};
 ghost use Rattle.proc_chain.specs.Evidence.{ChainedNow, NotChained};
 ghost use Rattle.proc_chain.specs.Notes.{SameNotes, PutNote};
 ghost use Rattle.proc_chain.specs.Turns.{KeepsTaken};
@@ -46,13 +46,14 @@ impl<Q: Quaject> ProcChain<Q> {
     /// It raises the note there, and notifies by a swap of the gate to More. If that swap found the gate Idle, this end
     /// takes the quaject out, and the answer is `Run`: the end has the Turn, and must serve it. Else the end with the
     /// Turn runs the note, and that may be this end. The refusals are checked in the order in which `ChainRefusal`
-    /// lists them, and change nothing.
+    /// lists them, and change nothing. A note that is chained costs five atomic steps, and a refusal at most three.
     pub fn try_chain(&self, end: &mut ChainEnd<Q>, note: u16) -> Result<Chained, ChainRefusal>
         requires { IsEndOf self.now end.old }
         ensures effect { MatchResult result (λ r. PutNote note (view_of end.old) (view_of end.new))
             (λ e. SameNotes (view_of end.old) (view_of end.new)) }
         ensures result { IfOk result (λ r. WhoRuns (view_of end.old) note r (view_of end.new)) }
-        ensures frame { IfErr result (λ e. OnlyLooked (view_of end.old) (view_of end.new)) }
+        ensures frame { IfErr result (λ e. ChangedNothing (view_of end.old) (view_of end.new)) }
+        ensures owns { (view_of end.new).member ≡ (view_of end.old).member }
         ensures error { IfErr result (λ e. WhyNotChained (view_of end.old) e (view_of end.new)) }
         ensures turn { MatchResult result (λ r. is_run r ≡ true → (turn_of end.old ≡ false) × (turn_of end.new ≡ true))
             (λ e. KeepsTurn end.old end.new) }

@@ -5,7 +5,9 @@ ghost use Rattle.table_theory.specs.declared.positions.TheConstants.{POSITIONS};
 ghost use Rattle.proc_chain.specs.declared.layout.TheConstants.{PLACES};
 ghost use Rattle.proc_chain.specs.Layout.{width};
 ghost use Rattle.proc_chain.specs.Rules.{suits, makes};
-ghost use Rattle.proc_chain.specs.Closings.{ClosedNow, WereOpen, left_at, left_from};
+ghost use Rattle.proc_chain.specs.Client.{ChangedNothing, WhyOpen};
+ghost use Rattle.proc_chain.specs.Closings.{ClosedNow, left_at, left_from};
+ghost use Rattle.proc_chain.specs.Evidence.{WereOpen};
 
 use crate::ends::{ChainEnd, ProcChain};
 use crate::layout::{ENDS, HEAD, PLACES, TAIL, place_word};
@@ -71,8 +73,11 @@ impl<Q: Quaject> ProcChain<Q> {
         ensures only { IsOnlyEnd end → MatchResult result (λ c. Unit {0}) (λ e. ⊥) }
         ensures closed { IfOk result (λ c. ClosedNow (makes Q.made_by (pact_of self)) (suits Q.fits (pact_of self))
             (view_of end) (first_of self) c.put c.taken c.left.items c.quaject) }
-        ensures trace { IfErr result (λ e. WereOpen (view_of end) e.2.others (view_of e.1)) }
+        ensures frame { IfErr result (λ e. ChangedNothing (view_of end) (view_of e.1)) }
+        ensures owns { IfErr result (λ e. (view_of e.1).member ≡ (view_of end).member) }
+        ensures error { IfErr result (λ e. WhyOpen (view_of end) e.2.others (view_of e.1)) }
         ensures ends { IfErr result (λ e. IsEndOf self e.1) }
+        ensures trace { IfErr result (λ e. WereOpen (view_of end) e.2.others (view_of e.1)) }
         ensures handle { IfErr result (λ e. (e.0 ≡ self) × IsSameEnd end e.1 × KeepsTurn end e.1) }
     {
         let ChainEnd { seat, turn } = end;

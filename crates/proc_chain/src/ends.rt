@@ -2,7 +2,7 @@
 ghost use Rattle.std.specs.Prelude.{◌≡◌, ◌+◌, ◌||◌, [], true, false, IfOk, IfErr};
 ghost use Rattle.proc_chain.specs.Layout.{width};
 ghost use Rattle.proc_chain.specs.Rules.{view_from, IsValidChainView, Rests};
-ghost use Rattle.proc_chain.specs.Client.{HasTheirs};
+ghost use Rattle.proc_chain.specs.Client.{HasTheirs, OneEndMore};
 ghost use Rattle.proc_chain.specs.Endings.{IsNewEnd, JoinedBy};
 ghost use Rattle.proc_chain.specs.Evidence.{SplitBy, Joined};
 ghost use Rattle.proc_chain.specs.Notes.{SameNotes};
@@ -114,6 +114,7 @@ impl<Q: Quaject> ProcChain<Q> {
         requires ends { IsEndOf self.now end.old }
         requires parts { IsDivisible end.old }
         ensures effect { SameNotes (view_of end.old) (view_of end.new) }
+        ensures count { OneEndMore (view_of end.old) (view_of end.new) }
         ensures owns { (view_of end.new).member.share + (view_of result).member.share
             ≡ (view_of end.old).member.share }
         ensures turns { KeepsTurn end.old end.new × (turn_of result ≡ false) }

@@ -3,7 +3,7 @@ ghost use Rattle.std.specs.Prelude.{◌≡◌, true, [], ◌∷◌};
 ghost use Rattle.proc_chain.specs.Rules.{suits, makes};
 ghost use Rattle.proc_chain.specs.Turns.{HasOrGave, MadeSince};
 ghost use Rattle.proc_chain.specs.Servings.{goes_on_after};
-ghost use Rattle.proc_chain.specs.Client.{RanNotes, WhyServedKept, number_run_kept};
+ghost use Rattle.proc_chain.specs.Client.{RanNotes, WhyServed, number_run_kept};
 ghost use Rattle.proc_chain.specs.Evidence.{KeptNow};
 
 use crate::ends::{ChainEnd, ProcChain};
@@ -42,7 +42,9 @@ impl<Q: Quaject> ProcChain<Q> {
         requires turn { turn_of end.old ≡ true }
         requires world { world_of self.now ≡ world.now }
         ensures effect { RanNotes (view_of end.old) (number_run_kept result) (view_of end.new) }
-        ensures result { WhyServedKept (view_of end.old) limit result (view_of end.new) }
+        ensures result { WhyServed (view_of end.old) limit (number_run_kept result) (goes_on_after result)
+            (view_of end.new) }
+        ensures owns { (view_of end.new).member ≡ (view_of end.old).member }
         ensures turn { turn_of end.new ≡ goes_on_after result }
         ensures slot { HasOrGave (makes Q.made_by (pact_of self.now)) (suits Q.fits (pact_of self.now))
             (goes_on_after result) (me_of end.new) }

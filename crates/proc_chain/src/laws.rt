@@ -152,7 +152,7 @@ pub fn numbers_say()
         → (e.found ≡ head_of e.then.object.queue) × (e.found < POSITIONS) }
     ensures tail { (e : Step GatedQueue) → e.word ≡ tail_word → IsValidStep of_chains e
         → e.found ≡ tail_of e.then.object.queue }
-    ensures hook { (e : Step GatedQueue) → e.word ≡ gate_word → IsValidStep of_chains e → e.found ≡ e.then.object.gate }
+    ensures gate_word { (e : Step GatedQueue) → e.word ≡ gate_word → IsValidStep of_chains e → e.found ≡ e.then.object.gate }
     ensures raised { (e : Step GatedQueue) (i : ℕ) → e.word ≡ place_word (e.then.object.queue.first + i)
         → IsValidStep of_chains e → e.then.object.queue.taken ≤ i → i < e.then.object.queue.taken + PLACES
         → mark_of e.found ≡ e.then.object.queue.first + i + 1

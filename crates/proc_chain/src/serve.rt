@@ -1,14 +1,15 @@
 //! Serving a Turn.
-ghost use Rattle.std.specs.Prelude.{◌≡◌, ◌+◌, ◌-◌, ◌<◌, ◌≤◌, ℕ, List, true, false, [], ◌∷◌, ◌++◌, MatchBool, MatchOption};
+ghost use Rattle.std.specs.Prelude.{◌≡◌, ◌+◌, ◌<◌, ◌≤◌, ℕ, List, true, false, [], ◌∷◌, ◌++◌, MatchBool, MatchOption};
+ghost use Rattle.table_theory.specs.Ledgers.{Step};
 ghost use Rattle.table_theory.specs.Seating.{IsSame};
 ghost use Rattle.proc_chain.specs.Layout.{width};
 ghost use Rattle.proc_chain.specs.Rules.{suits, makes, IsValidChainView};
-ghost use Rattle.proc_chain.specs.Rounds.{RanNote, FoundNone, LeftNow, RoundNow, IsDone, IsUsedUp, SawNone, MetGate};
+ghost use Rattle.proc_chain.specs.Rounds.{RanNote, FoundNone, LeftNow, RoundNow, IsDone, IsUsedUp};
 ghost use Rattle.proc_chain.specs.Turns.{Carries, IsRunner, HasOrGave, MadeSince};
 ghost use Rattle.proc_chain.specs.Servings.{is_more};
-ghost use Rattle.proc_chain.specs.Client.{FailedLeaves, RanNotes, WhyLeft, WhyServed, number_run};
+ghost use Rattle.proc_chain.specs.Client.{KeepGateOrBegin, LeftAfter, RanNotes, WhyServed, number_run};
 ghost use Rattle.proc_chain.specs.Evidence.{ServedNow, AllServed};
-ghost use Rattle.proc_chain.specs.declared.layout.TheConstants.{IDLE, RUNNING, MORE};
+ghost use Rattle.proc_chain.specs.declared.rule.GatedQueue.{GatedQueue};
 
 use crate::ends::{ChainEnd, ProcChain};
 use crate::layout::TAIL;
@@ -44,7 +45,6 @@ fn run_next<Q: Quaject>(
     ensures frame { IsSame seat.old seat.new × IsValidChainView seat.new.me.0 }
     ensures runner { IsRunner (makes Q.made_by words.now.key.pact) (suits Q.fits words.now.key.pact) seat.new.me }
     ensures ran { MatchBool result.0 (RanNote seat.old.me.0 seat.new.me.0) (FoundNone seat.old.me.0 seat.new.me.0) }
-    ensures none { MatchBool result.0 (Unit {0}) (SawNone seat.old.me.0 seat.new.me.0) }
 {
     // One load suffices: only the end with the Turn writes the tail.
     let tail = load(words, seat, TAIL);
@@ -74,8 +74,6 @@ fn leave_or_round<Q: Quaject>(
         (λ turn. IsRunner (makes Q.made_by words.now.key.pact) (suits Q.fits words.now.key.pact) seat.new.me) }
     ensures left { MatchOption result (LeftNow seat.old.me.0 seat.new.me.0)
         (λ turn. RoundNow seat.old.me.0 seat.new.me.0) }
-    ensures why { MatchOption result (MetGate RUNNING seat.old.me.0 seat.new.me.0
-        × (seat.new.me.0.seen.object.gate ≡ IDLE)) (λ turn. MetGate MORE seat.old.me.0 seat.new.me.0) }
 {
     // linearization point: the end leaves, if the gate is Running. A notify since the last round has set More, and then
     // the compare-and-swap fails.
@@ -110,8 +108,8 @@ fn serve_seat<Q: Quaject>(
         seat.old.me.0 seat.new.me.0 }
     ensures served { MatchOption result.0 (IsDone seat.old.me.0 limit result.1 seat.new.me.0)
         (λ turn. IsUsedUp seat.old.me.0 limit result.1 seat.new.me.0) }
-    ensures why { MatchOption result.0 ((result.1 < limit) × WhyLeft seat.old.me.0 seat.new.me.0)
-        (λ turn. (result.1 ≤ limit) × FailedLeaves (limit - result.1) seat.old.me.0 seat.new.me.0) }
+    ensures why { MatchOption result.0 (WhyServed seat.old.me.0 limit result.1 false seat.new.me.0)
+        (λ turn. WhyServed seat.old.me.0 limit result.1 true seat.new.me.0) }
 {
     let mut turn = turn;
     let mut ran = 0u32;
@@ -140,7 +138,8 @@ impl<Q: Quaject> ProcChain<Q> {
     /// of the tail takes each note before it is run. At a place that isn't raised the end leaves, by a compare-and-swap
     /// of the gate from Running to Idle. If an end has notified since its last round, the leave fails, and it begins a
     /// new round. Each note run and each failed leave uses one of `limit`; if the limit is used up, the answer is
-    /// `More`. With a limit of 0 it makes no step.
+    /// `More`. With a limit of 0 it makes no step, else at most `4 * limit + 1`: one for the first round, three for each
+    /// note, four for each failed leave, and three for the leave.
     ///
     /// Conditions: the Turn is the end's own, and the world is that of `new`.
     pub fn serve(&self, end: &mut ChainEnd<Q>, world: &Q::World, turn: Turn, limit: u32) -> Served
@@ -148,7 +147,8 @@ impl<Q: Quaject> ProcChain<Q> {
         requires turn { turn_of end.old ≡ true }
         requires world { world_of self.now ≡ world.now }
         ensures effect { RanNotes (view_of end.old) (number_run result) (view_of end.new) }
-        ensures result { WhyServed (view_of end.old) limit result (view_of end.new) }
+        ensures result { WhyServed (view_of end.old) limit (number_run result) (is_more result) (view_of end.new) }
+        ensures owns { (view_of end.new).member ≡ (view_of end.old).member }
         ensures turn { turn_of end.new ≡ is_more result }
         ensures slot { HasOrGave (makes Q.made_by (pact_of self.now)) (suits Q.fits (pact_of self.now))
             (is_more result) (me_of end.new) }
@@ -185,7 +185,9 @@ impl<Q: Quaject> ProcChain<Q> {
         requires turn { turn_of end.old ≡ true }
         requires world { world_of self.now ≡ world.now }
         ensures effect { RanNotes (view_of end.old) result (view_of end.new) }
-        ensures result { WhyLeft (view_of end.old) (view_of end.new) }
+        ensures result { (steps : List (Step GatedQueue))
+            × KeepGateOrBegin steps × LeftAfter (view_of end.old) steps (view_of end.new) }
+        ensures owns { (view_of end.new).member ≡ (view_of end.old).member }
         ensures turn { turn_of end.new ≡ false }
         ensures slot { HasOrGave (makes Q.made_by (pact_of self.now)) (suits Q.fits (pact_of self.now))
             false (me_of end.new) }

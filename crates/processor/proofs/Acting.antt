@@ -1,32 +1,10 @@
 -- The parts that a hand keeps over several steps, and the sum of its events.
-use Rattle.processor.proofs.Common.{◌≡◌, inr, ℕ, zero, suc, true, List, [], ◌∷◌, Option, Some, None, false, get_or, set, refl, sym, ap, ◌∙◌, arith, append_assoc, append-nil, View, Keeps, serves, running, Tally, tally, followed_by, no_events, AddsToTally, NeverFalls}
+use Rattle.processor.proofs.Common.{◌≡◌, inr, ℕ, zero, suc, true, List, [], ◌∷◌, Option, Some, None, false, get_or, set, refl, sym, ap, ◌∙◌, arith, View, Keeps, serves, running, Tally, tally, followed_by, no_events, AddsToTally, NeverFalls}
 use Rattle.turn_dispatch.specs.Holdings.{OnlyAdds, Steady}
+use Rattle.turn_dispatch.proofs.Calm.{keeps_on}
+use Rattle.turn_dispatch.proofs.Tallies.{adds_on, behind_none}
 use Rattle.processor.specs.Acts.{AddsOnly, SteadyOn}
 use Rattle.processor.proofs.Rising.{rises_on}
-
-pub after_assoc : (a b c : Tally) → followed_by (followed_by a b) c ≡ followed_by a (followed_by b c)
-after_assoc a b c = λ i. record {
-  done = append_assoc a.done b.done c.done i;
-  signalled = append_assoc a.signalled b.signalled c.signalled i;
-  delivered = append_assoc a.delivered b.delivered c.delivered i;
-  retired = append_assoc a.retired b.retired c.retired i;
-  taken = append_assoc a.taken b.taken c.taken i;
-}
-
-pub adds_on : (s t : Tally) (u v w : View) → AddsToTally s u v → AddsToTally t v w → AddsToTally (followed_by s t) u w
-adds_on s t u v w a b = b ∙ ap (λ z. followed_by z t) a ∙ after_assoc (tally u.own.made) s t
-
-pub nothing_after : (t : Tally) → followed_by t no_events ≡ t
-nothing_after t = λ i. record {
-  done = append-nil t.done i;
-  signalled = append-nil t.signalled i;
-  delivered = append-nil t.delivered i;
-  retired = append-nil t.retired i;
-  taken = append-nil t.taken i;
-}
-
-pub keeps_on : (u v w : View) → Keeps u v → Keeps v w → Keeps u w
-keeps_on u v w a b = record { first = b.first ∙ a.first; serves = b.serves ∙ a.serves; on = b.on ∙ a.on; share = b.share ∙ a.share }
 
 serves_still : (v w : View) (p : ℕ) → Keeps v w → serves v p ≡ true → serves w p ≡ true
 serves_still v w p k h = ap (λ xs. get_or xs p false) k.serves ∙ h
@@ -55,7 +33,7 @@ acts_on s t u v w a b = record {
 pub acts_none : (v : View) → AddsOnly no_events v v
 acts_none v = record {
   keeps = record { first = refl; serves = refl; on = refl; share = refl };
-  adds = sym (nothing_after (tally v.own.made));
+  adds = sym (behind_none (tally v.own.made));
   steady = λ p e low serve on. refl;
   rises = λ e. omega arith;
 }

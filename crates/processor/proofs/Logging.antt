@@ -1,6 +1,7 @@
 -- The account of several pieces of a processor's work, one after the other.
 use Rattle.processor.proofs.Common.{◌≡◌, ◌||◌, ◌+◌, ◌≤◌, ◌==◌, ℕ, zero, suc, Bool, true, false, List, [], ◌∷◌, ◌++◌, map, refl, sym, ap, subst, ◌∙◌, ⊎_elim, Result, Ok, Err, MatchResult, arith, append-nil, list_any-append, BootPlan, QueueIndex, Small, Large, QueueEnd, queue_account, chain_account, by_index, queue_shares, StaySound, knows_shut_at, Begun, Idle, Shows, Tally, AddsToTally, no_events, nothing_did, did_both, view_of, done_at, Parts, nothing, ◌⊕◌, account, shown_in, seat_parted, NeverFalls, LogEntry, beginning, Climbs, HasDone, Ran, Went, numbers_of, Key, AreAtRest}
 use Rattle.std.specs.List.{All}
+use Rattle.std.proofs.Math.Bool.{or-false}
 use Rattle.std.proofs.lemmas.Bool.{or_cases}
 use Rattle.std.proofs.lemmas.List.{map-append}
 use Rattle.std.proofs.lemmas.List.Elements.{filter-append}
@@ -127,7 +128,8 @@ begun_done (Err i) old new h up r m s = hand_done no_events nothing_did nothing.
 
 -- THE LOG
 
-sum_on : (xs ys : List LogEntry) → sum_of (xs ++ ys) ≡ sum_of xs ⊕ sum_of ys
+-- two logs, one after the other, come to what both come to
+pub sum_on : (xs ys : List LogEntry) → sum_of (xs ++ ys) ≡ sum_of xs ⊕ sum_of ys
 sum_on [] ys = sym (accounts_add.none_first (sum_of ys))
 sum_on (x ∷ xs) ys = ap (λ z. entry_account x ⊕ z) (sum_on xs ys) ∙ sym (accounts_add.regroups (entry_account x) (sum_of xs) (sum_of ys))
 
@@ -147,10 +149,6 @@ ran_on plan xs ys a b c f g = record {
 pub none_ran : (plan : BootPlan) (parts : Parts) → Ran plan [] parts parts
 none_ran plan parts = record { planned = tt; done = none_done parts; reported = λ q h. cc }
 
-only : (b : Bool) → (b || false) ≡ true → b ≡ true
-only true h = refl
-only false h = cc
-
 -- a turn: of the alarms, and then of an element's turn
 pub turn_ran : (plan : BootPlan) (entry : LogEntry) (a b c : Parts) → HasDone (tending entry.tended) a b
     → Went (OutcomeFollows plan entry.outcome entry.line) (outcome_account entry.outcome entry.line) (outcome_saw_shut entry.outcome) b c
@@ -158,7 +156,7 @@ pub turn_ran : (plan : BootPlan) (entry : LogEntry) (a b c : Parts) → HasDone 
 turn_ran plan entry a b c t w = record {
   planned = (w.planned, tt);
   done = subst (λ z. HasDone z a c) (sym (accounts_add.none_last (entry_account entry))) (done_on (tending entry.tended) (outcome_account entry.outcome entry.line) a b c t w.done);
-  reported = λ q h. w.reported q (only (turn_saw_shut q entry) h);
+  reported = λ q h. w.reported q (sym (or-false (turn_saw_shut q entry)) ∙ h);
 }
 
 -- THE STATE AFTER IT

@@ -1,6 +1,7 @@
 -- A line that was heard is no longer than the longest that a plan's steps can hear.
 use Rattle.processor.proofs.Common.{◌≡◌, ◌≤◌, ℕ, zero, suc, ◌||◌, Bool, true, false, if◌then◌else◌, List, [], ◌∷◌, length, Some, Ok, sym, ap, ◌∙◌, arith, BootPlan, PlannedThread, Small, Large, QueueEnd, Step, steps_at, step_of, StepOutcome, IsOutcomeOf, line_in, is_heard}
 use Rattle.std.proofs.Math.Bool.{or-true as or_true}
+use Rattle.std.proofs.lemmas.Option.{same_Some}
 use Rattle.std.specs.List.{slice_get, list_any}
 use Rattle.boot_data.specs.declared.plan.Step.TheVariants as steps
 use Rattle.turn_io.proofs.Shares.{heard_long}
@@ -9,12 +10,9 @@ use Rattle.processor.specs.declared.tries.HearAnswer.TheVariants as answers
 use Rattle.processor.specs.Programs.{hears_large, one_hears_large, longest_line}
 use Rattle.processor.specs.Steps.{QueuesDid}
 
-some_is : {A : Type 0} (a b : A) → Some a ≡ Some b → a ≡ b
-some_is a b e = cc
-
 in_steps : (steps : List Step) (n : ℕ) (step : Step) → slice_get steps n ≡ Some step → hears_large step ≡ true → list_any hears_large steps ≡ true
 in_steps [] n step is h = cc
-in_steps (s ∷ steps) zero step is h = ap (λ b. b || list_any hears_large steps) (ap hears_large (some_is s step is) ∙ h)
+in_steps (s ∷ steps) zero step is h = ap (λ b. b || list_any hears_large steps) (ap hears_large (same_Some s step is) ∙ h)
 in_steps (s ∷ steps) (suc n) step is h = ap (λ b. hears_large s || b) (in_steps steps n step is h) ∙ or_true (hears_large s)
 
 in_threads : (threads : List PlannedThread) (e n : ℕ) (step : Step) → slice_get (steps_at threads e) n ≡ Some step → hears_large step ≡ true → list_any one_hears_large threads ≡ true

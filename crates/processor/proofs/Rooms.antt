@@ -6,6 +6,7 @@ use Rattle.std.proofs.lemmas.Map.Made.{length-le_from_is_member}
 use Rattle.std.specs.Cmp.{IsEquivalence}
 use Rattle.std.specs.List.{slice_get, list_any}
 use Rattle.std.proofs.Math.Bool.{or-true as or_true}
+use Rattle.std.proofs.lemmas.Option.{same_Some}
 
 same_is : (a b : Key) → same_key a b ≡ true → (a.0 ≡ b.0) × (a.1 ≡ b.1)
 same_is a b h = let p = split (a.0 == b.0) (a.1 == b.1) h in (eqb-true a.0 b.0 p.0, eqb-true a.1 b.1 p.1)
@@ -51,15 +52,12 @@ is_first : (b : Bool) (key : Key) (keys : List Key) → b ≡ true → list_any 
 is_first true key keys h = ap (λ b. b || list_any (same_key key) keys) (same_refl key)
 is_first false key keys h = cc
 
-some_is : {A : Type 0} (a b : A) → Some a ≡ Some b → a ≡ b
-some_is a b e = cc
-
 is_in_keys : (thread number k : ℕ) (steps : List Step) (step : Step) → slice_get steps k ≡ Some step → is_hear step ≡ true
     → list_any (same_key (thread, number + k)) (keys_in thread number steps) ≡ true
 is_in_keys thread number k [] step e h = cc
 is_in_keys thread number zero (s ∷ steps) step e h =
     key_at thread number (number + 0) (keys_in thread number (s ∷ steps)) (omega arith)
-    (is_first (is_hear s) (thread, number) (keys_in thread (number + 1) steps) (ap is_hear (some_is s step e) ∙ h))
+    (is_first (is_hear s) (thread, number) (keys_in thread (number + 1) steps) (ap is_hear (same_Some s step e) ∙ h))
 is_in_keys thread number (suc k) (s ∷ steps) step e h =
     in_second (if is_hear s then (thread, number) ∷ [] else []) (keys_in thread (number + 1) steps) (thread, number + suc k)
     (key_at thread ((number + 1) + k) (number + suc k) (keys_in thread (number + 1) steps) (omega arith) (is_in_keys thread (number + 1) k steps step e h))

@@ -1,5 +1,5 @@
 -- The accounts and the shares of stations add up.
-use Rattle.processor.proofs.Common.{◌≡◌, arith, ◌||◌, ◌&&◌, ℕ, Bool, true, false, List, refl, sym, ap, ◌∙◌, nat_tests, append-nil, append_assoc, QueueIndex, QueueEnd, both_queue, both_chain, idle_queue, idle_chain, queue_account, at_each, by_index, queues_add, by_sizes, Shows, tally, no_events, followed_by, nothing_did, did_both, is_in, view_of, View, Parts, nothing, ◌⊕◌, shown_in, account, seat_parted, shares, HaveBoth}
+use Rattle.processor.proofs.Common.{◌≡◌, ◌||◌, ◌&&◌, ℕ, Bool, true, false, List, refl, sym, ap, ◌∙◌, append-nil, append_assoc, QueueIndex, QueueEnd, both_queue, both_chain, idle_queue, idle_chain, queue_account, at_each, by_index, queues_add, by_sizes, Shows, tally, no_events, followed_by, nothing_did, did_both, is_in, view_of, View, Parts, nothing, ◌⊕◌, shown_in, account, seat_parted, shares, HaveBoth}
 use Rattle.std.specs.Prelude.{nat_lt, slice_index_or}
 use Rattle.std.proofs.Math.Bool.{or_assoc, or-false}
 use Rattle.std.proofs.Math.Nat.{add_comm}
@@ -13,14 +13,12 @@ use Rattle.turn_io.specs.Splits as splits
 use Rattle.turn_io.proofs.Accounting.{kept_at, given_at, joined_at, chain_kept_at, chain_given_at, chain_joined_at}
 use Rattle.turn_io.proofs.Adding.{numbers_add, chains_add, each_adds, lines_add}
 use Rattle.turn_dispatch.specs.Tallies.{is_delivered}
+use Rattle.turn_dispatch.proofs.Delivered.{none_in}
 use Rattle.turn_dispatch.proofs.Tallies.{tally_more, behind_more, behind_none}
 use Rattle.thread_table.proofs.Lists.Copies.{get_or-copies}
 use Rattle.processor.specs.Accounts.{unheard, Shares, no_shares, both_shares, each_share}
 use Rattle.processor.specs.Partings.{AreSplit, AreJoined}
 use Rattle.processor.specs.Stations.{IsUnused, no_signals}
-
-pub none_in : (s : ℕ) → is_in 0 s ≡ false
-none_in s = grind (arith, nat_tests)
 
 pub queue_sums : AddsUp (λ (q : QueueIndex). idle_queue) (at_each both_queue)
 queue_sums = each_adds queues_add
@@ -136,7 +134,7 @@ pub more_shows : (deliveries : List (ℕ × List ℕ)) (old new : List ℕ) → 
     → shown_in new ≡ (λ e s. shown_in old e s || (nat_lt e 64 && (nat_lt s 16 && is_delivered deliveries e s)))
 more_shows ds old new h = fun_ext (λ e. fun_ext (λ s. guarded (is_in (slice_index_or old e 0) s) (is_delivered ds e s) (is_in (slice_index_or new e 0) s) (nat_lt e 64) (nat_lt s 16) (λ x y. h e s (ltb-true e 64 x) (ltb-true s 16 y))))
 
-none_shown : shown_in no_signals ≡ (λ e s. false)
+pub none_shown : shown_in no_signals ≡ (λ e s. false)
 none_shown = fun_ext (λ e. fun_ext (λ s. shut e s (ap (λ z. is_in z s) (get_or-copies 64 0 e) ∙ none_in s)))
   where
     shut : (e s : ℕ) → is_in (slice_index_or no_signals e 0) s ≡ false → shown_in no_signals e s ≡ false

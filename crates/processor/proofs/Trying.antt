@@ -25,7 +25,7 @@ use Rattle.processor.specs.Entries.{IsOver, count_of, gone}
 use Rattle.processor.specs.Queues.{HeardAt}
 use Rattle.processor.specs.Steps.{QueuesDid}
 use Rattle.processor.specs.Turns.{heard_lines}
-use Rattle.processor.proofs.Acting.{adds_on}
+use Rattle.turn_dispatch.proofs.Tallies.{adds_on}
 use Rattle.processor.proofs.Logging.{known_done}
 use Rattle.processor.proofs.Rising.{rises_on}
 use Rattle.processor.proofs.Summing.{none_shows}
@@ -99,11 +99,11 @@ count_climbs (counted.Done m) element number t u v w up on now is = ⊎_elim
     (λ other. subst (λ z. Climbs z (done_at u.seen.object t) (done_at w.seen.object t)) (sym (ap (λ (b : Bool). map (λ (key : Key). key.1) (cond b ((element, number) ∷ []) [])) other.0)) (up t))
     (eqb_tells t element)
 
-raises_done : (step_outcome : StepOutcome) → (raised_by step_outcome).done ≡ []
+pub raises_done : (step_outcome : StepOutcome) → (raised_by step_outcome).done ≡ []
 raises_done (step_outcomes.Signal thread signal answer) = refl
 raises_done step_outcome = refl
 
-gone_done : (moved : Moved) (e n : ℕ) → (gone moved e n).done ≡ []
+pub gone_done : (moved : Moved) (e n : ℕ) → (gone moved e n).done ≡ []
 gone_done (moveds.Freed true) e n = refl
 gone_done (moveds.Freed false) e n = refl
 gone_done moved e n = refl

@@ -5,6 +5,7 @@ use Rattle.std.specs.List.{list_any}
 use Rattle.std.proofs.lemmas.Bool.{ltb-true, lt-ltb, false≢true, ne_eqb}
 use Rattle.std.proofs.Math.Bool.{or-true as or_true}
 use native.Mathlib.Decide.{dec_le}
+use Rattle.event_theory.proofs.Lists.Histories.{both}
 use Rattle.quajects.specs.Cooked.{is_erase, is_kill, is_other, after_kills, erases, others, outweighs_to, outweighs, kept}
 
 -- the erases of a stretch that have no byte before them to take back
@@ -88,10 +89,6 @@ at_most_if false u k n x y x0 y0 ih h = let t = ih (k + 1) (λ i l. let r = h i 
 at_most : (bs : List ℕ) (k : ℕ) → ((i : ℕ) → i ≤ length bs → erases (take i bs) ≤ others (take i bs) + k) → unmatched bs ≤ k
 at_most [] k h = omega arith
 at_most (b ∷ bs) k h = at_most_if (is_erase b) (unmatched bs) k (length bs) (λ i. erases (take i bs)) (λ i. others (take i bs)) refl refl (λ j f. at_most bs j f) (λ i l. h (suc i) (omega arith))
-
-both : (a b : Bool) → (a && b) ≡ true → (a ≡ true) × (b ≡ true)
-both true b h = (refl, h)
-both false b h = absurd (false≢true h)
 
 both_from : (a b : Bool) → a ≡ true → b ≡ true → (a && b) ≡ true
 both_from true b h k = k

@@ -4,7 +4,7 @@ use Rattle.std.specs.Prelude.{Option, Some, None}
 use Rattle.std.specs.List.{AllByRecursion}
 use Rattle.std.proofs.lemmas.List.{length-map, length-take-le}
 use Rattle.table_theory.specs.Positioned.{item_of}
-use Rattle.claim_queue.specs.declared.ends.ClaimQueue.{ClaimQueue}
+use Rattle.claim_queue.specs.Plain.{ClaimQueue}
 use Rattle.proc_chain.specs.Own.{View, queue_of}
 use Rattle.proc_chain.specs.declared.rule.Pact.{Pact}
 use Rattle.proc_chain.specs.Rules.{suits, makes}

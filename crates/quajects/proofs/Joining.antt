@@ -25,7 +25,7 @@ use Rattle.quajects.specs.Settled.{views_of, share_of, shuts_of, runs_of, taking
 pub alone_has : (v : View) → HasAll (v ∷ []) v
 alone_has v = record { puts = sym (append-nil (lines_put v)); takes = sym (append-nil (lines_taken v)); share = omega arith; shuts = omega arith; runs = sym (append-nil (runs_of v)); takings = sym (append-nil (takings_of v)); raised = λ h. h 0 v (omega arith) }
 
-raised_both : (a b : List Batch) → AllRaised a → AllRaised b → AllRaised (a ++ b)
+pub raised_both : (a b : List Batch) → AllRaised a → AllRaised b → AllRaised (a ++ b)
 raised_both [] b ha hb m e at i l = hb m e at i l
 raised_both (x ∷ a) b ha hb zero e at i l = ha zero e at i l
 raised_both (x ∷ a) b ha hb (suc m) e at i l = raised_both a b (λ m. ha (suc m)) hb m e at i l

@@ -5,9 +5,11 @@ use Rattle.std.specs.List.{slice_get, filter, All, AllZip}
 use Rattle.std.proofs.lemmas.List.{append-nil}
 use native.Mathlib.Decide.{dec_le}
 use Rattle.std.proofs.lemmas.Bool.{ne_eqb}
+use Rattle.std.proofs.lemmas.Option.{none-some, same_Some}
+use Rattle.std.proofs.Math.Bool.{and-false}
 use Rattle.claim_queue.specs.Handles.{view_of}
 use Rattle.claim_queue.specs.Lines.{lines_put}
-use Rattle.claim_queue.specs.declared.ends.ClaimQueue.{ClaimQueue}
+use Rattle.claim_queue.specs.Plain.{ClaimQueue}
 use Rattle.claim_queue.specs.declared.ends.QueueEnd.{QueueEnd}
 use Rattle.quajects.specs.Ports.{IsEndAt, post_of}
 use Rattle.quajects.specs.Tries.{TriedPut}
@@ -50,16 +52,12 @@ posts_same ways i way outlet at e = map_set way_post ways i (Some (changed way o
 pub apart_after : (ways : List (Option Way)) (i : ℕ) (way : Way) (outlet : Outlet 64) → slice_get ways i ≡ Some (Some way) → KeysDiffer (map key_of ways) → KeysDiffer (map key_of (after ways i way outlet))
 apart_after ways i way outlet at h = subst KeysDiffer (sym (keys_same ways i way outlet at)) h
 
-and_false : (b : Bool) → (b && false) ≡ false
-and_false true = refl
-and_false false = refl
-
 none_false : (keys : List (Option ℕ)) (i key : ℕ) → slice_get keys i ≡ Some (Some key) → (line : List ℕ) → begins key line ≡ true → begins_none keys line ≡ false
 none_false [] i key at line h = cc
 none_false (None ∷ keys) zero key at line h = cc
 none_false (Some u ∷ keys) zero key at line h = let same : u ≡ key = cc in ap (λ (z : ℕ). not (begins z line) && begins_none keys line) same ∙ ap (λ (z : Bool). not z && begins_none keys line) h
 none_false (None ∷ keys) (suc i) key at line h = none_false keys i key at line h
-none_false (Some u ∷ keys) (suc i) key at line h = ap (λ (z : Bool). not (begins u line) && z) (none_false keys i key at line h) ∙ and_false (not (begins u line))
+none_false (Some u ∷ keys) (suc i) key at line h = ap (λ (z : Bool). not (begins u line) && z) (none_false keys i key at line h) ∙ and-false (not (begins u line))
 
 passed_over : (p : List ℕ → Bool) (held : List ℕ) → p held ≡ false → filter p (held_line held) ≡ []
 passed_over p [] h = refl
@@ -141,23 +139,18 @@ none_true [] line h = refl
 none_true (None ∷ keys) line h = none_true keys line (λ i key e. h (suc i) key e)
 none_true (Some u ∷ keys) line h = not_key u line (begins_none keys line) (h 0 u refl) (none_true keys line (λ i key e. h (suc i) key e))
 
-none_got : {B : Type 0} (b : B) → None ≡ Some b → ⊥
-none_got b e = cc
-
-same_got : {B : Type 0} (a b : B) → Some a ≡ Some b → a ≡ b
-same_got a b e = cc
-
-get_back : {A B : Type 0} (f : A → B) (l : List A) (i : ℕ) (b : B) → slice_get (map f l) i ≡ Some b → (a : A) × (slice_get l i ≡ Some a) × (f a ≡ b)
-get_back f [] i b e = absurd (none_got b e)
-get_back f (a ∷ l) zero b e = (a, refl, same_got (f a) b e)
-get_back f (a ∷ l) (suc i) b e = get_back f l i b e
+-- where a mapped list has a value, the list has what is mapped to it
+pub mapped_at : {A B : Type 0} (f : A → B) (l : List A) (i : ℕ) (b : B) → slice_get (map f l) i ≡ Some b → (a : A) × (slice_get l i ≡ Some a) × (f a ≡ b)
+mapped_at f [] i b e = absurd (none-some b e)
+mapped_at f (a ∷ l) zero b e = (a, refl, same_Some (f a) b e)
+mapped_at f (a ∷ l) (suc i) b e = mapped_at f l i b e
 
 way_back : (w : Option Way) (key : ℕ) → key_of w ≡ Some key → (way : Way) × (w ≡ Some way) × (way.key ≡ key)
-way_back None key e = absurd (none_got key e)
-way_back (Some u) key e = (u, refl, same_got u.key key e)
+way_back None key e = absurd (none-some key e)
+way_back (Some u) key e = (u, refl, same_Some u.key key e)
 
 key_back : (ways : List (Option Way)) (i key : ℕ) → slice_get (map key_of ways) i ≡ Some (Some key) → (way : Way) × (slice_get ways i ≡ Some (Some way)) × (way.key ≡ key)
-key_back ways i key e = let g = get_back key_of ways i (Some key) e in let w = way_back g.0 key g.2 in (w.0, g.1 ∙ ap Some w.1, w.2)
+key_back ways i key e = let g = mapped_at key_of ways i (Some key) e in let w = way_back g.0 key g.2 in (w.0, g.1 ∙ ap Some w.1, w.2)
 
 pub each_other : (ways : List (Option Way)) (taken : List (List ℕ)) (held held' : List ℕ) → ((i : ℕ) (way : Way) → slice_get ways i ≡ Some (Some way) → slice_index held 0 ≢ way.key) → held' ≡ []
     → RoutesEach ways taken held → RoutesEach ways taken held'

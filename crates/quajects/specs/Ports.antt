@@ -3,7 +3,7 @@ use Rattle.std.specs.Prelude.{◌≡◌, ℕ, ◌<◌, List, [], ◌∷◌, leng
 use Rattle.std.specs.List.{slice_get}
 use Rattle.atomic_table.specs.Seated.{TableId}
 use Rattle.table_theory.specs.Listing.{AllRaised}
-use Rattle.claim_queue.specs.declared.ends.ClaimQueue.{ClaimQueue}
+use Rattle.claim_queue.specs.Plain.{ClaimQueue}
 use Rattle.claim_queue.specs.declared.ends.QueueEnd.{QueueEnd}
 use Rattle.claim_queue.specs.Own.{View}
 use Rattle.claim_queue.specs.Handles.{view_of, call_of, IsEndOf}

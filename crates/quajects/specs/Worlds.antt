@@ -1,7 +1,7 @@
 -- The queues that are made, each with its only end.
 use Rattle.std.specs.Prelude.{◌≡◌, ◌≤◌, ℕ, List, length, Some}
 use Rattle.std.specs.List.{AllZip, slice_get}
-use Rattle.claim_queue.specs.declared.ends.ClaimQueue.{ClaimQueue}
+use Rattle.claim_queue.specs.Plain.{ClaimQueue}
 use Rattle.claim_queue.specs.declared.ends.QueueEnd.{QueueEnd}
 use Rattle.claim_queue.specs.Handles.{IsEndOf, first_of, view_of}
 use Rattle.claim_queue.specs.Rules.{newcomer}

@@ -4,7 +4,7 @@ use Rattle.std.specs.Prelude.{◌≡◌, ◌+◌, ◌<◌, ℕ, List, [], ◌∷
 use Rattle.table_theory.specs.Interleaving.{joined}
 use Rattle.table_theory.specs.Sharing.{total}
 use Rattle.claim_queue.specs.Own.{View}
-use Rattle.claim_queue.specs.declared.ends.ClaimQueue.{ClaimQueue}
+use Rattle.claim_queue.specs.Plain.{ClaimQueue}
 use Rattle.claim_queue.specs.declared.ends.QueueEnd.{QueueEnd}
 use Rattle.claim_queue.specs.Handles.{view_of, IsEndOf}
 use Rattle.spooler.specs.declared.line.Line.{Line}

@@ -1,6 +1,7 @@
 -- The results of all threads, by the works: the stations of the processors, followed by the results of the devices.
 use Rattle.synth_kernel.proofs.Common.{◌≡◌, ◌≤◌, ℕ, zero, suc, ◌+◌, true, List, [], ◌∷◌, ◌++◌, map, length, Option, Some, Result, Ok, Err, slice_get, refl, sym, ap, subst, ◌∙◌, arith, length-map, AllZip, PlannedTty, Point, AllThree, Device, Shared, Parts, Work, Worked, back_of, GaveBack, AreServing, ArePosted, Back, HasWorked, Served, processed_in, served_in, all_there}
 use Rattle.std.proofs.Common.{take}
+use Rattle.std.proofs.lemmas.List.{nil_from_length}
 use Rattle.boot_threads.specs.declared.work.Worked.TheVariants as worked
 use Rattle.boot_threads.specs.Readiness.{IsServing}
 use Rattle.boot_threads.specs.Works.{RunsOf, RefusalsOf}
@@ -13,10 +14,6 @@ pub record Sorted {G : Type 0} (posts ttys : ℕ) (backs : List (Back G)) : Type
   pub is : backs ≡ map back_of (processed_in backs) ++ map back_served (served_in backs)
   pub posts_are : length (processed_in backs) ≡ posts
   pub ttys_are : length (served_in backs) ≡ ttys
-
-none_of : {A : Type 0} (l : List A) → length l ≡ 0 → l ≡ []
-none_of [] h = refl
-none_of (x ∷ xs) h = absurd (omega arith)
 
 module _ {G : Type 0} (ran : RunsOf G) (refused : RefusalsOf G) (T : G → ℕ → Point → G → Type 0) (shared : Shared) where
   -- one device's work
@@ -56,7 +53,7 @@ module _ {G : Type 0} (ran : RunsOf G) (refused : RefusalsOf G) (T : G → ℕ �
   sort_serve (t ∷ ttys) (d ∷ devices) (w ∷ ws) [] s r all = absurd r
   sort_serve (t ∷ ttys) (d ∷ devices) (w ∷ ws) (Err lost ∷ backs) s r all = absurd cc
   sort_serve (t ∷ ttys) (d ∷ devices) (w ∷ ws) (Ok (worked.Processed b) ∷ backs) s r all = absurd (subst (λ (z : Work G). GaveBack ran refused (HasWorked T) shared z (Ok (worked.Processed b))) s.0 r.0).1
-  sort_serve (t ∷ ttys) (d ∷ devices) (w ∷ ws) (Ok (worked.Served l y) ∷ backs) s r all = let f = sort_serve ttys devices ws backs s.1 r.1 all in let none = none_of (processed_in backs) f.posts_are in record {
+  sort_serve (t ∷ ttys) (d ∷ devices) (w ∷ ws) (Ok (worked.Served l y) ∷ backs) s r all = let f = sort_serve ttys devices ws backs s.1 r.1 all in let none = nil_from_length (processed_in backs) f.posts_are in record {
     is = ap (λ z. Ok (worked.Served l y) ∷ z) f.is ∙ (ap (λ z. Ok (worked.Served l y) ∷ (map back_of z ++ map back_served (served_in backs))) none
         ∙ ap (λ z. map back_of z ++ Ok (worked.Served l y) ∷ map back_served (served_in backs)) (sym none));
     posts_are = f.posts_are;

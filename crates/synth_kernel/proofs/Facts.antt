@@ -8,6 +8,7 @@ use Rattle.boot_objects.specs.Devices.{AreDevicesOf}
 use Rattle.boot_objects.specs.DeviceEndings.{DeviceEnded}
 use Rattle.processor.specs.RawEnds.{IsRawAt}
 use Rattle.quajects.specs.Raws.{end_of}
+use Rattle.quajects.proofs.Routes.{mapped_at}
 use Rattle.boot_report.specs.Shown.{ShowsDevice, ShowsDevices}
 use Rattle.boot_laws.specs.ClosedTables as closed
 use Rattle.spsc_line.specs.declared.line_out.LineOut.{LineOut}
@@ -20,11 +21,6 @@ use Rattle.synth_kernel.proofs.Backs.{Sorted, served_after}
 use Rattle.boot_threads.specs.Works.{RunsOf, RefusalsOf}
 
 -- LISTS
-
-pub mapped_at : {A B : Type 0} (f : A → B) (xs : List A) (i : ℕ) (y : B) → slice_get (map f xs) i ≡ Some y → (x : A) × (slice_get xs i ≡ Some x) × (f x ≡ y)
-mapped_at f [] i y e = absurd (cc)
-mapped_at f (x ∷ xs) zero y e = (x, refl, cc)
-mapped_at f (x ∷ xs) (suc i) y e = mapped_at f xs i y e
 
 same_maps : {A B C : Type 0} (f : A → C) (g : B → C) (xs : List A) (ys : List B) → length xs ≡ length ys → ((k : ℕ) (x : A) (y : B) → slice_get xs k ≡ Some x → slice_get ys k ≡ Some y → f x ≡ g y) → map f xs ≡ map g ys
 same_maps f g [] [] long each = refl

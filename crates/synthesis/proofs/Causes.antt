@@ -12,7 +12,8 @@ use Rattle.synth_kernel.specs.declared.outcome.BootFault.{BootFault}
 use Rattle.synth_kernel.specs.declared.outcome.BootFault.TheVariants as boot_faults
 use Rattle.synth_kernel.specs.declared.printing.Booted.{Booted}
 use Rattle.turn_io.specs.declared.gate.NoGate.{NoGate}
-use Rattle.synthesis.specs.Runs.{exit_code_of, boot_exit_code_of, answer_in, HasCause, HasBootCause, HasStreamFailed}
+use Rattle.boot_script.specs.Exits.{exit_code_of}
+use Rattle.synthesis.specs.Runs.{boot_exit_code_of, answer_in, HasCause, HasBootCause, HasStreamFailed}
 
 module _ {R W : Type 0} (answers : R → Result ℕ Error → R → Type 0) (fails : W → W → Type 0) where
   pub boot_caused : (answer : Result (Booted NoGate) BootFault) (old new : R) (written : W)

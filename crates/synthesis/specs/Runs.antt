@@ -1,20 +1,16 @@
 -- The exit status of each run, and the words for standard error.
 use Rattle.std.specs.Prelude.{◌≡◌, ◌≢◌, ◌⊎◌, ℕ, List, [], ◌++◌, codes, Option, Some, None, Result, Ok, Err}
 use Rattle.std.specs.Prelude.{IfErr, IfSome}
-use Rattle.std.specs.Prelude.{OnOk}
 use Rattle.std.specs.declared.io.Error.{Error}
-use Rattle.std.specs.Io.KnownBytes.{Appends, Keeps}
-use Rattle.event_theory.specs.declared.event.Event.{Event}
-use Rattle.boot_script.specs.declared.fault.ScriptFault.{ScriptFault}
+use Rattle.std.specs.Io.KnownBytes.{Keeps}
 use Rattle.boot_script.specs.declared.outcome.Replayed.{Replayed}
-use Rattle.boot_script.specs.declared.outcome.Replayed.TheVariants.{AllAllowed, Refused}
 use Rattle.boot_script.specs.declared.outcome.ReplayFault.{ReplayFault}
-use Rattle.boot_script.specs.declared.outcome.ReplayFault.TheVariants.{Script, Memory, Read, Write}
-use Rattle.boot_script.specs.Printed.{end_of_line, replay_fault_text}
+use Rattle.boot_script.specs.declared.outcome.ReplayFault.TheVariants.{Read, Write}
+use Rattle.boot_script.specs.Exits.{AnswersInput}
+use Rattle.boot_script.specs.Printed.{end_of_line}
 use Rattle.boot_objects.specs.declared.closing.all.TornDown.{TornDown}
 use Rattle.boot_script.specs.Plans.{text_plan}
-use Rattle.boot_script.specs.Scripts.{text_events}
-use Rattle.boot_script.specs.Replays.{IsReplay, IsAnswer, IsReplayFault}
+use Rattle.boot_script.specs.Replays.{IsReplay}
 use Rattle.boot_script.specs.StreamFaults.{IsReadFault, IsWriteFault}
 use Rattle.synth_kernel.specs.declared.outcome.Ended as endings
 use Rattle.synth_kernel.specs.declared.outcome.Ended.TheVariants.{AllEnded, Unfinished}
@@ -24,64 +20,21 @@ use Rattle.synth_kernel.specs.Faults.{boot_fault_text}
 use Rattle.synth_kernel.specs.declared.printing.Booted.{Booted}
 use Rattle.synth_kernel.specs.Boots.{RunsOf, CameBackPlain, HasNumbers, IsBoot, IsBootAnswer, IsBootFault}
 use Rattle.turn_io.specs.declared.gate.NoGate.{NoGate}
-use Rattle.synthesis.specs.declared.program.Exit.{Exit}
 
 -- the words for standard error if the words of the program are no command
 abbrev pub usage_words : List ℕ
 usage_words = codes "usage: synthesis replay | synthesis boot P TURNS" ++ end_of_line
 
--- the words for standard error if there is no memory
-abbrev pub no_memory_words : List ℕ
-no_memory_words = codes "no memory" ++ end_of_line
-
--- the exit status of a replay
-abbrev pub exit_code_of : Result Replayed ReplayFault → ℕ
-exit_code_of (Ok AllAllowed) = 0
-exit_code_of (Ok (Refused line refusal)) = 1
-exit_code_of (Err (Script fault)) = 1
-exit_code_of (Err Memory) = 3
-exit_code_of (Err Read) = 5
-exit_code_of (Err Write) = 5
-
--- the words for standard error: none if the replay was printed, else the line that names the fault
-abbrev pub words_of : Result Replayed ReplayFault → List ℕ
-words_of (Ok replayed) = []
-words_of (Err fault) = replay_fault_text fault ++ end_of_line
-
--- the answer is correct for the text; if the replay was printed, exactly its printed text is appended
-abbrev pub Answers :
-    Result (ℕ × List (ℕ × Event)) ScriptFault → Result Replayed ReplayFault → Option (List ℕ) → Option (List ℕ) → Type 0
-Answers said (Ok replayed) old new = IsReplay said replayed old new
-Answers said (Err fault) old new = IsReplayFault said fault
-
--- after a fault other than `Write` nothing was written
-abbrev pub IsUnwritten : Result Replayed ReplayFault → Option (List ℕ) → Option (List ℕ) → Type 0
-IsUnwritten (Ok replayed) old new = Unit {0}
-IsUnwritten (Err fault) old new = fault ≢ Write → Keeps old new
-
--- the answer is correct for the bytes that were read, if known; after a fault other than `Write` nothing was written
+-- the answer is correct for the bytes that were read, if known; if the replay was printed, exactly its printed text is
+-- appended; after a fault other than `Write` nothing was written
 abbrev pub IsReplayOf : Option (List ℕ) → Result Replayed ReplayFault → Option (List ℕ) → Option (List ℕ) → Type 0
-IsReplayOf known answer old new =
-    IfSome known (λ bytes. Answers (text_events bytes) answer old new) × IsUnwritten answer old new
+IsReplayOf known answer old new = AnswersInput IsReplay known answer old new
 
 -- a read or write fault of a replay has its cause in the calls on the streams
 abbrev pub HasCause : {R W : Type 0} → (R → Result ℕ Error → R → Type 0) → (W → W → Type 0)
     → Result Replayed ReplayFault → R → R → W → Type 0
 HasCause answers fails answer old new written = IfErr answer (λ fault.
     (fault ≡ Read → IsReadFault answers old new) × (fault ≡ Write → IsWriteFault fails written))
-
--- the exit has this status; if the error stream took all words, exactly these words were appended to it
-abbrev pub IsExit : Exit → ℕ → List ℕ → Option (List ℕ) → Option (List ℕ) → Type 0
-IsExit exit status words old new = (exit.status ≡ status) × OnOk exit.reported (Appends old new words)
-
--- the answer is correct for the text, whatever was written
-abbrev pub IsAnswerOf : Result (ℕ × List (ℕ × Event)) ScriptFault → Result Replayed ReplayFault → Type 0
-IsAnswerOf said (Ok replayed) = IsAnswer said replayed
-IsAnswerOf said (Err fault) = IsReplayFault said fault
-
--- the status is the exit status of a replay of a text that says this
-abbrev pub IsStatus : Result (ℕ × List (ℕ × Event)) ScriptFault → ℕ → Type 0
-IsStatus said status = (answer : Result Replayed ReplayFault) × IsAnswerOf said answer × (status ≡ exit_code_of answer)
 
 -- the exit status of a boot
 abbrev pub boot_exit_code_of : Result endings.Ended BootFault → ℕ

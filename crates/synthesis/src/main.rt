@@ -4,7 +4,8 @@
 mod command;
 mod program;
 
-use program::{no_memory, run_main, usage};
+use boot_script::exit::no_memory;
+use program::{run_main, usage};
 use std::io::ErrorKind;
 use std::process::ExitCode;
 use std::sync::Wait;

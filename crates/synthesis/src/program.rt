@@ -1,36 +1,31 @@
 //! The exit status of each run, and the words for standard error.
 
-ghost use Rattle.std.specs.Prelude.{◌≡◌, ◌≢◌, ◌≤◌, ℕ, map, IfSome, OnOk, Result};
+ghost use Rattle.std.specs.Prelude.{◌≡◌, ◌≢◌, ◌≤◌, ℕ, map, IfSome, Result};
 ghost use Rattle.std.specs.Result.{result_ok};
-ghost use Rattle.std.specs.Io.KnownBytes.{Appends};
 ghost use Rattle.boot_script.specs.declared.outcome.Replayed.{Replayed};
 ghost use Rattle.boot_script.specs.declared.outcome.ReplayFault.{ReplayFault};
+ghost use Rattle.boot_script.specs.Exits.{exit_code_of, words_of, IsExit, IsStatus};
+ghost use Rattle.boot_script.specs.Replays.{IsAnswer};
 ghost use Rattle.boot_script.specs.Scripts.{text_events};
 ghost use Rattle.synth_kernel.specs.declared.outcome.Ended as endings;
 ghost use Rattle.synth_kernel.specs.declared.outcome.BootFault.{BootFault};
 ghost use Rattle.synthesis.specs.Commands.{replay_command, IsBootCommand, IsNoCommand};
-ghost use Rattle.synthesis.specs.Runs.{usage_words, no_memory_words, exit_code_of, words_of};
-ghost use Rattle.synthesis.specs.Runs.{IsReplayOf, IsExit, IsStatus, HasCause, HasBootCause, HasStreamFailed};
+ghost use Rattle.synthesis.specs.Runs.{usage_words, IsReplayOf, HasCause, HasBootCause, HasStreamFailed};
 ghost use Rattle.synthesis.specs.Runs.{boot_exit_code_of, boot_words_of, answer_in, IsBootedBy, IsBootStatus};
 
 use crate::command::{Command, command_of};
-use boot_script::{ReplayFault, Replayed, Sink, Source, replay_on};
+use boot_script::exit::Exit;
+use boot_script::{Sink, Source, exit, replay_on};
 use std::alloc::Global;
-use std::io;
 use std::io::Write;
 use std::sync::Wait;
 use synth_kernel::{BootFault, Booted, Ended, NoGate, Shared, Witness, Work, Worked, boot_on};
 
-/// The exit status if the words are no command.
-const USAGE_FAULT: u8 = 2;
-
 /// How a run has ended.
 #[derive(Drop)]
-pub struct Exit {
-    /// The exit status.
-    pub status: u8,
-    /// Whether the error stream took all the words for it.
-    pub reported: io::Result<()>,
+pub struct Outcome {
+    /// The exit status, and whether it was reported.
+    pub exit: Exit,
     /// The result of a boot whose report was printed.
     pub booted: Option<Booted<NoGate>>,
 }
@@ -47,30 +42,37 @@ pub fn run_on<
     R: Source,
     W: Sink,
     E: Write,
->(rt: &RT, alloc: Global, words: &[&str], reader: &mut R, writer: &mut W, errors: &mut E) -> Exit
+>(rt: &RT, alloc: Global, words: &[&str], reader: &mut R, writer: &mut W, errors: &mut E) -> Outcome
     ensures usage { IsNoCommand (map (λ word. word.now) words.now)
-        → IsExit result 2 usage_words (E.contents errors.old) (E.contents errors.new) }
+        → IsExit result.exit 2 usage_words (E.contents errors.old) (E.contents errors.new) }
     ensures untouched { IsNoCommand (map (λ word. word.now) words.now) → (reader.new ≡ reader.old)
         × (writer.new ≡ writer.old) }
     ensures replay { map (λ word. word.now) words.now ≡ replay_command → (answer : Result Replayed ReplayFault)
         × IsReplayOf (R.remaining reader.old) answer (W.contents writer.old) (W.contents writer.new)
         × HasCause R.answers W.fails answer reader.old reader.new writer.new
-        × IsExit result (exit_code_of answer) (words_of answer) (E.contents errors.old) (E.contents errors.new) }
+        × IsExit result.exit (exit_code_of answer) (words_of answer) (E.contents errors.old) (E.contents errors.new) }
     ensures boot { (processors turns : ℕ) → IsBootCommand (map (λ word. word.now) words.now) processors turns
         → (answer : Result endings.Ended BootFault)
         × IsBootedBy RT.ran RT.shown (R.remaining reader.old) processors turns answer result.booted
         (W.contents writer.old) (W.contents writer.new)
         × HasBootCause R.answers W.fails answer reader.old reader.new writer.new
-        × IsExit result (boot_exit_code_of answer) (boot_words_of answer) (E.contents errors.old) (E.contents errors.new) }
-    ensures error { result.status ≡ 5 → HasStreamFailed R.answers W.fails reader.old reader.new writer.new }
+        × IsExit result.exit (boot_exit_code_of answer) (boot_words_of answer)
+        (E.contents errors.old) (E.contents errors.new) }
+    ensures error { result.exit.status ≡ 5 → HasStreamFailed R.answers W.fails reader.old reader.new writer.new }
 {
     match command_of(words) {
-        Some(Command::Replay) => run_replay(alloc, reader, writer, errors),
+        Some(Command::Replay) => Outcome {
+            exit: run_replay(alloc, reader, writer, errors),
+            booted: None,
+        },
         Some(Command::Boot { processors, turns }) => {
             let answer = boot_on(rt, alloc, reader, writer, processors, turns);
             answer_of_boot(answer, errors)
         }
-        None => usage(errors),
+        None => Outcome {
+            exit: usage(errors),
+            booted: None,
+        },
     }
 }
 
@@ -83,12 +85,13 @@ pub fn run_main<
 >(rt: &RT, alloc: Global, words: &[&str], mut reader: R, mut writer: W, mut errors: E) -> u8
     ensures usage { IsNoCommand (map (λ word. word.now) words.now) → result ≡ 2 }
     ensures replay { map (λ word. word.now) words.now ≡ replay_command
-        → IfSome (R.remaining reader) (λ bytes. IsStatus (text_events bytes) result) }
+        → IfSome (R.remaining reader) (λ bytes. IsStatus IsAnswer (text_events bytes) result) }
     ensures boot { (processors turns : ℕ) → IsBootCommand (map (λ word. word.now) words.now) processors turns
         → IsBootStatus RT.ran RT.shown (R.remaining reader) processors turns result }
     ensures error { result ≡ 5 → (last : R) × (written : W) × HasStreamFailed R.answers W.fails reader last written }
 {
-    run_on(rt, alloc, words, &mut reader, &mut writer, &mut errors).status
+    let outcome = run_on(rt, alloc, words, &mut reader, &mut writer, &mut errors);
+    outcome.exit.status
 }
 
 /// Replays, and reports how the replay has ended.
@@ -104,85 +107,38 @@ fn run_replay<R: Source, W: Sink, E: Write>(
         × IsExit result (exit_code_of answer) (words_of answer) (E.contents errors.old) (E.contents errors.new) }
 {
     let answer = replay_on(alloc, reader, writer);
-    answer_of_replay(answer, errors)
-}
-
-/// Reports how a replay has ended.
-fn answer_of_replay<E: Write>(answer: Result<Replayed, ReplayFault>, errors: &mut E) -> Exit
-    ensures { IsExit result (exit_code_of answer) (words_of answer) (E.contents errors.old) (E.contents errors.new) }
-{
-    Exit {
-        status: status(answer),
-        reported: tell(answer, errors),
-        booted: None,
-    }
+    exit::after_replay(answer, errors)
 }
 
 /// Reports how a boot has ended.
-fn answer_of_boot<E: Write>(answer: Result<Booted<NoGate>, BootFault>, errors: &mut E) -> Exit
-    ensures exit { IsExit result (boot_exit_code_of (answer_in answer)) (boot_words_of (answer_in answer))
+fn answer_of_boot<E: Write>(answer: Result<Booted<NoGate>, BootFault>, errors: &mut E) -> Outcome
+    ensures exit { IsExit result.exit (boot_exit_code_of (answer_in answer)) (boot_words_of (answer_in answer))
         (E.contents errors.old) (E.contents errors.new) }
     ensures booted { result.booted ≡ result_ok answer }
 {
     match answer {
-        Ok(booted) => Exit {
-            status: boot_status(Ok(booted.ended())),
-            reported: Ok(()),
+        Ok(booted) => Outcome {
+            exit: Exit {
+                status: boot_status(Ok(booted.ended())),
+                reported: Ok(()),
+            },
             booted: Some(booted),
         },
-        Err(fault) => Exit {
-            status: boot_status(Err(fault)),
-            reported: writeln!(errors, "{fault}"),
+        Err(fault) => Outcome {
+            exit: Exit {
+                status: boot_status(Err(fault)),
+                reported: writeln!(errors, "{fault}"),
+            },
             booted: None,
         },
     }
-}
-
-/// Reports that there is no memory, as after a replay without memory.
-pub fn no_memory<E: Write>(errors: &mut E) -> Exit
-    ensures { IsExit result 3 no_memory_words (E.contents errors.old) (E.contents errors.new) }
-{
-    answer_of_replay(Err(ReplayFault::Memory), errors)
 }
 
 /// Reports the commands, as after words that are no command.
 pub fn usage<E: Write>(errors: &mut E) -> Exit
     ensures { IsExit result 2 usage_words (E.contents errors.old) (E.contents errors.new) }
 {
-    Exit {
-        status: USAGE_FAULT,
-        reported: tell_usage(errors),
-        booted: None,
-    }
-}
-
-/// The exit status of a replay.
-fn status(answer: Result<Replayed, ReplayFault>) -> u8
-    ensures { result ≡ exit_code_of answer }
-{
-    match answer {
-        Ok(Replayed::AllAllowed) => 0,
-        Ok(Replayed::Refused { .. }) | Err(ReplayFault::Script(_)) => 1,
-        Err(ReplayFault::Memory) => 3,
-        Err(ReplayFault::Read | ReplayFault::Write) => 5,
-    }
-}
-
-/// Reports why a replay has ended early. For a replay that was printed nothing is reported.
-fn tell<E: Write>(answer: Result<Replayed, ReplayFault>, errors: &mut E) -> io::Result<()>
-    ensures { OnOk result (Appends (E.contents errors.old) (E.contents errors.new) (words_of answer)) }
-{
-    match answer {
-        Ok(_) => Ok(()),
-        Err(fault) => writeln!(errors, "{fault}"),
-    }
-}
-
-/// Reports the commands.
-fn tell_usage<E: Write>(errors: &mut E) -> io::Result<()>
-    ensures { OnOk result (Appends (E.contents errors.old) (E.contents errors.new) usage_words) }
-{
-    writeln!(errors, "usage: synthesis replay | synthesis boot P TURNS")
+    exit::usage("usage: synthesis replay | synthesis boot P TURNS", errors)
 }
 
 /// The exit status of a boot.

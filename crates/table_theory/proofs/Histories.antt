@@ -47,7 +47,7 @@ pub record Located (runs : Log) (first i : ℕ) (place : Cell) : Type 0 where
   pub is : run.2.start + index ≡ first + i
   pub same : get_or run.2.places index blank ≡ place
 
-locate : (first : ℕ) (runs : Log) (i : ℕ) → Adjacent first runs → i < length (all_places runs) → Located runs first i (get_or (all_places runs) i blank)
+pub locate : (first : ℕ) (runs : Log) (i : ℕ) → Adjacent first runs → i < length (all_places runs) → Located runs first i (get_or (all_places runs) i blank)
 locate first [] i c below = absurd (omega arith)
 locate first (o ∷ os) i c below = let n : ℕ = length o.2.places in let start = c.0 in dite (dec_lt i n)
     (λ low. record { number = 0; run = o; has = refl; index = i; below = low; is = omega arith; same = sym (get_or_append_left o.2.places (all_places os) blank i low) })

@@ -11,6 +11,7 @@ pub mod Moments
 pub mod Orders
 pub mod Plays
 pub mod Positioned
+pub mod Protocols
 pub mod QueueOf
 pub mod Raises
 pub mod Reads
@@ -19,5 +20,6 @@ pub mod Ruled
 pub mod Seating
 pub mod Seeing
 pub mod Sharing
+pub mod Times
 pub mod Unused
 pub mod Windows

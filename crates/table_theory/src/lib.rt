@@ -11,6 +11,7 @@ pub mod end_steps;
 pub mod last_end;
 pub mod laws;
 pub mod positions;
+pub mod protocol;
 pub mod queues;
 pub mod shares;
 pub mod views;

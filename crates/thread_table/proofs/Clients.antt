@@ -1,10 +1,10 @@
 -- What the steps of each call mean for its caller.
-use Rattle.thread_table.proofs.Common.{◌≡◌, ◌≢◌, ◌⊎◌, inl, inr, ℕ, zero, suc, ◌+◌, ◌-◌, ◌%◌, ◌<◌, ◌≤◌, Bool, true, false, not, List, [], ◌∷◌, ◌++◌, ◌∙◌, refl, sym, ap, subst, arith, map, length, Result, Ok, Err, Option, Some, None, dite, dec_lt, flat_map, append_assoc, append-nil, map-append, AllByRecursion, load, change, Event, Past, Step, ELEMENTS, RINGS, WAITS, MadeEvent, View, Lost, NextRefusal, IsValidHandView, Thread, PerformsEvents, take_event, claim_event, quiet, head_word, tail_word, place_word, state_word, wait_ring, MoveAnswer, MovedBy, WaitAnswer, BeforeAnswer, NotifiedNow, IsTicket, StartAnswer, ParkAnswer, DeliverAnswer, ReadPc, DoneAnswer, TakesOff, head_in, Found, running, done_word, mark_in, is_in, raise_event, made_in}
+use Rattle.thread_table.proofs.Common.{◌≡◌, ◌≢◌, ◌⊎◌, inl, inr, ℕ, zero, suc, ◌+◌, ◌-◌, ◌%◌, ◌<◌, ◌≤◌, Bool, true, false, not, List, [], ◌∷◌, ◌++◌, ◌∙◌, refl, sym, ap, subst, arith, map, length, Result, Ok, Err, Some, None, dite, dec_lt, append_assoc, append-nil, map-append, AllByRecursion, load, change, Event, Past, Step, ELEMENTS, RINGS, WAITS, MadeEvent, View, Lost, NextRefusal, IsValidHandView, Thread, PerformsEvents, take_event, claim_event, quiet, head_word, tail_word, place_word, state_word, wait_ring, MoveAnswer, MovedBy, WaitAnswer, IsTicket, StartAnswer, ParkAnswer, DeliverAnswer, ReadPc, DoneAnswer, TakesOff, head_in, running, done_word, mark_in, is_in, raise_event, made_in, bit_at, bit_at-lt, true≢false, ◌==◌}
 use Rattle.std.specs.Prelude.{MatchResult, IfOk, IfErr}
 use Rattle.event_theory.specs.declared.event.Event.TheVariants as events
 use Rattle.table_theory.specs.Ledgers.{ExtendsTrace}
 use Rattle.table_theory.specs.Moments.{AtSomeMoment, AtTwoMoments, AreEvents}
-use Rattle.table_theory.proofs.Reaching.{adds_after, all_after}
+use Rattle.table_theory.proofs.Reaching.{all_after}
 use Rattle.thread_table.specs.declared.moves.MoveRefusal.{MoveRefusal}
 use Rattle.thread_table.specs.declared.moves.MoveRefusal.TheVariants as moves
 use Rattle.thread_table.specs.declared.takings.NextRefusal.TheVariants as nexts
@@ -14,12 +14,9 @@ use Rattle.thread_table.specs.declared.states.Signalled.TheVariants as signalled
 use Rattle.thread_table.specs.declared.states.Started.{Started}
 use Rattle.thread_table.specs.declared.states.Started.TheVariants as started
 use Rattle.thread_table.specs.Answers.{TakesAfter, WasSpent, FoundState, Exchanged, WasChanged, HasStop, HasNoStop, HasCell, HasSignals, StoppedNow, SignalledNow, SignalAnswer, IsPending, signals_in, PutsOn}
-use Rattle.thread_table.specs.Wakes.{Try, took, missed, entries_of, IsTry, made_by_try, WokeAll}
-use Rattle.std.proofs.lemmas.List.Concat.{flat_map-append}
-use Rattle.thread_table.specs.Keeping.{Keeps}
-use Rattle.thread_table.proofs.Hands.Unchanged.{keeps_by}
+use Rattle.std.proofs.lemmas.Nat.Bits.{same_from_bits_below, bit_at-zero}
 use Rattle.thread_table.specs.declared.programs.Spent.{Spent}
-use Rattle.thread_table.specs.Client.{queue_after, head_after, notifies_after, thread_after, events_of, Made, MadeNothing, MadeOnly, MadeWhen, Took, TookOldest, WhyNotTaken, Moved, HeadMoved, ShowsHead, WhyNotMoved, WhyNotWaited, WaitedInTime, IsTicketOf, WhyLost, StopFound, SignalFound, StartDid, StartFound, ParkDid, ParkFound, ArePending, WerePending, DeliverDid, DeliverFound, HadDone, StepFound, PutOn, TookOff, ServesSame, NotifyFound, BeforeDid, BeforeFound, WhyNotBefore, takings, Woke, WokeAllBefore, WokeNoMore}
+use Rattle.thread_table.specs.Client.{queue_after, head_after, notifies_after, thread_after, events_of, Made, MadeNothing, MadeOnly, MadeWhen, Took, TookOldest, WhyNotTaken, Moved, HeadMoved, ShowsHead, WhyNotMoved, WhyNotWaited, WaitedInTime, IsTicketOf, WhyLost, StopFound, SignalFound, StartDid, StartFound, ParkDid, ParkFound, ArePending, WerePending, DeliverDid, DeliverFound, HadDone, StepFound, PutOn, TookOff, ServesSame, IsStopped, HasPending}
 use Rattle.thread_table.specs.Entries.{AreInOrder}
 use Rattle.thread_table.specs.Layout.{last_head, most_done, stop_bit, cell_bit}
 use Rattle.thread_table.specs.Schedules.{state_after}
@@ -75,10 +72,10 @@ order_on p (x ∷ xs) ys o = order_on x.next xs ys o.2
 
 module _ (v w : View) (h : IsValidHandView w) where
   -- the last entries of a call are real, and in order
-  real_after : (xs ys : List Step) → ExtendsTrace v (xs ++ ys) w → AllByRecursion (IsValidHandStep w.own.first) ys
+  pub real_after : (xs ys : List Step) → ExtendsTrace v (xs ++ ys) w → AllByRecursion (IsValidHandStep w.own.first) ys
   real_after xs ys a = all_after (IsValidHandStep w.own.first) xs ys (adds_real v w (xs ++ ys) h a)
 
-  in_order_after : (xs ys : List Step) → ExtendsTrace v (xs ++ ys) w → (q : Past) × AreInOrder q ys
+  pub in_order_after : (xs ys : List Step) → ExtendsTrace v (xs ++ ys) w → (q : Past) × AreInOrder q ys
   in_order_after xs ys a = let f = adds_follow v w (xs ++ ys) h a in order_on f.0 xs ys f.1
 
 -- TAKINGS
@@ -176,15 +173,18 @@ module _ (v w : View) (h : IsValidHandView w) where
     pub shows_head : ShowsHead v ring s.object seen
     shows_head = let b = is_now in omega (arith, b.0, b.1)
 
-    pub lost_at : seen ≢ word → AtTwoMoments v w (λ past later. HeadMoved ring past later × ShowsHead v ring later seen)
-    lost_at ne = record {
+    room_was : head_in word < last_head → head_after v ring r.object < last_head
+    room_was some = let a = was in omega (arith, a.0, some)
+
+    pub lost_at : head_in word < last_head → seen ≢ word → AtTwoMoments v w (λ past later. (head_after v ring past < last_head) × HeadMoved ring past later × ShowsHead v ring later seen)
+    lost_at some ne = record {
       before = [];
       first = early;
       between = [];
       second = late;
       after = [];
       adds = acts.adds;
-      holds = (head_moved ne (dite (dec_lt (length (queue_after r.object ring).history) (length (queue_after s.object ring).history)) inl inr), shows_head);
+      holds = (room_was some, head_moved ne (dite (dec_lt (length (queue_after r.object ring).history) (length (queue_after s.object ring).history)) inl inr), shows_head);
     }
 
   pub move_effect : (call ring element : ℕ) (r : Result (Unit {0}) MoveRefusal) → ring < RINGS → MoveAnswer call v ring element r w → MatchResult r (λ done. Moved call ring element (claim_event call ring element) v w) (λ refusal. MadeNothing v w)
@@ -196,7 +196,7 @@ module _ (v w : View) (h : IsValidHandView w) where
   pub move_error : (call ring element : ℕ) (r : Result (Unit {0}) MoveRefusal) → ring < RINGS → MoveAnswer call v ring element r w → IfErr r (λ refusal. WhyNotMoved ring refusal v w)
   move_error call ring element (Ok done) below a = tt
   move_error call ring element (Err moves.Spent) below a = spent_at ring below a
-  move_error call ring element (Err (moves.Lost seen)) below (word, (r, s, low, ne, acts)) = lost_at ring word seen r s below acts ne
+  move_error call ring element (Err (moves.Lost seen)) below (word, (r, s, low, ne, acts)) = lost_at ring word seen r s below acts low ne
   move_error call ring element (Err (moves.Moved mark)) below a = absurd a
 
   pub ticket_says : (wait ticket : ℕ) → wait < WAITS → IsTicket v wait ticket w → IsTicketOf wait ticket v w
@@ -231,15 +231,29 @@ module _ (v w : View) (h : IsValidHandView w) where
         second = load (head_word (wait_ring wait)) seen s;
         after = [];
         adds = acts.adds;
-        holds = (omega (arith, x.0, y.0, g, before, is, ne), sym y.1 ∙ is, shows_head (wait_ring wait) word seen r s below acts);
+        holds = (sym x.1 ∙ before, omega (arith, x.0, y.0, g, before, is, ne), sym y.1 ∙ is, shows_head (wait_ring wait) word seen r s below acts);
       }
   wait_error call wait element ticket (Err (moves.Moved mark)) low (word, r, some, ne, inl (is, acts)) =
       let one : Step = load (head_word (wait_ring wait)) word r in let real = real_after v w h [] (one ∷ []) acts.adds in let below : wait_ring wait < RINGS = omega arith in
-      (ne, record { before = []; step = one; after = []; adds = acts.adds; holds = sym (head_says w.own.first one real.0 (wait_ring wait) below refl).1 ∙ sym is })
+      let same : w.own.first ≡ v.own.first = ap (λ (z : View). z.own.first) acts.has in let found = head_says w.own.first one real.0 (wait_ring wait) below refl in (
+        ne,
+        record { before = []; step = one; after = []; adds = acts.adds; holds = omega (arith, same, found.0, some) },
+        record { before = []; step = one; after = []; adds = acts.adds; holds = sym found.1 ∙ sym is },
+      )
   wait_error call wait element ticket (Err (moves.Moved mark)) low (word, r, some, ne, inr (before, seen, s, is, acts)) = let below : wait_ring wait < RINGS = omega arith in
-      (ne, record { before = load (head_word (wait_ring wait)) word r ∷ []; step = load (head_word (wait_ring wait)) seen s; after = []; adds = acts.adds; holds = sym (is_now (wait_ring wait) word seen r s below acts).1 ∙ sym is })
+      let one : Step = load (head_word (wait_ring wait)) word r in let two : Step = load (head_word (wait_ring wait)) seen s in (
+        ne,
+        record { before = []; step = one; after = two ∷ []; adds = acts.adds; holds = room_was (wait_ring wait) word seen r s below acts some },
+        record { before = one ∷ []; step = two; after = []; adds = acts.adds; holds = sym (is_now (wait_ring wait) word seen r s below acts).1 ∙ sym is },
+      )
 
 -- STOP BITS AND SIGNALS
+
+-- a bit that is not 1 is 0
+low_bit : (n : ℕ) → n < 2 → (n == 1) ≡ false → n ≡ 0
+low_bit zero low clear = refl
+low_bit (suc zero) low clear = absurd (true≢false clear)
+low_bit (suc (suc n)) low clear = absurd (omega (arith, low))
 
 -- the bits of a state word that was found
 module _ (first element : ℕ) (known : element < ELEMENTS) (e : Step) (r : IsValidHandStep first e) (is : e.word ≡ state_word element) where
@@ -261,8 +275,9 @@ module _ (element : ℕ) (known : element < ELEMENTS) (v w : View) (h : IsValidH
       record { before = one ∷ []; step = two; after = []; adds = acts.adds; makes = refl; holds = reads two (real_after v w h [] (one ∷ two ∷ []) acts.adds).1.0 refl so }
 
   -- another word was found
-  lost_state : (Is : ℕ → Type 0) (seen : ℕ) → WasChanged Is v element seen w → WhyLost element seen v w
-  lost_state Is seen (word, r, s, so, ne, acts) = let one : Step = load (state_word element) word r in let two : Step = load (state_word element) seen s in
+  lost_state : (Is : ℕ → Type 0) (Has : Thread → Type 0) → ((e : Step) → IsValidHandStep w.own.first e → e.word ≡ state_word element → Is e.found → Has (thread_after e.then.object element)) → (seen : ℕ) → WasChanged Is v element seen w
+      → WhyLost Has element seen v w
+  lost_state Is Has reads seen (word, r, s, so, ne, acts) = let one : Step = load (state_word element) word r in let two : Step = load (state_word element) seen s in
       let real = real_after v w h [] (one ∷ two ∷ []) acts.adds in record {
         before = [];
         first = one;
@@ -270,7 +285,7 @@ module _ (element : ℕ) (known : element < ELEMENTS) (v w : View) (h : IsValidH
         second = two;
         after = [];
         adds = acts.adds;
-        holds = (λ shows. ne (same_state (thread_after r.object element) seen word shows (state_says w.own.first one real.0 element known refl)), state_says w.own.first two real.1.0 element known refl);
+        holds = (reads one real.0 refl so, λ shows. ne (same_state (thread_after r.object element) seen word shows (state_says w.own.first one real.0 element known refl)), state_says w.own.first two real.1.0 element known refl);
       }
 
   is_stopped : (e : Step) → IsValidHandStep w.own.first e → e.word ≡ state_word element → HasStop e.found → (thread_after e.then.object element).stop ≡ true
@@ -284,6 +299,10 @@ module _ (element : ℕ) (known : element < ELEMENTS) (v w : View) (h : IsValidH
 
   are_pending : (mask : ℕ) (e : Step) → IsValidHandStep w.own.first e → e.word ≡ state_word element → e.found % STOP ≡ mask → ArePending element mask e.then.object
   are_pending mask e r is so signal low = sym ((bits w.own.first element known e r is).3 signal low) ∙ ap (λ (z : ℕ). is_in z signal) so
+
+  has_pending : (e : Step) → IsValidHandStep w.own.first e → e.word ≡ state_word element → HasSignals e.found → HasPending (thread_after e.then.object element)
+  has_pending e r is some none = let b = (bits w.own.first element known e r is).3 in
+      let clear : e.found % STOP ≡ 0 = same_from_bits_below 16 (e.found % STOP) 0 (omega arith) (omega arith) (λ i low. low_bit (bit_at (e.found % STOP) i) (bit_at-lt (e.found % STOP) i) (b i low ∙ none i low) ∙ sym (bit_at-zero i)) in omega (arith, some, clear)
 
   pub stop_result : (call : ℕ) (was_clear : Bool) → StoppedNow call v element was_clear w → StopFound call element was_clear v w
   stop_result call was_clear (word, r, is, acts) = let one : Step = change (state_word element) word r (events.Stop call element) in record {
@@ -315,18 +334,18 @@ module _ (element : ℕ) (known : element < ELEMENTS) (v w : View) (h : IsValidH
   start_result call (Ok started.Held) a = exchange_at (HasCell true) _ _ _ (is_parked true) a.1
   start_result call (Err lost) a = tt
 
-  pub start_error : (call : ℕ) (r : Result Started Lost) → StartAnswer call v element r w → IfErr r (λ lost. WhyLost element lost.seen v w)
+  pub start_error : (call : ℕ) (r : Result Started Lost) → StartAnswer call v element r w → IfErr r (λ lost. WhyLost IsStopped element lost.seen v w)
   start_error call (Ok s) a = tt
-  start_error call (Err lost) a = lost_state HasStop lost.seen a
+  start_error call (Err lost) a = lost_state HasStop IsStopped is_stopped lost.seen a
 
   pub park_result : (call : ℕ) (r : Result Bool Lost) → ParkAnswer call v element r w → IfOk r (λ parked. ParkFound call element parked v w)
   park_result call (Ok true) a = exchange_at HasStop _ _ _ is_stopped a.1
   park_result call (Ok false) a = state_at HasNoStop _ is_going a
   park_result call (Err lost) a = tt
 
-  pub park_error : (call : ℕ) (r : Result Bool Lost) → ParkAnswer call v element r w → IfErr r (λ lost. WhyLost element lost.seen v w)
+  pub park_error : (call : ℕ) (r : Result Bool Lost) → ParkAnswer call v element r w → IfErr r (λ lost. WhyLost IsStopped element lost.seen v w)
   park_error call (Ok parked) a = tt
-  park_error call (Err lost) a = lost_state HasStop lost.seen a
+  park_error call (Err lost) a = lost_state HasStop IsStopped is_stopped lost.seen a
 
   pub pending_result : (mask : ℕ) → IsPending v element mask w → WerePending element mask v w
   pending_result mask a = state_at (λ word. mask ≡ word % STOP) (ArePending element mask) (λ e r is so. are_pending mask e r is (sym so)) a
@@ -336,11 +355,11 @@ module _ (element : ℕ) (known : element < ELEMENTS) (v w : View) (h : IsValidH
   deliver_result call (Ok (suc mask)) a = exchange_at (λ word. word % STOP ≡ suc mask) _ _ (ArePending element (suc mask)) (are_pending (suc mask)) a
   deliver_result call (Err lost) a = tt
 
-  pub deliver_error : (call : ℕ) (r : Result ℕ Lost) → DeliverAnswer call v element r w → IfErr r (λ lost. WhyLost element lost.seen v w)
+  pub deliver_error : (call : ℕ) (r : Result ℕ Lost) → DeliverAnswer call v element r w → IfErr r (λ lost. WhyLost HasPending element lost.seen v w)
   deliver_error call (Ok mask) a = tt
-  deliver_error call (Err lost) a = lost_state HasSignals lost.seen a
+  deliver_error call (Err lost) a = lost_state HasSignals HasPending has_pending lost.seen a
 
-one_made : (v w now : View) (es : List Step) (event : Event) (number : ℕ) (signals : List ℕ) → PerformsEvents v es now w → now.own.held ≡ v.own.held → now.own.made ≡ v.own.made ++ record { event = event; number = number; signals = signals } ∷ [] → Are es (event ∷ []) → MadeOnly v (event ∷ []) w
+pub one_made : (v w now : View) (es : List Step) (event : Event) (number : ℕ) (signals : List ℕ) → PerformsEvents v es now w → now.own.held ≡ v.own.held → now.own.made ≡ v.own.made ++ record { event = event; number = number; signals = signals } ∷ [] → Are es (event ∷ []) → MadeOnly v (event ∷ []) w
 one_made v w now es event number signals a held made are = (made_by v w now es (record { event = event; number = number; signals = signals } ∷ []) a made are, ap (λ (z : View). z.own.held) a.has ∙ held)
 
 pub stop_effect : (call element : ℕ) (was_clear : Bool) (v w : View) → StoppedNow call v element was_clear w → MadeOnly v (events.Stop call element ∷ []) w
@@ -407,172 +426,7 @@ off_effect call p element v w (there, (r, is, more, acts)) = (
 )
 
 pub on_frame : (call p element : ℕ) (v w : View) → PutsOn call p element v w → ServesSame v w
-on_frame call p element v w (r, is, less, acts) = (ap (λ (z : View). z.own.serves) acts.has, ap (λ (z : View). z.member.share) acts.has)
+on_frame call p element v w (r, is, less, acts) = (ap (λ (z : View). z.own.serves) acts.has, ap (λ (z : View). z.member.share) acts.has, ap (λ (z : View). z.own.first) acts.has)
 
 pub off_frame : (call p element : ℕ) (v w : View) → TakesOff call p element v w → ServesSame v w
-off_frame call p element v w (r, is, more, acts) = (ap (λ (z : View). z.own.serves) acts.has, ap (λ (z : View). z.member.share) acts.has)
-
--- NOTIFIES AND WAKES
-
-pub notify_effect : (call wait head : ℕ) (v w : View) → NotifiedNow call v wait head w → MadeOnly v (events.NotifyWait call wait ∷ []) w
-notify_effect call wait head v w (word, r, is, acts) = one_made v w _ _ (events.NotifyWait call wait) 0 [] acts refl refl (inr (events.NotifyWait call wait, [], refl, refl, refl))
-
-pub notify_result : (call wait head : ℕ) (v w : View) → wait < WAITS → IsValidHandView w → NotifiedNow call v wait head w → NotifyFound call wait head v w
-notify_result call wait head v w low h (word, r, is, acts) = let one : Step = change (head_word (wait_ring wait)) word r (events.NotifyWait call wait) in let same : w.own.first ≡ v.own.first = ap (λ (z : View). z.own.first) acts.has in
-    let below : wait_ring wait < RINGS = omega arith in let found = (head_says w.own.first one (real_after v w h [] (one ∷ []) acts.adds).0 (wait_ring wait) below refl).0 in
-    record { before = []; step = one; after = []; adds = acts.adds; makes = refl; holds = omega arith }
-
-pub before_effect : (call ring head : ℕ) (v w : View) (r : Result (Option ℕ) NextRefusal) → BeforeAnswer call v ring head r w → MatchResult r (λ taken. BeforeDid call ring taken v w) (λ refusal. MadeNothing v w)
-before_effect call ring head v w (Ok None) (tail, q, reached, acts) = look_effect v w _ acts (refl, tt)
-before_effect call ring head v w (Ok (Some element)) (tail, q, less, a) = take_effect (load (tail_word ring) tail q ∷ []) call ring v w (Ok element) (refl, tt) a
-before_effect call ring head v w (Err refusal) (tail, q, less, a) = take_effect (load (tail_word ring) tail q ∷ []) call ring v w (Err refusal) (refl, tt) a
-
-pub before_reached : (call ring head : ℕ) (v w : View) → ring < RINGS → IsValidHandView w → BeforeAnswer call v ring head (Ok None) w → BeforeFound call ring head None v w
-before_reached call ring head v w below h (tail, q, reached, acts) = let one : Step = load (tail_word ring) tail q in let same : w.own.first ≡ v.own.first = ap (λ (z : View). z.own.first) acts.has in
-    let is = tail_says w.own.first one (real_after v w h [] (one ∷ []) acts.adds).0 ring below refl in record { before = []; step = one; after = []; adds = acts.adds; holds = omega arith }
-
--- how many of these tries took an element
-abbrev pub number_took : List Try → ℕ
-number_took [] = 0
-number_took (took before tail place q r s t ∷ tries) = suc (number_took tries)
-number_took (missed before tail place seen q r s t ∷ tries) = number_took tries
-
-tries_list : (call ring : ℕ) (tries : List Try) → map event_in (flat_map (made_by_try call ring) tries) ≡ takings call ring (number_took tries)
-tries_list call ring [] = refl
-tries_list call ring (took before tail place q r s t ∷ tries) = ap (λ (z : List Event). take_event call ring ∷ z) (tries_list call ring tries)
-tries_list call ring (missed before tail place seen q r s t ∷ tries) = tries_list call ring tries
-
-tries_made : (call ring : ℕ) (tries : List Try) (e : Step) → e.next.object ≡ e.then.object → Are (flat_map (entries_of call ring) tries ++ e ∷ []) (takings call ring (number_took tries))
-tries_made call ring [] e look = inl (look, refl)
-tries_made call ring (took before tail place q r s t ∷ tries) e look = inl (refl, inl (refl, inl (refl, inr (take_event call ring, takings call ring (number_took tries), refl, refl, tries_made call ring tries e look))))
-tries_made call ring (missed before tail place seen q r s t ∷ tries) e look = inl (refl, inl (refl, inl (refl, inl (refl, tries_made call ring tries e look))))
-
-wake_made : (call wait mask : ℕ) (v w : View) (a : WokeAll call v wait mask w) → Made v (events.NotifyWait call wait ∷ takings call (wait_ring wait) (number_took a.tries)) w
-wake_made call wait mask v w a = let ring : ℕ = wait_ring wait in let notify : MadeEvent = record { event = events.NotifyWait call wait; number = 0; signals = [] } in (
-  ap events_of a.acts.has ∙ (map-append event_in v.own.made (notify ∷ flat_map (made_by_try call ring) a.tries) ∙ ap (λ (z : List Event). events_of v ++ events.NotifyWait call wait ∷ z) (tries_list call ring a.tries)),
-  record {
-    steps = change (head_word ring) a.word a.first (events.NotifyWait call wait) ∷ flat_map (entries_of call ring) a.tries ++ load (tail_word ring) a.tail a.last ∷ [];
-    adds = a.acts.adds;
-    are = inr (events.NotifyWait call wait, takings call ring (number_took a.tries), refl, refl, tries_made call ring a.tries (load (tail_word ring) a.tail a.last) refl);
-  },
-)
-
-pub wake_effect : (call wait mask : ℕ) (v w : View) → WokeAll call v wait mask w → Woke call wait mask v w
-wake_effect call wait mask v w a = (a.holds, a.woken, number_took a.tries, wake_made call wait mask v w a)
-
-pub wake_keeps : (call wait mask : ℕ) (v w : View) → WokeAll call v wait mask w → Keeps v w
-wake_keeps call wait mask v w a = keeps_by v w _ _ a.acts refl refl refl refl
-
-pub wake_result : (call wait mask : ℕ) (v w : View) → wait < WAITS → IsValidHandView w → WokeAll call v wait mask w → WokeAllBefore call wait v w
-wake_result call wait mask v w low h a = let ring : ℕ = wait_ring wait in let below : wait_ring wait < RINGS = omega arith in let same : w.own.first ≡ v.own.first = ap (λ (z : View). z.own.first) a.acts.has in
-    let one : Step = change (head_word ring) a.word a.first (events.NotifyWait call wait) in let two : Step = load (tail_word ring) a.tail a.last in let between : List Step = flat_map (entries_of call ring) a.tries in
-    let real = real_after v w h [] (one ∷ (between ++ two ∷ [])) a.acts.adds in let was = (head_says w.own.first one real.0 ring below refl).0 in
-    let is = tail_says w.own.first two (all_after (IsValidHandStep w.own.first) between (two ∷ []) real.1).0 ring below refl in let reached = a.reached in record {
-      before = [];
-      notify = one;
-      between = between;
-      last = two;
-      after = [];
-      adds = a.acts.adds;
-      makes = refl;
-      reached = omega arith;
-    }
-
--- what a later part of a call says is so of the whole call
-module _ (v u w : View) (xs : List Step) (share : u.member.share ≡ v.member.share) (first : u.own.first ≡ v.own.first) (a : ExtendsTrace v xs u) where
-  pub took_after : (call ring element : ℕ) → TookOldest call ring element u w → TookOldest call ring element v w
-  took_after call ring element s = record {
-    before = xs ++ s.before;
-    step = s.step;
-    after = s.after;
-    adds = subst (λ (z : List Step). ExtendsTrace v z w) (sym (append_assoc xs s.before (s.step ∷ s.after))) (adds_after v u w xs (s.before ++ s.step ∷ s.after) share a s.adds);
-    makes = s.makes;
-    holds = s.holds;
-  }
-
-  pub error_after : (ring : ℕ) (r : NextRefusal) → WhyNotTaken ring r u w → WhyNotTaken ring r v w
-  error_after ring nexts.NoneReady s = record {
-    before = xs ++ s.before;
-    step = s.step;
-    after = s.after;
-    adds = subst (λ (z : List Step). ExtendsTrace v z w) (sym (append_assoc xs s.before (s.step ∷ s.after))) (adds_after v u w xs (s.before ++ s.step ∷ s.after) share a s.adds);
-    holds = s.holds;
-  }
-  error_after ring (nexts.Lost seen) s = record {
-    before = xs ++ s.before;
-    first = s.first;
-    between = s.between;
-    second = s.second;
-    after = s.after;
-    adds = subst (λ (z : List Step). ExtendsTrace v z w) (sym (append_assoc xs s.before (s.first ∷ (s.between ++ s.second ∷ s.after)))) (adds_after v u w xs (s.before ++ s.first ∷ (s.between ++ s.second ∷ s.after)) share a s.adds);
-    holds = subst (λ (f : ℕ). (f + (queue_after s.first.then.object ring).taken < f + (queue_after s.second.then.object ring).taken) × (f + (queue_after s.second.then.object ring).taken ≡ seen)) first s.holds;
-  }
-
--- the tail was found before a position, and then the oldest element was taken
-pub before_found : (v u w : View) (call ring head tail element : ℕ) → ring < RINGS → Found v (tail_word ring) tail u → tail < head → TookOldest call ring element u w → BeforeFound call ring head (Some element) v w
-before_found v u w call ring head tail element below f less s = let one : Step = load (tail_word ring) tail u.seen in let share : u.member.share ≡ v.member.share = ap (λ (z : View). z.member.share) f.acts.has in
-    let same : u.own.first ≡ v.own.first = ap (λ (z : View). z.own.first) f.acts.has in let is = tail_says u.own.first one (real_after v u f.valid [] (one ∷ []) f.acts.adds).0 ring below refl in (
-      record { before = []; step = one; after = s.before ++ s.step ∷ s.after; adds = adds_after v u w (one ∷ []) (s.before ++ s.step ∷ s.after) share f.acts.adds s.adds; holds = omega arith },
-      took_after v u w (one ∷ []) share same f.acts.adds call ring element s,
-    )
-
--- the tail was found before a position, and then nothing was taken
-pub before_refused : (v u w : View) (ring head tail : ℕ) (r : NextRefusal) → ring < RINGS → Found v (tail_word ring) tail u → tail < head → WhyNotTaken ring r u w → WhyNotBefore ring head r v w
-before_refused v u w ring head tail r below f less s = let one : Step = load (tail_word ring) tail u.seen in let share : u.member.share ≡ v.member.share = ap (λ (z : View). z.member.share) f.acts.has in
-    let same : u.own.first ≡ v.own.first = ap (λ (z : View). z.own.first) f.acts.has in let is = tail_says u.own.first one (real_after v u f.valid [] (one ∷ []) f.acts.adds).0 ring below refl in let a = adds_of r s in (
-      record { before = []; step = one; after = a.0; adds = adds_after v u w (one ∷ []) a.0 share f.acts.adds a.1; holds = omega arith },
-      error_after v u w (one ∷ []) share same f.acts.adds ring r s,
-    )
-  where
-    adds_of : (r : NextRefusal) → WhyNotTaken ring r u w → (es : List Step) × ExtendsTrace u es w
-    adds_of nexts.NoneReady s = (s.before ++ s.step ∷ s.after, s.adds)
-    adds_of (nexts.Lost seen) s = (s.before ++ s.first ∷ (s.between ++ s.second ∷ s.after), s.adds)
-
--- the last try that took an element, if one did
-last_took : (tries : List Try) → (number_took tries ≡ 0) ⊎ ((xs : List Try) × (before : ℕ) × (tail : ℕ) × (place : ℕ) × (q : Past) × (r : Past) × (s : Past) × (t : Past) × (ys : List Try) × (tries ≡ xs ++ took before tail place q r s t ∷ ys) × (number_took ys ≡ 0))
-last_took [] = inl refl
-last_took (x ∷ tries) = by x (last_took tries)
-  where
-    by : (x : Try) → (number_took tries ≡ 0) ⊎ ((xs : List Try) × (before : ℕ) × (tail : ℕ) × (place : ℕ) × (q : Past) × (r : Past) × (s : Past) × (t : Past) × (ys : List Try) × (tries ≡ xs ++ took before tail place q r s t ∷ ys) × (number_took ys ≡ 0))
-        → (number_took (x ∷ tries) ≡ 0) ⊎ ((xs : List Try) × (before : ℕ) × (tail : ℕ) × (place : ℕ) × (q : Past) × (r : Past) × (s : Past) × (t : Past) × (ys : List Try) × (x ∷ tries ≡ xs ++ took before tail place q r s t ∷ ys) × (number_took ys ≡ 0))
-    by x (inr (xs, before, tail, place, q, r, s, t, ys, is, none)) = inr (x ∷ xs, before, tail, place, q, r, s, t, ys, ap (λ (z : List Try). x ∷ z) is, none)
-    by (took before tail place q r s t) (inl none) = inr ([], before, tail, place, q, r, s, t, tries, refl, none)
-    by (missed before tail place seen q r s t) (inl none) = inl none
-
-pub wake_owns : (call wait mask : ℕ) (v w : View) → wait < WAITS → IsValidHandView w → WokeAll call v wait mask w → WokeNoMore call wait v w
-wake_owns call wait mask v w low h a = by (last_took a.tries)
-  where
-    below : wait_ring wait < RINGS
-    below = omega arith
-
-    first : w.own.first ≡ v.own.first
-    first = ap (λ (z : View). z.own.first) a.acts.has
-
-    one : Step
-    one = change (head_word (wait_ring wait)) a.word a.first (events.NotifyWait call wait)
-
-    last : Step
-    last = load (tail_word (wait_ring wait)) a.tail a.last
-
-    by : (number_took a.tries ≡ 0) ⊎ ((xs : List Try) × (before : ℕ) × (tail : ℕ) × (place : ℕ) × (q : Past) × (r : Past) × (s : Past) × (t : Past) × (ys : List Try) × (a.tries ≡ xs ++ took before tail place q r s t ∷ ys) × (number_took ys ≡ 0)) → WokeNoMore call wait v w
-    by (inl none) = inl (subst (λ (n : ℕ). Made v (events.NotifyWait call wait ∷ takings call (wait_ring wait) n) w) none (wake_made call wait mask v w a))
-    by (inr (xs, before, tail, place, q, r, s, t, ys, is, none)) =
-        let ring : ℕ = wait_ring wait in let between : List Step = flat_map (entries_of call ring) xs in let look : Step = load (tail_word ring) before q in
-        let rest : List Step = load (tail_word ring) tail r ∷ load (place_word ring tail) place s ∷ change (tail_word ring) tail t (take_event call ring) ∷ (flat_map (entries_of call ring) ys ++ last ∷ []) in
-        let split : flat_map (entries_of call ring) a.tries ++ last ∷ [] ≡ between ++ look ∷ rest =
-        ap (λ (z : List Try). flat_map (entries_of call ring) z ++ last ∷ []) is
-        ∙ (ap (λ (z : List Step). z ++ last ∷ []) (flat_map-append (entries_of call ring) xs (took before tail place q r s t ∷ ys)) ∙ append_assoc between (flat_map (entries_of call ring) (took before tail place q r s t ∷ ys)) (last ∷ [])) in
-        let adds : ExtendsTrace v (one ∷ (between ++ look ∷ rest)) w = subst (λ (z : List Step). ExtendsTrace v (one ∷ z) w) split a.acts.adds in
-        let real = real_after v w h [] (one ∷ (between ++ look ∷ rest)) adds in let was = (head_says w.own.first one real.0 ring below refl).0 in
-        let found = tail_says w.own.first look (all_after (IsValidHandStep w.own.first) between (look ∷ rest) real.1).0 ring below refl in
-        let less = (all_after (IsTry (head_in a.word)) xs (took before tail place q r s t ∷ ys) (subst (AllByRecursion (IsTry (head_in a.word))) is a.each)).0.0 in let same = first in inr record {
-          before = [];
-          notify = one;
-          between = between;
-          look = look;
-          rest = rest;
-          adds = adds;
-          makes = refl;
-          low = omega arith;
-          last = inl (refl, inl (refl, inr (take_event call ring, [], refl, refl, subst (λ (n : ℕ). Are (flat_map (entries_of call ring) ys ++ last ∷ []) (takings call ring n)) none (tries_made call ring ys last refl))));
-        }
+off_frame call p element v w (r, is, more, acts) = (ap (λ (z : View). z.own.serves) acts.has, ap (λ (z : View). z.member.share) acts.has, ap (λ (z : View). z.own.first) acts.has)

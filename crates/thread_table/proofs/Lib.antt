@@ -6,3 +6,7 @@ pub mod Schedule
 pub mod Shown
 pub mod Common
 pub mod Clients
+pub mod ClientBounds
+pub mod ClientHands
+pub mod ClientTries
+pub mod ClientWakes

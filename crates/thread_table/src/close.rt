@@ -5,7 +5,11 @@ ghost use Rattle.std.specs.Mem.Slots.{slots_items, slots_len, IsFull};
 ghost use Rattle.thread_table.specs.declared.layout.TheConstants.{WORDS, ELEMENTS, STOP};
 ghost use Rattle.thread_table.specs.Layout.{state_word, done_word, stop_bit};
 ghost use Rattle.thread_table.specs.declared.places.Place.TheVariants as places;
-ghost use Rattle.thread_table.specs.Closings.{ClosedNow, WereOpen, PlaceOf, word_at};
+ghost use Rattle.thread_table.specs.Client.{ListsAll, MadeNothing, ReportsElements, OnlySteps};
+ghost use Rattle.table_theory.specs.Moments.{WhyNotClosed};
+ghost use Rattle.thread_table.specs.Closings.{ClosedNow, PlaceOf, word_at};
+ghost use Rattle.thread_table.specs.Evidence.{WereOpen};
+ghost use Rattle.thread_table.specs.Keeping.{Keeps};
 ghost use Rattle.thread_table.specs.Handles.{view_of, call_of, IsHandOf, IsOnlyHand, IsSameHand};
 
 use crate::hand::{Hand, ThreadTable};
@@ -98,6 +102,14 @@ impl ThreadTable {
     /// The hand that closes the table lists every event of the table except the joins, each once.
     pub fn close(self, hand: Hand) -> Result<Places, (ThreadTable, Hand, OpenEnds)>
         requires { IsHandOf self hand }
+        ensures effect { MatchResult result (λ c. ListsAll (view_of hand))
+            (λ e. MadeNothing (view_of hand) (view_of e.1)) }
+        ensures result { IfOk result
+            (λ c. ReportsElements (call_of hand) (view_of hand) c.places c.pcs c.pending c.stops) }
+        ensures frame { IfErr result (λ e. Keeps (view_of hand) (view_of e.1)) }
+        ensures owns { IfOk result (λ c. IsOnlyHand hand) }
+        ensures error { IfErr result (λ e. WhyNotClosed e.2.others (view_of hand) (view_of e.1)) }
+        ensures steps { IfErr result (λ e. OnlySteps 1 (view_of hand) (view_of e.1)) }
         ensures only { IsOnlyHand hand → MatchResult result (λ c. Unit {0}) (λ e. ⊥) }
         ensures closed { IfOk result
             (λ c. ClosedNow (call_of hand) (view_of hand) c.places c.pcs c.pending c.stops) }

@@ -4,7 +4,9 @@ ghost use Rattle.std.specs.Prelude.{◌==◌, slice_set};
 ghost use Rattle.thread_table.specs.declared.layout.TheConstants.{WORDS, PROCESSORS, ELEMENTS};
 ghost use Rattle.thread_table.specs.Layout.{last_first};
 ghost use Rattle.thread_table.specs.Rules.{newcomer, HasStood, has, serves, running};
-ghost use Rattle.thread_table.specs.Endings.{SplitBy, IsNewEnd, JoinedBy};
+ghost use Rattle.thread_table.specs.Client.{DidSplit, KeepsElements, PartsShare, HasBoth, AddsShare};
+ghost use Rattle.thread_table.specs.Endings.{IsNewEnd};
+ghost use Rattle.thread_table.specs.Evidence.{SplitBy, JoinedBy};
 ghost use Rattle.thread_table.specs.Answers.{is_in};
 ghost use Rattle.thread_table.specs.Steps.{parted, either, either_on};
 ghost use Rattle.thread_table.specs.Telling.{IsValidHandView};
@@ -125,6 +127,11 @@ impl ThreadTable {
         requires parts { IsDivisible hand.old }
         requires empty { (p : ℕ) → p < PROCESSORS → is_in processors p ≡ true
             → (serves (view_of hand.old) p ≡ true) × (running (view_of hand.old) p ≡ None) }
+        ensures effect { DidSplit processors (view_of hand.old) (view_of hand.new) (view_of result) }
+        ensures frame { KeepsElements (view_of hand.old) (view_of hand.new) }
+        ensures owns { PartsShare (view_of hand.old) (view_of hand.new) (view_of result) }
+        ensures steps { (length (view_of hand.new).steps ≤ length (view_of hand.old).steps + 1)
+            × ((view_of result).steps ≡ []) }
         ensures born { IsNewEnd processors (view_of hand.old) (view_of hand.new) (view_of result) }
         ensures trace { SplitBy processors (view_of hand.old) (view_of hand.new) }
         ensures handle { IsSameHand hand.old hand.new × AreOfOneTable hand.old result }
@@ -148,6 +155,11 @@ impl ThreadTable {
     /// that they made, and their parts of the table. No element was held, and no processor served, by both.
     pub fn join(&self, hand: &mut Hand, other: Hand)
         requires { IsHandOf self.now hand.old × IsHandOf self.now other }
+        ensures effect { HasBoth (view_of hand.old) (view_of other) (view_of hand.new) }
+        ensures frame { (view_of hand.new).own.first ≡ (view_of hand.old).own.first }
+        ensures owns { AddsShare (view_of hand.old) (view_of other) (view_of hand.new) }
+        ensures steps { length (view_of hand.new).steps
+            ≤ length (view_of hand.old).steps + length (view_of other).steps + 1 }
         ensures trace { JoinedBy (view_of hand.old) (view_of other) (view_of hand.new) }
         ensures handle { IsSameHand hand.old hand.new }
     {

@@ -7,6 +7,7 @@ ghost use Rattle.thread_table.specs.Layout.{ready_ring, free_ring, wait_ring, pl
 ghost use Rattle.thread_table.specs.Handles.{view_of, call_of, IsHandOf, IsSameHand};
 ghost use Rattle.thread_table.specs.Keeping.{Keeps};
 ghost use Rattle.thread_table.specs.Client.{Moved, WhyNotMoved, WhyNotWaited, WaitedInTime, MadeNothing, IsTicketOf};
+ghost use Rattle.thread_table.specs.Client.{OnlySteps};
 ghost use Rattle.thread_table.specs.Entries.{claim_event};
 ghost use Rattle.thread_table.specs.Evidence.{MoveAnswer, WaitAnswer, IsTicket};
 ghost use Rattle.thread_table.specs.Answers.{raise_event};
@@ -52,7 +53,7 @@ fn raise<J: EventOf>(
 )
     requires queue { (seat.old.table_id ≡ words.now.table_id) × (words.now.table_id.words ≡ WORDS) × (ring < RINGS) }
     requires mine { IsActive seat.old.me.0 }
-    requires step_outcome { (J.call ≡ seat.old.id) × (J.event ≡ raise_event seat.old.id seat.old.me.0 ring head) }
+    requires event { (J.call ≡ seat.old.id) × (J.event ≡ raise_event seat.old.id seat.old.me.0 ring head) }
     requires claimed { HasClaimed seat.old.me.0 ring head element × (element < ELEMENTS) × (head < last_head) }
     ensures queue { IsSame seat.old seat.new × (seat.new.me.1 ≡ seat.old.me.1) }
     ensures stands { ∥ HasStood seat.new.id seat.new.me.0 ∥₁ }
@@ -84,6 +85,7 @@ impl ThreadTable {
             (λ refusal. MadeNothing (view_of hand.old) (view_of hand.new)) }
         ensures frame { Keeps (view_of hand.old) (view_of hand.new) }
         ensures error { IfErr result (λ refusal. WhyNotMoved ready_ring refusal (view_of hand.old) (view_of hand.new)) }
+        ensures steps { OnlySteps 3 (view_of hand.old) (view_of hand.new) }
         ensures trace { MoveAnswer (call_of hand.old) (view_of hand.old) ready_ring element result (view_of hand.new) }
         ensures handle { IsSameHand hand.old hand.new }
     {
@@ -106,6 +108,7 @@ impl ThreadTable {
         ensures frame { Keeps (view_of hand.old) (view_of hand.new) }
         ensures error { IfErr result (λ refusal. WhyNotMoved (wait_ring wait) refusal (view_of hand.old)
             (view_of hand.new)) }
+        ensures steps { OnlySteps 3 (view_of hand.old) (view_of hand.new) }
         ensures trace { MoveAnswer (call_of hand.old) (view_of hand.old) (wait_ring wait) element result
             (view_of hand.new) }
         ensures handle { IsSameHand hand.old hand.new }
@@ -123,6 +126,7 @@ impl ThreadTable {
             (λ refusal. MadeNothing (view_of hand.old) (view_of hand.new)) }
         ensures frame { Keeps (view_of hand.old) (view_of hand.new) }
         ensures error { IfErr result (λ refusal. WhyNotMoved free_ring refusal (view_of hand.old) (view_of hand.new)) }
+        ensures steps { OnlySteps 3 (view_of hand.old) (view_of hand.new) }
         ensures trace { MoveAnswer (call_of hand.old) (view_of hand.old) free_ring element result (view_of hand.new) }
         ensures handle { IsSameHand hand.old hand.new }
     {
@@ -139,6 +143,7 @@ impl ThreadTable {
             (λ refusal. MadeNothing (view_of hand.old) (view_of hand.new)) }
         ensures frame { Keeps (view_of hand.old) (view_of hand.new) }
         ensures error { IfErr result (λ refusal. WhyNotMoved ring refusal (view_of hand.old) (view_of hand.new)) }
+        ensures steps { OnlySteps 3 (view_of hand.old) (view_of hand.new) }
         ensures trace { MoveAnswer (call_of hand.old) (view_of hand.old) ring element result (view_of hand.new) }
         ensures handle { IsSameHand hand.old hand.new }
     {
@@ -173,6 +178,7 @@ impl ThreadTable {
         ensures effect { MadeNothing (view_of hand.old) (view_of hand.new) }
         ensures result { IsTicketOf wait result (view_of hand.old) (view_of hand.new) }
         ensures frame { Keeps (view_of hand.old) (view_of hand.new) }
+        ensures steps { OnlySteps 1 (view_of hand.old) (view_of hand.new) }
         ensures trace { IsTicket (view_of hand.old) wait result (view_of hand.new) }
         ensures handle { IsSameHand hand.old hand.new }
     {
@@ -201,6 +207,7 @@ impl ThreadTable {
         ensures frame { Keeps (view_of hand.old) (view_of hand.new) }
         ensures error { IfErr result (λ refusal. WhyNotWaited wait ticket refusal (view_of hand.old)
             (view_of hand.new)) }
+        ensures steps { OnlySteps 3 (view_of hand.old) (view_of hand.new) }
         ensures trace { WaitAnswer (call_of hand.old) (view_of hand.old) wait element ticket result
             (view_of hand.new) }
         ensures handle { IsSameHand hand.old hand.new }

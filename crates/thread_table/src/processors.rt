@@ -2,7 +2,7 @@
 ghost use Rattle.std.specs.Prelude.{◌≡◌, ◌≢◌, true, Some, None, MatchResult, IfErr};
 ghost use Rattle.thread_table.specs.Handles.{view_of, call_of, IsHandOf, IsSameHand};
 ghost use Rattle.thread_table.specs.Rules.{has, serves, running};
-ghost use Rattle.thread_table.specs.Client.{PutOn, TookOff, ServesSame};
+ghost use Rattle.thread_table.specs.Client.{PutOn, TookOff, ServesSame, OnlySteps};
 ghost use Rattle.thread_table.specs.Evidence.{PutsOn, TakesOff};
 
 use crate::hand::{Hand, ThreadTable, set_held, set_running};
@@ -37,6 +37,7 @@ impl ThreadTable {
             (λ busy. view_of hand.new ≡ view_of hand.old) }
         ensures frame { ServesSame (view_of hand.old) (view_of hand.new) }
         ensures error { IfErr result (λ busy. running (view_of hand.old) processor ≢ None) }
+        ensures steps { OnlySteps 1 (view_of hand.old) (view_of hand.new) }
         ensures trace { MatchResult result
             (λ done. (running (view_of hand.old) processor ≡ None)
             × PutsOn (call_of hand.old) processor element (view_of hand.old) (view_of hand.new))
@@ -70,6 +71,7 @@ impl ThreadTable {
             (λ empty. view_of hand.new ≡ view_of hand.old) }
         ensures frame { ServesSame (view_of hand.old) (view_of hand.new) }
         ensures error { IfErr result (λ empty. running (view_of hand.old) processor ≡ None) }
+        ensures steps { OnlySteps 1 (view_of hand.old) (view_of hand.new) }
         ensures trace { MatchResult result
             (λ element. (running (view_of hand.old) processor ≡ Some element)
             × TakesOff (call_of hand.old) processor element (view_of hand.old) (view_of hand.new))

@@ -5,7 +5,7 @@ ghost use Rattle.thread_table.specs.Handles.{view_of, call_of, IsHandOf, IsSameH
 ghost use Rattle.thread_table.specs.Rules.{MayStep};
 ghost use Rattle.thread_table.specs.Keeping.{Keeps};
 ghost use Rattle.thread_table.specs.Layout.{most_done};
-ghost use Rattle.thread_table.specs.Client.{MadeNothing, MadeOnly, HadDone, StepFound};
+ghost use Rattle.thread_table.specs.Client.{MadeNothing, MadeOnly, HadDone, StepFound, OnlySteps};
 ghost use Rattle.thread_table.specs.Evidence.{ReadPc, DoneAnswer};
 
 use crate::hand::{Hand, ThreadTable};
@@ -27,6 +27,7 @@ impl ThreadTable {
         ensures effect { MadeNothing (view_of hand.old) (view_of hand.new) }
         ensures result { HadDone element result (view_of hand.old) (view_of hand.new) }
         ensures frame { Keeps (view_of hand.old) (view_of hand.new) }
+        ensures steps { OnlySteps 1 (view_of hand.old) (view_of hand.new) }
         ensures trace { ReadPc element (view_of hand.old) result (view_of hand.new) }
         ensures handle { IsSameHand hand.old hand.new }
     {
@@ -45,6 +46,7 @@ impl ThreadTable {
             (view_of hand.new)) }
         ensures frame { Keeps (view_of hand.old) (view_of hand.new) }
         ensures error { IfErr result (λ spent. HadDone element most_done (view_of hand.old) (view_of hand.new)) }
+        ensures steps { OnlySteps 2 (view_of hand.old) (view_of hand.new) }
         ensures trace { DoneAnswer (call_of hand.old) (view_of hand.old) element result (view_of hand.new) }
         ensures handle { IsSameHand hand.old hand.new }
     {

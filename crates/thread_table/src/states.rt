@@ -6,6 +6,7 @@ ghost use Rattle.thread_table.specs.Rules.{has};
 ghost use Rattle.thread_table.specs.Keeping.{Keeps};
 ghost use Rattle.thread_table.specs.Client.{MadeNothing, MadeOnly, StopFound, StartDid, StartFound, ParkDid};
 ghost use Rattle.thread_table.specs.Client.{ParkFound, SignalFound, WerePending, DeliverDid, DeliverFound, WhyLost};
+ghost use Rattle.thread_table.specs.Client.{OnlySteps, IsStopped, HasPending};
 ghost use Rattle.thread_table.specs.Evidence.{StoppedNow, StartAnswer, ParkAnswer, SignalAnswer, DeliverAnswer};
 ghost use Rattle.thread_table.specs.Evidence.{IsPending};
 
@@ -51,6 +52,7 @@ impl ThreadTable {
         ensures effect { MadeOnly (view_of hand.old) (events.Stop (call_of hand.old) element ∷ []) (view_of hand.new) }
         ensures result { StopFound (call_of hand.old) element result (view_of hand.old) (view_of hand.new) }
         ensures frame { Keeps (view_of hand.old) (view_of hand.new) }
+        ensures steps { OnlySteps 1 (view_of hand.old) (view_of hand.new) }
         ensures trace { StoppedNow (call_of hand.old) (view_of hand.old) element result (view_of hand.new) }
         ensures handle { IsSameHand hand.old hand.new }
     {
@@ -70,7 +72,9 @@ impl ThreadTable {
         ensures result { IfOk result (λ started. StartFound (call_of hand.old) element started (view_of hand.old)
             (view_of hand.new)) }
         ensures frame { Keeps (view_of hand.old) (view_of hand.new) }
-        ensures error { IfErr result (λ lost. WhyLost element lost.seen (view_of hand.old) (view_of hand.new)) }
+        ensures error { IfErr result (λ lost. WhyLost IsStopped element lost.seen (view_of hand.old)
+            (view_of hand.new)) }
+        ensures steps { OnlySteps 2 (view_of hand.old) (view_of hand.new) }
         ensures trace { StartAnswer (call_of hand.old) (view_of hand.old) element result (view_of hand.new) }
         ensures handle { IsSameHand hand.old hand.new }
     {
@@ -107,7 +111,9 @@ impl ThreadTable {
         ensures result { IfOk result (λ parked. ParkFound (call_of hand.old) element parked (view_of hand.old)
             (view_of hand.new)) }
         ensures frame { Keeps (view_of hand.old) (view_of hand.new) }
-        ensures error { IfErr result (λ lost. WhyLost element lost.seen (view_of hand.old) (view_of hand.new)) }
+        ensures error { IfErr result (λ lost. WhyLost IsStopped element lost.seen (view_of hand.old)
+            (view_of hand.new)) }
+        ensures steps { OnlySteps 2 (view_of hand.old) (view_of hand.new) }
         ensures trace { ParkAnswer (call_of hand.old) (view_of hand.old) element result (view_of hand.new) }
         ensures handle { IsSameHand hand.old hand.new }
     {
@@ -135,6 +141,7 @@ impl ThreadTable {
             (view_of hand.new) }
         ensures result { SignalFound (call_of hand.old) element signal result (view_of hand.old) (view_of hand.new) }
         ensures frame { Keeps (view_of hand.old) (view_of hand.new) }
+        ensures steps { OnlySteps 1 (view_of hand.old) (view_of hand.new) }
         ensures trace { SignalAnswer (call_of hand.old) (view_of hand.old) element signal result
             (view_of hand.new) }
         ensures handle { IsSameHand hand.old hand.new }
@@ -156,6 +163,7 @@ impl ThreadTable {
         ensures effect { MadeNothing (view_of hand.old) (view_of hand.new) }
         ensures result { WerePending element result (view_of hand.old) (view_of hand.new) }
         ensures frame { Keeps (view_of hand.old) (view_of hand.new) }
+        ensures steps { OnlySteps 1 (view_of hand.old) (view_of hand.new) }
         ensures trace { IsPending (view_of hand.old) element result (view_of hand.new) }
         ensures handle { IsSameHand hand.old hand.new }
     {
@@ -177,7 +185,9 @@ impl ThreadTable {
         ensures result { IfOk result (λ mask. DeliverFound (call_of hand.old) element mask (view_of hand.old)
             (view_of hand.new)) }
         ensures frame { Keeps (view_of hand.old) (view_of hand.new) }
-        ensures error { IfErr result (λ lost. WhyLost element lost.seen (view_of hand.old) (view_of hand.new)) }
+        ensures error { IfErr result (λ lost. WhyLost HasPending element lost.seen (view_of hand.old)
+            (view_of hand.new)) }
+        ensures steps { OnlySteps 2 (view_of hand.old) (view_of hand.new) }
         ensures trace { DeliverAnswer (call_of hand.old) (view_of hand.old) element result (view_of hand.new) }
         ensures handle { IsSameHand hand.old hand.new }
     {

@@ -38,7 +38,7 @@ pub(crate) type Words = Shared<(), View, Shape, ThreadRule>;
 fn load<J: Caller>(words: &Words, seat: &mut Seat<(), View>, word: usize) -> u64
     requires queue { (seat.old.table_id ≡ words.now.table_id) × (word < words.now.table_id.words) }
     requires live { IsActive seat.old.me.0 }
-    requires step_outcome { J.call ≡ seat.old.id }
+    requires call { J.call ≡ seat.old.id }
     ensures { IsSame seat.old seat.new × (seat.new.me.1 ≡ seat.old.me.1)
         × Found seat.old.me.0 word result seat.new.me.0 × ∥ HasStood seat.new.id seat.new.me.0 ∥₁ }
 {
@@ -95,7 +95,7 @@ pub(crate) fn exchange_head<J: EventOf>(
 ) -> u64
     requires queue { (seat.old.table_id ≡ words.now.table_id) × (words.now.table_id.words ≡ WORDS) × (ring < RINGS) }
     requires mine { IsActive seat.old.me.0 × (seat.old.me.0.own.claimed ≡ None) }
-    requires step_outcome { (J.call ≡ seat.old.id) × (J.event ≡ claim_event seat.old.id ring element) }
+    requires event { (J.call ≡ seat.old.id) × (J.event ≡ claim_event seat.old.id ring element) }
     requires held { (element < ELEMENTS) × (has seat.old.me.0 element ≡ true) }
     requires room { head % NOTIFY + 1 < POSITIONS }
     ensures queue { IsSame seat.old seat.new × (seat.new.me.1 ≡ seat.old.me.1) }
@@ -119,7 +119,7 @@ pub(crate) fn exchange_head_at<J: EventOf>(
 ) -> u64
     requires queue { (seat.old.table_id ≡ words.now.table_id) × (words.now.table_id.words ≡ WORDS) × (wait < WAITS) }
     requires mine { IsActive seat.old.me.0 × (seat.old.me.0.own.claimed ≡ None) }
-    requires step_outcome { (J.call ≡ seat.old.id) × (J.event ≡ events.WaitAt seat.old.id wait element ticket) }
+    requires event { (J.call ≡ seat.old.id) × (J.event ≡ events.WaitAt seat.old.id wait element ticket) }
     requires held { (element < ELEMENTS) × (has seat.old.me.0 element ≡ true) }
     requires room { head % NOTIFY + 1 < POSITIONS }
     requires ticket { head / NOTIFY ≡ ticket }
@@ -145,7 +145,7 @@ pub(crate) fn store_place<J: EventOf>(
 )
     requires queue { (seat.old.table_id ≡ words.now.table_id) × (words.now.table_id.words ≡ WORDS) × (ring < RINGS) }
     requires mine { IsActive seat.old.me.0 }
-    requires step_outcome { (J.call ≡ seat.old.id) × (J.event ≡ raise_event seat.old.id seat.old.me.0 ring position) }
+    requires event { (J.call ≡ seat.old.id) × (J.event ≡ raise_event seat.old.id seat.old.me.0 ring position) }
     requires claimed { HasClaimed seat.old.me.0 ring position element × (new ≡ element + 256 * (position + 1)) }
     ensures queue { IsSame seat.old seat.new × (seat.new.me.1 ≡ seat.old.me.1) }
     ensures stands { ∥ HasStood seat.new.id seat.new.me.0 ∥₁ }
@@ -165,7 +165,7 @@ pub(crate) fn exchange_tail<J: EventOf>(
 ) -> u64
     requires queue { (seat.old.table_id ≡ words.now.table_id) × (words.now.table_id.words ≡ WORDS) × (ring < RINGS) }
     requires mine { IsActive seat.old.me.0 × (seat.old.me.0.own.claimed ≡ None) }
-    requires step_outcome { (J.call ≡ seat.old.id) × (J.event ≡ take_event seat.old.id ring) }
+    requires event { (J.call ≡ seat.old.id) × (J.event ≡ take_event seat.old.id ring) }
     requires raised { (run : ℕ) × (tail ≡ seat.old.me.0.own.first + run)
         × ((ring_at (elements_after seat.old.me.0.seen.object) ring).raised run 0 ≡ true) }
     requires bounded { tail < POSITIONS }
@@ -181,7 +181,7 @@ pub(crate) fn exchange_tail<J: EventOf>(
 pub(crate) fn add_notify<J: EventOf>(words: &Words, seat: &mut Seat<(), View>, wait: u8) -> u64
     requires queue { (seat.old.table_id ≡ words.now.table_id) × (words.now.table_id.words ≡ WORDS) × (wait < WAITS) }
     requires mine { IsActive seat.old.me.0 × (seat.old.me.0.own.claimed ≡ None) }
-    requires step_outcome { (J.call ≡ seat.old.id) × (J.event ≡ events.NotifyWait seat.old.id wait) }
+    requires event { (J.call ≡ seat.old.id) × (J.event ≡ events.NotifyWait seat.old.id wait) }
     ensures queue { IsSame seat.old seat.new × (seat.new.me.1 ≡ seat.old.me.1) }
     ensures stands { ∥ HasStood seat.new.id seat.new.me.0 ∥₁ }
     ensures effect { HandDid J.call seat.old.me.0 (head_word (wait_ring wait)) result J.event seat.new.me.0 }
@@ -198,7 +198,7 @@ pub(crate) fn swap_on<J: EventOf>(
 )
     requires queue { (seat.old.table_id ≡ words.now.table_id) × (words.now.table_id.words ≡ WORDS) }
     requires mine { IsActive seat.old.me.0 × (seat.old.me.0.own.claimed ≡ None) }
-    requires step_outcome { (J.call ≡ seat.old.id) × (J.event ≡ events.On seat.old.id processor element) }
+    requires event { (J.call ≡ seat.old.id) × (J.event ≡ events.On seat.old.id processor element) }
     requires held { (element < ELEMENTS) × (has seat.old.me.0 element ≡ true) }
     requires empty { (processor < PROCESSORS) × (serves seat.old.me.0 processor ≡ true)
         × (running seat.old.me.0 processor ≡ None) }
@@ -218,7 +218,7 @@ pub(crate) fn swap_off<J: EventOf>(
 )
     requires queue { (seat.old.table_id ≡ words.now.table_id) × (words.now.table_id.words ≡ WORDS) }
     requires mine { IsActive seat.old.me.0 × (seat.old.me.0.own.claimed ≡ None) }
-    requires step_outcome { (J.call ≡ seat.old.id) × (J.event ≡ events.Off seat.old.id processor) }
+    requires event { (J.call ≡ seat.old.id) × (J.event ≡ events.Off seat.old.id processor) }
     requires there { (processor < PROCESSORS) × (serves seat.old.me.0 processor ≡ true)
         × (running seat.old.me.0 processor ≡ Some element) }
     ensures queue { IsSame seat.old seat.new × (seat.new.me.1 ≡ seat.old.me.1) }
@@ -246,7 +246,7 @@ pub(crate) fn or_stop<J: EventOf>(words: &Words, seat: &mut Seat<(), View>, elem
     requires queue { (seat.old.table_id ≡ words.now.table_id) × (words.now.table_id.words ≡ WORDS)
         × (element < ELEMENTS) }
     requires mine { IsActive seat.old.me.0 × (seat.old.me.0.own.claimed ≡ None) }
-    requires step_outcome { (J.call ≡ seat.old.id) × (J.event ≡ events.Stop seat.old.id element) }
+    requires event { (J.call ≡ seat.old.id) × (J.event ≡ events.Stop seat.old.id element) }
     ensures queue { IsSame seat.old seat.new × (seat.new.me.1 ≡ seat.old.me.1) }
     ensures stands { ∥ HasStood seat.new.id seat.new.me.0 ∥₁ }
     ensures effect { HandDid J.call seat.old.me.0 (state_word element) result J.event seat.new.me.0 }
@@ -263,7 +263,7 @@ pub(crate) fn or_signal<J: EventOf>(
     requires queue { (seat.old.table_id ≡ words.now.table_id) × (words.now.table_id.words ≡ WORDS)
         × (element < ELEMENTS) }
     requires mine { IsActive seat.old.me.0 × (seat.old.me.0.own.claimed ≡ None) }
-    requires step_outcome { (J.call ≡ seat.old.id) × (J.event ≡ events.Signal seat.old.id element signal) × (signal < 16) }
+    requires event { (J.call ≡ seat.old.id) × (J.event ≡ events.Signal seat.old.id element signal) × (signal < 16) }
     ensures queue { IsSame seat.old seat.new × (seat.new.me.1 ≡ seat.old.me.1) }
     ensures stands { ∥ HasStood seat.new.id seat.new.me.0 ∥₁ }
     ensures effect { HandDid J.call seat.old.me.0 (state_word element) result J.event seat.new.me.0 }
@@ -298,7 +298,7 @@ pub(crate) fn load_done<J: Caller>(words: &Words, seat: &mut Seat<(), View>, ele
     requires queue { (seat.old.table_id ≡ words.now.table_id) × (words.now.table_id.words ≡ WORDS)
         × (element < ELEMENTS) }
     requires mine { IsActive seat.old.me.0 × MayStep seat.old.me.0 element × (J.element ≡ element) }
-    requires step_outcome { J.call ≡ seat.old.id }
+    requires call { J.call ≡ seat.old.id }
     ensures queue { IsSame seat.old seat.new × (seat.new.me.1 ≡ seat.old.me.1) }
     ensures stands { ∥ HasStood seat.new.id seat.new.me.0 ∥₁ }
     ensures counted { ReadPc J.element seat.old.me.0 result seat.new.me.0 }
@@ -316,7 +316,7 @@ pub(crate) fn store_done<J: EventOf>(
     requires queue { (seat.old.table_id ≡ words.now.table_id) × (words.now.table_id.words ≡ WORDS)
         × (element < ELEMENTS) }
     requires mine { IsActive seat.old.me.0 × (seat.old.me.0.own.claimed ≡ None) }
-    requires step_outcome { (J.call ≡ seat.old.id) × (J.event ≡ events.Done seat.old.id element) }
+    requires event { (J.call ≡ seat.old.id) × (J.event ≡ events.Done seat.old.id element) }
     requires counted { (seat.old.me.0.own.counted ≡ Some (count_of element done)) × (done < most_done) }
     ensures queue { IsSame seat.old seat.new × (seat.new.me.1 ≡ seat.old.me.1) }
     ensures stands { ∥ HasStood seat.new.id seat.new.me.0 ∥₁ }
@@ -328,7 +328,7 @@ pub(crate) fn store_done<J: EventOf>(
 
 pub(crate) fn count_up<J: Caller>(words: &Words, seat: &mut Seat<(), View>) -> u64
     requires queue { (seat.old.table_id ≡ words.now.table_id) × (words.now.table_id.words ≡ WORDS) }
-    requires step_outcome { J.call ≡ seat.old.id }
+    requires call { J.call ≡ seat.old.id }
     requires live { IsActive seat.old.me.0 }
     requires parts { seat.old.me.0.member.ends + 1 ≤ seat.old.me.0.member.share }
     ensures queue { IsSame seat.old seat.new × (seat.new.me.1 ≡ seat.old.me.1) }
@@ -340,7 +340,7 @@ pub(crate) fn count_up<J: Caller>(words: &Words, seat: &mut Seat<(), View>) -> u
 
 pub(crate) fn count_down<J: Caller>(words: &Words, seat: &mut Seat<(), View>) -> u64
     requires queue { (seat.old.table_id ≡ words.now.table_id) × (words.now.table_id.words ≡ WORDS) }
-    requires step_outcome { J.call ≡ seat.old.id }
+    requires call { J.call ≡ seat.old.id }
     requires live { (2 ≤ seat.old.me.0.member.ends) × (seat.old.me.0.own.fresh ≡ false) }
     ensures queue { IsSame seat.old seat.new × (seat.new.me.1 ≡ seat.old.me.1) }
     ensures stands { ∥ HasStood seat.new.id seat.new.me.0 ∥₁ }

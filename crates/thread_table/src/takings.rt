@@ -4,7 +4,7 @@ ghost use Rattle.thread_table.specs.declared.layout.TheConstants.{RINGS};
 ghost use Rattle.thread_table.specs.Layout.{ready_ring, free_ring, wait_ring};
 ghost use Rattle.thread_table.specs.Handles.{view_of, call_of, IsHandOf, IsSameHand};
 ghost use Rattle.thread_table.specs.Keeping.{Keeps};
-ghost use Rattle.thread_table.specs.Client.{Took, TookOldest, WhyNotTaken, MadeNothing};
+ghost use Rattle.thread_table.specs.Client.{Took, TookOldest, WhyNotTaken, MadeNothing, OnlySteps};
 ghost use Rattle.thread_table.specs.Evidence.{TakeAnswer};
 
 use crate::hand::{Hand, ThreadTable};
@@ -39,6 +39,7 @@ impl ThreadTable {
             (view_of hand.new)) }
         ensures frame { Keeps (view_of hand.old) (view_of hand.new) }
         ensures error { IfErr result (λ refusal. WhyNotTaken ready_ring refusal (view_of hand.old) (view_of hand.new)) }
+        ensures steps { OnlySteps 3 (view_of hand.old) (view_of hand.new) }
         ensures trace { TakeAnswer (call_of hand.old) (view_of hand.old) ready_ring result (view_of hand.new) }
         ensures handle { IsSameHand hand.old hand.new }
     {
@@ -55,6 +56,7 @@ impl ThreadTable {
             (view_of hand.new)) }
         ensures frame { Keeps (view_of hand.old) (view_of hand.new) }
         ensures error { IfErr result (λ refusal. WhyNotTaken free_ring refusal (view_of hand.old) (view_of hand.new)) }
+        ensures steps { OnlySteps 3 (view_of hand.old) (view_of hand.new) }
         ensures trace { TakeAnswer (call_of hand.old) (view_of hand.old) free_ring result (view_of hand.new) }
         ensures handle { IsSameHand hand.old hand.new }
     {
@@ -72,6 +74,7 @@ impl ThreadTable {
         ensures frame { Keeps (view_of hand.old) (view_of hand.new) }
         ensures error { IfErr result (λ refusal. WhyNotTaken (wait_ring wait) refusal (view_of hand.old)
             (view_of hand.new)) }
+        ensures steps { OnlySteps 3 (view_of hand.old) (view_of hand.new) }
         ensures trace { TakeAnswer (call_of hand.old) (view_of hand.old) (wait_ring wait) result (view_of hand.new) }
         ensures handle { IsSameHand hand.old hand.new }
     {
@@ -88,6 +91,7 @@ impl ThreadTable {
             (view_of hand.new)) }
         ensures frame { Keeps (view_of hand.old) (view_of hand.new) }
         ensures error { IfErr result (λ refusal. WhyNotTaken ring refusal (view_of hand.old) (view_of hand.new)) }
+        ensures steps { OnlySteps 3 (view_of hand.old) (view_of hand.new) }
         ensures trace { TakeAnswer (call_of hand.old) (view_of hand.old) ring result (view_of hand.new) }
         ensures handle { IsSameHand hand.old hand.new }
     {

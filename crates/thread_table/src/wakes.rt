@@ -5,7 +5,7 @@ ghost use Rattle.thread_table.specs.Layout.{wait_ring};
 ghost use Rattle.thread_table.specs.Handles.{view_of, call_of, IsHandOf, IsSameHand};
 ghost use Rattle.thread_table.specs.Keeping.{Keeps};
 ghost use Rattle.thread_table.specs.Client.{MadeNothing, MadeOnly, Woke, WokeAllBefore, NotifyFound, BeforeDid};
-ghost use Rattle.thread_table.specs.Client.{BeforeFound, WhyNotBefore, WokeNoMore};
+ghost use Rattle.thread_table.specs.Client.{BeforeFound, WhyNotBefore, WokeNoMore, OnlySteps, KeepsPart, TriedAlways};
 ghost use Rattle.thread_table.specs.Evidence.{WokeAll, NotifiedNow, BeforeAnswer};
 
 use crate::hand::{Hand, ThreadTable};
@@ -29,6 +29,8 @@ impl ThreadTable {
         ensures effect { Woke (call_of hand.old) wait result (view_of hand.old) (view_of hand.new) }
         ensures result { WokeAllBefore (call_of hand.old) wait (view_of hand.old) (view_of hand.new) }
         ensures frame { Keeps (view_of hand.old) (view_of hand.new) }
+        ensures owns { KeepsPart (view_of hand.old) (view_of hand.new) }
+        ensures tries { TriedAlways (call_of hand.old) wait (view_of hand.old) (view_of hand.new) }
         ensures bound { WokeNoMore (call_of hand.old) wait (view_of hand.old) (view_of hand.new) }
         ensures trace { WokeAll (call_of hand.old) (view_of hand.old) wait result (view_of hand.new) }
         ensures handle { IsSameHand hand.old hand.new }
@@ -65,6 +67,7 @@ impl ThreadTable {
             (view_of hand.new) }
         ensures result { NotifyFound (call_of hand.old) wait result (view_of hand.old) (view_of hand.new) }
         ensures frame { Keeps (view_of hand.old) (view_of hand.new) }
+        ensures steps { OnlySteps 1 (view_of hand.old) (view_of hand.new) }
         ensures trace { NotifiedNow (call_of hand.old) (view_of hand.old) wait result (view_of hand.new) }
         ensures handle { IsSameHand hand.old hand.new }
     {
@@ -93,6 +96,7 @@ impl ThreadTable {
         ensures frame { Keeps (view_of hand.old) (view_of hand.new) }
         ensures error { IfErr result (λ refusal. WhyNotBefore (wait_ring wait) head refusal (view_of hand.old)
             (view_of hand.new)) }
+        ensures steps { OnlySteps 4 (view_of hand.old) (view_of hand.new) }
         ensures trace { BeforeAnswer (call_of hand.old) (view_of hand.old) (wait_ring wait) head result
             (view_of hand.new) }
         ensures handle { IsSameHand hand.old hand.new }

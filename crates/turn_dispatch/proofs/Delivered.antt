@@ -6,6 +6,7 @@ use Rattle.std.specs.Int.{bit_at}
 use Rattle.std.specs.List.{list_any, range_with_len}
 use Rattle.std.proofs.lemmas.Bool.Decides.{eqb_tells, nat_tests}
 use Rattle.std.proofs.lemmas.List.{get_or-set_same, get_or-set_other}
+use Rattle.std.proofs.Math.Bool.{and-false}
 use Rattle.std.proofs.lemmas.Nat.Bits.{bit_at_or, bit_at-lt}
 use Rattle.thread_table.specs.Answers.{signals_in}
 
@@ -51,12 +52,8 @@ delivered_here : (mask s : ℕ) (b : Bool) → s < 16 → (b && list_any (λ t. 
 delivered_here mask s true low = sym (or_none (list_any (λ t. t == s) (signals_in mask))) ∙ any_at (is_in mask) s 0 16 (omega arith) (omega arith)
 delivered_here mask s false low = refl
 
-and_false : (b : Bool) → (b && false) ≡ false
-and_false true = refl
-and_false false = refl
-
 delivers : (element mask e s : ℕ) → s < 16 → is_delivered (delivery element mask) e s ≡ (element == e && is_in mask s)
-delivers element zero e s low = sym (ap (λ b. element == e && b) (none_in s) ∙ and_false (element == e))
+delivers element zero e s low = sym (ap (λ b. element == e && b) (none_in s) ∙ and-false (element == e))
 delivers element (suc mask) e s low = delivered_here (suc mask) s (element == e) low
 
 pub shows_more : (element mask : ℕ) (old : List ℕ) → element < length old → Shows (delivery element mask) old (set old element (bit_or (get_or old element 0) mask))

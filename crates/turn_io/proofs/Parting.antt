@@ -1,5 +1,5 @@
 -- The joint result of a split and of a join of all ends of a list.
-use Rattle.turn_io.proofs.Common.{◌≡◌, ℕ, zero, suc, true, false, List, [], ◌∷◌, ◌++◌, sym, ap, subst, Batch, AllRaised, QueueEnd, valid_end, still_shut, end_knows_shut, HasRaised, AllThree, IsSplit, IsJoined, AreJoined}
+use Rattle.turn_io.proofs.Common.{◌≡◌, ℕ, true, false, List, [], sym, ap, subst, Batch, AllRaised, QueueEnd, valid_end, still_shut, end_knows_shut, HasRaised, AllThree, IsSplit, IsJoined, AreJoined}
 use Rattle.std.proofs.Math.Logic.{∥∥₁_elim}
 use Rattle.std.proofs.Math.Bool.{Bool-set}
 use Rattle.table_theory.specs.Positioned.{Grows}
@@ -7,16 +7,12 @@ use Rattle.claim_queue.specs.declared.rule.QueueOps.{QueueOps}
 use Rattle.claim_queue.specs.Own.{View}
 use Rattle.claim_queue.specs.Handles.{view_of}
 use Rattle.claim_queue.proofs.Ordered.{join_grows, join_grows_other}
+use Rattle.quajects.proofs.Joining.{raised_both}
 use Rattle.turn_io.specs.Splits.{AreSplit}
 use Rattle.turn_io.proofs.Walking.{at_three, all_three, all_third}
 
 none_raised : (l : List Batch) → l ≡ [] → AllRaised l
 none_raised l e = subst AllRaised (sym e) (λ m b at. absurd (cc))
-
-pub raised_both : (a b : List Batch) → AllRaised a → AllRaised b → AllRaised (a ++ b)
-raised_both [] b ha hb m e at i l = hb m e at i l
-raised_both (x ∷ a) b ha hb zero e at i l = ha zero e at i l
-raised_both (x ∷ a) b ha hb (suc m) e at i l = raised_both a b (λ m. ha (suc m)) hb m e at i l
 
 module _ {n : ℕ} where
   -- a queue that either end knew to be shut is shut

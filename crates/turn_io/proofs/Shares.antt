@@ -30,14 +30,12 @@ use Rattle.claim_queue.proofs.Putting.{put_of}
 use Rattle.table_theory.proofs.Saying.{passes_split}
 use Rattle.table_theory.proofs.Reaching.{passes_since}
 use Rattle.turn_io.specs.Accounts.{shut_if}
+use Rattle.turn_io.proofs.Telling.{none_more}
 
 -- stretches that have no lines are none
 pub none_of : (stretches : List Batch) → map line_of stretches ≡ [] → stretches ≡ []
 none_of [] e = refl
 none_of (x ∷ xs) e = absurd cc
-
-none_more : (a b : ℕ) → a ≡ b → a ≡ b + 0
-none_more a b e = omega arith
 
 -- a line that was claimed, and then raised
 pub said_put : (room : ℕ) (v u w : View) (start : ℕ) (line items : List ℕ) (raised : ℕ) → items ≡ line → raised ≡ 0 → Distinct u.own.runs → Owns u start items raised → ClaimedItems room v start line u → RaisedFrom room start items u w (length items) → IsPut room v start line w

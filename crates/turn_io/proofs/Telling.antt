@@ -10,7 +10,7 @@ use Rattle.proc_chain.specs.Notes.{line_of, alone}
 use Rattle.proc_chain.specs.Own.{View}
 use Rattle.quajects.specs.Notings.{IsRun, IsLeft}
 
-none_more : (a b : ℕ) → a ≡ b → a ≡ b + 0
+pub none_more : (a b : ℕ) → a ≡ b → a ≡ b + 0
 none_more a b e = omega arith
 
 -- one more note was put

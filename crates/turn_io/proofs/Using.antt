@@ -1,6 +1,6 @@
 -- One end of a list of queue ends is used.
 use Rattle.turn_io.proofs.Common.{◌≡◌, ℕ, ◌<◌, List, length, get_or, set, ◌∙◌, arith, QueueEnd, queue_table, end_table, end_call, AreSameEnds, OnEnd}
-use Rattle.claim_queue.specs.declared.ends.ClaimQueue.{ClaimQueue}
+use Rattle.claim_queue.specs.Plain.{ClaimQueue}
 use Rattle.claim_queue.specs.Handles.{IsEndOf, IsSameEnd}
 use Rattle.turn_io.specs.EndLists.{AreEndsOf}
 use Rattle.turn_io.proofs.Places.{same_at, as_long, same_ends, on_end}

@@ -114,7 +114,3 @@ next_of first rest all x e = subst (λ z. (x ≡ get_or z (length first) x) × (
     below : (l : List _) → length l < length (l ++ (x ∷ rest))
     below [] = omega arith
     below (y ∷ l) = let h = below l in omega arith
-
-pub none_left : {E : Type 0} (l : List E) → length l ≡ 0 → l ≡ []
-none_left [] h = refl
-none_left (x ∷ xs) h = absurd (omega arith)

@@ -6,7 +6,7 @@ ghost use Rattle.proc_chain.specs.Handles.{IsOnlyEnd};
 ghost use Rattle.quajects.specs.Ports.{IsEndAt};
 ghost use Rattle.table_theory.specs.Sharing.{IsWhole};
 
-use crate::fixtures::pumps::{Pumped, make_pump};
+use crate::pumps::{Pumped, make_pump};
 use arrayvec::ArrayVec;
 use boot_objects::*;
 use claim_queue::{ClaimQueue, QueueEnd};

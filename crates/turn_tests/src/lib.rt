@@ -5,6 +5,6 @@
 #[cfg(test)]
 mod closes;
 #[cfg(test)]
-mod fixtures;
+mod pumps;
 #[cfg(test)]
 mod turns;

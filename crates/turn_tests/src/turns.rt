@@ -17,8 +17,8 @@ mod partings;
 mod refusals;
 mod stands;
 
-use crate::fixtures::scripts::plan_of;
 use boot_data::{BootPlan, HeardLines};
+use boot_script::parse_boot;
 use claim_queue::{ClaimQueue, QueueEnd};
 use event_theory::{OutOfMemory, Processor};
 use meters::{MeterSeat, Metered, Meters};
@@ -26,6 +26,7 @@ use processor::*;
 use quajects::Queues;
 use stands::{must_be_free, stand};
 use std::alloc::Global;
+use std::panic::Expect;
 use std::process::Abort;
 use std::sync::Wait;
 use std::test::*;
@@ -165,7 +166,7 @@ fn processor<R: Abort>(rt: &R, number: u8) -> Processor {
 
 /// Runs this many turns of the processor with this number, alone, over the plan of a script.
 fn booted<R: Abort + Wait>(rt: &R, alloc: Global, script: &[u8], number: u8, turns: u32) -> AtEnd {
-    let plan = plan_of(rt, alloc, script);
+    let plan = parse_boot(alloc, script).expect(rt, "script");
     let p = processor(rt, number);
     let Ok((shared, station)) = stand(rt, alloc, plan, p) else {
         panic!(rt; "memory")

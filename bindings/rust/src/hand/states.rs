@@ -194,7 +194,9 @@ impl Hand {
     pub fn pending(&mut self, element: Element) -> u16 {
         let mut signals = 0;
         match raw::synth_raw_hand_pending(&mut self.share.handle().0, element.raw(), &mut signals) {
-            raw::OK => u16::try_from(signals).unwrap_or_else(|_| unreachable!("the library returned signals {signals}")),
+            raw::OK => {
+                u16::try_from(signals).unwrap_or_else(|_| unreachable!("the library returned signals {signals}"))
+            }
             code => raw::no_such_answer(code),
         }
     }

@@ -9,6 +9,7 @@ use Rattle.boot_objects.specs.declared.closing.all.TornDown.{TornDown}
 use Rattle.boot_objects.specs.Endings.{AllClosed}
 use Rattle.boot_objects.specs.Objects.{AreQuajectsOf}
 use Rattle.boot_objects.specs.Shares.{quajects_of}
+use Rattle.quajects.proofs.Routes.{mapped_at}
 use Rattle.boot_objects.specs.Comings.{ShutNothing, small_ports, large_ports}
 use Rattle.boot_objects.specs.RawEnds.{TookRaws, raw_ports}
 use Rattle.boot_objects.specs.Retirals.{HasRetired, HaveRetired, IsFew}
@@ -58,11 +59,6 @@ taken_at zero xs k x e = absurd (cc)
 taken_at (suc m) [] k x e = absurd (cc)
 taken_at (suc m) (y ∷ xs) zero x e = (omega arith, e)
 taken_at (suc m) (y ∷ xs) (suc k) x e = let h = taken_at m xs k x e in let l = h.0 in (omega arith, h.1)
-
-mapped_at : {A B : Type 0} (f : A → B) (xs : List A) (k : ℕ) (y : B) → slice_get (map f xs) k ≡ Some y → (x : A) × (slice_get xs k ≡ Some x) × (f x ≡ y)
-mapped_at f [] k y e = absurd (cc)
-mapped_at f (x ∷ xs) zero y e = let same : f x ≡ y = cc in (x, refl, same)
-mapped_at f (x ∷ xs) (suc k) y e = mapped_at f xs k y e
 
 pub of_range : {A : Type 0} (f : ℕ → A) (a n k : ℕ) (x : A) → slice_get (map f (range_with_len a n)) k ≡ Some x → x ≡ f (a + k)
 of_range f a zero k x e = absurd (cc)

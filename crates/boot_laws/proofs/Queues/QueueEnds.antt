@@ -3,7 +3,7 @@ use Rattle.boot_laws.proofs.Common.{Home, take, ◌<◌, Bool, if◌then◌else�
 use Rattle.std.proofs.Common.{slice_get}
 use Rattle.std.proofs.lemmas.Option.{slice_get_within as within}
 use Rattle.claim_queue.specs.declared.close.Closed.{Closed as Shut}
-use Rattle.claim_queue.specs.declared.ends.ClaimQueue.{ClaimQueue}
+use Rattle.claim_queue.specs.Plain.{ClaimQueue}
 use Rattle.claim_queue.specs.declared.rule.QueueOps.{QueueOps}
 use Rattle.claim_queue.specs.Own.{did_both, nothing_did}
 use Rattle.claim_queue.specs.Handles.{view_of}

@@ -6,7 +6,8 @@ use Rattle.processor.specs.declared.step_outcome.StepOutcome.TheVariants as step
 use Rattle.boot_laws.specs.Saying.{IsLeftOpen, IsNeverClosed}
 use Rattle.boot_laws.proofs.Entries.{turn_is, close_is}
 use Rattle.boot_laws.proofs.Only.{only_all}
-use Rattle.boot_laws.proofs.Totals.{all_of, sum_more, queue_did}
+use Rattle.boot_laws.proofs.Totals.{all_of, queue_did}
+use Rattle.processor.proofs.Logging.{sum_on}
 
 abbrev NeverShuts : AtQueue → Type 0
 NeverShuts a = a.shuts ≡ 0
@@ -16,7 +17,7 @@ NeverShuts a = a.shuts ≡ 0
 module _ (index : QueueIndex) where
   none_in_all : (logs : List (List LogEntry)) → IsLeftOpen index logs → NeverShuts ((total_of logs).queues index)
   none_in_all [] h = refl
-  none_in_all (log ∷ logs) h = ap (λ a. (a.queues index).shuts) (sum_more log (all_of logs)) ∙ (let a = h.0 in let b = none_in_all logs h.1 in omega arith)
+  none_in_all (log ∷ logs) h = ap (λ a. (a.queues index).shuts) (sum_on log (all_of logs)) ∙ (let a = h.0 in let b = none_in_all logs h.1 in omega arith)
 
   none_told : (shuts : ℕ) (logs : List (List LogEntry)) → shuts ≡ 0 → AllByRecursion (λ log. was_shut log index ≡ true → 0 < shuts) logs → IsNeverShut index logs
   none_told shuts [] none reported = tt

@@ -1,7 +1,7 @@
 -- Lines whose bytes were seen to be printable.
 use Rattle.std.proofs.Common.{◌≡◌, ℕ, ◌<◌, ◌≤◌, ◌+◌, ◌-◌, List, [], ◌∷◌, ◌∙◌, not, refl, sym, ap, arith, length, take, drop, get_or, ltb, Bool, true, false, cond, Some, None}
 use Rattle.std.proofs.Math.Dec.{eqb}
-use Rattle.std.proofs.lemmas.Bool.{false_from_ne_true}
+use Rattle.std.proofs.lemmas.Bool.{false_from_ne_true, not-false}
 use Rattle.std.proofs.lemmas.Bool.Decides.{nat_tests, Decides-eqb}
 use Rattle.std.proofs.lemmas.List.{get_or-take, length-take-le}
 use Rattle.std.proofs.lemmas.List.Sums.{position_or_len_is, fails_before_first, list_all-from_AllPass}
@@ -9,10 +9,6 @@ use Rattle.std.specs.List.{position, position_or_len, list_all}
 use Rattle.boot_script.specs.Words.{lines_of}
 use Rattle.boot_script.specs.Grammar.{is_printable}
 use Rattle.boot_script.proofs.Basics.Cuts.{some_chosen, none_chosen, cut_at, cut_nowhere, one_line, last_line}
-
-passes : (b : Bool) → not b ≡ false → b ≡ true
-passes true h = refl
-passes false h = absurd (cc h)
 
 -- an end of a line isn't printable
 no_end : (b : ℕ) → not (is_printable b) ≡ false → eqb b 10 ≡ false
@@ -30,14 +26,14 @@ line_seen text at h =
     let here : at < length text = grind (arith, nat_tests, p.0, p.1) in
     list_all-from_AllPass is_printable (take at text) (λ k d within.
     let below : k < at = omega (arith, within, length-take-le at text (omega (arith, here))) in
-    ap is_printable (get_or-take at text k d below) ∙ passes _ (fails_before_first (λ b. not (is_printable b)) text k d (omega (arith, p.1, below))))
+    ap is_printable (get_or-take at text k d below) ∙ not-false _ (fails_before_first (λ b. not (is_printable b)) text k d (omega (arith, p.1, below))))
 
 -- if no byte isn't printable, all are printable
 pub text_seen : (text : List ℕ) → None ≡ position (λ b. not (is_printable b)) text → list_all is_printable text ≡ true
 text_seen text h =
     let no = none_chosen _ _ h in
     let past : length text ≤ position_or_len (λ b. not (is_printable b)) text = grind (arith, nat_tests, no) in
-    list_all-from_AllPass is_printable text (λ k d within. passes _ (fails_before_first (λ b. not (is_printable b)) text k d (omega (arith, past, within))))
+    list_all-from_AllPass is_printable text (λ k d within. not-false _ (fails_before_first (λ b. not (is_printable b)) text k d (omega (arith, past, within))))
 
 -- if the first byte that isn't printable is 0x0A, it is the first 0x0A
 end_at : (text : List ℕ) (at : ℕ) → Some at ≡ position (λ b. not (is_printable b)) text → get_or text at 0 ≡ 10 → Some at ≡ position (λ b. eqb b 10) text

@@ -1,5 +1,5 @@
 -- No number that a call has found in the head or tail word of an element queue is below one that its hand had seen.
-use Rattle.thread_table.proofs.Common.{◌≡◌, ℕ, ◌+◌, ◌<◌, ◌≤◌, List, [], ◌∷◌, ◌++◌, length, arith, ExtendsTrace, Grows, Past, Step, View, IsValidHandView, RINGS, ring_at, head_word, tail_word, head_in, tail_shown, of_hands, head_in}
+use Rattle.thread_table.proofs.Common.{◌≡◌, ℕ, ◌<◌, ◌≤◌, List, ◌∷◌, ◌++◌, arith, ExtendsTrace, Grows, Past, Step, View, IsValidHandView, RINGS, head_word, tail_word, head_in, of_hands, head_in}
 use Rattle.table_theory.specs.Ledgers.{Passes}
 use Rattle.table_theory.proofs.Saying as steps
 use Rattle.thread_table.specs.Notifies.{head_seen, tail_seen}

@@ -1,12 +1,12 @@
 -- How many notifies the schedule has, and what it has claimed, against the head words of the wait queues.
-use Rattle.thread_table.proofs.Common.{join_elements, ◌≡◌, ◌≢◌, ℕ, zero, suc, ◌+◌, ◌%◌, ◌<◌, ◌≤◌, Bool, true, false, eqb, eq-eqb, ne_eqb, List, [], ◌∷◌, ◌++◌, ◌∙◌, map, length, get_or, set, refl, sym, ap, subst, arith, Some, slice_get, Result, Ok, append_assoc, get_or-map, get_or-set_same, get_or-set_other, length-map, dite, ℕ_discrete, slice_get_within, get_or_from_slice_get, Elements, Queue, empty_queue, Refusal, Run, State, first_state, step, effect, in_elements, counted, Event, Reaches, Begins, ring_at, mark_of, head_in, mark_in, WAITS, RINGS, PLACES, NOTIFY, wait_ring, head_word, Step, Past, change}
+use Rattle.thread_table.proofs.Common.{join_elements, ◌≡◌, ℕ, suc, ◌+◌, ◌%◌, ◌<◌, ◌≤◌, Bool, true, false, eqb, eq-eqb, ne_eqb, List, [], ◌∷◌, ◌++◌, ◌∙◌, map, length, get_or, set, refl, sym, ap, subst, arith, Result, Ok, append_assoc, get_or-map, get_or-set_same, get_or-set_other, length-map, dite, ℕ_discrete, slice_get_within, get_or_from_slice_get, Elements, Queue, empty_queue, Refusal, Run, State, step, effect, in_elements, counted, Event, Reaches, Begins, ring_at, mark_of, head_in, mark_in, WAITS, PLACES, NOTIFY, wait_ring, head_word, Step, Past, change}
 use Rattle.thread_table.specs.Schedules.{state_after, elements_after, IsAllowed}
 use Rattle.thread_table.specs.Notifies.{is_notify, notifies_in}
 use Rattle.thread_table.specs.Telling.{IsValidHandStep}
 use Rattle.thread_table.proofs.Schedule.Schedules.{elements_of, following}
 use Rattle.thread_table.proofs.Schedule.Orders.{real_allows}
 use Rattle.thread_table.proofs.Events.Saying.{head_says}
-use Rattle.thread_table.proofs.Closing.Retiring.{Gives, then_gives, test_gives, ok_gives, Changes, queue_reported, claim_changes, wait_changes, take_changes, raise_changes}
+use Rattle.thread_table.proofs.Closing.Retiring.{Gives, then_gives, test_gives, ok_gives, Changes, claim_changes, wait_changes, take_changes, raise_changes}
 use Rattle.thread_table.proofs.Lists.Counts.{plus, many_cons}
 use Rattle.std.proofs.lemmas.List.{length-append}
 use Rattle.std.specs.Prelude.{◌==◌, ◌||◌, nat_le, nat_lt}
@@ -16,7 +16,6 @@ use Rattle.event_theory.specs.Queues.{join_queue, join_run}
 use Rattle.event_theory.specs.Elements.{let_go, deliver, done}
 use Rattle.event_theory.specs.Marks.{notify_wait}
 use Rattle.event_theory.specs.Meters.{set_alarm}
-use Rattle.event_theory.specs.States.{join}
 use Rattle.event_theory.specs.declared.event.Event.TheVariants as events
 use Rattle.event_theory.specs.declared.names.QueueName.TheVariants as names
 use Rattle.event_theory.specs.declared.refusal.Refusal.TheVariants.{TooLong, Full}

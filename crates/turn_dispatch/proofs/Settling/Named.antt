@@ -1,7 +1,7 @@
 -- There are as many elements, element queues and processors after a schedule as before: so each place that is reported
 -- exists.
-use Rattle.turn_dispatch.proofs.Common.{dite, dec_lt, get_or-eq_default, Reaches, effect, first_state, is_on, claim_element, done, claim, change_at, Refusal, empty_queue, Thread, ◌==◌, ◌||◌, wait_ring, TooLong, Full, then_ok, test_ok, change_ok, ELEMENTS, Place, ClosedNow, StandsAt, is_left, View, elements_after, elements_of, reached, IsFree, place_of}
-use Rattle.thread_table.proofs.Common.{◌≡◌, ℕ, ◌<◌, Bool, true, List, [], ◌∷◌, ◌++◌, ◌∙◌, length, get_or, refl, sym, ap, subst, arith, Some, None, option_map, Result, Ok, Err, length-set, length-map, get_or_from_slice_get, State, in_elements, counted, Event, hold, Elements, let_go, raise_element, take_element, deliver, take_first, at, ◌>>=◌, if◌then◌else◌, join_queue, raise, false}
+use Rattle.turn_dispatch.proofs.Common.{dite, dec_lt, get_or-eq_default, Reaches, effect, first_state, is_on, claim_element, done, claim, change_at, Refusal, empty_queue, Thread, ◌==◌, ◌||◌, wait_ring, TooLong, Full, then_ok, change_ok, ELEMENTS, Place, ClosedNow, StandsAt, is_left, View, elements_after, elements_of, reached, IsFree, place_of}
+use Rattle.thread_table.proofs.Common.{◌≡◌, ℕ, ◌<◌, true, List, [], ◌∷◌, ◌++◌, ◌∙◌, length, get_or, refl, sym, ap, subst, arith, Some, None, option_map, Result, Ok, length-set, length-map, get_or_from_slice_get, State, in_elements, counted, Event, hold, Elements, let_go, raise_element, take_element, deliver, take_first, at, ◌>>=◌, join_queue, raise, false}
 use Rattle.std.specs.Prelude.{nat_le, nat_lt}
 use Rattle.event_theory.specs.Chains.{empty_chain}
 use Rattle.event_theory.specs.Elements.{change_thread, let_all_go, put_by, join_hold}
@@ -9,24 +9,11 @@ use Rattle.event_theory.specs.Meters.{set_alarm}
 use Rattle.event_theory.specs.declared.event.Event.TheVariants as events
 use Rattle.event_theory.specs.declared.names.QueueName.TheVariants as names
 use Rattle.event_theory.proofs.Lists.Inversions.{given_ok}
+use Rattle.thread_table.proofs.Closing.Retiring.{Gives, then_gives, test_gives, ok_gives}
 use Rattle.thread_table.specs.declared.layout.TheConstants.{PROCESSORS}
 use Rattle.thread_table.specs.declared.places.Place.TheVariants as places
 use Rattle.thread_table.specs.Schedules.{state_after, IsAllowed}
 use Rattle.turn_dispatch.specs.Settlings.{IsNamed, NoneOn}
-
--- the result, if there is one, has the property
-abbrev Gives : {A : Type 0} → (A → Type 0) → Result A Refusal → Type 0
-Gives {A} P said = (t : A) → said ≡ Ok t → P t
-
-module _ {B : Type 0} (P : B → Type 0) where
-  then_gives : {A : Type 0} (said : Result A Refusal) (f : A → Result B Refusal) → ((x : A) → said ≡ Ok x → Gives P (f x)) → Gives P (said >>= f)
-  then_gives said f each t ok = let a = then_ok said f t ok in each a.0 a.1 t a.2
-
-  test_gives : (test : Bool) (e : Refusal) (said : Result B Refusal) → Gives P said → Gives P (if test then Err e else said)
-  test_gives test e said gives t ok = gives t (test_ok test e said t ok).1
-
-  ok_gives : (x : B) → P x → Gives P (Ok x)
-  ok_gives x is t ok = subst P (given_ok x t ok) is
 
 -- how many elements, element queues and processors there are
 abbrev sizes : Elements → ℕ × ℕ × ℕ

@@ -128,7 +128,7 @@ hear p
 
 /// The objects after this many turns of processor 0.
 fn heard_beside<R: Abort + Wait>(rt: &R, alloc: Global, turns: u32, shuts: bool) -> AtEnd {
-    let plan = plan_of(rt, alloc, HEARS);
+    let plan = parse_boot(alloc, HEARS).expect(rt, "script");
     let (p, q) = (processor(rt, 0), processor(rt, 1));
     let (shared, one, other) = stand_two(rt, alloc, plan, p, q);
     let (mut one, other) = run_beside(rt, &shared, (one, p), other, turns, shuts);

@@ -29,7 +29,7 @@ impl Gate for Recorder {
 /// also called for a turn with no thread at hand.
 #[test]
 fn turns_are_reported(rt: HostRuntime) {
-    let plan = plan_of(&rt, rt.alloc(), SAID);
+    let plan = parse_boot(rt.alloc(), SAID).expect(&rt, "script");
     let p = processor(&rt, 5);
     let Ok((shared, station)) = stand(&rt, rt.alloc(), plan, p) else {
         panic!(rt; "memory")
@@ -80,7 +80,7 @@ impl<'r, 's, R: Wait> Gate for Taker<'r, 's, R> {
 /// there again; within a step it is not.
 #[test]
 fn turns_are_reported_before_the_taking(rt: HostRuntime) {
-    let plan = plan_of(&rt, rt.alloc(), SAID);
+    let plan = parse_boot(rt.alloc(), SAID).expect(&rt, "script");
     let (p, q) = (processor(&rt, 5), processor(&rt, 1));
     let (shared, one, other) = stand_two(&rt, rt.alloc(), plan, p, q);
     let mut gate = Taker {
@@ -142,7 +142,7 @@ pass
 /// doesn't.
 #[test]
 fn turns_are_reported_before_the_alarms(rt: HostRuntime) {
-    let plan = plan_of(&rt, rt.alloc(), TWO_ALARMS);
+    let plan = parse_boot(rt.alloc(), TWO_ALARMS).expect(&rt, "script");
     let (p, q) = (processor(&rt, 0), processor(&rt, 1));
     let (shared, one, other) = stand_two(&rt, rt.alloc(), plan, p, q);
     let mut gate = Canceller {

@@ -1,13 +1,17 @@
 //! A station when memory is refused.
 
 use super::*;
-use crate::fixtures::scripts::plan_if_given;
+use boot_script::ScriptRefusal;
 use std::test::*;
 
 /// Boots once, and returns whether there was memory.
 fn boots<R: Abort + Wait>(rt: &R, alloc: Global, p: Processor) -> bool {
-    let Some(plan) = plan_if_given(rt, alloc, SAID) else {
-        return false;
+    let plan = match parse_boot(alloc, SAID) {
+        Ok(plan) => plan,
+        Err(fault) => {
+            assert!(rt; fault.refusal == ScriptRefusal::OutOfMemory);
+            return false;
+        }
     };
     let (shared, station) = match stand(rt, alloc, plan, p) {
         Ok(made) => made,

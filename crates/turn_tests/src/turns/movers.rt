@@ -6,8 +6,7 @@ ghost use Rattle.processor.specs.Manning.{IsRunnable};
 
 use super::stands::{Ways, first_station, readied};
 use super::*;
-use crate::fixtures::lists::list_of;
-use crate::fixtures::pumps::{Pumped, make_pump};
+use crate::pumps::{Pumped, make_pump};
 use proc_chain::{ChainEnd, Chained};
 use quajects::AnyQuaject;
 use std::test::*;
@@ -26,12 +25,15 @@ fn split_pump<R: Abort>(rt: &R, alloc: Global, at: u32) -> (Ways, ChainEnd<AnyQu
         mut end,
     } = make_pump(rt, alloc, at);
     let other = chain.split(&mut end);
+    let (Ok(chains), Ok(ends)) = (vec![in alloc; chain], vec![in alloc; end]) else {
+        panic!(rt; "memory")
+    };
     let ways = Ways {
         queues,
         small,
         large: Vec::new(alloc),
-        chains: list_of(rt, alloc, chain),
-        ends: list_of(rt, alloc, end),
+        chains,
+        ends,
     };
     (ways, other)
 }
@@ -75,7 +77,7 @@ hear out
 /// turn of its thread.
 #[test]
 fn pokes_past_the_last_position(rt: HostRuntime) {
-    let plan = plan_of(&rt, rt.alloc(), PUMPED);
+    let plan = parse_boot(rt.alloc(), PUMPED).expect(&rt, "script");
     let p = processor(&rt, 0);
     let (shared, station, _other) = stand_pumped(&rt, rt.alloc(), plan, p, 4294967294);
     let station = run(&rt, &shared, station, p, 6, &mut NoGate);
@@ -127,7 +129,7 @@ poke p
 /// The next is refused, because the chain is full. Its step is tried again, and is done once the notes are served.
 #[test]
 fn pokes_of_a_full_chain(rt: HostRuntime) {
-    let plan = plan_of(&rt, rt.alloc(), MANY_POKES);
+    let plan = parse_boot(rt.alloc(), MANY_POKES).expect(&rt, "script");
     let p = processor(&rt, 0);
     let (shared, station, other) = stand_pumped(&rt, rt.alloc(), plan, p, 0);
     let mut other = other;

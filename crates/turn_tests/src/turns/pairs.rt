@@ -97,7 +97,7 @@ fn times(heard: &HeardLines, line: &[u8]) -> usize {
 /// the two left.
 #[test]
 fn two_processors(rt: HostRuntime) {
-    let plan = plan_of(&rt, rt.alloc(), SAYERS);
+    let plan = parse_boot(rt.alloc(), SAYERS).expect(&rt, "script");
     let (p, q) = (processor(&rt, 0), processor(&rt, 1));
     let (shared, one, other) = stand_two(&rt, rt.alloc(), plan, p, q);
     let (one, other) = run_two(&rt, &shared, (one, p), (other, q));

@@ -87,7 +87,7 @@ tick g 2
 /// that the other delivered, and the ticks of both. The line that the other heard is returned; and all closes.
 #[test]
 fn split_and_joined(rt: HostRuntime) {
-    let plan = plan_of(&rt, rt.alloc(), BOTH);
+    let plan = parse_boot(rt.alloc(), BOTH).expect(&rt, "script");
     let (p, q) = (processor(&rt, 0), processor(&rt, 1));
     let (shared, one, other) = stand_two(&rt, rt.alloc(), plan, p, q);
     let one = run(&rt, &shared, one, p, 1, &mut NoGate);

@@ -62,7 +62,7 @@ fn check_late<R: Abort + Wait>(
 ) -> AtEnd
     requires { begin.0 ≤ 4294967231 }
 {
-    let plan = plan_of(rt, alloc, script);
+    let plan = parse_boot(alloc, script).expect(rt, "script");
     let Ok(ways) = make_queues(alloc, plan.queues.as_slice().len()) else {
         panic!(rt; "memory")
     };
@@ -86,7 +86,7 @@ hear p
 /// A say that finds no position left is refused for good. Its element doesn't wait at the pipe, but is tried again.
 #[test]
 fn says_past_the_last_position(rt: HostRuntime) {
-    let plan = plan_of(&rt, rt.alloc(), LATE_PIPE);
+    let plan = parse_boot(rt.alloc(), LATE_PIPE).expect(&rt, "script");
     let Ok(ways) = late_queue(rt.alloc()) else {
         panic!(rt; "memory")
     };

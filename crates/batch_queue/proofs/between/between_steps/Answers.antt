@@ -2,4 +2,4 @@ use Rattle.batch_queue.proofs.Betweens.{shows_queue}
 use Rattle.batch_queue.proofs.between.between_steps.Goals as goal
 
 pub returns : goal.returns
-returns c = shows_queue
+returns g c = λ key state h. shows_queue key state h.rule

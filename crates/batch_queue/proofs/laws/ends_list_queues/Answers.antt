@@ -5,7 +5,7 @@ use Rattle.batch_queue.proofs.Settling.{ruled_lists, whole_lists}
 use Rattle.batch_queue.proofs.laws.ends_list_queues.Goals as goal
 
 pub returns : goal.returns
-returns c = record {
+returns g c = record {
   room = λ queue end is. (seen_room queue end is, queue.bounded.0);
   shut = λ old new entries a. still_shut old new entries a;
   tail = λ old new entries a. tail_goes_on old new entries a;

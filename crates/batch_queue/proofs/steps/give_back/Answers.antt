@@ -1,16 +1,16 @@
 use Rattle.batch_queue.proofs.Common.{Released, View, arith, inr, mark_word, mod-lt, refl, slots_of, subst, sym, ℕ, ◌%◌, ◌*◌, ◌+◌, ◌/◌, ◌<◌, ◌∙◌, ◌≡◌}
-use Rattle.batch_queue.proofs.Releasing.{releasing}
+use Rattle.batch_queue.proofs.Under.{releases_as}
 use Rattle.batch_queue.proofs.steps.give_back.Goals as goal
 
 halves : (b : ℕ) → ((2 * b + 1) / 2 ≡ b) × ((2 * b + 1) % 2 ≡ 1)
 halves b = (omega arith, omega arith)
 
 pub store-requires : goal.store-requires
-store-requires c = let q = c.requires.queue in let w = q.words in let m = c.requires.mine in let near : c.args.start % c.args.room < c.args.room = mod-lt c.args.start q.some_room in let held = c.requires.slots in
+store-requires g c = let q = c.requires.queue in let w = q.words in let m = c.requires.mine in let near : c.args.start % c.args.room < c.args.room = mod-lt c.args.start q.some_room in let held = c.requires.slots in
     let v : View = c.args.seat.now.me.0 in let b : ℕ = c.args.start + c.args.count in let h = halves b in let start = m.start_is in let some_slot = m.some_slot in let room = q.rooms in (
       q.one,
       omega arith,
-      releasing c.args.words.now.key c.args.words.now.table_id.slots c.args.seat.now.id v 2 b held.0 (2 * b + 1) m.in_phase (inr refl) (omega arith) (omega arith) (held.2 ∙ sym m.count_is) h.0 (λ z. absurd (omega arith), λ z. h.1) (q.slots ∙ sym room) c.mark_word.result
+      releases_as g.C.Protocol.allows c.args.words.now.key c.args.words.now.table_id.slots c.args.seat.now.id v 2 b held.0 (2 * b + 1) m.in_phase (inr refl) (omega arith) (omega arith) (held.2 ∙ sym m.count_is) h.0 (λ z. absurd (omega arith), λ z. h.1) (q.slots ∙ sym room) c.mark_word.result
           (c.mark_word.ensures ∙ (λ k. mark_word (sym room k) (sym start k))) q.live
           (λ s k at z. absurd (omega arith))
           c.args.seat.now.me.1
@@ -18,7 +18,7 @@ store-requires c = let q = c.requires.queue in let w = q.words in let m = c.requ
     )
 
 pub returns-clause-given : goal.returns-clause-given
-returns-clause-given c = let m = c.requires.mine in let g = c.store.ensures.2.1 in
+returns-clause-given g c = let m = c.requires.mine in let g = c.store.ensures.2.0.1 in
     subst (λ (z : ℕ). Released c.args.seat.now.me.0 (mark_word c.args.room c.args.start) c.args.start (c.args.start + z) 2 c.store.new.seat.me) m.count_is
     (subst (λ (z : ℕ). Released c.args.seat.now.me.0 (mark_word c.args.room c.args.start) z (z + c.args.seat.now.me.0.own.held.count) 2 c.store.new.seat.me) m.start_is
     (subst (λ (z : ℕ). Released c.args.seat.now.me.0 (mark_word c.args.room c.args.start) c.args.seat.now.me.0.own.held.start (c.args.seat.now.me.0.own.held.start + c.args.seat.now.me.0.own.held.count) z c.store.new.seat.me) m.in_phase

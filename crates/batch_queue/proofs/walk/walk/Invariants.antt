@@ -5,7 +5,7 @@ use Rattle.batch_queue.proofs.Walking.{Follows}
 use Rattle.batch_queue.proofs.walk.walk.Given as goal
 
 abbrev pub invariant-loop-at : goal.invariant-loop-at
-invariant-loop-at l = record {
+invariant-loop-at g l = record {
   same : IsSame l.initial.seat l.seat;
   stays : Stays l.initial.seat.me.0 l.seat.me.0;
   grows : Grows l.initial.seat.me.0.seen.object l.seat.me.0.seen.object;
@@ -19,4 +19,4 @@ invariant-loop-at l = record {
 }
 
 abbrev pub decreases-loop-at : goal.decreases-loop-at
-decreases-loop-at l = l.most - l.at
+decreases-loop-at g l = l.most - l.at

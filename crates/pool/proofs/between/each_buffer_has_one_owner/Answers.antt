@@ -3,7 +3,7 @@ use Rattle.pool.proofs.Owners.{each_once}
 use Rattle.pool.proofs.between.each_buffer_has_one_owner.Goals as goal
 
 pub returns-clause-once : goal.returns-clause-once
-returns-clause-once c = λ key state count rule. (c.between_steps.ensures key state rule, λ shows holders. each_once key state shows count holders)
+returns-clause-once c = λ key state rule. (c.between_steps.ensures key state rule, λ shows. each_once key state (c.protocol_between_steps.ensures key state rule) shows)
 
 pub returns-clause-fair : goal.returns-clause-fair
 returns-clause-fair c = λ holder. holder.fair

@@ -9,8 +9,8 @@ returns-clause-ends c = ends_say of_chains
 pub returns-clause-tail : goal.returns-clause-tail
 returns-clause-tail c = tail_says
 
-pub returns-clause-hook : goal.returns-clause-hook
-returns-clause-hook c = gate_says
+pub returns-clause-gate_word : goal.returns-clause-gate_word
+returns-clause-gate_word c = gate_says
 
 pub returns-clause-raised : goal.returns-clause-raised
 returns-clause-raised c = λ e i is r from upto marked. let room = r.shows.0.room in let within : i < e.then.object.queue.taken + e.then.object.queue.room = omega arith in let up = mark_says e i r is from within marked in (up, note_says e i r is from up within)

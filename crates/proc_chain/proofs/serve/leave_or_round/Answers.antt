@@ -1,6 +1,5 @@
 use Rattle.proc_chain.proofs.Common.{refl, suits, makes}
 use Rattle.proc_chain.proofs.Finding.{looks_found, seen_step, runner_on}
-use Rattle.proc_chain.proofs.Clients.{met_more, met_running}
 use Rattle.proc_chain.proofs.Rounds.{left_now, round_now, gave_back}
 use Rattle.proc_chain.proofs.serve.leave_or_round.Goals as goal
 
@@ -19,9 +18,3 @@ returns-in-Some-clause-left g c = let x = c.exchange_gate.ensures in let m = c.i
 
 pub returns-in-None-clause-left : goal.returns-in-None-clause-left
 returns-in-None-clause-left g c = left_now _ _ c.requires.runner.runner c.requires.runner.taken_within c.in-None.ensures.left.1
-
-pub returns-in-Some-clause-why : goal.returns-in-Some-clause-why
-returns-in-Some-clause-why g c = met_more _ _ _ _ c.requires.runner.runner c.in-Some.ensures.left.1 c.swap_running.ensures.rounded
-
-pub returns-in-None-clause-why : goal.returns-in-None-clause-why
-returns-in-None-clause-why g c = met_running _ _ c.requires.runner.runner c.in-None.ensures.left.1

@@ -1,7 +1,6 @@
 use Rattle.proc_chain.proofs.Common.{ℕ, [], ◌∷◌, ap, sym, subst, refl, ◌∙◌, View, suits, makes}
 use Rattle.proc_chain.specs.Rounds.{RanNote}
 use Rattle.proc_chain.proofs.Finding.{tail_found, looks_found, seen_step, runner_on}
-use Rattle.proc_chain.proofs.Clients.{saw_none}
 use Rattle.proc_chain.proofs.Rounds.{found_none, up_now, note_now, ran_one, ran_runner}
 use Rattle.proc_chain.proofs.serve.run_next.Goals as goal
 
@@ -32,6 +31,3 @@ returns-clause-ran g c = let t = c.load-tail.ensures in let p = c.load_place-wor
 pub returns-clause-runner : goal.returns-clause-runner
 returns-clause-runner g c = let t = c.load-tail.ensures in let p = c.load_place-word.ensures in let r = c.requires.runner in let one = ran_one _ _ _ _ _ r.runner r.taken_within t.found (tail_found _ _ _ t.found).0 p.note (p.up c.if-word-tail.false) _ c.store_tail-taken.ensures.took t.frame.1.1 p.frame.1.1 in
     ran_runner (makes g.Q.Quaject.made_by c.args.words.now.key.pact) (suits g.Q.Quaject.fits c.args.words.now.key.pact) c.args.seat.now.me c.run_held.new.seat.me _ _ c.store_tail-taken.new.seat.me.1 c.run_held.ensures.queue.1 one (ap (λ (z : ℕ). z ∷ []) (sym c.store_tail-taken.ensures.taken.0)) c.store_tail-taken.ensures.frame.1.1 (c.store_tail-taken.ensures.frame.1.0 ∙ (p.frame.1.0 ∙ t.frame.1.0)) r c.run_held.ensures.ran
-
-pub returns-then-word-tail-clause-none : goal.returns-then-word-tail-clause-none
-returns-then-word-tail-clause-none g c = let t = c.load-tail.ensures in let low = c.load_place-word.ensures.low c.if-word-tail.true in saw_none _ _ _ _ _ c.requires.runner.runner t.found (tail_found _ _ _ t.found).0 low.2 (λ e. c.if-word-tail.true (sym low.1 ∙ e))

@@ -1,6 +1,7 @@
 use Rattle.processor.proofs.Common.{rules, ◌≡◌, ◌<◌, inl, inr, ℕ, true, false, List, Option, Some, None, get_or, set, sym, subst, ap, ◌∙◌, counted_step, Tally, AddsToTally, followed_by, no_events, TakesOff, view_of, call_of, done_at, serves, running, StepOutcome, line_in, raised_by, EndsWorked}
 use Rattle.thread_table.specs.Rules.{has}
-use Rattle.processor.proofs.Acting.{on_back, adds_on, nothing_after}
+use Rattle.processor.proofs.Acting.{on_back}
+use Rattle.turn_dispatch.proofs.Tallies.{adds_on, behind_none}
 use Rattle.processor.proofs.Rising.{rises_on, falls, putting, counting, taking_off}
 use Rattle.turn_dispatch.proofs.Beginnings.{more_has}
 use Rattle.processor.proofs.Rooming.{number_on}
@@ -94,7 +95,7 @@ returns-clause-adds g c =
     let ab = adds_on no_events raised v on did c.seat-seated.ensures.adds c.do_step-attempt.ensures.acts.adds in
     let abc = adds_on raised counted v did after ab c.count_step-tried.ensures.adds in
     let all = adds_on (followed_by raised counted) no_events v after w abc c.take_off.ensures.adds in
-    let plain = subst (λ (z : Tally). AddsToTally z v w) (nothing_after (followed_by raised counted)) all in
+    let plain = subst (λ (z : Tally). AddsToTally z v w) (behind_none (followed_by raised counted)) all in
     subst (λ (z : StepOutcome). AddsToTally (followed_by (raised_by z) (counted_step tried.counted e (done_at v.seen.object e))) v w) (sym c.count_step-tried.ensures.step_outcome)
     (subst (λ (n : ℕ). AddsToTally (followed_by raised (counted_step tried.counted e n)) v w) same plain)
 

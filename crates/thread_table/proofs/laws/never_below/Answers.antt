@@ -1,4 +1,4 @@
-use Rattle.thread_table.proofs.Common.{◌≤◌, ∥∥₁_elim, Hand, IsValidHandView, view_of}
+use Rattle.thread_table.proofs.Common.{∥∥₁_elim, Hand, IsValidHandView, view_of}
 use Rattle.std.proofs.Math.Bridge.{le_prop}
 use Rattle.thread_table.proofs.Schedule.Falling.{head_around, heads_in_order, tail_around, tails_in_order}
 use Rattle.thread_table.proofs.laws.never_below.Goals as goal

@@ -6,10 +6,10 @@ use Rattle.thread_table.proofs.Hands.OnlyLoads.{stood}
 use Rattle.thread_table.proofs.steps.swap_on.Goals as goal
 
 pub swap-requires : goal.swap-requires
-swap-requires g c = (search rules, search rules, makes_it c.requires.mine.0 (may_put _ _ c.requires.mine.1 _ _ c.requires.empty.0 c.requires.held.0 c.requires.held.1 c.requires.empty.1 c.requires.empty.2) _ _ _ _ c.requires.step_outcome.0 c.requires.step_outcome.1 c.processor_word.ensures.0)
+swap-requires g c = (search rules, search rules, makes_it c.requires.mine.0 (may_put _ _ c.requires.mine.1 _ _ c.requires.empty.0 c.requires.held.0 c.requires.held.1 c.requires.empty.1 c.requires.empty.2) _ _ _ _ c.requires.event.0 c.requires.event.1 c.processor_word.ensures.0)
 
 pub returns-clause-effect : goal.returns-clause-effect
 returns-clause-effect g c = (c.swap.result, did_at c.processor_word.ensures.0 c.swap.ensures.2.1)
 
 pub returns-clause-stands : goal.returns-clause-stands
-returns-clause-stands g c = stood _ _ _ _ c.requires.step_outcome.0 (search rules) c.swap.ensures.2.2
+returns-clause-stands g c = stood _ _ _ _ c.requires.event.0 (search rules) c.swap.ensures.2.2

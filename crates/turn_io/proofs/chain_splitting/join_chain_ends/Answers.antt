@@ -1,10 +1,11 @@
 use Rattle.turn_io.proofs.Common.{arith, ◌≡◌, ◌<◌, ◌∙◌, ◌∷◌, [], ◌++◌, length, set, slice_index_or, subst, sym, ap, length_push, into_iter_items, chain_table, chain_end_table, chain_end_call, IsChainJoined}
 use Rattle.std.proofs.Common.{append_assoc, append-nil}
+use Rattle.std.proofs.lemmas.List.{nil_from_length}
 use Rattle.turn_io.specs.Splits.{AreChainsJoined}
 use Rattle.turn_io.proofs.ChainParting.{took_in, still_idle}
 use Rattle.turn_io.proofs.Chains.{its_end, in_ends, is_idle, ends_same, ends_fit}
 use Rattle.turn_io.proofs.Places.{as_long}
-use Rattle.turn_io.proofs.Walking.{walk_on, walked, same_on, next_of, none_left}
+use Rattle.turn_io.proofs.Walking.{walk_on, walked, same_on, next_of}
 use Rattle.turn_io.proofs.Accounting.{chain_joined_at}
 use Rattle.turn_io.proofs.chain_splitting.join_chain_ends.Goals as goal
 
@@ -42,7 +43,7 @@ loop-other-preserved c = let v = c.loop-other.invariant in
 
 pub returns-clause-joined : goal.returns-clause-joined
 returns-clause-joined c = let v = c.loop-other.invariant in let none = c.in-None.ensures.steps in
-    let empty : into_iter_items c.loop-other.other-iterator ≡ [] = none_left _ (sym v.left ∙ none.0) in
+    let empty : into_iter_items c.loop-other.other-iterator ≡ [] = nil_from_length _ (sym v.left ∙ none.0) in
     let all : c.loop-other.yielded ≡ c.args.others.items = sym (append-nil c.loop-other.yielded) ∙ (ap (λ z. c.loop-other.yielded ++ z) (sym empty) ∙ (v.parts ∙ c.into_iter-other-iterator.ensures.into_iter_gives.0)) in
     let long = as_long chain_end_table chain_table c.args.others.items c.args.chains.now c.requires.others.tables in let long' = as_long chain_end_table chain_table c.args.ends.now c.args.chains.now c.requires.ends.tables in
     let number = v.number in let same = ap length all in

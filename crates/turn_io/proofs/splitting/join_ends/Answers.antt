@@ -1,9 +1,10 @@
 use Rattle.turn_io.proofs.Common.{arith, ◌≡◌, ◌<◌, ◌∙◌, ◌∷◌, [], ◌++◌, List, length, set, slice_index_or, subst, sym, ap, length_push, into_iter_items, QueueEnd, queue_table, end_table, end_call, IsJoined, AreJoined}
 use Rattle.std.proofs.Common.{append_assoc, append-nil}
+use Rattle.std.proofs.lemmas.List.{nil_from_length}
 use Rattle.turn_io.proofs.Parting.{are_joined}
 use Rattle.turn_io.proofs.Places.{as_long, same_at}
 use Rattle.turn_io.proofs.Using.{its_end, in_ends, ends_same}
-use Rattle.turn_io.proofs.Walking.{walk_on, walked, same_on, next_of, none_left}
+use Rattle.turn_io.proofs.Walking.{walk_on, walked, same_on, next_of}
 use Rattle.turn_io.proofs.Accounting.{joined_at}
 use Rattle.turn_io.proofs.splitting.join_ends.Goals as goal
 
@@ -41,7 +42,7 @@ loop-other-preserved g c = let v = c.loop-other.invariant in let fit = v.same.ta
 
 pub returns-clause-joined : goal.returns-clause-joined
 returns-clause-joined g c = let v = c.loop-other.invariant in let none = c.in-None.ensures.steps in
-    let empty : into_iter_items c.loop-other.other-iterator ≡ [] = none_left _ (sym v.left ∙ none.0) in
+    let empty : into_iter_items c.loop-other.other-iterator ≡ [] = nil_from_length _ (sym v.left ∙ none.0) in
     let all : c.loop-other.yielded ≡ c.args.others.items = sym (append-nil c.loop-other.yielded) ∙ (ap (λ z. c.loop-other.yielded ++ z) (sym empty) ∙ (v.parts ∙ c.into_iter-other-iterator.ensures.into_iter_gives.0)) in
     let long = as_long end_table queue_table c.args.others.items c.args.queues.now c.requires.others in let long' = as_long end_table queue_table c.args.ends.now c.args.queues.now c.requires.ends in
     let number = v.number in let same = ap length all in

@@ -1,4 +1,4 @@
 use Rattle.batch_queue.proofs.ends.BatchQueue.close.Given as goal
 
 abbrev pub ghosts-count : goal.ghosts-count
-ghosts-count a = record { call = a.seat.id }
+ghosts-count g a = record { call = a.seat.id }

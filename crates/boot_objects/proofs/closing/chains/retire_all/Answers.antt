@@ -1,4 +1,4 @@
-use Rattle.boot_objects.proofs.Common.{arith, length, ap, subst, sym, length_push, into_iter_items, chain_table, chain_end_table, IsIdle, as_long, none_left, HasRetired, IsFew, All-push}
+use Rattle.boot_objects.proofs.Common.{arith, length, ap, subst, sym, length_push, into_iter_items, chain_table, chain_end_table, IsIdle, as_long, nil_from_length, HasRetired, IsFew, All-push}
 use Rattle.std.specs.List.{All}
 use Rattle.proc_chain.specs.Handles.{IsOnlyEnd}
 use Rattle.turn_io.proofs.Chains.{idle_end}
@@ -34,5 +34,5 @@ loop-chain-preserved c = let v = c.loop-chain.invariant in record {
 }
 
 pub returns-clause-homes : goal.returns-clause-homes
-returns-clause-homes c = let v = c.loop-chain.invariant in let empty = none_left (into_iter_items c.loop-chain.chain-iterator) (let l = v.left in let n = c.in-None.ensures.steps.0 in omega arith) in
+returns-clause-homes c = let v = c.loop-chain.invariant in let empty = nil_from_length (into_iter_items c.loop-chain.chain-iterator) (let l = v.left in let n = c.in-None.ensures.steps.0 in omega arith) in
     all_drawn HasRetired _ _ _ _ _ _ (as_long chain_end_table chain_table c.args.ends.items c.args.chains.items c.requires.ends.tables) empty v.drawn

@@ -1,4 +1,4 @@
-use Rattle.boot_objects.proofs.Common.{arith, length, ap, length_push, into_iter_items, queue_table, end_table, as_long, none_left, IsClosed}
+use Rattle.boot_objects.proofs.Common.{arith, length, ap, length_push, into_iter_items, queue_table, end_table, as_long, nil_from_length, IsClosed}
 use Rattle.std.proofs.Common.{length-append}
 use Rattle.claim_queue.specs.Handles.{IsOnlyEnd}
 use Rattle.boot_objects.proofs.Drawing.{drawn_more, rest_long, all_drawn, next_fit, next_holds}
@@ -40,5 +40,5 @@ loop-queue-preserved g c = let v = c.loop-queue.invariant in record {
 }
 
 pub returns : goal.returns
-returns g c = let v = c.loop-queue.invariant in let empty = none_left (into_iter_items c.loop-queue.queue-iterator) (let l = v.left in let n = c.in-None.ensures.steps.0 in omega arith) in
+returns g c = let v = c.loop-queue.invariant in let empty = nil_from_length (into_iter_items c.loop-queue.queue-iterator) (let l = v.left in let n = c.in-None.ensures.steps.0 in omega arith) in
     all_drawn IsClosed _ _ _ _ _ _ (as_long end_table queue_table c.args.ends.items c.args.queues.items c.requires.ends) empty v.drawn

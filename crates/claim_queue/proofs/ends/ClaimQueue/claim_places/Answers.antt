@@ -1,5 +1,6 @@
 use Rattle.claim_queue.proofs.Common.{rules, arith, length, inr, Fits}
 use Rattle.claim_queue.proofs.Following.{shut_meanwhile, was_lost, claimed_items}
+use Rattle.claim_queue.proofs.Permits.{may_claim}
 use Rattle.claim_queue.proofs.Raising.{owns_claimed}
 use Rattle.claim_queue.proofs.ends.ClaimQueue.claim_places.Goals as goal
 
@@ -21,3 +22,6 @@ returns-then-found-head-clause-trace g c = let fits : Fits g.row.N (length c.arg
 
 pub returns-then-found-head-clause-owns : goal.returns-then-found-head-clause-owns
 returns-then-found-head-clause-owns g c = (owns_claimed _ _ _ _ (c.exchange_head-found.ensures.hit c.if-found-head.true), search rules)
+
+pub exchange_head-found-requires-clause-protocol : goal.exchange_head-found-requires-clause-protocol
+exchange_head-found-requires-clause-protocol g c = may_claim c.args.end.now g.C.Protocol.allows c.args.items.now _ _ _ _ c.requires.protocol c.load_head-head.ensures.found c.load_tail-tail.ensures.found (omega arith)

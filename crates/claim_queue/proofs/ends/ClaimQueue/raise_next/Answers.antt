@@ -1,4 +1,5 @@
 use Rattle.claim_queue.proofs.Common.{rules, ◌≡◌, ℕ, List, subst, Raised}
+use Rattle.claim_queue.proofs.Brevity.{raised_steps}
 use Rattle.claim_queue.proofs.Clients.{raise_result, raised_shuts}
 use Rattle.claim_queue.proofs.Lining.{raised_lines}
 use Rattle.claim_queue.proofs.ends.ClaimQueue.raise_next.Goals as goal
@@ -13,3 +14,6 @@ returns-clause-result g c = let same : c.as_slice.result.now ≡ c.args.claim.no
 
 pub returns-clause-shuts_nothing : goal.returns-clause-shuts_nothing
 returns-clause-shuts_nothing g c = raised_shuts _ _ _ _ _ _ c.raise_place.ensures.trace
+
+pub returns-clause-steps : goal.returns-clause-steps
+returns-clause-steps g c = raised_steps _ _ _ _ _ _ c.raise_place.ensures.trace

@@ -1,12 +1,13 @@
 use Rattle.claim_queue.proofs.Common.{◌≡◌, ℕ, ◌+◌, ap, arith, sym, subst, ◌∙◌, Part, InvHeldOf}
-use Rattle.claim_queue.proofs.Tallying.{ups, splits, rest_ruled, born_ruled}
+use Rattle.claim_queue.proofs.Tallying.{rest_ruled, born_ruled}
+use Rattle.claim_queue.proofs.Under.{ups_as, splits_as}
 use Rattle.claim_queue.proofs.ends.ClaimQueue.split.Goals as goal
 
 pub count_up-requires-clause-allowed : goal.count_up-requires-clause-allowed
-count_up-requires-clause-allowed g c = let one = c.args.end.now.one in let parts = c.requires.parts in ups _ _ _ _ (omega arith)
+count_up-requires-clause-allowed g c = let one = c.args.end.now.one in let parts = c.requires.parts in ups_as g.C.Protocol.allows _ _ _ _ (omega arith)
 
 pub split_off-seat-requires-clause-allowed : goal.split_off-seat-requires-clause-allowed
-split_off-seat-requires-clause-allowed g c = splits _ _ _ (ap (λ (z : Part). z.ends) c.count_up.ensures.counted.member ∙ ap (λ (z : ℕ). z + 1) c.args.end.now.one)
+split_off-seat-requires-clause-allowed g c = splits_as g.C.Protocol.allows g.C.Protocol.begins _ _ _ (ap (λ (z : Part). z.ends) c.count_up.ensures.counted.member ∙ ap (λ (z : ℕ). z + 1) c.args.end.now.one)
 
 pub invariant_of-end-clause-ruled : goal.invariant_of-end-clause-ruled
 invariant_of-end-clause-ruled g c = let two : c.count_up.new.seat.me.0.member.ends ≡ 2 = ap (λ (z : Part). z.ends) c.count_up.ensures.counted.member ∙ ap (λ (z : ℕ). z + 1) c.args.end.now.one in

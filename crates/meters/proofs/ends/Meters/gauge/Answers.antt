@@ -1,4 +1,6 @@
+use Rattle.meters.proofs.Common.{arith}
 use Rattle.meters.proofs.Clients.{gauge_is, loads_alone}
+use Rattle.meters.proofs.Ending.{steps_by}
 use Rattle.meters.proofs.ends.Meters.gauge.Goals as goal
 
 pub returns-clause-effect : goal.returns-clause-effect
@@ -6,3 +8,6 @@ returns-clause-effect c = let l = c.load_gauge.ensures.found in loads_alone _ _ 
 
 pub returns-clause-result : goal.returns-clause-result
 returns-clause-result c = let l = c.load_gauge.ensures.found in gauge_is _ _ _ _ c.requires.1 c.load_gauge.ensures.seat.2 (l.at, l.made.adds)
+
+pub returns-clause-steps : goal.returns-clause-steps
+returns-clause-steps c = steps_by 1 _ _ _ c.load_gauge.ensures.found.made.adds (omega arith)

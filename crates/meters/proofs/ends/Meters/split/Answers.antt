@@ -1,6 +1,8 @@
-use Rattle.meters.proofs.Common.{ℕ, ◌+◌, ◌∙◌, ap, arith}
+use Rattle.meters.proofs.Common.{sym, subst, ℕ, ◌+◌, ◌∙◌, ap, arith}
 use Rattle.table_theory.specs.declared.views.Part.{Part}
+use Rattle.table_theory.specs.Moments.{StepsAtMost}
 use Rattle.meters.proofs.Stepping.{ups, splits}
+use Rattle.meters.proofs.Ending.{steps_by}
 use Rattle.meters.proofs.ends.Meters.split.Goals as goal
 
 pub count_up-requires-clause-allowed : goal.count_up-requires-clause-allowed
@@ -8,3 +10,6 @@ count_up-requires-clause-allowed c = let one = c.args.seat.now.one in let parts 
 
 pub split_off-new-requires-clause-allowed : goal.split_off-new-requires-clause-allowed
 split_off-new-requires-clause-allowed c = splits _ _ _ (ap (λ (z : Part). z.ends) c.count_up.ensures.counted.member ∙ ap (λ (z : ℕ). z + 1) c.args.seat.now.one)
+
+pub returns-clause-steps : goal.returns-clause-steps
+returns-clause-steps c = subst (λ z. StepsAtMost 1 c.args.seat.now.seat.me.0 z.0) (sym c.split_off-new.ensures.split.0) (steps_by 1 c.args.seat.now.seat.me.0 c.count_up.new.seat.me.0 _ c.count_up.ensures.counted.adds (omega arith))

@@ -1,5 +1,6 @@
 use Rattle.meters.proofs.Common.{arith, refl, ◌∙◌}
 use Rattle.meters.proofs.Clients.{set_after, set_full, set_lost, sets_alarm}
+use Rattle.meters.proofs.Ending.{set_keeps, lost_keeps, full_keeps, set_steps, lost_steps, full_steps}
 use Rattle.meters.proofs.Following.{searched_none, searched_more, no_room, set_now, lost_slot}
 use Rattle.meters.proofs.ends.Meters.try_set.Goals as goal
 
@@ -47,3 +48,21 @@ returns-clause-effect c = let past = c.loop-slot-test.false in let end = c.loop-
 
 pub returns-clause-error : goal.returns-clause-error
 returns-clause-error c = let past = c.loop-slot-test.false in let end = c.loop-slot.auto.slot-end in (set_full _ _ c.loop-slot.slot (omega arith) c.loop-slot.invariant.searched).1
+
+pub returns-then-exchange_in-clause-frame : goal.returns-then-exchange_in-clause-frame
+returns-then-exchange_in-clause-frame c = set_keeps _ _ c.loop-slot.slot _ (set_now _ _ _ _ c.loop-slot.slot _ c.loop-slot-test.true c.loop-slot.invariant.searched c.load_alarm.ensures.found c.if-is_none.ensures c.args.alarm (c.exchange_in.ensures.hit c.if-exchange_in.true)).0
+
+pub returns-then-is_none-clause-frame : goal.returns-then-is_none-clause-frame
+returns-then-is_none-clause-frame c = lost_keeps _ _ c.loop-slot.slot (lost_slot _ _ _ _ c.loop-slot.slot _ c.loop-slot-test.true c.loop-slot.invariant.searched c.load_alarm.ensures.found c.if-is_none.ensures (c.exchange_in.ensures.miss c.if-exchange_in.false)).0
+
+pub returns-clause-frame : goal.returns-clause-frame
+returns-clause-frame c = let past = c.loop-slot-test.false in let end = c.loop-slot.auto.slot-end in full_keeps _ _ (no_room _ _ c.loop-slot.slot (omega arith) c.loop-slot.invariant.searched).0
+
+pub returns-then-exchange_in-clause-steps : goal.returns-then-exchange_in-clause-steps
+returns-then-exchange_in-clause-steps c = set_steps _ _ c.loop-slot.slot _ (set_now _ _ _ _ c.loop-slot.slot _ c.loop-slot-test.true c.loop-slot.invariant.searched c.load_alarm.ensures.found c.if-is_none.ensures c.args.alarm (c.exchange_in.ensures.hit c.if-exchange_in.true)).0
+
+pub returns-then-is_none-clause-steps : goal.returns-then-is_none-clause-steps
+returns-then-is_none-clause-steps c = lost_steps _ _ c.loop-slot.slot (lost_slot _ _ _ _ c.loop-slot.slot _ c.loop-slot-test.true c.loop-slot.invariant.searched c.load_alarm.ensures.found c.if-is_none.ensures (c.exchange_in.ensures.miss c.if-exchange_in.false)).0
+
+pub returns-clause-steps : goal.returns-clause-steps
+returns-clause-steps c = let past = c.loop-slot-test.false in let end = c.loop-slot.auto.slot-end in full_steps _ _ (no_room _ _ c.loop-slot.slot (omega arith) c.loop-slot.invariant.searched).0

@@ -1,4 +1,4 @@
-use Rattle.proc_chain.proofs.Common.{◌∙◌, arith, suits, makes}
+use Rattle.proc_chain.proofs.Common.{◌∙◌, suits, makes}
 use Rattle.proc_chain.proofs.Clients.{ran_none, used_none}
 use Rattle.proc_chain.proofs.Finding.{end_runs}
 use Rattle.proc_chain.proofs.ends.ProcChain.serve.Goals as goal
@@ -10,4 +10,4 @@ pub returns-then-limit-eq0-clause-effect : goal.returns-then-limit-eq0-clause-ef
 returns-then-limit-eq0-clause-effect g c = ran_none _
 
 pub returns-then-limit-eq0-clause-result : goal.returns-then-limit-eq0-clause-result
-returns-then-limit-eq0-clause-result g c = let none = c.if-limit-eq0.true in (omega arith, used_none _ c.args.limit none)
+returns-then-limit-eq0-clause-result g c = used_none _ c.args.limit c.if-limit-eq0.true

@@ -1,7 +1,7 @@
 use Rattle.proc_chain.proofs.Common.{rules, arith, ap, Part, refl, ◌∙◌, [], ◌∷◌, ◌++◌, suits, makes}
 use Rattle.proc_chain.proofs.Clients.{left_on, ran_notes}
 use Rattle.proc_chain.proofs.Finding.{reported_after}
-use Rattle.proc_chain.proofs.Rounds.{no_rounds, rounds_more, all_done, few_run, since_still, since_then}
+use Rattle.proc_chain.proofs.Rounds.{no_rounds, rounds_more, all_begin, all_done, few_run, since_still, since_then}
 use Rattle.proc_chain.proofs.ends.ProcChain.serve_all.Goals as goal
 
 pub loop-init : goal.loop-init
@@ -44,4 +44,7 @@ pub returns-in-Done-clause-effect : goal.returns-in-Done-clause-effect
 returns-in-Done-clause-effect g c = let l = c.loop.invariant in let s = c.in-Done.ensures.trace in let a = all_done _ _ _ l.servings s.0 s.1 c.loop.total c.in-Done.ran l.rounds s.2 s.3 in ran_notes _ _ _ _ _ a.5
 
 pub returns-in-Done-clause-result : goal.returns-in-Done-clause-result
-returns-in-Done-clause-result g c = let r = c.loop.invariant.rounds.all.made in left_on _ _ _ _ _ _ (ap (λ (z : Part). z.share) r.member) r.adds c.in-Done.ensures.result
+returns-in-Done-clause-result g c = let r = c.loop.invariant.rounds.all.made in left_on _ _ _ _ _ _ (ap (λ (z : Part). z.share) r.member) r.adds (all_begin c.loop.invariant.servings) c.in-Done.ensures.result
+
+pub returns-in-Done-clause-owns : goal.returns-in-Done-clause-owns
+returns-in-Done-clause-owns g c = let l = c.loop.invariant in let s = c.in-Done.ensures.trace in (all_done _ _ _ l.servings s.0 s.1 c.loop.total c.in-Done.ran l.rounds s.2 s.3).5.made.member

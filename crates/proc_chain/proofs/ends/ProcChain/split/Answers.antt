@@ -1,6 +1,7 @@
 use Rattle.proc_chain.proofs.Common.{refl, ap, Part, ◌+◌, ◌∙◌, ends_word, nothing_did, did_both, suits, makes}
 use Rattle.table_theory.proofs.Counting.{given_kept}
 use Rattle.table_theory.proofs.Parting.{split_views}
+use Rattle.proc_chain.proofs.Clients.{one_more}
 use Rattle.proc_chain.proofs.Finding.{slot_on, slot_down}
 use Rattle.proc_chain.proofs.Linking.{same_notes}
 use Rattle.proc_chain.proofs.Opening.{split_parted, born_known}
@@ -10,6 +11,7 @@ pub returns : goal.returns
 returns g c = let end = c.args.end.now in let n = c.count_up.ensures in let s = c.split_off-seat.ensures in let p = split_parted _ _ n.counted.0 n.counted.1 n.frame.1.1 _ (λ i. (s.split.0 i).0) end.rests end.valid in let held = (λ i. (s.split.0 i).1) ∙ n.frame.1.0 in
     let views = split_views nothing_did did_both ends_word _ _ _ _ _ _ n.counted.0 s.split.0 s.split.1 in let pact = c.args.self.now.table.shared.key.pact in record {
       effect = same_notes _ _ ((λ i. (s.split.0 i).0.own) ∙ n.counted.0.own);
+      count = one_more _ _ views.0;
       owns = (λ i. (s.split.0 i).0.member.share + (s.split.1 i).0.member.share) ∙ (given_kept c.count_up.new.seat.me.0.member.share ∙ ap (λ (z : Part). z.share) n.counted.0.member);
       turns = ((refl, held), refl);
       born = views.1;

@@ -1,7 +1,7 @@
-use Rattle.proc_chain.proofs.Common.{refl, sym, subst, ◌∙◌, ◌≤◌, ◌≢◌, ℕ, ◌≡◌, true, false, true≢false, arith, ChainOps, suits, makes, with_turn, run}
+use Rattle.proc_chain.proofs.Common.{refl, sym, subst, ◌∙◌, ◌≤◌, ℕ, ◌≡◌, true, false, true≢false, arith, ChainOps, suits, makes, with_turn, run}
 use Rattle.proc_chain.proofs.Finding.{gate_says, looks_found, looks_on, rests_on, seen_notes, reported_after, slot_on, slot_up}
-use Rattle.proc_chain.proofs.Clients.{looked_only, who_runs, why_full, why_lost, why_spent}
-use Rattle.proc_chain.proofs.Linking.{both_found, put_note, was_lost, just_claimed, claimed_at, link, chained, chained_seen, chained_rests, won_slot}
+use Rattle.proc_chain.proofs.Clients.{same_only, run_here, left_there, why_full, why_lost, why_spent}
+use Rattle.proc_chain.proofs.Linking.{both_found, three_found, put_note, was_lost, just_claimed, claimed_at, link, chained, chained_seen, chained_rests, won_slot}
 use Rattle.proc_chain.proofs.ends.ProcChain.try_chain.Goals as goal
 
 -- the refusals
@@ -29,19 +29,25 @@ pub returns-then-head-ge-POSITIONS-clause-error : goal.returns-then-head-ge-POSI
 returns-then-head-ge-POSITIONS-clause-error g c = why_spent _ _ _ c.load-head.ensures.found c.if-head-ge-POSITIONS.true
 
 pub returns-then-head-ge-POSITIONS-clause-frame : goal.returns-then-head-ge-POSITIONS-clause-frame
-returns-then-head-ge-POSITIONS-clause-frame g c = looked_only _ _ _ c.load-head.ensures.found.1.made
+returns-then-head-ge-POSITIONS-clause-frame g c = same_only _ _ _ c.load-head.ensures.found.1.made (refl, tt)
 
 pub returns-then-head-tail-clause-error : goal.returns-then-head-tail-clause-error
-returns-then-head-tail-clause-error g c = why_full _ _ _ _ _ c.load-head.ensures.found c.load-tail.ensures.found (let over = c.if-head-tail.true in omega arith)
+returns-then-head-tail-clause-error g c = why_full _ _ _ _ _ c.load-head.ensures.found c.load-tail.ensures.found c.if-head-ge-POSITIONS.false (let over = c.if-head-tail.true in omega arith)
 
 pub returns-then-head-tail-clause-frame : goal.returns-then-head-tail-clause-frame
-returns-then-head-tail-clause-frame g c = looked_only _ _ _ (both_found _ _ _ _ _ c.load-head.ensures.found c.load-tail.ensures.found)
+returns-then-head-tail-clause-frame g c = same_only _ _ _ (both_found _ _ _ _ _ c.load-head.ensures.found c.load-tail.ensures.found) (refl, (refl, tt))
 
 pub returns-then-found-head-clause-error : goal.returns-then-found-head-clause-error
-returns-then-found-head-clause-error g c = why_lost _ _ _ _ _ _ _ c.load-head.ensures.found c.load-tail.ensures.found (c.exchange_head-found.ensures.miss c.if-found-head.true) c.if-found-head.true
+returns-then-found-head-clause-error g c = why_lost _ _ _ _ _ _ _ c.load-head.ensures.found c.load-tail.ensures.found (c.exchange_head-found.ensures.miss c.if-found-head.true) c.if-head-ge-POSITIONS.false (let room = c.if-head-tail.false in omega arith) c.if-found-head.true
 
 pub returns-then-found-head-clause-frame : goal.returns-then-found-head-clause-frame
-returns-then-found-head-clause-frame g c = let s = looks_on _ _ _ (looks_on _ _ _ (looks_found _ _ _ _ c.load-head.ensures.found) (looks_found _ _ _ _ c.load-tail.ensures.found)) (looks_found _ _ _ _ (c.exchange_head-found.ensures.miss c.if-found-head.true)) in record { own = s.own; member = s.seen.member }
+returns-then-found-head-clause-frame g c = same_only _ _ _ (three_found _ _ _ _ _ _ _ c.load-head.ensures.found c.load-tail.ensures.found (c.exchange_head-found.ensures.miss c.if-found-head.true)) (refl, (refl, (refl, tt)))
+
+pub returns-then-found-head-clause-owns : goal.returns-then-found-head-clause-owns
+returns-then-found-head-clause-owns g c = (three_found _ _ _ _ _ _ _ c.load-head.ensures.found c.load-tail.ensures.found (c.exchange_head-found.ensures.miss c.if-found-head.true)).member
+
+pub returns-then-head-tail-clause-owns : goal.returns-then-head-tail-clause-owns
+returns-then-head-tail-clause-owns g c = (both_found _ _ _ _ _ c.load-head.ensures.found c.load-tail.ensures.found).member
 
 -- the claim, the raise and the notify
 
@@ -58,8 +64,9 @@ invariant_of-end-in-Some g c = let end = c.args.end.now in let a = c.load-head.e
 pub returns-in-Some : goal.returns-in-Some
 returns-in-Some g c = let end = c.args.end.now in let a = c.load-head.ensures in let b = c.load-tail.ensures in let e = c.exchange_head-found.ensures in let h = e.hit c.if-found-head.false in let r = c.store_place.ensures.raised (run c.load-head.result c.args.note) (claimed_at _ _ _ _ h) in let w = c.in-Some.ensures.notified in let then = with_turn w.1.0.object.queue.taken in let d = chained _ _ _ _ _ _ _ c.args.note a.found b.found h r _ 0 w.1.0 then w.1.1 c.if-head-ge-POSITIONS.false (omega (arith, c.if-head-tail.false)) in let x = c.store_place.ensures.frame.0 in let y = c.swap_more.ensures.frame.0 in let pact = c.args.self.now.table.shared.key.pact in let down = sym (λ i. ((link _ _ _ _ _ _ _ c.args.note a.found b.found h r).did i).runner) ∙ w.0 in record {
   effect = put_note _ _ _ _ then (λ d. refl) (λ d. refl) d.1.did;
-  result = who_runs _ _ _ _ _ _ _ _ c.args.note 0 a.found b.found h r w.1.0 then w.1.1 c.if-head-ge-POSITIONS.false (omega (arith, c.if-head-tail.false)) (λ d. refl) (λ (z : ℕ). z ≡ 0) (sym (gate_says _ refl w.1.1.real));
+  result = run_here _ _ _ _ _ _ _ _ _ c.args.note a.found b.found h r w.1.0 then w.1.1 c.if-head-ge-POSITIONS.false (omega (arith, c.if-head-tail.false)) (λ d. refl) (sym (gate_says _ refl w.1.1.real));
   frame = tt;
+  owns = d.1.member;
   error = tt;
   turn = λ _. (sym end.turned ∙ down, refl);
   kept = λ (is : true ≡ false). absurd (true≢false is);
@@ -75,9 +82,12 @@ invariant_of-end-in-None g c = let end = c.args.end.now in let a = c.load-head.e
 pub returns-in-None-clause-effect : goal.returns-in-None-clause-effect
 returns-in-None-clause-effect g c = let end = c.args.end.now in let a = c.load-head.ensures in let b = c.load-tail.ensures in let e = c.exchange_head-found.ensures in let h = e.hit c.if-found-head.false in let r = c.store_place.ensures.raised (run c.load-head.result c.args.note) (claimed_at _ _ _ _ h) in let w = c.in-None.ensures.notified in let then : ChainOps → ChainOps = λ d. d in let d = chained _ _ _ _ _ _ _ c.args.note a.found b.found h r _ _ w.2.1.0 then w.2.1.1 c.if-head-ge-POSITIONS.false (omega (arith, c.if-head-tail.false)) in put_note _ _ _ _ then (λ d. refl) (λ d. refl) d.1.did
 
+pub returns-in-None-clause-owns : goal.returns-in-None-clause-owns
+returns-in-None-clause-owns g c = let end = c.args.end.now in let a = c.load-head.ensures in let b = c.load-tail.ensures in let e = c.exchange_head-found.ensures in let h = e.hit c.if-found-head.false in let r = c.store_place.ensures.raised (run c.load-head.result c.args.note) (claimed_at _ _ _ _ h) in let w = c.in-None.ensures.notified in let then : ChainOps → ChainOps = λ d. d in let d = chained _ _ _ _ _ _ _ c.args.note a.found b.found h r _ _ w.2.1.0 then w.2.1.1 c.if-head-ge-POSITIONS.false (omega (arith, c.if-head-tail.false)) in d.1.member
+
 pub returns-in-None-clause-result : goal.returns-in-None-clause-result
 returns-in-None-clause-result g c = let a = c.load-head.ensures in let b = c.load-tail.ensures in let e = c.exchange_head-found.ensures in let h = e.hit c.if-found-head.false in let r = c.store_place.ensures.raised (run c.load-head.result c.args.note) (claimed_at _ _ _ _ h) in let w = c.in-None.ensures.notified in let then : ChainOps → ChainOps = λ d. d in
-    who_runs _ _ _ _ _ _ _ _ c.args.note _ a.found b.found h r w.2.1.0 then w.2.1.1 c.if-head-ge-POSITIONS.false (omega (arith, c.if-head-tail.false)) (λ d. refl) (λ (z : ℕ). z ≢ 0) (λ idle. w.2.0 (gate_says _ refl w.2.1.1.real ∙ idle))
+    left_there _ _ _ _ _ _ _ _ c.args.note _ a.found b.found h r w.2.1.0 then w.2.1.1 c.if-head-ge-POSITIONS.false (omega (arith, c.if-head-tail.false)) (λ d. refl) (λ idle. w.2.0 (gate_says _ refl w.2.1.1.real ∙ idle))
 
 pub returns-in-None-clause-trace : goal.returns-in-None-clause-trace
 returns-in-None-clause-trace g c = let end = c.args.end.now in let a = c.load-head.ensures in let b = c.load-tail.ensures in let e = c.exchange_head-found.ensures in let h = e.hit c.if-found-head.false in let r = c.store_place.ensures.raised (run c.load-head.result c.args.note) (claimed_at _ _ _ _ h) in let w = c.in-None.ensures.notified in let then : ChainOps → ChainOps = λ d. d in let d = chained _ _ _ _ _ _ _ c.args.note a.found b.found h r _ _ w.2.1.0 then w.2.1.1 c.if-head-ge-POSITIONS.false (omega (arith, c.if-head-tail.false)) in (_, w.2.0, d)

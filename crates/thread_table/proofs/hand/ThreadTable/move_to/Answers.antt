@@ -3,6 +3,7 @@ use Rattle.thread_table.proofs.Events.Answering.{was_spent, overtaken, claim_kno
 use Rattle.thread_table.specs.declared.moves.MoveRefusal.TheVariants as moves
 use Rattle.thread_table.proofs.Clients.{move_effect, move_error}
 use Rattle.thread_table.proofs.Hands.Unchanged.{move_keeps}
+use Rattle.thread_table.proofs.ClientBounds.{move_bound}
 use Rattle.thread_table.proofs.hand.ThreadTable.move_to.Goals as goal
 
 pub returns-then-head-clause-trace : goal.returns-then-head-clause-trace
@@ -66,3 +67,12 @@ returns-clause-effect c = let s = c.raise.ensures in move_effect _ _ s.effect.1.
 
 pub returns-clause-frame : goal.returns-clause-frame
 returns-clause-frame c = move_keeps c.args.hand.now.seat.id c.args.ring c.args.element _ _ (Ok tt) (returns-clause-trace c)
+
+pub returns-then-head-clause-steps : goal.returns-then-head-clause-steps
+returns-then-head-clause-steps c = move_bound c.args.hand.now.seat.id c.args.ring c.args.element _ _ (Err moves.Spent) (returns-then-head-clause-trace c)
+
+pub returns-then-found-word-clause-steps : goal.returns-then-found-word-clause-steps
+returns-then-found-word-clause-steps c = move_bound c.args.hand.now.seat.id c.args.ring c.args.element _ _ (Err (moves.Lost c.exchange_head-found.result)) (returns-then-found-word-clause-trace c)
+
+pub returns-clause-steps : goal.returns-clause-steps
+returns-clause-steps c = move_bound c.args.hand.now.seat.id c.args.ring c.args.element _ _ (Ok tt) (returns-clause-trace c)

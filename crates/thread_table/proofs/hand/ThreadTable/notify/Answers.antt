@@ -1,7 +1,8 @@
 use Rattle.thread_table.proofs.Common.{WAITS, ◌<◌, rules, subst, call_of, view_of, NotifiedNow}
 use Rattle.thread_table.proofs.Events.Waking.{notified_now}
-use Rattle.thread_table.proofs.Clients.{notify_effect, notify_result}
+use Rattle.thread_table.proofs.ClientWakes.{notify_effect, notify_result}
 use Rattle.thread_table.proofs.Hands.Unchanged.{notify_keeps}
+use Rattle.thread_table.proofs.ClientBounds.{notify_bound}
 use Rattle.thread_table.proofs.hand.ThreadTable.notify.Goals as goal
 
 pub returns-clause-trace : goal.returns-clause-trace
@@ -17,3 +18,6 @@ returns-clause-result c = let low : c.args.wait < WAITS = search rules in notify
 
 pub returns-clause-frame : goal.returns-clause-frame
 returns-clause-frame c = notify_keeps c.args.hand.now.seat.id c.args.wait _ _ _ (returns-clause-trace c)
+
+pub returns-clause-steps : goal.returns-clause-steps
+returns-clause-steps c = notify_bound c.args.hand.now.seat.id c.args.wait _ _ _ (returns-clause-trace c)

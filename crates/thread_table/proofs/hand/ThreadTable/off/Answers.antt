@@ -2,6 +2,7 @@ use Rattle.thread_table.proofs.Common.{◌≡◌, ◌<◌, ◌∙◌, rules, len
 use Rattle.event_theory.specs.declared.event.Event.TheVariants as events
 use Rattle.thread_table.proofs.Events.StatesSeen.{takes_off}
 use Rattle.thread_table.proofs.Clients.{off_effect, off_frame}
+use Rattle.thread_table.proofs.ClientBounds.{off_bound}
 use Rattle.thread_table.proofs.hand.ThreadTable.off.Goals as goal
 
 -- what the step says
@@ -34,3 +35,6 @@ returns-clause-effect c = off_effect c.args.hand.now.seat.id c.args.processor c.
 
 pub returns-clause-frame : goal.returns-clause-frame
 returns-clause-frame c = off_frame c.args.hand.now.seat.id c.args.processor c.in-Some.element _ _ (returns-clause-trace c).1
+
+pub returns-clause-steps : goal.returns-clause-steps
+returns-clause-steps c = off_bound c.args.hand.now.seat.id c.args.processor c.in-Some.element _ _ (returns-clause-trace c).1

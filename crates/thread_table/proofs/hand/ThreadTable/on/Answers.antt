@@ -2,6 +2,7 @@ use Rattle.thread_table.proofs.Common.{◌≡◌, ◌<◌, ◌∙◌, Some, None
 use Rattle.event_theory.specs.declared.event.Event.TheVariants as events
 use Rattle.thread_table.proofs.Events.StatesSeen.{puts_on}
 use Rattle.thread_table.proofs.Clients.{on_effect, on_frame}
+use Rattle.thread_table.proofs.ClientBounds.{on_bound}
 use Rattle.thread_table.proofs.hand.ThreadTable.on.Goals as goal
 
 pub invariant_of-hand : goal.invariant_of-hand
@@ -29,3 +30,6 @@ returns-clause-effect c = on_effect c.args.hand.now.seat.id c.args.processor c.a
 
 pub returns-clause-frame : goal.returns-clause-frame
 returns-clause-frame c = on_frame c.args.hand.now.seat.id c.args.processor c.args.element _ _ (returns-clause-trace c).1
+
+pub returns-clause-steps : goal.returns-clause-steps
+returns-clause-steps c = on_bound c.args.hand.now.seat.id c.args.processor c.args.element _ _ (returns-clause-trace c).1

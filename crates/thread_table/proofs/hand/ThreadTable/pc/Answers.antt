@@ -1,8 +1,9 @@
-use Rattle.thread_table.proofs.Common.{ELEMENTS, ◌<◌, rules, transport, view_of}
+use Rattle.thread_table.proofs.Common.{ELEMENTS, ◌<◌, rules, transport, view_of, arith}
 use Rattle.thread_table.specs.Steps.{ReadPc}
 use Rattle.thread_table.proofs.Events.StatesSeen.{read_pc}
 use Rattle.thread_table.proofs.Clients.{pc_effect, pc_result}
 use Rattle.thread_table.proofs.Hands.Unchanged.{counts_stay}
+use Rattle.thread_table.proofs.ClientBounds.{pc_bound}
 use Rattle.thread_table.proofs.hand.ThreadTable.pc.Goals as goal
 
 pub returns-clause-trace : goal.returns-clause-trace
@@ -16,3 +17,6 @@ returns-clause-result c = let known : c.args.element < ELEMENTS = search rules i
 
 pub returns-clause-frame : goal.returns-clause-frame
 returns-clause-frame c = (counts_stay c.args.element _ _ _ (returns-clause-trace c)).keeps
+
+pub returns-clause-steps : goal.returns-clause-steps
+returns-clause-steps c = pc_bound 1 c.args.element _ _ _ (omega arith) (returns-clause-trace c)

@@ -2,6 +2,7 @@ use Rattle.thread_table.proofs.Common.{refl, ELEMENTS, ◌<◌, rules, ap, state
 use Rattle.thread_table.proofs.Events.Steps.{found_at}
 use Rattle.thread_table.proofs.Clients.{look_effect, pending_result}
 use Rattle.thread_table.proofs.Hands.Unchanged.{stays_by}
+use Rattle.thread_table.proofs.ClientBounds.{pending_bound}
 use Rattle.thread_table.proofs.hand.ThreadTable.pending.Goals as goal
 
 pub returns-clause-trace : goal.returns-clause-trace
@@ -15,3 +16,6 @@ returns-clause-result c = let known : c.args.element < ELEMENTS = search rules i
 
 pub returns-clause-frame : goal.returns-clause-frame
 returns-clause-frame c = let t = returns-clause-trace c in (stays_by _ _ _ t.3).keeps
+
+pub returns-clause-steps : goal.returns-clause-steps
+returns-clause-steps c = pending_bound c.args.element _ _ _ (returns-clause-trace c)

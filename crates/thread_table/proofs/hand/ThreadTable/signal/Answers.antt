@@ -4,6 +4,7 @@ use Rattle.thread_table.proofs.Events.StatesSeen.{bit_up, bit_down}
 use Rattle.thread_table.specs.declared.states.Signalled.TheVariants as signalled
 use Rattle.thread_table.proofs.Clients.{signal_effect, signal_result}
 use Rattle.thread_table.proofs.Hands.Unchanged.{signal_keeps}
+use Rattle.thread_table.proofs.ClientBounds.{signal_bound}
 use Rattle.thread_table.proofs.hand.ThreadTable.signal.Goals as goal
 
 pub returns-then-is_pending-clause-trace : goal.returns-then-is_pending-clause-trace
@@ -33,3 +34,9 @@ returns-clause-result c = let known : c.args.element < ELEMENTS = search rules i
 
 pub returns-clause-frame : goal.returns-clause-frame
 returns-clause-frame c = signal_keeps c.args.hand.now.seat.id c.args.element c.args.signal _ _ signalled.Raised (returns-clause-trace c)
+
+pub returns-then-is_pending-clause-steps : goal.returns-then-is_pending-clause-steps
+returns-then-is_pending-clause-steps c = signal_bound c.args.hand.now.seat.id c.args.element c.args.signal _ _ signalled.Merged (returns-then-is_pending-clause-trace c)
+
+pub returns-clause-steps : goal.returns-clause-steps
+returns-clause-steps c = signal_bound c.args.hand.now.seat.id c.args.element c.args.signal _ _ signalled.Raised (returns-clause-trace c)

@@ -4,6 +4,7 @@ use Rattle.thread_table.specs.Steps as valid
 use Rattle.thread_table.proofs.Events.StatesSeen.{read_pc, counted_step}
 use Rattle.thread_table.proofs.Clients.{step_effect, step_result, step_error}
 use Rattle.thread_table.proofs.Hands.Unchanged.{done_keeps}
+use Rattle.thread_table.proofs.ClientBounds.{step_bound}
 use Rattle.thread_table.proofs.hand.ThreadTable.step_done.Goals as goal
 
 pub returns-then-done-clause-trace : goal.returns-then-done-clause-trace
@@ -33,3 +34,9 @@ returns-clause-result c = let known : c.args.element < ELEMENTS = search rules i
 
 pub returns-clause-frame : goal.returns-clause-frame
 returns-clause-frame c = done_keeps c.args.hand.now.seat.id c.args.element _ _ (Ok _) (returns-clause-trace c)
+
+pub returns-then-done-clause-steps : goal.returns-then-done-clause-steps
+returns-then-done-clause-steps c = step_bound c.args.hand.now.seat.id c.args.element _ _ (Err _) (returns-then-done-clause-trace c)
+
+pub returns-clause-steps : goal.returns-clause-steps
+returns-clause-steps c = step_bound c.args.hand.now.seat.id c.args.element _ _ (Ok _) (returns-clause-trace c)

@@ -3,6 +3,7 @@ use Rattle.event_theory.specs.declared.event.Event.TheVariants as events
 use Rattle.thread_table.proofs.Events.StatesSeen.{bit_is}
 use Rattle.thread_table.proofs.Clients.{stop_effect, stop_result}
 use Rattle.thread_table.proofs.Hands.Unchanged.{stop_keeps}
+use Rattle.thread_table.proofs.ClientBounds.{stop_bound}
 use Rattle.thread_table.proofs.hand.ThreadTable.stop.Goals as goal
 
 pub returns-clause-trace : goal.returns-clause-trace
@@ -18,3 +19,6 @@ returns-clause-result c = let known : c.args.element < ELEMENTS = search rules i
 
 pub returns-clause-frame : goal.returns-clause-frame
 returns-clause-frame c = stop_keeps c.args.hand.now.seat.id c.args.element _ _ _ (returns-clause-trace c)
+
+pub returns-clause-steps : goal.returns-clause-steps
+returns-clause-steps c = stop_bound c.args.hand.now.seat.id c.args.element _ _ _ (returns-clause-trace c)

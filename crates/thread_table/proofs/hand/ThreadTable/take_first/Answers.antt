@@ -1,8 +1,9 @@
-use Rattle.thread_table.proofs.Common.{Ok, Err, rules, [], ◌≡◌, ◌<◌, ◌∙◌, ℕ, set, true, subst, sym, ap, transport, View, call_of, view_of, take_event, tail_word, HandDid, merely, ELEMENTS, TakeAnswer}
+use Rattle.thread_table.proofs.Common.{Ok, Err, rules, [], ◌≡◌, ◌<◌, ◌∙◌, ℕ, set, true, subst, sym, ap, transport, View, call_of, view_of, take_event, tail_word, HandDid, merely, ELEMENTS, TakeAnswer, arith}
 use Rattle.thread_table.proofs.Events.Answering.{not_raised, passed_by, taken_first}
 use Rattle.thread_table.specs.declared.takings.NextRefusal.TheVariants as nexts
 use Rattle.thread_table.proofs.Clients.{take_effect, take_result, take_error}
 use Rattle.thread_table.proofs.Hands.Unchanged.{take_keeps}
+use Rattle.thread_table.proofs.ClientBounds.{take_bound}
 use Rattle.thread_table.proofs.hand.ThreadTable.take_first.Goals as goal
 
 pub returns-then-now-tail-clause-trace : goal.returns-then-now-tail-clause-trace
@@ -81,3 +82,15 @@ returns-clause-frame c = take_keeps c.args.hand.now.seat.id c.args.ring _ _ (Ok 
 
 pub returns-clause-result : goal.returns-clause-result
 returns-clause-result c = let e = c.exchange_tail-found.ensures.hit c.if-found-tail.false in take_result [] c.args.hand.now.seat.id c.args.ring _ _ c.requires.1 e.step.valid (Ok c.in-Some.element) (returns-clause-trace c)
+
+pub returns-then-now-tail-clause-steps : goal.returns-then-now-tail-clause-steps
+returns-then-now-tail-clause-steps c = take_bound 3 [] c.args.hand.now.seat.id c.args.ring _ _ (Err nexts.NoneReady) (omega arith) (returns-then-now-tail-clause-trace c)
+
+pub returns-then-place-tail-clause-steps : goal.returns-then-place-tail-clause-steps
+returns-then-place-tail-clause-steps c = take_bound 3 [] c.args.hand.now.seat.id c.args.ring _ _ (Err (nexts.Lost c.load_tail-now.result)) (omega arith) (returns-then-place-tail-clause-trace c)
+
+pub returns-then-found-tail-clause-steps : goal.returns-then-found-tail-clause-steps
+returns-then-found-tail-clause-steps c = take_bound 3 [] c.args.hand.now.seat.id c.args.ring _ _ (Err (nexts.Lost c.exchange_tail-found.result)) (omega arith) (returns-then-found-tail-clause-trace c)
+
+pub returns-clause-steps : goal.returns-clause-steps
+returns-clause-steps c = take_bound 3 [] c.args.hand.now.seat.id c.args.ring _ _ (Ok c.in-Some.element) (omega arith) (returns-clause-trace c)

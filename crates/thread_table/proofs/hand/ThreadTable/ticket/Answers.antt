@@ -2,6 +2,7 @@ use Rattle.thread_table.proofs.Common.{rules, refl, ◌<◌, ◌+◌, ◌≡◌,
 use Rattle.thread_table.proofs.Events.Answering.{found_in, is_ticket}
 use Rattle.thread_table.proofs.Clients.{look_effect, ticket_says}
 use Rattle.thread_table.proofs.Hands.Unchanged.{ticket_stays}
+use Rattle.thread_table.proofs.ClientBounds.{ticket_bound}
 use Rattle.thread_table.proofs.hand.ThreadTable.ticket.Goals as goal
 
 pub returns-clause-trace : goal.returns-clause-trace
@@ -16,3 +17,6 @@ returns-clause-result c = let known : c.args.wait < WAITS = search rules in tick
 
 pub returns-clause-frame : goal.returns-clause-frame
 returns-clause-frame c = (ticket_stays c.args.wait _ _ _ (returns-clause-trace c)).keeps
+
+pub returns-clause-steps : goal.returns-clause-steps
+returns-clause-steps c = ticket_bound c.args.wait _ _ _ (returns-clause-trace c)

@@ -5,6 +5,7 @@ use Rattle.thread_table.proofs.Events.StatesSeen.{has_signals, delivered}
 use Rattle.thread_table.proofs.Events.Steps.{found_at}
 use Rattle.thread_table.proofs.Clients.{deliver_effect, deliver_result, deliver_error}
 use Rattle.thread_table.proofs.Hands.Unchanged.{deliver_keeps}
+use Rattle.thread_table.proofs.ClientBounds.{deliver_bound}
 use Rattle.thread_table.proofs.hand.ThreadTable.try_deliver.Goals as goal
 
 pub returns-then-pending-eq0-clause-trace : goal.returns-then-pending-eq0-clause-trace
@@ -45,3 +46,12 @@ returns-clause-result c = let known : c.args.element < ELEMENTS = search rules i
 
 pub returns-clause-frame : goal.returns-clause-frame
 returns-clause-frame c = deliver_keeps c.args.hand.now.seat.id c.args.element _ _ (Ok c.pending-pending.result) (returns-clause-trace c)
+
+pub returns-then-pending-eq0-clause-steps : goal.returns-then-pending-eq0-clause-steps
+returns-then-pending-eq0-clause-steps c = deliver_bound c.args.hand.now.seat.id c.args.element _ _ (Ok 0) (returns-then-pending-eq0-clause-trace c)
+
+pub returns-then-seen-word-clause-steps : goal.returns-then-seen-word-clause-steps
+returns-then-seen-word-clause-steps c = deliver_bound c.args.hand.now.seat.id c.args.element _ _ (Err (record { seen = c.exchange_state-seen.result })) (returns-then-seen-word-clause-trace c)
+
+pub returns-clause-steps : goal.returns-clause-steps
+returns-clause-steps c = deliver_bound c.args.hand.now.seat.id c.args.element _ _ (Ok c.pending-pending.result) (returns-clause-trace c)

@@ -5,6 +5,7 @@ use Rattle.thread_table.proofs.Events.StatesSeen.{bit_up, bit_down, parked}
 use Rattle.thread_table.proofs.Events.Steps.{found_at}
 use Rattle.thread_table.proofs.Clients.{park_effect, park_result, park_error}
 use Rattle.thread_table.proofs.Hands.Unchanged.{park_keeps}
+use Rattle.thread_table.proofs.ClientBounds.{park_bound}
 use Rattle.thread_table.proofs.hand.ThreadTable.try_park.Goals as goal
 
 pub returns-then-not-is_stopping-clause-trace : goal.returns-then-not-is_stopping-clause-trace
@@ -45,3 +46,12 @@ returns-clause-result c = let known : c.args.element < ELEMENTS = search rules i
 
 pub returns-clause-frame : goal.returns-clause-frame
 returns-clause-frame c = park_keeps c.args.hand.now.seat.id c.args.element _ _ (Ok true) (returns-clause-trace c)
+
+pub returns-then-not-is_stopping-clause-steps : goal.returns-then-not-is_stopping-clause-steps
+returns-then-not-is_stopping-clause-steps c = park_bound c.args.hand.now.seat.id c.args.element _ _ (Ok false) (returns-then-not-is_stopping-clause-trace c)
+
+pub returns-then-seen-word-clause-steps : goal.returns-then-seen-word-clause-steps
+returns-then-seen-word-clause-steps c = park_bound c.args.hand.now.seat.id c.args.element _ _ (Err (record { seen = c.exchange_state-seen.result })) (returns-then-seen-word-clause-trace c)
+
+pub returns-clause-steps : goal.returns-clause-steps
+returns-clause-steps c = park_bound c.args.hand.now.seat.id c.args.element _ _ (Ok true) (returns-clause-trace c)

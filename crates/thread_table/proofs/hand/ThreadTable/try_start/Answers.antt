@@ -6,6 +6,7 @@ use Rattle.thread_table.proofs.Events.StatesSeen.{bit_up, bit_down, cleared, hel
 use Rattle.thread_table.proofs.Events.Steps.{found_at}
 use Rattle.thread_table.proofs.Clients.{start_effect, start_result, start_error}
 use Rattle.thread_table.proofs.Hands.Unchanged.{start_keeps}
+use Rattle.thread_table.proofs.ClientBounds.{start_bound}
 use Rattle.thread_table.proofs.hand.ThreadTable.try_start.Goals as goal
 
 pub returns-then-not-is_stopping-clause-trace : goal.returns-then-not-is_stopping-clause-trace
@@ -94,3 +95,15 @@ returns-clause-result c = let known : c.args.element < ELEMENTS = search rules i
 
 pub returns-clause-frame : goal.returns-clause-frame
 returns-clause-frame c = start_keeps c.args.hand.now.seat.id c.args.element _ _ (Ok started.Held) (returns-clause-trace c)
+
+pub returns-then-not-is_stopping-clause-steps : goal.returns-then-not-is_stopping-clause-steps
+returns-then-not-is_stopping-clause-steps c = start_bound c.args.hand.now.seat.id c.args.element _ _ (Ok started.NotStopped) (returns-then-not-is_stopping-clause-trace c)
+
+pub returns-then-seen-word-clause-steps : goal.returns-then-seen-word-clause-steps
+returns-then-seen-word-clause-steps c = start_bound c.args.hand.now.seat.id c.args.element _ _ (Err (record { seen = c.exchange_state-seen.result })) (returns-then-seen-word-clause-trace c)
+
+pub returns-then-not-is_parked-clause-steps : goal.returns-then-not-is_parked-clause-steps
+returns-then-not-is_parked-clause-steps c = start_bound c.args.hand.now.seat.id c.args.element _ _ (Ok started.Cleared) (returns-then-not-is_parked-clause-trace c)
+
+pub returns-clause-steps : goal.returns-clause-steps
+returns-clause-steps c = start_bound c.args.hand.now.seat.id c.args.element _ _ (Ok started.Held) (returns-clause-trace c)

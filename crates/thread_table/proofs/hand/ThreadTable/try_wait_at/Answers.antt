@@ -4,6 +4,7 @@ use Rattle.thread_table.proofs.Events.Answering.{found_in, was_spent, moved_befo
 use Rattle.thread_table.specs.declared.moves.MoveRefusal.TheVariants as moves
 use Rattle.thread_table.proofs.Clients.{wait_effect, wait_result, wait_error}
 use Rattle.thread_table.proofs.Hands.Unchanged.{wait_keeps}
+use Rattle.thread_table.proofs.ClientBounds.{wait_bound}
 use Rattle.thread_table.proofs.hand.ThreadTable.try_wait_at.Goals as goal
 
 pub returns-then-head-clause-trace : goal.returns-then-head-clause-trace
@@ -104,3 +105,18 @@ returns-clause-result c = let known : c.args.wait < WAITS = search rules in let 
 
 pub returns-clause-frame : goal.returns-clause-frame
 returns-clause-frame c = wait_keeps c.args.hand.now.seat.id c.args.wait c.args.element c.args.ticket _ _ (Ok tt) (returns-clause-trace c)
+
+pub returns-then-head-clause-steps : goal.returns-then-head-clause-steps
+returns-then-head-clause-steps c = wait_bound c.args.hand.now.seat.id c.args.wait c.args.element c.args.ticket _ _ (Err moves.Spent) (returns-then-head-clause-trace c)
+
+pub returns-then-mark-ticket-clause-steps : goal.returns-then-mark-ticket-clause-steps
+returns-then-mark-ticket-clause-steps c = wait_bound c.args.hand.now.seat.id c.args.wait c.args.element c.args.ticket _ _ (Err (moves.Moved c.of-head.result.mark)) (returns-then-mark-ticket-clause-trace c)
+
+pub returns-then-now-ticket-clause-steps : goal.returns-then-now-ticket-clause-steps
+returns-then-now-ticket-clause-steps c = wait_bound c.args.hand.now.seat.id c.args.wait c.args.element c.args.ticket _ _ (Err (moves.Moved c.of-now.result.mark)) (returns-then-now-ticket-clause-trace c)
+
+pub returns-then-found-word-clause-steps : goal.returns-then-found-word-clause-steps
+returns-then-found-word-clause-steps c = wait_bound c.args.hand.now.seat.id c.args.wait c.args.element c.args.ticket _ _ (Err (moves.Lost c.exchange_head_at-found.result)) (returns-then-found-word-clause-trace c)
+
+pub returns-clause-steps : goal.returns-clause-steps
+returns-clause-steps c = wait_bound c.args.hand.now.seat.id c.args.wait c.args.element c.args.ticket _ _ (Ok tt) (returns-clause-trace c)

@@ -1,10 +1,11 @@
 use Rattle.thread_table.proofs.Common.{rules, ℕ, Found, tail_word, RINGS, WAITS, arith, ◌≡◌, ◌+◌, ◌<◌, ◌≤◌, sym, ap, subst, ◌∙◌, Ok, Err, Some, None, Result, Option, NextRefusal, call_of, view_of, wait_ring, TakeAnswer, BeforeAnswer}
 use Rattle.std.specs.Result.{IsErrAnd}
 use Rattle.thread_table.proofs.Events.Waking.{has_reached, took_before, missed_before}
-use Rattle.thread_table.proofs.Clients.{before_effect, before_reached, before_found, before_refused}
+use Rattle.thread_table.proofs.ClientWakes.{before_effect, before_reached, before_found, before_refused}
 use Rattle.thread_table.proofs.Hands.Unchanged.{before_keeps}
 use Rattle.std.specs.Prelude.{IfOk, IfErr}
 use Rattle.thread_table.specs.Client.{TookOldest, WhyNotTaken, WhyNotBefore, BeforeFound}
+use Rattle.thread_table.proofs.ClientBounds.{before_bound}
 use Rattle.thread_table.proofs.hand.ThreadTable.try_wake_before.Goals as goal
 
 err_is : {A E : Type 0} (z : Result A E) (e : E) → IsErrAnd z (λ x. x ≡ e) → z ≡ Err e
@@ -71,3 +72,12 @@ returns-clause-result c = let e : ℕ = c.in_ok-element.element in let v = view_
     let ring : c.wait_ring-ring.result ≡ wait_ring c.args.wait = c.wait_ring-ring.ensures.0 ∙ ap (λ (k : ℕ). k + 2) c.number.ensures.value in
     let took : TookOldest (call_of c.args.hand.now) c.wait_ring-ring.result e u w = subst (λ (k : ℕ). TookOldest k c.wait_ring-ring.result e u w) c.load_tail-reached.ensures.queue.0.1 c.in_ok-element.ensures.result in
     before_found v u w (call_of c.args.hand.now) (wait_ring c.args.wait) c.args.head c.load_tail-reached.result e below (subst (λ (k : ℕ). Found v (tail_word k) c.load_tail-reached.result u) ring found) (search rules) (subst (λ (k : ℕ). TookOldest (call_of c.args.hand.now) k e u w) ring took)
+
+pub returns-then-from-reached-clause-steps : goal.returns-then-from-reached-clause-steps
+returns-then-from-reached-clause-steps c = before_bound c.args.hand.now.seat.id (wait_ring c.args.wait) c.args.head _ _ (Ok None) (returns-then-from-reached-clause-trace c)
+
+pub returns-in_err-element-clause-steps : goal.returns-in_err-element-clause-steps
+returns-in_err-element-clause-steps c = before_bound c.args.hand.now.seat.id (wait_ring c.args.wait) c.args.head _ _ (c.from_residual.result) (returns-in_err-element-clause-trace c)
+
+pub returns-clause-steps : goal.returns-clause-steps
+returns-clause-steps c = before_bound c.args.hand.now.seat.id (wait_ring c.args.wait) c.args.head _ _ (Ok (Some c.in_ok-element.element)) (returns-clause-trace c)

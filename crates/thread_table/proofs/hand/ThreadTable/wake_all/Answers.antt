@@ -1,8 +1,9 @@
-use Rattle.thread_table.proofs.Common.{rules, ℕ, WAITS, ◌≡◌, ◌+◌, ◌<◌, ◌≤◌, sym, ap, subst, ◌∙◌, Ok, Err, transport, call_of, view_of, head_word, tail_word, wait_ring, HandDid, Found, TakeAnswer}
+use Rattle.thread_table.proofs.Common.{rules, ℕ, WAITS, View, ◌≡◌, ◌+◌, ◌<◌, ◌≤◌, sym, ap, subst, ◌∙◌, Ok, Err, transport, call_of, view_of, head_word, tail_word, wait_ring, HandDid, Found, TakeAnswer}
 use Rattle.event_theory.specs.declared.event.Event.TheVariants as events
 use Rattle.thread_table.proofs.Events.Answering.{word_parts}
 use Rattle.thread_table.proofs.Events.Waking.{Rounds, rounds_none, rounds_took, rounds_missed, woke_all}
-use Rattle.thread_table.proofs.Clients.{wake_effect, wake_result, wake_owns, wake_keeps}
+use Rattle.thread_table.proofs.ClientWakes.{wake_effect, wake_result, wake_bound, wake_keeps}
+use Rattle.thread_table.proofs.ClientTries.{wake_tries}
 use Rattle.thread_table.proofs.hand.ThreadTable.wake_all.Goals as goal
 
 pub loop-init : goal.loop-init
@@ -48,4 +49,11 @@ returns-then-tail-head-clause-result g c = let low : c.args.wait < WAITS = searc
 
 pub returns-then-tail-head-clause-bound : goal.returns-then-tail-head-clause-bound
 returns-then-tail-head-clause-bound g c = let low : c.args.wait < WAITS = search rules in
-    wake_owns (call_of c.args.hand.now) c.args.wait _ _ _ low c.load_tail-tail.ensures.found.valid (returns-then-tail-head-clause-trace g c)
+    wake_bound (call_of c.args.hand.now) c.args.wait _ _ _ low c.load_tail-tail.ensures.found.valid (returns-then-tail-head-clause-trace g c)
+
+pub returns-then-tail-head-clause-owns : goal.returns-then-tail-head-clause-owns
+returns-then-tail-head-clause-owns g c = ap (λ (z : View). z.member) (returns-then-tail-head-clause-trace g c).acts.has
+
+pub returns-then-tail-head-clause-tries : goal.returns-then-tail-head-clause-tries
+returns-then-tail-head-clause-tries g c = let low : c.args.wait < WAITS = search rules in
+    wake_tries (call_of c.args.hand.now) c.args.wait _ _ _ low c.load_tail-tail.ensures.found.valid (returns-then-tail-head-clause-trace g c)

@@ -1,0 +1,7 @@
+mod Owners
+mod Holding
+mod Calls
+mod Ends
+mod Left
+mod Filling
+mod Working

@@ -1,0 +1,6 @@
+use Rattle.std.proofs.Common.{◌≡◌}
+use Rattle.tags.specs.Lending.{all_tags}
+use Rattle.tags.proofs.tags.all_tags.Given as goal
+
+abbrev pub invariant-loop-tag : goal.invariant-loop-tag
+invariant-loop-tag g l = l.tags.items ≡ all_tags l.tag

@@ -42,7 +42,12 @@
  * `new` makes an object and fills its first handle. `split` fills one more. `join` empties one, and gives its share to
  * another one. `finish`, by a handle that has the whole again, ends the object and reports what became of it. `free`
  * empties a handle that is never joined: then no finish succeeds, and the object goes with its last handle. A full
- * handle that is neither joined, finished, abandoned nor freed is leaked.
+ * handle that is neither joined, finished, abandoned nor freed is leaked. An object is of one process: it is never in
+ * memory that processes share.
+ *
+ * FROM DPDK. `synth_batch_put` is rte_ring_enqueue_bulk, `put_some` is rte_ring_enqueue_burst, `take_some` is
+ * rte_ring_dequeue_burst, `len` is rte_ring_count, and `capacity` is rte_ring_get_capacity. There a put waits until
+ * those before it are done. Here none waits, and takers find no item past a put that isn't done.
  *
  * ORDER OF MEMORY. Each atomic step is sequentially consistent, as C11 has the word. So what was done before
  *

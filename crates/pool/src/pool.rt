@@ -2,13 +2,14 @@
 //!
 //! A holder is an end of the pool's queue, which lists what it put and took, so it needs no list of its own. The
 //! functions of `batch_queue::laws` have empty bodies. They are called because the proofs use their clauses.
-ghost use Rattle.std.specs.Prelude.{◌≡◌, ◌+◌, ◌<◌, ◌≤◌, length, take, IfErr, IfOk, MatchResult};
+ghost use Rattle.std.specs.Prelude.{◌≡◌, ◌+◌, ◌<◌, ◌≤◌, ℕ, length, take, IfErr, IfOk, MatchResult};
 ghost use Rattle.table_theory.specs.Ledgers.{WereOpen};
 ghost use Rattle.batch_queue.specs.Client.{WhyNotPut};
+ghost use Rattle.batch_queue.specs.Evidence.{IsPut, JoinedBy, RefusedPut, RefusedTakeSome, SplitBy, TookSome};
 ghost use Rattle.batch_queue.specs.Handles as queues;
 ghost use Rattle.batch_queue.specs.Layout.{ends_word};
 ghost use Rattle.batch_queue.specs.Lefts.{items_left};
-ghost use Rattle.batch_queue.specs.Parts.{RefusedTakeSome, TookSome, WhyNotTakenSome};
+ghost use Rattle.batch_queue.specs.Parts.{WhyNotTakenSome};
 ghost use Rattle.pool.specs.Buffers.{all_buffers, AreBuffers};
 ghost use Rattle.pool.specs.Holdings.{IsFair, Acquired, Released};
 
@@ -110,6 +111,9 @@ impl Pool {
         ensures error { IfErr result (λ r. WhyNotPut (view_of holder.old) (room_of self.now) (length buffers.now) r
             (view_of holder.new)) }
         ensures share { SameShare holder.old holder.new }
+        ensures trace { MatchResult result
+            (λ r. (start : ℕ) × IsPut (room_of self.now) (view_of holder.old) start buffers.now (view_of holder.new))
+            (λ r. RefusedPut (room_of self.now) (view_of holder.old) (length buffers.now) r (view_of holder.new)) }
     {
         lists_are_true();
         never_below();
@@ -128,6 +132,7 @@ impl Pool {
         ensures pool { IsHolderOf self.now holder.new × IsHolderOf self.now result }
         ensures effect { HoldsSame holder.old holder.new × HoldsNone result }
         ensures share { SharesOut holder.old holder.new result }
+        ensures trace { SplitBy (view_of holder.old) (view_of holder.new) }
     {
         lists_are_true();
         let end = self.queue.split(&mut holder.end);
@@ -140,6 +145,7 @@ impl Pool {
         ensures pool { IsHolderOf self.now holder.new }
         ensures effect { HoldsBoth holder.old other holder.new }
         ensures share { share_of holder.new ≡ share_of holder.old + share_of other }
+        ensures trace { JoinedBy (view_of holder.old) (view_of other) (view_of holder.new) }
     {
         lists_are_true();
         joins_are_true();

@@ -5,10 +5,11 @@
 ghost use Rattle.std.specs.Prelude.{◌≡◌, ◌+◌, ◌<◌, ◌≤◌, [], ◌∷◌, List, ℕ, map, Some, IfErr, IfOk, MatchResult};
 ghost use Rattle.table_theory.specs.Ledgers.{WereOpen};
 ghost use Rattle.claim_queue.specs.Client.{WereFirst, WhyNotClaimed, WhyNotTaken};
+ghost use Rattle.claim_queue.specs.Evidence.{IsPut, JoinedBy, Refused, RefusedTake, SplitBy, TookItems};
 ghost use Rattle.claim_queue.specs.Handles as queues;
 ghost use Rattle.claim_queue.specs.Layout.{ends_word};
 ghost use Rattle.claim_queue.specs.Lines.{lines_put, lines_taken};
-ghost use Rattle.claim_queue.specs.Takings.{IsNone};
+ghost use Rattle.claim_queue.specs.Takings.{IsNone, IsOne};
 ghost use Rattle.tags.specs.Holdings.{IsHolding, TookTag, GaveTag};
 ghost use Rattle.tags.specs.Lending.{all_tags};
 
@@ -103,6 +104,8 @@ impl<const N: usize> Tags<N> {
         ensures share { SameShare holder.old holder.new }
         ensures error { IfErr result (λ r. ((view_of holder.new).own ≡ (view_of holder.old).own)
             × WhyNotTaken IsNone (view_of holder.old) r (view_of holder.new)) }
+        ensures trace { MatchResult result (λ tag. TookItems N (view_of holder.old) (tag ∷ []) (view_of holder.new))
+            (λ r. RefusedTake IsNone IsOne N (view_of holder.old) r (view_of holder.new)) }
     {
         lists_are_true();
         self.queue.try_take_as(&mut holder.end)
@@ -120,6 +123,9 @@ impl<const N: usize> Tags<N> {
         ensures share { SameShare holder.old holder.new }
         ensures error { IfErr result (λ r. ((view_of holder.new).own ≡ (view_of holder.old).own)
             × WhyNotClaimed (view_of holder.old) N 1 r (view_of holder.new)) }
+        ensures trace { MatchResult result
+            (λ r. (start : ℕ) × IsPut N (view_of holder.old) start (tag ∷ []) (view_of holder.new))
+            (λ r. Refused N (view_of holder.old) 1 r (view_of holder.new)) }
     {
         lists_are_true();
         never_below();
@@ -138,6 +144,7 @@ impl<const N: usize> Tags<N> {
         ensures pool { IsHolderOf self.now holder.new × IsHolderOf self.now result }
         ensures effect { HoldsSame holder.old holder.new × HoldsNone result }
         ensures share { SharesOut holder.old holder.new result }
+        ensures trace { SplitBy (view_of holder.old) (view_of holder.new) }
     {
         lists_are_true();
         let end = self.queue.split(&mut holder.end);
@@ -150,6 +157,7 @@ impl<const N: usize> Tags<N> {
         ensures pool { IsHolderOf self.now holder.new }
         ensures effect { HoldsBoth holder.old other.entry holder.new }
         ensures share { share_of holder.new ≡ share_of holder.old + share_of other.entry }
+        ensures trace { JoinedBy (view_of holder.old) (view_of other.entry) (view_of holder.new) }
     {
         joins_are_true();
         lists_are_true();

@@ -33,20 +33,18 @@ pub use Rattle.turn_dispatch.specs.declared.counting.Counted.{Counted}
 pub use Rattle.turn_dispatch.specs.declared.dispatch.Begun.{Begun}
 pub use Rattle.turn_dispatch.specs.declared.dispatch.Idle.{Idle}
 pub use Rattle.turn_io.proofs.Adding.{by_sizes, queues_add}
-pub use Rattle.turn_io.specs.Accounts.{StaySound, at_each, at_one, both_chain, both_queue, by_index, chain_account, chain_shares, idle_chain, idle_queue, put_if, queue_account, queue_shares, taken_if}
+pub use Rattle.turn_io.specs.Accounts.{StaySound, at_each, both_chain, both_queue, by_index, chain_account, chain_shares, idle_chain, idle_queue, queue_account, queue_shares}
 pub use Rattle.turn_io.specs.EndLists.{OnEnd, knows_shut_at}
 pub use Rattle.turn_io.specs.declared.gate.Point.TheVariants.{Turn}
 pub use Rattle.processor.specs.Accounts.{account, nothing, seat_parted, shares, shown_in, ◌⊕◌}
-pub use Rattle.processor.specs.Acts.{NeverFalls}
 pub use Rattle.processor.specs.Outcomes.{IsOutcomeOf, is_done, line_in}
 pub use Rattle.processor.specs.Doings.{heard_by, is_heard, raised_by, saw_shut}
 pub use Rattle.processor.specs.Entries.{FollowsStep, LogEntry, beginning, trying}
-pub use Rattle.processor.specs.Logs.{Climbs, EndsWorked, HasDone, Ran, Went, numbers_of}
+pub use Rattle.processor.specs.Logs.{Climbs, HasDone, Ran, Went, numbers_of}
 pub use Rattle.processor.specs.Manning.{KeepsStation}
 pub use Rattle.processor.specs.Partings.{HaveBoth}
 pub use Rattle.processor.specs.Points.{HookedTurns}
 pub use Rattle.processor.specs.Programs.{AreHears, IsHear, hear_count, hears_in, is_hear, program, same_key, step_of}
-pub use Rattle.processor.specs.Queues.{DidAt}
 pub use Rattle.processor.specs.Rooms.{IsPast, key_of}
 pub use Rattle.processor.specs.Running.{Goes, Stepped}
 pub use Rattle.processor.specs.Turns.{AreAtRest, is_last}

@@ -1,11 +1,12 @@
 -- A station that a processor can use stays one.
-use Rattle.processor.proofs.Common.{◌≡◌, ℕ, false, None, get_or, refl, sym, ap, subst, ◌∙◌, by_index, queue_shares, chain_shares, view_of, Keeps, View, Shared, Parts, shares, seat_parted, NeverFalls, KeepsStation, AreAtRest}
+use Rattle.processor.proofs.Common.{◌≡◌, ℕ, false, None, get_or, refl, sym, ap, subst, ◌∙◌, by_index, queue_shares, chain_shares, view_of, Keeps, View, Shared, Parts, shares, seat_parted, KeepsStation, AreAtRest}
 use Rattle.turn_io.specs.EndLists.{AreEndsOf, AreSameEnds, AreChainEndsOf, AreSameChainEnds}
 use Rattle.turn_dispatch.specs.Holdings.{IsFree}
 use Rattle.meters.specs.Handles as meters
 use Rattle.thread_table.specs.Handles.{IsSameHand}
 use Rattle.processor.specs.Manning.{IsRunnable}
 use Rattle.processor.specs.Stations.{AreSameParts}
+use Rattle.processor.proofs.Rising.{NeverFalls}
 use Rattle.processor.proofs.Rooming.{room_kept}
 
 pub same_on : (u v w : Parts) → AreSameParts u v → AreSameParts v w → AreSameParts u w

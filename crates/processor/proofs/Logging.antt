@@ -1,5 +1,5 @@
 -- The account of several pieces of a processor's work, one after the other.
-use Rattle.processor.proofs.Common.{◌≡◌, ◌||◌, ◌+◌, ◌≤◌, ◌==◌, ℕ, zero, suc, Bool, true, false, List, [], ◌∷◌, ◌++◌, map, refl, sym, ap, subst, ◌∙◌, ⊎_elim, Result, Ok, Err, MatchResult, arith, append-nil, list_any-append, BootPlan, QueueIndex, Small, Large, QueueEnd, queue_account, chain_account, by_index, queue_shares, StaySound, knows_shut_at, Begun, Idle, Shows, Tally, AddsToTally, no_events, nothing_did, did_both, view_of, done_at, Parts, nothing, ◌⊕◌, account, shown_in, seat_parted, NeverFalls, LogEntry, beginning, Climbs, HasDone, Ran, Went, numbers_of, Key, AreAtRest}
+use Rattle.processor.proofs.Common.{◌≡◌, ◌||◌, ◌+◌, ◌≤◌, ◌==◌, ℕ, zero, suc, Bool, true, false, List, [], ◌∷◌, ◌++◌, map, refl, sym, ap, subst, ◌∙◌, ⊎_elim, Result, Ok, Err, MatchResult, arith, append-nil, list_any-append, BootPlan, QueueIndex, Small, Large, QueueEnd, queue_account, chain_account, by_index, queue_shares, StaySound, knows_shut_at, Begun, Idle, Shows, Tally, AddsToTally, no_events, nothing_did, did_both, view_of, done_at, Parts, nothing, ◌⊕◌, account, shown_in, seat_parted, LogEntry, beginning, Climbs, HasDone, Ran, Went, numbers_of, Key, AreAtRest}
 use Rattle.std.specs.List.{All}
 use Rattle.std.proofs.Math.Bool.{or-false}
 use Rattle.std.proofs.lemmas.Bool.{or_cases}
@@ -23,6 +23,7 @@ use Rattle.table_theory.proofs.Ordering.{order_none}
 use Rattle.processor.specs.Accounts.{Account}
 use Rattle.processor.specs.Entries.{FollowsPlan, OutcomeFollows, entry_account, outcome_account, outcome_saw_shut, tending, turn_saw_shut}
 use Rattle.processor.specs.Logs.{IsFresh, Leaves, knows_shut, sum_of, was_shut}
+use Rattle.processor.proofs.Rising.{NeverFalls}
 use Rattle.processor.proofs.Summing.{accounts_add, dids_add, queue_sums, chain_sums, none_shows, more_shows}
 use mathlib.Core.Option.{some, some-ne-none}
 use lib.ListN.{get_elem?}

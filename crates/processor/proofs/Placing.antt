@@ -1,53 +1,61 @@
--- The work at one queue or at one chain was at that one alone.
-use Rattle.processor.proofs.Common.{◌≡◌, ℕ, List, sym, ap, subst, ◌∙◌, Small, Large, QueueEnd, StaySound, idle_queue, idle_chain, both_queue, both_chain, at_each, at_one, by_index, queue_account, chain_account, chain_shares, queues_add, by_sizes, nothing_did, did_both, StepOutcome, Parts, account, EndsWorked, DidAt}
-use Rattle.turn_io.specs.Accounts.{AtQueue}
-use Rattle.meters.specs.Handles as meters
+-- The sum of a step at the queues, at the chains and at the seat of the meters, by its evidence there.
+use Rattle.processor.proofs.Common.{◌≡◌, ℕ, List, sym, ap, subst, ◌∙◌, QueueIndex, Small, Large, QueueEnd, StaySound, idle_queue, both_queue, both_chain, at_each, by_index, queue_account, chain_account, chain_shares, queues_add, by_sizes, did_both, StepOutcome}
+use Rattle.meters.specs.Own.{SeatView}
 use Rattle.proc_chain.specs.declared.ends.ChainEnd.{ChainEnd}
-use Rattle.quajects.specs.contracts.any.AnyQuajectQuaject.TheImpl.{ghosts}
-use Rattle.quajects.specs.declared.any.AnyQuaject.{AnyQuaject}
-use Rattle.quajects.specs.declared.world.Queues.{Queues}
+use Rattle.proc_chain.specs.declared.ends.ProcChain.{ProcChain}
+use Rattle.proc_chain.specs.declared.quaject.Quaject.{Ghosts}
+use Rattle.turn_io.specs.Accounts.{AtQueue, only, put_if, shut_if, taken_if}
+use Rattle.turn_io.proofs.Accounting.{WorkedAt, said_at, heard_at, shut_at, poked_at}
+use Rattle.processor.specs.declared.step_outcome.StepOutcome.TheVariants as step_outcomes
 use Rattle.processor.specs.Doings.{queues_by, chains_by, ticks_by}
+use Rattle.processor.specs.Steps.{QueuesDid, ChainsDid, SeatDid}
+use Rattle.processor.specs.Tries.{said, heard}
 use Rattle.processor.proofs.Logging.{sound_still}
-use Rattle.processor.proofs.Summing.{chain_sums, dids_add, queue_sums}
-
-pub did_small : (k : ℕ) (did : AtQueue) (old new : List (QueueEnd 64)) (others : List (QueueEnd 256)) → queue_account new ≡ at_each both_queue (queue_account old) (at_one idle_queue k did)
-    → DidAt (Small k) did old new others others
-did_small k did old new others h = by_sizes _ _ (λ q i. h i q) (λ q. sym (queues_add.none_last (queue_account others q)))
-
-pub did_large : (k : ℕ) (did : AtQueue) (others : List (QueueEnd 64)) (old new : List (QueueEnd 256)) → queue_account new ≡ at_each both_queue (queue_account old) (at_one idle_queue k did)
-    → DidAt (Large k) did others others old new
-did_large k did others old new h = by_sizes _ _ (λ q. sym (queues_add.none_last (queue_account others q))) (λ q i. h i q)
+use Rattle.processor.proofs.Summing.{chain_sums, queue_sums}
+use Rattle.processor.proofs.Ticking.{Remains, did_none, did_tick}
 
 -- a fact about three values holds for equal values
 pub of_same : {A B C : Type 0} (R : A → B → C → Type 0) {a a' : A} {b b' : B} {c c' : C} → a ≡ a' → b ≡ b' → c ≡ c' → R a b c → R a' b' c'
 of_same R {a' = a'} {b = b} {b' = b'} {c = c} x y z r = subst (R a' b') z (subst (λ w. R a' w c) y (subst (λ w. R w b c) x r))
 
--- a step at the queues, whose ends the step found and left in these lists
-pub at_queues : (step_outcome : StepOutcome) (line line' : List ℕ) (old new : Parts) (xs xs' : List (QueueEnd 64)) (ys ys' : List (QueueEnd 256)) → line' ≡ line → xs ≡ old.small.items → xs' ≡ new.small.items → ys ≡ old.large.items → ys' ≡ new.large.items
-    → by_index (queue_account xs') (queue_account ys') ≡ at_each both_queue (by_index (queue_account xs) (queue_account ys)) (queues_by step_outcome line')
-    → StaySound xs xs' → StaySound ys ys' → chains_by step_outcome ≡ (λ q. idle_chain) → ticks_by step_outcome ≡ nothing_did → new.chains ≡ old.chains → new.meters ≡ old.meters → EndsWorked step_outcome line old new
-at_queues step_outcome line line' old new xs xs' ys ys' e x x' y y' did small large none still c m = record {
-  queues = (λ k. by_index (queue_account (sym x' k)) (queue_account (sym y' k))) ∙ (did ∙ (λ k. at_each both_queue (by_index (queue_account (x k)) (queue_account (y k))) (queues_by step_outcome (e k))));
-  chains = (λ k. chain_account (c k).items) ∙ (sym (chain_sums.none_last (account old).chains) ∙ ap (at_each both_chain (account old).chains) (sym none));
-  ticks = ap (λ z. (meters.view_of z).own) m ∙ (sym (dids_add.none_last (account old).meters) ∙ ap (did_both (account old).meters) (sym still));
-  small = subst (λ z. StaySound z new.small.items) x (subst (StaySound xs) x' small);
-  large = subst (λ z. StaySound z new.large.items) y (subst (StaySound ys) y' large);
-  chains_kept = λ k. chain_shares (c k).items;
-  seat_kept = λ k. (meters.view_of (m k)).member.share;
-  seat = λ k. ((meters.view_of (m k)).member.splits, (meters.view_of (m k)).member.joins);
-}
+-- this was done at the queues, and their ends stay sound
+pub record QueuesWorked (more : QueueIndex → AtQueue) (old new : List (QueueEnd 64)) (old' new' : List (QueueEnd 256)) : Type 0 where
+  pub did : by_index (queue_account new) (queue_account new') ≡ at_each both_queue (by_index (queue_account old) (queue_account old')) more
+  pub small : StaySound old new
+  pub large : StaySound old' new'
 
--- a step at the chains
-pub at_chains : (step_outcome : StepOutcome) (line : List ℕ) (old new : Parts) (xs xs' : List (ChainEnd AnyQuaject Queues ghosts)) → xs ≡ old.chains.items → xs' ≡ new.chains.items
-    → chain_account xs' ≡ at_each both_chain (chain_account xs) (chains_by step_outcome) → chain_shares xs' ≡ chain_shares xs
-    → queues_by step_outcome line ≡ (λ q. idle_queue) → ticks_by step_outcome ≡ nothing_did → new.small ≡ old.small → new.large ≡ old.large → new.meters ≡ old.meters → EndsWorked step_outcome line old new
-at_chains step_outcome line old new xs xs' x x' did kept none still s l m = record {
-  queues = (λ k. by_index (queue_account (s k).items) (queue_account (l k).items)) ∙ (sym (queue_sums.none_last (account old).queues) ∙ ap (at_each both_queue (account old).queues) (sym none));
-  chains = ap chain_account (sym x') ∙ (did ∙ ap (λ z. at_each both_chain (chain_account z) (chains_by step_outcome)) x);
-  ticks = ap (λ z. (meters.view_of z).own) m ∙ (sym (dids_add.none_last (account old).meters) ∙ ap (did_both (account old).meters) (sym still));
-  small = sound_still _ _ (λ k. (s k).items);
-  large = sound_still _ _ (λ k. (l k).items);
-  chains_kept = ap chain_shares (sym x') ∙ (kept ∙ ap chain_shares x);
-  seat_kept = λ k. (meters.view_of (m k)).member.share;
-  seat = λ k. ((meters.view_of (m k)).member.splits, (meters.view_of (m k)).member.joins);
-}
+module _ (old new : List (QueueEnd 64)) (old' new' : List (QueueEnd 256)) where
+  at_small : (k : ℕ) (more : AtQueue) → WorkedAt k more old new → new' ≡ old' → QueuesWorked (only idle_queue (Small k) more) old new old' new'
+  at_small k more w same = record {
+    did = by_sizes _ _ (λ q i. w.did i q) (λ q. ap (λ z. queue_account z q) same ∙ sym (queues_add.none_last (queue_account old' q)));
+    small = w.sound;
+    large = sound_still old' new' same;
+  }
+
+  at_large : (k : ℕ) (more : AtQueue) → WorkedAt k more old' new' → new ≡ old → QueuesWorked (only idle_queue (Large k) more) old new old' new'
+  at_large k more w same = record {
+    did = by_sizes _ _ (λ q. ap (λ z. queue_account z q) same ∙ sym (queues_add.none_last (queue_account old q))) (λ q i. w.did i q);
+    small = sound_still old new same;
+    large = w.sound;
+  }
+
+  pub queues_worked : (step_outcome : StepOutcome) (line : List ℕ) → QueuesDid step_outcome line old new old' new' → QueuesWorked (queues_by step_outcome line) old new old' new'
+  queues_worked (step_outcomes.Say (Small k) answer) line d = at_small k (put_if (said answer) line) (said_at line (said answer) k old new d.1.0) d.1.1
+  queues_worked (step_outcomes.Say (Large k) answer) line d = at_large k (put_if (said answer) line) (said_at line (said answer) k old' new' d.1.0) d.1.1
+  queues_worked (step_outcomes.Hear (Small k) answer) line d = at_small k (taken_if (heard answer) line) (heard_at line (heard answer) k old new d.1.0) d.1.1
+  queues_worked (step_outcomes.Hear (Large k) answer) line d = at_large k (taken_if (heard answer) line) (heard_at line (heard answer) k old' new' d.1.0) d.1.1
+  queues_worked (step_outcomes.Close k was_open readers writers) line d = at_small k (shut_if was_open) (shut_at was_open k old new d.0) d.1
+  queues_worked step_outcome line d = record {
+    did = (λ k. by_index (queue_account (d.0 k)) (queue_account (d.1 k))) ∙ sym (queue_sums.none_last (by_index (queue_account old) (queue_account old')));
+    small = sound_still old new d.0;
+    large = sound_still old' new' d.1;
+  }
+
+pub chains_worked : {Q W : Type 0} {g : Ghosts Q W} (chains : List (ProcChain Q W)) (step_outcome : StepOutcome) (old new : List (ChainEnd Q W g)) → ChainsDid chains step_outcome old new
+    → (chain_account new ≡ at_each both_chain (chain_account old) (chains_by step_outcome)) × (chain_shares new ≡ chain_shares old)
+chains_worked chains (step_outcomes.Poke mover answer) old new p = poked_at chains mover 0 answer old new p
+chains_worked chains step_outcome old new same = (ap chain_account same ∙ sym (chain_sums.none_last (chain_account old)), ap chain_shares same)
+
+pub seat_worked : (step_outcome : StepOutcome) (v w : SeatView) → SeatDid step_outcome v w → (w.own ≡ did_both v.own (ticks_by step_outcome)) × Remains v w
+seat_worked (step_outcomes.Tick gauge amount before) v w h = (did_tick gauge amount v w h.1, record { share = λ i. (h.1 i).share; parted = λ i. ((h.1 i).splits, (h.1 i).joins) })
+seat_worked step_outcome v w same = (did_none v w same, record { share = λ i. (same i).member.share; parted = λ i. ((same i).member.splits, (same i).member.joins) })

@@ -1,5 +1,5 @@
 -- There is room for each line that is heard.
-use Rattle.processor.proofs.Common.{◌≡◌, ◌+◌, ℕ, ◌<◌, ◌≤◌, ◌==◌, Bool, true, false, List, [], ◌∷◌, ◌++◌, map, length, Some, refl, sym, ap, ◌∙◌, subst, arith, eqb-true, append-nil, AllByRecursion, BootPlan, Step, Counted, CountAnswer, IsNumber, View, done_at, StepOutcome, NeverFalls, IsOutcomeOf, heard_by, is_heard, Key, same_key, is_hear, IsHear, AreHears, hear_count, step_of, key_of, IsPast, Parts, view_of, Stepped, Line}
+use Rattle.processor.proofs.Common.{◌≡◌, ◌+◌, ℕ, ◌<◌, ◌≤◌, ◌==◌, Bool, true, false, List, [], ◌∷◌, ◌++◌, map, length, Some, refl, sym, ap, ◌∙◌, subst, arith, eqb-true, append-nil, AllByRecursion, BootPlan, Step, Counted, CountAnswer, IsNumber, View, done_at, StepOutcome, IsOutcomeOf, heard_by, is_heard, Key, same_key, is_hear, IsHear, AreHears, hear_count, step_of, key_of, IsPast, Parts, view_of, Stepped, Line}
 use Rattle.std.proofs.Common.{length-append}
 use Rattle.std.proofs.lemmas.Bool.{and_parts as split}
 use Rattle.std.proofs.lemmas.List.{map-append}
@@ -10,6 +10,7 @@ use Rattle.processor.specs.declared.step_outcome.StepOutcome.TheVariants as step
 use Rattle.processor.specs.declared.tries.HearAnswer.TheVariants as answers
 use Rattle.processor.specs.Programs.{longest_line}
 use Rattle.processor.specs.Rooms.{HasRoom}
+use Rattle.processor.proofs.Rising.{NeverFalls}
 use Rattle.processor.proofs.Rooms.{few}
 
 abbrev pub key_in : StepOutcome → ℕ → ℕ → List Key
@@ -52,16 +53,7 @@ all_later v w (k ∷ ks) rises all = (let a = all.0 in let b = rises k.0 in omeg
 -- a step that heard a line hears
 heard_hears : (step : Step) (step_outcome : StepOutcome) (line : List ℕ) → IsOutcomeOf step step_outcome line → is_heard step_outcome ≡ true → is_hear step ≡ true
 heard_hears (steps.Hear queue) step_outcome line a h = refl
-heard_hears (steps.Say queue text) (step_outcomes.Hear at answer) line a h = absurd a
-heard_hears (steps.Wait wait) (step_outcomes.Hear at answer) line a h = absurd a
-heard_hears (steps.Wake wait) (step_outcomes.Hear at answer) line a h = absurd a
-heard_hears (steps.Signal thread signal) (step_outcomes.Hear at answer) line a h = absurd a
-heard_hears (steps.Stop thread) (step_outcomes.Hear at answer) line a h = absurd a
-heard_hears (steps.Start thread) (step_outcomes.Hear at answer) line a h = absurd a
-heard_hears (steps.Tick gauge amount) (step_outcomes.Hear at answer) line a h = absurd a
-heard_hears (steps.Poke mover) (step_outcomes.Hear at answer) line a h = absurd a
-heard_hears steps.Pass (step_outcomes.Hear at answer) line a h = absurd a
-heard_hears (steps.Close queue) (step_outcomes.Hear at answer) line a h = absurd a
+heard_hears step (step_outcomes.Hear at answer) line a h = absurd a
 heard_hears step step_outcome line a h = cc
 
 -- the answer to a count holds over a longer stretch, if no step of the element was counted before and after

@@ -34,9 +34,6 @@ did_tick gauge amount v w h = λ i. record {
   cancelled = (ap (λ (o : Own). o.cancelled) h ∙ sym (append-nil v.own.cancelled)) i;
 }
 
-pub tick_remains : (gauge amount : ℕ) (v w : SeatView) → DidTick gauge amount v w → Remains v w
-tick_remains gauge amount v w h = record { share = λ i. (h i).share; parted = λ i. ((h i).splits, (h i).joins) }
-
 -- nothing was done
 pub did_none : (v w : SeatView) → w ≡ v → w.own ≡ did_both v.own nothing_did
 did_none v w h = ap (λ (z : SeatView). z.own) h ∙ sym (dids_add.none_last v.own)

@@ -1,5 +1,5 @@
 -- The result of the try of a step: how it is counted, what its ends did, and what they know.
-use Rattle.processor.proofs.Common.{◌≡◌, ◌+◌, ◌==◌, ◌<◌, ⊎_elim, ℕ, zero, suc, Bool, true, false, cond, List, [], ◌∷◌, ◌++◌, map, length, get_or, set, Some, Result, Ok, Err, refl, sym, ap, subst, ◌∙◌, arith, if◌then◌else◌, eqb-true, eqb_tells, append-nil, QueueIndex, Small, Large, Step, QueueEnd, by_index, OnEnd, knows_shut_at, Counted, CountAnswer, IsNumber, counted_step, Tally, AddsToTally, followed_by, view_of, View, done_at, StepOutcome, Rescheduled, Shared, Parts, shown_in, NeverFalls, IsOutcomeOf, is_done, line_in, heard_by, raised_by, saw_shut, FollowsStep, trying, Climbs, EndsWorked, Went, numbers_of, Key, program, step_of, Stepped, Goes, is_last}
+use Rattle.processor.proofs.Common.{◌≡◌, ◌+◌, ◌==◌, ◌<◌, ⊎_elim, ℕ, zero, suc, Bool, true, false, cond, List, [], ◌∷◌, ◌++◌, map, length, get_or, set, Some, Result, Ok, Err, refl, sym, ap, subst, ◌∙◌, arith, if◌then◌else◌, eqb-true, eqb_tells, append-nil, QueueIndex, Small, Large, Step, QueueEnd, by_index, OnEnd, knows_shut_at, Counted, CountAnswer, IsNumber, counted_step, Tally, AddsToTally, followed_by, view_of, View, done_at, StepOutcome, Rescheduled, Shared, Parts, shown_in, IsOutcomeOf, is_done, line_in, heard_by, raised_by, saw_shut, FollowsStep, trying, Climbs, Went, numbers_of, Key, program, step_of, Stepped, Goes, is_last}
 use Rattle.std.proofs.Common.{slice_get}
 use Rattle.std.proofs.Math.Bool.{Bool-set}
 use Rattle.std.proofs.lemmas.Bool.{leb-true, and_parts as split}
@@ -21,13 +21,17 @@ use Rattle.processor.specs.declared.sending.Moved.TheVariants as moveds
 use Rattle.processor.specs.declared.tries.HearAnswer.TheVariants as hears
 use Rattle.processor.specs.declared.tries.SayAnswer.TheVariants as says
 use Rattle.processor.specs.Outcomes.{IsLineIf}
+use Rattle.processor.specs.Doings.{queues_by}
 use Rattle.processor.specs.Entries.{IsOver, count_of, gone}
 use Rattle.processor.specs.Queues.{HeardAt}
+use Rattle.processor.specs.Running.{EndsDid}
 use Rattle.processor.specs.Steps.{QueuesDid}
 use Rattle.processor.specs.Turns.{heard_lines}
+use Rattle.meters.specs.Handles as seats
 use Rattle.turn_dispatch.proofs.Tallies.{adds_on}
 use Rattle.processor.proofs.Logging.{known_done}
-use Rattle.processor.proofs.Rising.{rises_on}
+use Rattle.processor.proofs.Placing.{QueuesWorked, queues_worked, chains_worked, seat_worked}
+use Rattle.processor.proofs.Rising.{NeverFalls, fallen, going, rises_on, stepping}
 use Rattle.processor.proofs.Summing.{none_shows}
 
 -- a hear has one line, or none
@@ -83,10 +87,8 @@ counted_so : (call element : ℕ) (done : Bool) (number : ℕ) (answer : Counted
     → number ≡ done_at v.seen.object element → number < 64 → answer ≡ count_of done number
 counted_so call element true number (counted.Done m) did after v w a is now low = ap counted.Done (is.0 ∙ ap (λ z. z + 1) (sym now))
 counted_so call element true number counted.Spent did after v w a is now low = absurd (let p = is.0 in omega arith)
-counted_so call element true number counted.Undone did after v w a is now low = absurd a
 counted_so call element false number counted.Undone did after v w a is now low = refl
-counted_so call element false number (counted.Done m) did after v w a is now low = absurd a
-counted_so call element false number counted.Spent did after v w a is now low = absurd a
+counted_so call element done number answer did after v w a is now low = absurd a
 
 -- its number is between
 count_climbs : (answer : Counted) (element number t : ℕ) (u v w : View) → NeverFalls u w → NeverFalls v w → number ≡ done_at u.seen.object element → IsNumber answer element u v
@@ -140,20 +142,19 @@ module _ (shared : Shared) (call call' p e n : ℕ) (step : Step) (sent : Resche
   }
 
   -- a step was tried on a processor, and its element moved on after it
-  pub tried_went : NeverFalls (view_of old.hand) (view_of mid.hand) → NeverFalls (view_of mid.hand) (view_of new.hand)
-      → AddsToTally (followed_by (raised_by sent.tried.step_outcome) (counted_step sent.tried.counted e (done_at (view_of old.hand).seen.object e))) (view_of old.hand) (view_of mid.hand)
+  pub tried_went : AddsToTally (followed_by (raised_by sent.tried.step_outcome) (counted_step sent.tried.counted e (done_at (view_of old.hand).seen.object e))) (view_of old.hand) (view_of mid.hand)
       → AddsToTally (gone sent.moved e (done_at (view_of mid.hand).seen.object e)) (view_of mid.hand) (view_of new.hand)
-      → QueuesDid sent.tried.step_outcome line old.small.items new.small.items old.large.items new.large.items → EndsWorked sent.tried.step_outcome line old new
+      → EndsDid shared sent.tried.step_outcome line old new
       → heard_lines new ≡ heard_lines old ++ heard_by sent.tried.step_outcome e n line → new.signals ≡ old.signals
       → Went (FollowsStep shared.plan e n sent line) (trying e n sent line) (saw_shut sent.tried.step_outcome) old new
-  tried_went up on adds more queues worked lines signals = record {
+  tried_went adds more ends lines signals = record {
     planned = follows;
     done = record {
       did = λ i. record {
-        queues = worked.queues i;
-        chains = worked.chains i;
+        queues = worked.did i;
+        chains = (chains_worked shared.chains.items sent.tried.step_outcome old.chains.items new.chains.items ends.chains).0 i;
         hand = all i;
-        meters = worked.ticks i;
+        meters = (seat_worked sent.tried.step_outcome (seats.view_of old.meters) (seats.view_of new.meters) ends.seat).0 i;
         heard = lines i;
         shown = (ap shown_in signals ∙ none_shows (shown_in old.signals)) i;
       };
@@ -162,9 +163,18 @@ module _ (shared : Shared) (call call' p e n : ℕ) (step : Step) (sent : Resche
       small = worked.small;
       large = worked.large;
     };
-    reported = reported_so sent.tried.step_outcome line old.small.items new.small.items old.large.items new.large.items queues;
+    reported = reported_so sent.tried.step_outcome line old.small.items new.small.items old.large.items new.large.items ends.queues;
   }
     where
+      worked : QueuesWorked (queues_by sent.tried.step_outcome line) old.small.items new.small.items old.large.items new.large.items
+      worked = queues_worked old.small.items new.small.items old.large.items new.large.items sent.tried.step_outcome line ends.queues
+
+      up : NeverFalls (view_of old.hand) (view_of mid.hand)
+      up = fallen old.hand mid.hand (stepping call shared.plan p e sent.tried.step_outcome sent.tried.counted (view_of old.hand) (view_of mid.hand) ran)
+
+      on : NeverFalls (view_of mid.hand) (view_of new.hand)
+      on = fallen mid.hand new.hand (going call' sent.tried.step_outcome (is_last (is_done sent.tried.step_outcome) n (length (program shared.plan e))) e sent.moved (view_of mid.hand) (view_of new.hand) goes)
+
       counts : Tally
       counts = counted_step sent.tried.counted e n
 

@@ -5,16 +5,13 @@ use Rattle.boot_data.specs.Hearing.{Key}
 use Rattle.boot_data.specs.declared.boot_plan.BootPlan.{BootPlan}
 use Rattle.boot_data.specs.declared.plan.QueueIndex.{QueueIndex}
 use Rattle.turn_io.specs.declared.gate.Point.{Point}
-use Rattle.turn_io.specs.Accounts.{at_each, both_chain, both_queue, by_index, chain_shares, StaySound}
+use Rattle.turn_io.specs.Accounts.{by_index, StaySound}
 use Rattle.turn_io.specs.EndLists.{ClaimedInOrder, TookInOrder, knows_shut_at}
-use Rattle.meters.specs.Own.{did_both}
 use Rattle.thread_table.specs.Handles.{view_of}
 use Rattle.thread_table.specs.Rules.{done_at}
-use Rattle.processor.specs.declared.step_outcome.StepOutcome.{StepOutcome}
 use Rattle.processor.specs.declared.shared.Shared.{Shared}
 use Rattle.processor.specs.declared.station.Parts.{Parts}
-use Rattle.processor.specs.Accounts.{Account, nothing, ◌⊕◌, account, shares, seat_parted}
-use Rattle.processor.specs.Doings.{queues_by, chains_by, ticks_by}
+use Rattle.processor.specs.Accounts.{Account, nothing, ◌⊕◌, account, seat_parted}
 use Rattle.processor.specs.Entries.{LogEntry, entry_account, FollowsPlan, turn_saw_shut}
 use Rattle.processor.specs.Points.{HookedTurns}
 use Rattle.processor.specs.Stations.{IsUnused}
@@ -68,18 +65,6 @@ pub record Went (IsPlanned : Type 0) (more : Account) (was_reported : QueueIndex
 -- that a queue is shut, the queue's end knows that
 abbrev pub Ran : BootPlan → List LogEntry → Parts → Parts → Type 0
 Ran plan log old new = Went (AllByRecursion (FollowsPlan plan) log) (sum_of log) (was_shut log) old new
-
--- A step did this at the ends of queues and chains and at the seat, as sums. Each of these ends keeps its share. Ends
--- of queues keep what they knew, and still have claimed and taken in order. The seat was neither split nor joined
-pub record EndsWorked (step_outcome : StepOutcome) (line : List ℕ) (old new : Parts) : Type 0 where
-  pub queues : (account new).queues ≡ at_each both_queue (account old).queues (queues_by step_outcome line)
-  pub chains : (account new).chains ≡ at_each both_chain (account old).chains (chains_by step_outcome)
-  pub ticks : (account new).meters ≡ did_both (account old).meters (ticks_by step_outcome)
-  pub small : StaySound old.small.items new.small.items
-  pub large : StaySound old.large.items new.large.items
-  pub chains_kept : chain_shares new.chains.items ≡ chain_shares old.chains.items
-  pub seat_kept : (shares new).meters ≡ (shares old).meters
-  pub seat : seat_parted new ≡ seat_parted old
 
 -- The ends of the station have done nothing, and its seat was neither split nor joined. Nothing was heard, and no
 -- signal was delivered

@@ -9,7 +9,6 @@ use Rattle.boot_data.specs.declared.plan.QueueIndex.TheVariants.{Small, Large}
 use Rattle.claim_queue.specs.declared.claim.ClaimRefusal.{ClaimRefusal}
 use Rattle.claim_queue.specs.declared.ends.QueueEnd.{QueueEnd}
 use Rattle.claim_queue.specs.declared.take.TakeRefusal.{TakeRefusal}
-use Rattle.turn_io.specs.Accounts.{AtQueue, at_each, both_queue, by_index, idle_queue, only, queue_account}
 use Rattle.turn_io.specs.Outcomes.{Said, Heard}
 use Rattle.turn_io.specs.EndLists.{OnEnd}
 use Rattle.quajects.specs.declared.world.Queues.{Queues}
@@ -34,12 +33,6 @@ abbrev pub HeardAt : QueueIndex → List ℕ → Result (Unit {0}) TakeRefusal �
     → List (QueueEnd 256) → List (QueueEnd 256) → Type 0
 HeardAt (Small queue) line answer old new others others' = OnEnd queue (Heard line answer) old new × (others' ≡ others)
 HeardAt (Large queue) line answer others others' old new = OnEnd queue (Heard line answer) old new × (others' ≡ others)
-
--- this was done at the queue, and nothing at the other queues
-abbrev pub DidAt : QueueIndex → AtQueue → List (QueueEnd 64) → List (QueueEnd 64) → List (QueueEnd 256)
-    → List (QueueEnd 256) → Type 0
-DidAt queue did old new old' new' = by_index (queue_account new) (queue_account new')
-    ≡ at_each both_queue (by_index (queue_account old) (queue_account old')) (only idle_queue queue did)
 
 abbrev pub waits_in : Option PlannedQueue → Option PipeWaits
 waits_in None = None

@@ -14,7 +14,6 @@ ghost use Rattle.thread_table.specs.Entries.{HoldsLess};
 ghost use Rattle.processor.specs.Acts.{AddsOnly};
 ghost use Rattle.processor.specs.Outcomes.{IsOutcomeOf, line_in};
 ghost use Rattle.processor.specs.Doings.{raised_by};
-ghost use Rattle.processor.specs.Logs.{EndsWorked};
 ghost use Rattle.processor.specs.Orders.{InOrder, count_of};
 ghost use Rattle.processor.specs.Points.{GateSaw, points_of};
 ghost use Rattle.processor.specs.Running.{EndsDid};
@@ -104,7 +103,6 @@ pub(crate) fn do_step<R: Wait, G: Watch>(
     ensures hand { HandDid (call_of parts.old.hand) shared.now.plan result.step_outcome (view_of parts.old.hand)
         (view_of parts.new.hand) }
     ensures ends { EndsDid shared.now result.step_outcome (line_in step.now room.new.heard.items) parts.old parts.new }
-    ensures worked { EndsWorked result.step_outcome (line_in step.now room.new.heard.items) parts.old parts.new }
     ensures acts { AddsOnly (raised_by result.step_outcome) (view_of parts.old.hand) (view_of parts.new.hand) }
     ensures heard { parts.new.heard ≡ parts.old.heard }
     ensures signals { parts.new.signals ≡ parts.old.signals }

@@ -21,7 +21,6 @@ mod splitting;
 mod station;
 mod step_outcome;
 mod steps;
-mod thread_steps;
 mod ticket;
 mod tries;
 mod turn;

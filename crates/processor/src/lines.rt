@@ -1,12 +1,10 @@
 //! A line said in a queue of one of the two lists, or heard from it, and the room for the line.
-ghost use Rattle.std.specs.Prelude.{◌≡◌, ◌<◌, ◌≤◌, ℕ, [], length};
-ghost use Rattle.turn_io.specs.Accounts.{StaySound, at_each, at_one, both_queue, idle_queue, put_if, queue_account};
-ghost use Rattle.turn_io.specs.Accounts.{taken_if};
+ghost use Rattle.std.specs.Prelude.{◌≡◌, ◌<◌, ◌≤◌, [], length};
 ghost use Rattle.turn_io.specs.EndLists.{AreEndsOf, AreSameEnds, OnEnd};
 ghost use Rattle.turn_io.specs.declared.gate.Point.TheVariants.{TakeAnswered};
 ghost use Rattle.turn_io.specs.Outcomes.{Heard};
 ghost use Rattle.turn_io.specs.Gates.{HookSawSay};
-ghost use Rattle.processor.specs.Queues.{DidAt, IsThere, SaidAt, HeardAt, said_line};
+ghost use Rattle.processor.specs.Queues.{IsThere, SaidAt, HeardAt, said_line};
 
 use arrayvec::ArrayVec;
 use boot_data::Text;
@@ -60,11 +58,7 @@ pub(crate) fn say_at<G: Gate>(
     requires large { AreEndsOf queues.now.large.items large.old }
     requires there { IsThere queues.now queue }
     ensures handle { AreSameEnds small.old small.new × AreSameEnds large.old large.new }
-    ensures small { AreEndsOf queues.now.small.items small.new }
-    ensures large { AreEndsOf queues.now.large.items large.new }
     ensures said { SaidAt queue line.now result small.old small.new large.old large.new }
-    ensures effect { DidAt queue (put_if result line.now) small.old small.new large.old large.new }
-    ensures frame { StaySound small.old small.new × StaySound large.old large.new }
     ensures hook { HookSawSay G.observes p result gate.old gate.new }
 {
     match queue {
@@ -97,11 +91,7 @@ fn hear_small<G: Gate>(
     requires there { at < length queues.now.small.items }
     requires empty { room.old.heard.items ≡ [] }
     ensures handle { AreSameEnds small.old small.new }
-    ensures small { AreEndsOf queues.now.small.items small.new }
     ensures heard { OnEnd at (Heard room.new.heard.items result) small.old small.new }
-    ensures effect { queue_account small.new
-        ≡ at_each both_queue (queue_account small.old) (at_one idle_queue at (taken_if result room.new.heard.items)) }
-    ensures frame { StaySound small.old small.new }
     ensures hook { G.observes gate.old p TakeAnswered gate.new }
 {
     room.short.clear();
@@ -125,11 +115,7 @@ pub(crate) fn hear_at<G: Gate>(
     requires there { IsThere queues.now queue }
     requires empty { room.old.heard.items ≡ [] }
     ensures handle { AreSameEnds small.old small.new × AreSameEnds large.old large.new }
-    ensures small { AreEndsOf queues.now.small.items small.new }
-    ensures large { AreEndsOf queues.now.large.items large.new }
     ensures heard { HeardAt queue room.new.heard.items result small.old small.new large.old large.new }
-    ensures effect { DidAt queue (taken_if result room.new.heard.items) small.old small.new large.old large.new }
-    ensures frame { StaySound small.old small.new × StaySound large.old large.new }
     ensures hook { G.observes gate.old p TakeAnswered gate.new }
 {
     match queue {

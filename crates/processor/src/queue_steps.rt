@@ -1,7 +1,5 @@
 //! The steps at queues: saying a line, hearing one, and shutting a queue, with those who wait at a pipe.
 ghost use Rattle.std.specs.Prelude.{◌≡◌, ◌<◌, [], length};
-ghost use Rattle.turn_io.specs.Accounts.{StaySound, at_each, at_one, both_queue, idle_queue, put_if, queue_account};
-ghost use Rattle.turn_io.specs.Accounts.{shut_if, taken_if};
 ghost use Rattle.turn_io.specs.Outcomes.{HasShut};
 ghost use Rattle.turn_io.specs.EndLists.{AreEndsOf, AreSameEnds, OnEnd};
 ghost use Rattle.turn_dispatch.specs.Tallies.{no_events};
@@ -10,9 +8,8 @@ ghost use Rattle.processor.specs.Acts.{AddsOnly};
 ghost use Rattle.processor.specs.declared.step_outcome.StepOutcome.TheVariants as step_outcomes;
 ghost use Rattle.processor.specs.Orders.{QueuesInOrder, SmallStood, count_of};
 ghost use Rattle.processor.specs.Points.{GateSaw, points_of};
-ghost use Rattle.processor.specs.Queues.{DidAt, IsThere, said_line};
+ghost use Rattle.processor.specs.Queues.{IsThere, said_line};
 ghost use Rattle.processor.specs.Steps.{HandDid, QueuesDid};
-ghost use Rattle.processor.specs.Tries.{said, heard};
 
 use crate::lines::{LineRoom, write_line};
 use crate::pipes::waits_of;
@@ -46,14 +43,10 @@ pub(crate) fn say_step<R: Wait, G: Watch>(
     requires small { AreEndsOf shared.now.queues.small.items small.old }
     requires large { AreEndsOf shared.now.queues.large.items large.old }
     requires there { IsThere shared.now.queues queue }
-    ensures small { AreEndsOf shared.now.queues.small.items small.new }
-    ensures large { AreEndsOf shared.now.queues.large.items large.new }
     ensures hand { HandDid (call_of hand.old) shared.now.plan (step_outcomes.Say queue result) (view_of hand.old)
         (view_of hand.new) }
     ensures acts { AddsOnly no_events (view_of hand.old) (view_of hand.new) }
     ensures queues { QueuesDid (step_outcomes.Say queue result) (said_line text.now) small.old small.new large.old large.new }
-    ensures effect { DidAt queue (put_if (said result) (said_line text.now)) small.old small.new large.old large.new }
-    ensures frame { StaySound small.old small.new × StaySound large.old large.new }
     ensures hook { GateSaw G.observes p (points_of (step_outcomes.Say queue result)) gate.old gate.new }
     ensures order { QueuesInOrder G.shown shared.now.plan (count_of hand.old) (step_outcomes.Say queue result) small.old small.new
         large.old large.new }
@@ -100,14 +93,10 @@ pub(crate) fn hear_step<R: Wait, G: Watch>(
     requires large { AreEndsOf shared.now.queues.large.items large.old }
     requires there { IsThere shared.now.queues queue }
     requires empty { room.old.heard.items ≡ [] }
-    ensures small { AreEndsOf shared.now.queues.small.items small.new }
-    ensures large { AreEndsOf shared.now.queues.large.items large.new }
     ensures hand { HandDid (call_of hand.old) shared.now.plan (step_outcomes.Hear queue result) (view_of hand.old)
         (view_of hand.new) }
     ensures acts { AddsOnly no_events (view_of hand.old) (view_of hand.new) }
     ensures queues { QueuesDid (step_outcomes.Hear queue result) room.new.heard.items small.old small.new large.old large.new }
-    ensures effect { DidAt queue (taken_if (heard result) room.new.heard.items) small.old small.new large.old large.new }
-    ensures frame { StaySound small.old small.new × StaySound large.old large.new }
     ensures hook { GateSaw G.observes p (points_of (step_outcomes.Hear queue result)) gate.old gate.new }
     ensures order { QueuesInOrder G.shown shared.now.plan (count_of hand.old) (step_outcomes.Hear queue result) small.old small.new
         large.old large.new }
@@ -141,14 +130,10 @@ pub(crate) fn close_step<R: Wait, G: Watch>(
     requires hand { IsHandOf shared.now.threads hand.old }
     requires small { AreEndsOf shared.now.queues.small.items small.old }
     requires there { queue < length shared.now.queues.small.items }
-    ensures small { AreEndsOf shared.now.queues.small.items small.new }
     ensures hand { HandDid (call_of hand.old) shared.now.plan
         (step_outcomes.Close queue result.was_open result.readers result.writers) (view_of hand.old) (view_of hand.new) }
     ensures acts { AddsOnly no_events (view_of hand.old) (view_of hand.new) }
     ensures shut { OnEnd queue (HasShut result.was_open) small.old small.new }
-    ensures effect { queue_account small.new
-        ≡ at_each both_queue (queue_account small.old) (at_one idle_queue queue (shut_if result.was_open)) }
-    ensures frame { StaySound small.old small.new }
     ensures order { SmallStood G.shown (count_of hand.old) small.old small.new queue }
     ensures handle { IsSameHand hand.old hand.new × AreSameEnds small.old small.new }
 {

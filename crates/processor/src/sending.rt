@@ -8,7 +8,6 @@ ghost use Rattle.turn_dispatch.specs.Tallies.{AddsToTally};
 ghost use Rattle.thread_table.specs.Handles.{view_of, call_of, IsHandOf, IsSameHand};
 ghost use Rattle.thread_table.specs.Keeping.{Keeps};
 ghost use Rattle.thread_table.specs.Rules.{has, done_at};
-ghost use Rattle.processor.specs.Acts.{NeverFalls};
 ghost use Rattle.processor.specs.Outcomes.{sleeps_on};
 ghost use Rattle.processor.specs.Entries.{gone};
 ghost use Rattle.processor.specs.Running.{Goes};
@@ -60,7 +59,6 @@ fn go_on<R: Wait>(
     ensures frame { Keeps (view_of hand.old) (view_of hand.new) }
     ensures adds { AddsToTally (gone result element (done_at (view_of hand.old).seen.object element)) (view_of hand.old)
         (view_of hand.new) }
-    ensures rises { NeverFalls (view_of hand.old) (view_of hand.new) }
     ensures goes { Goes (call_of hand.old) step_outcome.now last element result (view_of hand.old) (view_of hand.new) }
     ensures handle { IsSameHand hand.old hand.new }
 {
@@ -92,7 +90,6 @@ fn move_on<R: Wait>(
     ensures frame { Keeps (view_of hand.old) (view_of hand.new) }
     ensures adds { AddsToTally (gone result element (done_at (view_of hand.old).seen.object element)) (view_of hand.old)
         (view_of hand.new) }
-    ensures rises { NeverFalls (view_of hand.old) (view_of hand.new) }
     ensures goes { Goes (call_of hand.old) tried.now.step_outcome last element result (view_of hand.old)
         (view_of hand.new) }
     ensures handle { IsSameHand hand.old hand.new }
@@ -142,7 +139,6 @@ pub(crate) fn send_on<R: Wait>(
     ensures frame { Keeps (view_of hand.old) (view_of hand.new) }
     ensures adds { AddsToTally (gone result.moved element (done_at (view_of hand.old).seen.object element)) (view_of hand.old)
         (view_of hand.new) }
-    ensures rises { NeverFalls (view_of hand.old) (view_of hand.new) }
     ensures goes { Goes (call_of hand.old) tried.step_outcome last element result.moved (view_of hand.old)
         (view_of hand.new) }
     ensures handle { IsSameHand hand.old hand.new }

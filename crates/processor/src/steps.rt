@@ -4,7 +4,6 @@ ghost use Rattle.thread_table.specs.Handles.{view_of, call_of};
 ghost use Rattle.processor.specs.Acts.{AddsOnly};
 ghost use Rattle.processor.specs.Outcomes.{IsOutcomeOf, line_in};
 ghost use Rattle.processor.specs.Doings.{raised_by};
-ghost use Rattle.processor.specs.Logs.{EndsWorked};
 ghost use Rattle.processor.specs.Orders.{InOrder, count_of};
 ghost use Rattle.processor.specs.Points.{GateSaw, points_of};
 ghost use Rattle.processor.specs.Running.{EndsDid};
@@ -17,11 +16,11 @@ use crate::shared::Shared;
 use crate::showing::show_chain_end;
 use crate::station::Parts;
 use crate::step_outcome::StepOutcome;
-use crate::thread_steps::{signal_step, start_step, stop_step, wake_step};
 use crate::tries::WasShut;
 use crate::watch::Watch;
 use boot_data::plan::Step;
 use std::sync::Wait;
+use turn_dispatch::{calls_only_add, start, wake};
 use turn_io::poke;
 
 // Tries a step of a thread once. A line that is heard goes into `room.heard`.
@@ -43,13 +42,13 @@ pub(crate) fn try_step<R: Wait, G: Watch>(
     ensures hand { HandDid (call_of parts.old.hand) shared.now.plan result (view_of parts.old.hand)
         (view_of parts.new.hand) }
     ensures ends { EndsDid shared.now result (line_in step.now room.new.heard.items) parts.old parts.new }
-    ensures worked { EndsWorked result (line_in step.now room.new.heard.items) parts.old parts.new }
     ensures acts { AddsOnly (raised_by result) (view_of parts.old.hand) (view_of parts.new.hand) }
     ensures heard { parts.new.heard ≡ parts.old.heard }
     ensures signals { parts.new.signals ≡ parts.old.signals }
     ensures hook { GateSaw G.observes p (points_of result) gate.old gate.new }
     ensures order { InOrder G.shown shared.now.plan (count_of parts.old.hand) result parts.old parts.new }
 {
+    calls_only_add();
     let threads = &shared.threads;
     match step {
         Step::Say { queue, text } => StepOutcome::Say {
@@ -84,20 +83,20 @@ pub(crate) fn try_step<R: Wait, G: Watch>(
         Step::Wait { wait } => StepOutcome::Wait { wait: *wait },
         Step::Wake { wait } => StepOutcome::Wake {
             wait: *wait,
-            woken: wake_step(rt, threads, &mut parts.hand, *wait),
+            woken: wake(rt, threads, &mut parts.hand, *wait),
         },
         Step::Signal { thread, signal } => StepOutcome::Signal {
             thread: *thread,
             signal: *signal,
-            answer: signal_step(threads, &mut parts.hand, *thread, *signal),
+            answer: threads.signal(&mut parts.hand, *thread, *signal),
         },
         Step::Stop { thread } => StepOutcome::Stop {
             thread: *thread,
-            was_clear: stop_step(threads, &mut parts.hand, *thread),
+            was_clear: threads.stop(&mut parts.hand, *thread),
         },
         Step::Start { thread } => StepOutcome::Start {
             thread: *thread,
-            answer: start_step(rt, threads, &mut parts.hand, *thread),
+            answer: start(rt, threads, &mut parts.hand, *thread),
         },
         Step::Tick { gauge, amount } => {
             let number = usize::from(gauge.number());

@@ -4,16 +4,14 @@
 //! try makes: so the ticket of a refusal was read before its try. A try that put or took a line, found the queue over
 //! or shut it owes a wake, and only a try makes that debt: so those who wait at a pipe are woken after the try. After
 //! an earlier wake those who come to wait in between would stay asleep.
-ghost use Rattle.std.specs.Prelude.{◌≡◌, ◌<◌, ℕ, [], length, option_copied};
-ghost use Rattle.turn_io.specs.Accounts.{StaySound, at_each, at_one, both_queue, idle_queue, put_if, queue_account};
-ghost use Rattle.turn_io.specs.Accounts.{shut_if, taken_if};
+ghost use Rattle.std.specs.Prelude.{◌≡◌, ◌<◌, [], length, option_copied};
 ghost use Rattle.turn_io.specs.Outcomes.{HasShut};
 ghost use Rattle.turn_io.specs.EndLists.{AreEndsOf, AreSameEnds, OnEnd};
 ghost use Rattle.turn_io.specs.Gates.{HookSawSay};
 ghost use Rattle.turn_io.specs.declared.gate.Point.TheVariants.{TakeAnswered};
 ghost use Rattle.processor.specs.Outcomes.{if_full, if_empty};
 ghost use Rattle.processor.specs.Pipes.{IsTicketOf, readers_of, writers_of};
-ghost use Rattle.processor.specs.Queues.{DidAt, IsThere, SaidAt, HeardAt, waits_at};
+ghost use Rattle.processor.specs.Queues.{IsThere, SaidAt, HeardAt, waits_at};
 ghost use Rattle.processor.specs.Tries.{said, heard, is_shut, is_over, IsUnsaid, IsUnheard};
 
 use crate::lines::{LineRoom, hear_at, say_at};
@@ -127,12 +125,8 @@ pub(crate) fn try_say<G: Gate>(
     requires there { IsThere shared.now.queues queue }
     requires ticket { IsTicketOf (writers_of (waits_at shared.now.plan queue)) ticket }
     ensures handle { AreSameEnds small.old small.new × AreSameEnds large.old large.new }
-    ensures small { AreEndsOf shared.now.queues.small.items small.new }
-    ensures large { AreEndsOf shared.now.queues.large.items large.new }
     ensures said { SaidAt queue line.now (said result) small.old small.new large.old large.new }
     ensures refused { IsUnsaid ticket result }
-    ensures effect { DidAt queue (put_if (said result) line.now) small.old small.new large.old large.new }
-    ensures frame { StaySound small.old small.new × StaySound large.old large.new }
     ensures hook { HookSawSay G.observes p (said result) gate.old gate.new }
 {
     match say_at(&shared.queues, small, large, queue, line, p, gate) {
@@ -164,12 +158,8 @@ pub(crate) fn try_hear<G: Gate>(
     requires empty { room.old.heard.items ≡ [] }
     requires ticket { IsTicketOf (readers_of (waits_at shared.now.plan queue)) ticket }
     ensures handle { AreSameEnds small.old small.new × AreSameEnds large.old large.new }
-    ensures small { AreEndsOf shared.now.queues.small.items small.new }
-    ensures large { AreEndsOf shared.now.queues.large.items large.new }
     ensures heard { HeardAt queue room.new.heard.items (heard result) small.old small.new large.old large.new }
     ensures refused { IsUnheard ticket result }
-    ensures effect { DidAt queue (taken_if (heard result) room.new.heard.items) small.old small.new large.old large.new }
-    ensures frame { StaySound small.old small.new × StaySound large.old large.new }
     ensures hook { G.observes gate.old p TakeAnswered gate.new }
 {
     match hear_at(&shared.queues, small, large, queue, room, p, gate) {
@@ -189,11 +179,7 @@ pub(crate) fn shut_at(queues: &Queues, small: &mut [QueueEnd<64>], queue: usize)
     requires small { AreEndsOf queues.now.small.items small.old }
     requires there { queue < length queues.now.small.items }
     ensures handle { AreSameEnds small.old small.new }
-    ensures small { AreEndsOf queues.now.small.items small.new }
     ensures shut { OnEnd queue (HasShut result.was_open) small.old small.new }
-    ensures effect { queue_account small.new
-        ≡ at_each both_queue (queue_account small.old) (at_one idle_queue queue (shut_if result.was_open)) }
-    ensures frame { StaySound small.old small.new }
 {
     let was_open = shut_queue(queues.small.as_slice(), small, queue);
     WasShut {

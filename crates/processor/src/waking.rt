@@ -21,6 +21,7 @@ pub struct WakeDone {
 }
 
 // Wakes all who wait in a wait queue, where there is one, as a try owes it to them.
+#[tactic(auto, using(crate::proofs::Acting::acts_by))]
 pub(crate) fn wake_for<R: Wait>(
     rt: &R,
     threads: &ThreadTable,

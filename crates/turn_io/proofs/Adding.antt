@@ -1,5 +1,5 @@
 -- The sums of accounts: associative, with a unit.
-use Rattle.turn_io.proofs.Common.{◌≡◌, ℕ, ◌+◌, List, [], ◌++◌, refl, fun_ext, map-append, nothing_did, did_both, idle_queue, both_queue, idle_chain, both_chain, no_stake, both_stakes, lines_of, at_each}
+use Rattle.turn_io.proofs.Common.{◌≡◌, ℕ, ◌+◌, fun_ext, map-append, nothing_did, did_both, idle_queue, both_queue, idle_chain, both_chain, no_stake, both_stakes, lines_of, at_each}
 use Rattle.std.proofs.Math.Nat.{add_assoc, add-zero, zero-add}
 use Rattle.std.proofs.lemmas.List.{append_assoc, append-nil}
 use Rattle.boot_data.specs.declared.plan.QueueIndex.{QueueIndex}
@@ -10,9 +10,6 @@ use Rattle.turn_io.specs.Accounts.{AddsUp}
 
 pub numbers_add : AddsUp 0 (λ a b. a + b)
 numbers_add = record { regroups = add_assoc; none_first = zero-add; none_last = add-zero }
-
-pub lists_add : {A : Type 0} → AddsUp [] (λ (a b : List A). a ++ b)
-lists_add = record { regroups = append_assoc; none_first = λ a. refl; none_last = append-nil }
 
 pub queues_add : AddsUp idle_queue both_queue
 queues_add = record {

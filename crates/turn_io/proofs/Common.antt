@@ -21,7 +21,7 @@ pub use Rattle.proc_chain.specs.declared.quaject.Quaject.{Ghosts}
 pub use Rattle.table_theory.specs.Listing.{AllRaised}
 pub use Rattle.table_theory.specs.declared.queues.Batch.{Batch}
 pub use Rattle.table_theory.specs.declared.views.Part.{Part}
-pub use Rattle.turn_io.specs.Accounts.{ChainEndWorked, EndWorked, at_each, both_chain, both_queue, both_stakes, idle_chain, idle_queue, lines_of, no_stake}
+pub use Rattle.turn_io.specs.Accounts.{at_each, both_chain, both_queue, both_stakes, idle_chain, idle_queue, lines_of, no_stake}
 pub use Rattle.turn_io.specs.Outcomes.{Heard}
 pub use Rattle.turn_io.specs.EndLists.{AreChainEndsOf, AreSame, AreSameChainEnds, AreSameEnds, HasRaised, IsIdle, OnEnd, chain_end_call, chain_end_table, chain_table, end_call, end_knows_shut, end_table, queue_table}
 pub use Rattle.turn_io.specs.Splits.{AllThree, AreJoined, IsChainJoined, IsChainSplit, IsJoined, IsSplit}

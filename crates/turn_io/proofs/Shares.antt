@@ -1,20 +1,19 @@
--- The answers of a queue, in terms of the lines, the share and the shuts of an end.
-use Rattle.turn_io.proofs.Common.{◌≡◌, ◌<◌, ◌≤◌, ℕ, zero, suc, ◌+◌, take, Bool, true, false, refl, List, [], ◌∷◌, map, length, sym, ap, subst, ◌∙◌, arith, Result, length-map, QueueEnd, Owns, RaisedFrom, Batch, Part, AllRaised, valid_end, still_shut, Heard, EndWorked, idle_queue}
+-- The sum of each kind of step at a queue, by its evidence: the lines, the share and the shuts of an end.
+use Rattle.turn_io.proofs.Common.{◌≡◌, ◌<◌, ◌≤◌, ℕ, zero, suc, ◌+◌, take, Bool, true, false, refl, List, [], ◌∷◌, map, length, sym, ap, subst, ◌∙◌, arith, Result, length-map, QueueEnd, Owns, RaisedFrom, Batch, Part, AllRaised, valid_end, still_shut, Heard, HasRaised, end_knows_shut, idle_queue, both_queue, lines_of}
 use Rattle.std.proofs.Common.{Ok}
 use Rattle.std.specs.Prelude.{Err, IfOk, MatchBool, drop}
 use Rattle.std.proofs.lemmas.List.{append-nil, length-drop}
 use Rattle.std.proofs.Math.Bridge.{le_prop}
 use Rattle.claim_queue.specs.declared.claim.ClaimRefusal.{ClaimRefusal}
 use Rattle.claim_queue.specs.declared.take.TakeRefusal.{TakeRefusal}
-use Rattle.claim_queue.specs.Answers.{ClaimedItems, Refused}
-use Rattle.claim_queue.specs.Closings.{ShutNow}
+use Rattle.claim_queue.specs.Answers.{ClaimedItems}
 use Rattle.claim_queue.specs.Handles.{view_of}
 use Rattle.claim_queue.specs.Layout.{tail_word}
 use Rattle.claim_queue.specs.Lines.{line_of}
 use Rattle.claim_queue.specs.Orders.{TakesInOrder}
 use Rattle.claim_queue.specs.Own.{View, of_queues, with_shutting}
 use Rattle.claim_queue.specs.Puts.{Raised, IsPut}
-use Rattle.claim_queue.specs.Takings.{TookItems, RefusedTake, scanned}
+use Rattle.claim_queue.specs.Takings.{IsBegun, IsLine, TookItems, scanned}
 use Rattle.table_theory.specs.declared.queues.Cell.{Cell}
 use Rattle.table_theory.specs.declared.queues.Positions.{Positions}
 use Rattle.table_theory.specs.Interleaving.{InOrder}
@@ -29,8 +28,20 @@ use Rattle.claim_queue.proofs.Ordered.{order_of, answer_order, refused_claim, pu
 use Rattle.claim_queue.proofs.Putting.{put_of}
 use Rattle.table_theory.proofs.Saying.{passes_split}
 use Rattle.table_theory.proofs.Reaching.{passes_since}
-use Rattle.turn_io.specs.Accounts.{shut_if}
+use Rattle.turn_io.specs.Accounts.{AtQueue, put_if, shut_if, taken_if}
+use Rattle.turn_io.specs.EndLists.{ClaimedInOrder, TookInOrder, end_share}
+use Rattle.turn_io.specs.Outcomes.{Said, HasShut}
 use Rattle.turn_io.proofs.Telling.{none_more}
+
+-- The end did this in addition, and has the share that it had. If it had raised all that it claimed, it still has; if
+-- it had claimed in order, or taken in order, it still has; and if it knew that its queue is shut, it still knows
+pub record EndWorked {n : ℕ} (more : AtQueue) (old new : QueueEnd n) : Type 0 where
+  pub did : lines_of (view_of new).own ≡ both_queue (lines_of (view_of old).own) more
+  pub share : end_share new ≡ end_share old
+  pub raised : HasRaised old → HasRaised new
+  pub claimed : ClaimedInOrder old → ClaimedInOrder new
+  pub took : TookInOrder old → TookInOrder new
+  pub known : end_knows_shut old ≡ true → end_knows_shut new ≡ true
 
 -- stretches that have no lines are none
 pub none_of : (stretches : List Batch) → map line_of stretches ≡ [] → stretches ≡ []
@@ -73,9 +84,9 @@ module _ {n : ℕ} (old new : QueueEnd n) where
   none_worked : Does (view_of old) (view_of old).own (view_of new) → (TakesInOrder (view_of old) → TakesInOrder (view_of new)) → EndWorked idle_queue old new
   none_worked d took = same_worked 0 (record { steps = d.steps; adds = d.adds; did = d.did ∙ (λ k. record (view_of old).own { shuts = none_more (view_of old).own.shuts (view_of old).own.shuts refl k }); member = d.member }) took
 
-  -- a line that was put, all of it raised
-  pub put_worked : (start : ℕ) (line : List ℕ) → IsPut n (view_of old) start line (view_of new) → EndWorked (record idle_queue { put = line ∷ [] }) old new
-  put_worked start line h = let p = put_line n (view_of old) (view_of new) start line h in let d = put_own n (view_of old) (view_of new) start line h in record {
+  -- a line that was put, all of it raised, or a claim that was refused
+  pub said_worked : {A : Type 0} (line : List ℕ) (r : Result A ClaimRefusal) → Said line r old new → EndWorked (put_if r line) old new
+  said_worked line (Ok done) (start, h) = let p = put_line n (view_of old) (view_of new) start line h in let d = put_own n (view_of old) (view_of new) start line h in record {
     did = λ k. record { put = p.puts k; taken = (p.takes ∙ sym (append-nil _)) k; shuts = none_more _ _ (λ k. (d.did k).shuts) k };
     share = p.share;
     raised = raised_put n (view_of old) (view_of new) start line h;
@@ -83,26 +94,22 @@ module _ {n : ℕ} (old new : QueueEnd n) where
     took = λ up. takes_by (λ x y. put_order (view_of old) (view_of new) x y n start line h up);
     known = still_shut old new d.steps d.adds;
   }
+  said_worked line (Err r) h = none_worked (refused_own n (length line) (view_of old) (view_of new) r h) (λ up. takes_by (λ x y. refused_claim (view_of old) (view_of new) x y n (length line) r h up))
 
-  pub refused_worked : (count : ℕ) (r : ClaimRefusal) → Refused n (view_of old) count r (view_of new) → EndWorked idle_queue old new
-  refused_worked count r h = none_worked (refused_own n count (view_of old) (view_of new) r h) (λ up. takes_by (λ x y. refused_claim (view_of old) (view_of new) x y n count r h up))
-
-  -- a line that was taken
-  pub took_worked : (line : List ℕ) → 0 < length line → TookItems n (view_of old) line (view_of new) → EndWorked (record idle_queue { taken = line ∷ [] }) old new
-  took_worked line some_item t = let p = took_line n (view_of old) (view_of new) line t in let d = took_own n (view_of old) (view_of new) line t in let runs : (view_of new).own.runs ≡ (view_of old).own.runs = λ k. (d.did k).runs in record {
+  -- a line that was taken, or a taking that was refused
+  pub heard_worked : {A : Type 0} (line : List ℕ) (r : Result A TakeRefusal) → Heard line r old new → EndWorked (taken_if r line) old new
+  heard_worked line (Ok done) (is, t) = let p = took_line n (view_of old) (view_of new) line t in let d = took_own n (view_of old) (view_of new) line t in let runs : (view_of new).own.runs ≡ (view_of old).own.runs = λ k. (d.did k).runs in record {
     did = λ k. record { put = (p.puts ∙ sym (append-nil _)) k; taken = p.takes k; shuts = none_more _ _ (λ k. (d.did k).shuts) k };
     share = p.share;
     raised = λ up. subst AllRaised (sym runs) up;
     claimed = λ up. subst InOrder (sym runs) up;
-    took = λ up. takes_by (λ x y. took_order (view_of old) (view_of new) x y n line some_item t up);
+    took = λ up. takes_by (λ x y. took_order (view_of old) (view_of new) x y n line is.1 t up);
     known = still_shut old new d.steps d.adds;
   }
+  heard_worked line (Err r) (none, h) = none_worked (refused_take_own (IsBegun n) (IsLine n) n (view_of old) (view_of new) r h)
+      (λ up. takes_by (λ x y. refused_order (view_of old) (view_of new) x y (IsBegun n) (IsLine n) n r h up))
 
-  pub refused_take_worked : (Few Enough : List ℕ → Type 0) (r : TakeRefusal) → RefusedTake Few Enough n (view_of old) r (view_of new) → EndWorked idle_queue old new
-  refused_take_worked Few Enough r h = none_worked (refused_take_own Few Enough n (view_of old) (view_of new) r h)
-      (λ up. takes_by (λ x y. refused_order (view_of old) (view_of new) x y Few Enough n r h up))
-
-  pub shut_worked : (was_open : Bool) → ShutNow (view_of old) was_open (view_of new) → EndWorked (shut_if was_open) old new
+  pub shut_worked : (was_open : Bool) → HasShut was_open old new → EndWorked (shut_if was_open) old new
   shut_worked was_open h = same_worked ((shut_if was_open).shuts) (does (view_of old) (view_of new) (with_shutting (view_of old).own was_open) _ h.3)
       (λ up. takes_by (λ x y. shut_order (view_of old) (view_of new) x y was_open h up))
 

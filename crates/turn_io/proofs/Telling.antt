@@ -1,5 +1,6 @@
--- The meaning of the answer to a poke.
-use Rattle.turn_io.proofs.Common.{◌≡◌, ℕ, ◌+◌, List, [], ◌∷◌, ◌++◌, map, length, sym, ap, ◌∙◌, arith, length-append, length-map, map-append, Part, ChainRefusal, ChainEnd, Ghosts, me_of, notes_taken, ChainEndWorked, idle_chain}
+-- The sum of a poke, by its evidence: the notes chained, the notes run, and the share of an end of a chain.
+use Rattle.turn_io.proofs.Common.{◌≡◌, ℕ, ◌+◌, [], ◌∷◌, ◌++◌, map, length, sym, ap, ◌∙◌, arith, length-append, length-map, map-append, Part, ChainRefusal, ChainEnd, Ghosts, ProcChain, Result, notes_taken, both_chain}
+use Rattle.std.proofs.Common.{Ok, Err}
 use Rattle.std.proofs.lemmas.List.{append-nil}
 use Rattle.proc_chain.specs.declared.rule.ChainOps.{ChainOps}
 use Rattle.proc_chain.specs.declared.chaining.ChainRefusal.TheVariants.{Spent, Full, Lost}
@@ -8,10 +9,19 @@ use Rattle.proc_chain.specs.Handles.{view_of}
 use Rattle.proc_chain.specs.Links.{notes_in}
 use Rattle.proc_chain.specs.Notes.{line_of, alone}
 use Rattle.proc_chain.specs.Own.{View}
-use Rattle.quajects.specs.Notings.{IsRun, IsLeft}
+use Rattle.turn_io.specs.declared.poking.Poked.{Poked}
+use Rattle.turn_io.specs.declared.poking.Poked.TheVariants.{Ran, Left}
+use Rattle.turn_io.specs.Accounts.{AtChain, chained_if, notes_of}
+use Rattle.turn_io.specs.EndLists.{chain_end_share}
+use Rattle.turn_io.specs.Outcomes.{HasPoked}
 
 pub none_more : (a b : ℕ) → a ≡ b → a ≡ b + 0
 none_more a b e = omega arith
+
+-- the end of a chain did this in addition, and has the share that it had
+pub record ChainEndWorked {Q W : Type 0} {g : Ghosts Q W} (more : AtChain) (old new : ChainEnd Q W g) : Type 0 where
+  pub did : notes_of (view_of new) ≡ both_chain (notes_of (view_of old)) more
+  pub share : chain_end_share new ≡ chain_end_share old
 
 -- one more note was put
 one_more : (d : ChainOps) (position note : ℕ) → map line_of (with_run d position note).runs ≡ map line_of d.runs ++ alone note ∷ []
@@ -24,25 +34,20 @@ refused_did v w (Full head tail) h = (h.4.did, h.4.member)
 refused_did v w (Lost head) h = (h.8.did, h.8.member)
 
 module _ {Q W : Type 0} {g : Ghosts Q W} (old new : ChainEnd Q W g) where
-  -- a note was chained, and this many were run
-  pub ran_worked : (made : Q → List ℕ → Type 0) (fits : Q → Type 0) (note notes : ℕ) → IsRun made fits (me_of old) [] note notes (me_of new) → ChainEndWorked (record { notes = alone note ∷ []; ran = notes }) old new
-  ran_worked made fits note notes i = record {
+  -- a note was chained and run with others, or left, or refused
+  pub poked_worked : (chain : ProcChain Q W) (note : ℕ) (answer : Result Poked ChainRefusal) → HasPoked chain note answer old new → ChainEndWorked (chained_if answer note) old new
+  poked_worked chain note (Ok (Ran notes)) i = record {
     did = λ k. record {
       notes = ((λ k. map line_of (i.steps.did k).runs) ∙ one_more (view_of old).own i.link.head note) k;
       ran = (ap length i.takes ∙ (length-append (notes_taken (view_of old)) (map alone (notes_in i.service)) ∙ (λ k. length (notes_taken (view_of old)) + (length-map (notes_in i.service) alone ∙ i.number) k))) k;
     };
     share = ap (λ (z : Part). z.share) i.steps.member;
   }
-
-  -- a note was chained, and left
-  pub left_worked : (note : ℕ) → IsLeft (me_of old) [] note (me_of new) → ChainEndWorked (record { notes = alone note ∷ []; ran = 0 }) old new
-  left_worked note i = record {
+  poked_worked chain note (Ok Left) i = record {
     did = λ k. record { notes = ((λ k. map line_of (i.3.did k).runs) ∙ one_more (view_of old).own i.0.head note) k; ran = none_more _ _ (λ k. length (map line_of (i.3.did k).takes)) k };
     share = ap (λ (z : Part). z.share) i.3.member;
   }
-
-  pub refused_reported : (r : ChainRefusal) → NotChained (view_of old) r (view_of new) → ChainEndWorked idle_chain old new
-  refused_reported r h = let d = refused_did (view_of old) (view_of new) r h in record {
+  poked_worked chain note (Err r) h = let d = refused_did (view_of old) (view_of new) r h.0 in record {
     did = λ k. record { notes = (ap (λ (z : ChainOps). map line_of z.runs) d.0 ∙ sym (append-nil _)) k; ran = none_more _ _ (ap (λ (z : ChainOps). length (map line_of z.takes)) d.0) k };
     share = ap (λ (z : Part). z.share) d.1;
   }

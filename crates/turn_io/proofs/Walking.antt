@@ -5,59 +5,29 @@ use Rattle.std.proofs.lemmas.List.{take_more, take_more_set, take_all, get_or-se
 module _ {A B C : Type 0} (R : A → B → C → Type 0) where
   pub three_push : (xs : List A) (ys : List B) (zs : List C) (x : A) (y : B) (z : C) → AllThree R xs ys zs → R x y z → AllThree R (xs ++ x ∷ []) (ys ++ y ∷ []) (zs ++ z ∷ [])
   three_push [] [] [] x y z h r = (r, h)
-  three_push [] [] (c ∷ zs) x y z h r = absurd h
-  three_push [] (b ∷ ys) [] x y z h r = absurd h
-  three_push [] (b ∷ ys) (c ∷ zs) x y z h r = absurd h
-  three_push (a ∷ xs) [] [] x y z h r = absurd h
-  three_push (a ∷ xs) [] (c ∷ zs) x y z h r = absurd h
-  three_push (a ∷ xs) (b ∷ ys) [] x y z h r = absurd h
   three_push (a ∷ xs) (b ∷ ys) (c ∷ zs) x y z h r = (h.0, three_push xs ys zs x y z h.1 r)
+  three_push _ _ _ x y z h r = absurd h
 
   -- a relation of the three ends at each place holds at each number, if it holds of the default
   pub at_three : {D : Type 0} (F : A → D) (G : B → D) (H : C → D) (rel : D → D → D → Type 0) (d : D) → rel d d d → ((x : A) (y : B) (z : C) → R x y z → rel (F x) (G y) (H z)) → (xs : List A) (ys : List B) (zs : List C) → AllThree R xs ys zs
       → (q : ℕ) → rel (get_or (map F xs) q d) (get_or (map G ys) q d) (get_or (map H zs) q d)
   at_three F G H rel d n f [] [] [] h q = n
-  at_three F G H rel d n f [] [] (c ∷ zs) h q = absurd h
-  at_three F G H rel d n f [] (b ∷ ys) [] h q = absurd h
-  at_three F G H rel d n f [] (b ∷ ys) (c ∷ zs) h q = absurd h
-  at_three F G H rel d n f (a ∷ xs) [] [] h q = absurd h
-  at_three F G H rel d n f (a ∷ xs) [] (c ∷ zs) h q = absurd h
-  at_three F G H rel d n f (a ∷ xs) (b ∷ ys) [] h q = absurd h
   at_three F G H rel d n f (a ∷ xs) (b ∷ ys) (c ∷ zs) h zero = f a b c h.0
   at_three F G H rel d n f (a ∷ xs) (b ∷ ys) (c ∷ zs) h (suc q) = at_three F G H rel d n f xs ys zs h.1 q
-
-  pub map_three : {D : Type 0} (F : A → D) (G : B → D) → ((x : A) (y : B) (z : C) → R x y z → G y ≡ F x) → (xs : List A) (ys : List B) (zs : List C) → AllThree R xs ys zs → map G ys ≡ map F xs
-  map_three F G f [] [] [] h = refl
-  map_three F G f [] [] (c ∷ zs) h = absurd h
-  map_three F G f [] (b ∷ ys) [] h = absurd h
-  map_three F G f [] (b ∷ ys) (c ∷ zs) h = absurd h
-  map_three F G f (a ∷ xs) [] [] h = absurd h
-  map_three F G f (a ∷ xs) [] (c ∷ zs) h = absurd h
-  map_three F G f (a ∷ xs) (b ∷ ys) [] h = absurd h
-  map_three F G f (a ∷ xs) (b ∷ ys) (c ∷ zs) h = λ i. f a b c h.0 i ∷ map_three F G f xs ys zs h.1 i
+  at_three F G H rel d n f _ _ _ h q = absurd h
 
   pub all_three : (P : A → Type 0) (S : B → Type 0) (T : C → Type 0) → ((x : A) (y : B) (z : C) → R x y z → P x → T z → S y) → (xs : List A) (ys : List B) (zs : List C) → AllThree R xs ys zs → All P xs → All T zs → All S ys
   all_three P S T f [] [] [] h p t k d l = absurd (omega arith)
-  all_three P S T f [] [] (c ∷ zs) h p t k d l = absurd h
-  all_three P S T f [] (b ∷ ys) [] h p t k d l = absurd h
-  all_three P S T f [] (b ∷ ys) (c ∷ zs) h p t k d l = absurd h
-  all_three P S T f (a ∷ xs) [] [] h p t k d l = absurd h
-  all_three P S T f (a ∷ xs) [] (c ∷ zs) h p t k d l = absurd h
-  all_three P S T f (a ∷ xs) (b ∷ ys) [] h p t k d l = absurd h
   all_three P S T f (a ∷ xs) (b ∷ ys) (c ∷ zs) h p t zero d l = f a b c h.0 (p zero a (omega arith)) (t zero c (omega arith))
   all_three P S T f (a ∷ xs) (b ∷ ys) (c ∷ zs) h p t (suc k) d l =
       all_three P S T f xs ys zs h.1 (λ k d l. p (suc k) d (omega arith)) (λ k d l. t (suc k) d (omega arith)) k d (omega arith)
+  all_three P S T f _ _ _ h p t k d l = absurd h
 
   pub all_third : (T : C → Type 0) → ((x : A) (y : B) (z : C) → R x y z → T z) → (xs : List A) (ys : List B) (zs : List C) → AllThree R xs ys zs → All T zs
   all_third T f [] [] [] h k d l = absurd (omega arith)
-  all_third T f [] [] (c ∷ zs) h k d l = absurd h
-  all_third T f [] (b ∷ ys) [] h k d l = absurd h
-  all_third T f [] (b ∷ ys) (c ∷ zs) h k d l = absurd h
-  all_third T f (a ∷ xs) [] [] h k d l = absurd h
-  all_third T f (a ∷ xs) [] (c ∷ zs) h k d l = absurd h
-  all_third T f (a ∷ xs) (b ∷ ys) [] h k d l = absurd h
   all_third T f (a ∷ xs) (b ∷ ys) (c ∷ zs) h zero d l = f a b c h.0
   all_third T f (a ∷ xs) (b ∷ ys) (c ∷ zs) h (suc k) d l = all_third T f xs ys zs h.1 k d (omega arith)
+  all_third T f _ _ _ h k d l = absurd h
 
 -- the first i ends are changed, each with its third, and the others are unchanged
 pub record AsFar {E : Type 0} (R : E → E → E → Type 0) (old now third : List E) (i : ℕ) : Type 0 where

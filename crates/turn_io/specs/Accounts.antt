@@ -19,8 +19,7 @@ use Rattle.proc_chain.specs.Notes.{alone, notes_put, notes_taken}
 use Rattle.proc_chain.specs.Own.{View}
 use Rattle.turn_io.specs.declared.poking.Poked.{Poked}
 use Rattle.turn_io.specs.declared.poking.Poked.TheVariants.{Ran, Left}
-use Rattle.turn_io.specs.EndLists.{HasRaised, ClaimedInOrder, TookInOrder, end_knows_shut, end_share, knows_shut_at}
-use Rattle.turn_io.specs.EndLists.{chain_end_share}
+use Rattle.turn_io.specs.EndLists.{HasRaised, ClaimedInOrder, TookInOrder, knows_shut_at}
 
 -- the work at one queue: the lines put, the lines taken, and how often it was shut
 pub record AtQueue : Type 0 where
@@ -160,21 +159,6 @@ pub record AddsUp {A : Type 0} (none : A) (add : A → A → A) : Type 0 where
   pub regroups : (a b c : A) → add (add a b) c ≡ add a (add b c)
   pub none_first : (a : A) → add none a ≡ a
   pub none_last : (a : A) → add a none ≡ a
-
--- The end did this in addition, and has the share that it had. If it had raised all that it claimed, it still has; if
--- it had claimed in order, or taken in order, it still has; and if it knew that its queue is shut, it still knows
-pub record EndWorked {n : ℕ} (more : AtQueue) (old new : QueueEnd n) : Type 0 where
-  pub did : lines_of (view_of new).own ≡ both_queue (lines_of (view_of old).own) more
-  pub share : end_share new ≡ end_share old
-  pub raised : HasRaised old → HasRaised new
-  pub claimed : ClaimedInOrder old → ClaimedInOrder new
-  pub took : TookInOrder old → TookInOrder new
-  pub known : end_knows_shut old ≡ true → end_knows_shut new ≡ true
-
--- the end of a chain did this in addition, and has the share that it had
-pub record ChainEndWorked {Q W : Type 0} {g : Ghosts Q W} (more : AtChain) (old new : ChainEnd Q W g) : Type 0 where
-  pub did : notes_of (chains.view_of new) ≡ both_chain (notes_of (chains.view_of old)) more
-  pub share : chain_end_share new ≡ chain_end_share old
 
 -- The ends of a list stay sound: each has the share that it had. If all had raised all that they claimed, had claimed
 -- in order, or had taken in order, they still have. Each that knew that its queue is shut still knows

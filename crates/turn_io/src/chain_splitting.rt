@@ -1,8 +1,6 @@
 //! A second list of chain ends, for another owner: split off, and joined again.
-ghost use Rattle.std.specs.Prelude.{◌≡◌, ◌≤◌, ℕ, [], length, vec_capacity, IfOk, IfErr};
+ghost use Rattle.std.specs.Prelude.{◌≡◌, ◌≤◌, [], length, vec_capacity, IfOk, IfErr};
 ghost use Rattle.std.specs.List.{All};
-ghost use Rattle.proc_chain.specs.Handles.{turn_of, IsEndOf};
-ghost use Rattle.turn_io.specs.Accounts.{at_each, both_chain, both_stakes, chain_stakes, give, idle_chain, keep};
 ghost use Rattle.turn_io.specs.EndLists.{AreChainEndsOf, AreSameChainEnds, IsChainDivisible};
 ghost use Rattle.turn_io.specs.Splits.{AreChainsSplit, AreChainsJoined};
 
@@ -25,8 +23,6 @@ pub fn split_chain_ends_into(
     requires ends { AreChainEndsOf chains.now ends.old }
     requires parts { All IsChainDivisible ends.old }
     requires room { (born.items ≡ []) × (length chains.now ≤ vec_capacity born) }
-    ensures effect { (chain_stakes ends.new ≡ (λ q. keep (chain_stakes ends.old q)))
-        × (chain_stakes result.items ≡ (λ q. give idle_chain (chain_stakes ends.old q))) }
     ensures split { AreChainsSplit ends.old ends.new result.items }
     ensures born { AreChainEndsOf chains.now result.items }
     ensures ends { AreChainEndsOf chains.now ends.new }
@@ -49,8 +45,6 @@ pub fn split_chain_ends(
 ) -> Result<Vec<ChainEnd<AnyQuaject>>, OutOfMemory>
     requires ends { AreChainEndsOf chains.now ends.old }
     requires parts { All IsChainDivisible ends.old }
-    ensures effect { IfOk result (λ born. (chain_stakes ends.new ≡ (λ q. keep (chain_stakes ends.old q)))
-        × (chain_stakes born.items ≡ (λ q. give idle_chain (chain_stakes ends.old q)))) }
     ensures split { IfOk result (λ born. AreChainsSplit ends.old ends.new born.items) }
     ensures born { IfOk result (λ born. AreChainEndsOf chains.now born.items) }
     ensures refused { IfErr result (λ e. ends.new ≡ ends.old) }
@@ -72,8 +66,6 @@ pub fn join_chain_ends(
 )
     requires ends { AreChainEndsOf chains.now ends.old }
     requires others { AreChainEndsOf chains.now others.items }
-    ensures effect { chain_stakes ends.new
-        ≡ at_each (both_stakes both_chain) (chain_stakes ends.old) (chain_stakes others.items) }
     ensures joined { AreChainsJoined ends.old others.items ends.new }
     ensures ends { AreChainEndsOf chains.now ends.new }
     ensures handle { AreSameChainEnds ends.old ends.new }

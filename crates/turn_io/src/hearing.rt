@@ -1,9 +1,7 @@
 //! Hearing a line, and shutting a queue.
-ghost use Rattle.std.specs.Prelude.{◌≡◌, ◌<◌, ◌≤◌, ℕ, [], length, IfOk};
+ghost use Rattle.std.specs.Prelude.{◌≡◌, ◌<◌, ◌≤◌, [], length, IfOk};
 ghost use Rattle.claim_queue.specs.Handles.{IsEndOf, IsSameEnd};
 ghost use Rattle.turn_io.specs.declared.gate.Point.TheVariants.{TakeAnswered};
-ghost use Rattle.turn_io.specs.Accounts.{EndWorked, StaySound, at_each, at_one, both_queue, idle_queue};
-ghost use Rattle.turn_io.specs.Accounts.{queue_account, shut_if, taken_if};
 ghost use Rattle.turn_io.specs.Outcomes.{Heard, HasShut};
 ghost use Rattle.turn_io.specs.EndLists.{AreEndsOf, AreSameEnds, OnEnd};
 
@@ -24,7 +22,6 @@ fn hear_line<const N: usize, G: Gate>(
     requires empty { line.old.items ≡ [] }
     ensures handle { IsSameEnd end.old end.new }
     ensures heard { Heard line.new.items result end.old end.new }
-    ensures worked { EndWorked (taken_if result line.new.items) end.old end.new }
     ensures hook { G.observes gate.old p TakeAnswered gate.new }
 {
     let answer = queue.try_take_line(end, line);
@@ -51,9 +48,6 @@ pub fn hear<const N: usize, G: Gate>(
     requires ends { AreEndsOf queues.now ends.old }
     requires known { index < length queues.now }
     requires empty { line.old.items ≡ [] }
-    ensures effect { queue_account ends.new
-        ≡ at_each both_queue (queue_account ends.old) (at_one idle_queue index (taken_if result line.new.items)) }
-    ensures frame { StaySound ends.old ends.new }
     ensures long { IfOk result (λ done. (0 < length line.new.items) × (length line.new.items ≤ N)) }
     ensures hook { G.observes gate.old p TakeAnswered gate.new }
     ensures heard { OnEnd index (Heard line.new.items result) ends.old ends.new }
@@ -61,16 +55,6 @@ pub fn hear<const N: usize, G: Gate>(
     ensures handle { AreSameEnds ends.old ends.new }
 {
     hear_line(&queues[index], item_at(ends, index), line, p, gate)
-}
-
-// Shuts the queue at this end.
-fn shut_end<const N: usize>(queue: &ClaimQueue<N>, end: &mut QueueEnd<N>) -> bool
-    requires { IsEndOf queue.now end.old }
-    ensures handle { IsSameEnd end.old end.new }
-    ensures shut { HasShut result end.old end.new }
-    ensures worked { EndWorked (shut_if result) end.old end.new }
-{
-    queue.shut(end)
 }
 
 /// Shuts the queue with this index for claims, for good; items that were put can still be taken. Returns true if the
@@ -84,12 +68,9 @@ pub fn shut_queue<const N: usize>(
 ) -> bool
     requires ends { AreEndsOf queues.now ends.old }
     requires known { index < length queues.now }
-    ensures effect { queue_account ends.new
-        ≡ at_each both_queue (queue_account ends.old) (at_one idle_queue index (shut_if result)) }
-    ensures frame { StaySound ends.old ends.new }
     ensures shut { OnEnd index (HasShut result) ends.old ends.new }
     ensures ends { AreEndsOf queues.now ends.new }
     ensures handle { AreSameEnds ends.old ends.new }
 {
-    shut_end(&queues[index], item_at(ends, index))
+    queues[index].shut(item_at(ends, index))
 }

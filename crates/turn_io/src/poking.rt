@@ -1,9 +1,7 @@
 //! Poking a chain: note 0 is chained, and a Turn is served to its end.
-ghost use Rattle.std.specs.Prelude.{◌≡◌, ◌<◌, ℕ, false, length, map};
-ghost use Rattle.proc_chain.specs.Handles.{turn_of, world_of, me_of, IsEndOf, IsSameEnd};
+ghost use Rattle.std.specs.Prelude.{◌≡◌, ◌<◌, length};
+ghost use Rattle.proc_chain.specs.Handles.{world_of, IsEndOf, IsSameEnd};
 ghost use Rattle.turn_io.specs.declared.gate.Point.TheVariants as points;
-ghost use Rattle.turn_io.specs.Accounts.{ChainEndWorked, at_each, at_one, both_chain, chain_account, chain_shares};
-ghost use Rattle.turn_io.specs.Accounts.{chained_if, idle_chain};
 ghost use Rattle.turn_io.specs.Outcomes.{HasPoked, PokedAt};
 ghost use Rattle.turn_io.specs.EndLists.{AreChainsOver, AreChainEndsOf, AreSameChainEnds, IsIdle};
 
@@ -40,7 +38,6 @@ fn poke_end<R: Wait, G: Gate>(
     ensures handle { IsSameEnd end.old end.new }
     ensures idle { IsIdle end.new }
     ensures poked { HasPoked chain.now 0 result end.old end.new }
-    ensures worked { ChainEndWorked (chained_if result 0) end.old end.new }
     ensures hook { G.observes gate.old p points.Chained gate.new }
 {
     let answer = chain.try_chain(end, POKED);
@@ -75,9 +72,6 @@ pub fn poke<R: Wait, G: Gate>(
     requires ends { AreChainEndsOf chains.now ends.old }
     requires known { index < length chains.now }
     requires world { AreChainsOver world.now chains.now }
-    ensures effect { chain_account ends.new
-        ≡ at_each both_chain (chain_account ends.old) (at_one idle_chain index (chained_if result 0)) }
-    ensures shares { chain_shares ends.new ≡ chain_shares ends.old }
     ensures hook { G.observes gate.old p points.Chained gate.new }
     ensures poked { PokedAt chains.now index 0 result ends.old ends.new }
     ensures ends { AreChainEndsOf chains.now ends.new }

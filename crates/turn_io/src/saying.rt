@@ -1,10 +1,8 @@
 //! Saying a line: it is put in a queue by one claim, and raised.
-ghost use Rattle.std.specs.Prelude.{◌≡◌, ◌<◌, ℕ, [], length};
+ghost use Rattle.std.specs.Prelude.{◌≡◌, ◌<◌, length};
 ghost use Rattle.claim_queue.specs.Claims.{Owns};
 ghost use Rattle.claim_queue.specs.Handles.{view_of, IsEndOf, IsSameEnd};
 ghost use Rattle.claim_queue.specs.Puts.{RaisedFrom};
-ghost use Rattle.turn_io.specs.Accounts.{EndWorked, StaySound, at_each, at_one, both_queue, idle_queue, put_if};
-ghost use Rattle.turn_io.specs.Accounts.{queue_account};
 ghost use Rattle.turn_io.specs.Outcomes.{Said};
 ghost use Rattle.turn_io.specs.EndLists.{AreEndsOf, AreSameEnds, OnEnd};
 ghost use Rattle.turn_io.specs.Gates.{HookSawSay};
@@ -38,7 +36,6 @@ fn say_line<const N: usize, G: Gate>(
     requires { IsEndOf queue.now end.old }
     ensures handle { IsSameEnd end.old end.new }
     ensures said { Said line.now result end.old end.new }
-    ensures worked { EndWorked (put_if result line.now) end.old end.new }
     ensures hook { HookSawSay G.observes p result gate.old gate.new }
 {
     match queue.try_claim(end, line) {
@@ -67,9 +64,6 @@ pub fn say<const N: usize, G: Gate>(
 ) -> Result<(), ClaimRefusal>
     requires ends { AreEndsOf queues.now ends.old }
     requires known { index < length queues.now }
-    ensures effect { queue_account ends.new
-        ≡ at_each both_queue (queue_account ends.old) (at_one idle_queue index (put_if result line.now)) }
-    ensures frame { StaySound ends.old ends.new }
     ensures hook { HookSawSay G.observes p result gate.old gate.new }
     ensures said { OnEnd index (Said line.now result) ends.old ends.new }
     ensures ends { AreEndsOf queues.now ends.new }

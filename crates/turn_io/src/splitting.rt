@@ -1,8 +1,6 @@
 //! A second list of queue ends, for another owner: split off, and joined again.
-ghost use Rattle.std.specs.Prelude.{◌≡◌, ◌≤◌, ℕ, [], length, vec_capacity, IfOk, IfErr};
+ghost use Rattle.std.specs.Prelude.{◌≡◌, ◌≤◌, [], length, vec_capacity, IfOk, IfErr};
 ghost use Rattle.std.specs.List.{All};
-ghost use Rattle.claim_queue.specs.Own.{nothing_did, did_both};
-ghost use Rattle.turn_io.specs.Accounts.{at_each, both_stakes, give, keep, stakes};
 ghost use Rattle.turn_io.specs.EndLists.{AreEndsOf, AreSameEnds, IsDivisible};
 ghost use Rattle.turn_io.specs.Splits.{AreSplit, AreJoined};
 
@@ -24,8 +22,6 @@ pub fn split_ends_into<const N: usize>(
     requires ends { AreEndsOf queues.now ends.old }
     requires parts { All IsDivisible ends.old }
     requires room { (born.items ≡ []) × (length queues.now ≤ vec_capacity born) }
-    ensures effect { (stakes ends.new ≡ (λ q. keep (stakes ends.old q)))
-        × (stakes result.items ≡ (λ q. give nothing_did (stakes ends.old q))) }
     ensures split { AreSplit ends.old ends.new result.items }
     ensures born { AreEndsOf queues.now result.items }
     ensures ends { AreEndsOf queues.now ends.new }
@@ -48,8 +44,6 @@ pub fn split_ends<const N: usize>(
 ) -> Result<Vec<QueueEnd<N>>, OutOfMemory>
     requires ends { AreEndsOf queues.now ends.old }
     requires parts { All IsDivisible ends.old }
-    ensures effect { IfOk result (λ born. (stakes ends.new ≡ (λ q. keep (stakes ends.old q)))
-        × (stakes born.items ≡ (λ q. give nothing_did (stakes ends.old q)))) }
     ensures split { IfOk result (λ born. AreSplit ends.old ends.new born.items) }
     ensures born { IfOk result (λ born. AreEndsOf queues.now born.items) }
     ensures refused { IfErr result (λ e. ends.new ≡ ends.old) }
@@ -71,7 +65,6 @@ pub fn join_ends<const N: usize>(
 )
     requires ends { AreEndsOf queues.now ends.old }
     requires others { AreEndsOf queues.now others.items }
-    ensures effect { stakes ends.new ≡ at_each (both_stakes did_both) (stakes ends.old) (stakes others.entry.items) }
     ensures joined { AreJoined ends.old others.entry.items ends.new }
     ensures ends { AreEndsOf queues.now ends.new }
     ensures handle { AreSameEnds ends.old ends.new }

@@ -1,5 +1,4 @@
-use Rattle.processor.proofs.Common.{ℕ, List, Ok, ◌∙◌, subst, put_if, DidAt}
-use Rattle.claim_queue.specs.declared.claim.ClaimRefusal.{ClaimRefusal}
+use Rattle.processor.proofs.Common.{ℕ, List, Ok, ◌∙◌, subst}
 use Rattle.processor.specs.Queues.{SaidAt}
 use Rattle.processor.proofs.Ordering.{tried_between}
 use Rattle.processor.proofs.queue_steps.say_step.Goals as goal
@@ -10,11 +9,6 @@ returns-in-Put-clause-queues g c = (
   subst (λ (z : List ℕ). SaidAt c.args.queue z (Ok tt) c.args.small.now c.try_say-answer.new.small c.args.large.now c.try_say-answer.new.large)
       (c.as_slice.ensures.value ∙ c.write_line.ensures) c.in-Put.ensures.said,
 )
-
-pub returns-in-Put-clause-effect : goal.returns-in-Put-clause-effect
-returns-in-Put-clause-effect g c =
-    subst (λ (z : List ℕ). DidAt c.args.queue (put_if {A = Unit {0}} {E = ClaimRefusal} (Ok tt) z) c.args.small.now c.try_say-answer.new.small c.args.large.now c.try_say-answer.new.large)
-    (c.as_slice.ensures.value ∙ c.write_line.ensures) c.in-Put.ensures.effect
 
 pub returns-in-Put-clause-order : goal.returns-in-Put-clause-order
 returns-in-Put-clause-order g c = tried_between g.G.Watch.shown _ _ c.args.queue c.args.hand.now c.ticket_for-ticket.new.hand c.args.small.now c.try_say-answer.new.small c.args.large.now c.try_say-answer.new.large

@@ -1,8 +1,7 @@
-use Rattle.processor.proofs.Common.{rules, ◌≡◌, ◌<◌, inl, inr, ℕ, true, false, List, Option, Some, None, get_or, set, sym, subst, ap, ◌∙◌, counted_step, Tally, AddsToTally, followed_by, no_events, TakesOff, view_of, call_of, done_at, serves, running, StepOutcome, line_in, raised_by, EndsWorked}
+use Rattle.processor.proofs.Common.{rules, ◌≡◌, ◌<◌, inl, inr, ℕ, true, false, List, Option, Some, None, get_or, set, sym, subst, ap, ◌∙◌, counted_step, Tally, AddsToTally, followed_by, no_events, TakesOff, view_of, call_of, done_at, serves, running, StepOutcome, raised_by}
 use Rattle.thread_table.specs.Rules.{has}
 use Rattle.processor.proofs.Acting.{on_back}
 use Rattle.turn_dispatch.proofs.Tallies.{adds_on, behind_none}
-use Rattle.processor.proofs.Rising.{rises_on, falls, putting, counting, taking_off}
 use Rattle.turn_dispatch.proofs.Beginnings.{more_has}
 use Rattle.processor.proofs.Rooming.{number_on}
 use Rattle.processor.proofs.Ordering.{put_counts}
@@ -59,17 +58,6 @@ returns-clause-number g c =
     let followed_by = c.take_off.ensures.steady e low (inr (p, mine, runs)) (inl held) in
     number_on c.count_step-tried.result.counted e v did after w before followed_by c.count_step-tried.ensures.number
 
-pub returns-clause-rises : goal.returns-clause-rises
-returns-clause-rises g c =
-    let v = view_of c.args.parts.now.hand in
-    let on = view_of c.seat-seated.new.hand in
-    let did = view_of c.do_step-attempt.new.parts.hand in
-    let after = view_of c.count_step-tried.new.hand in
-    let w = view_of c.take_off.new.hand in
-    rises_on v on w (falls v on c.seat-seated.new.hand.valid (putting _ _ _ v on c.seat-seated.ensures.put)) (rises_on on did w c.do_step-attempt.ensures.acts.rises
-    (rises_on did after w (falls did after c.count_step-tried.new.hand.valid (counting _ _ _ did after _ c.count_step-tried.ensures.counted))
-    (falls after w c.take_off.new.hand.valid (taking_off _ _ _ after w c.take_off.ensures.taken))))
-
 pub returns-clause-on : goal.returns-clause-on
 returns-clause-on g c =
     let p = c.args.p in
@@ -98,12 +86,6 @@ returns-clause-adds g c =
     let plain = subst (λ (z : Tally). AddsToTally z v w) (behind_none (followed_by raised counted)) all in
     subst (λ (z : StepOutcome). AddsToTally (followed_by (raised_by z) (counted_step tried.counted e (done_at v.seen.object e))) v w) (sym c.count_step-tried.ensures.step_outcome)
     (subst (λ (n : ℕ). AddsToTally (followed_by raised (counted_step tried.counted e n)) v w) same plain)
-
-pub returns-clause-worked : goal.returns-clause-worked
-returns-clause-worked g c =
-    let w = c.do_step-attempt.ensures.worked in
-    subst (λ (z : StepOutcome). EndsWorked z (line_in c.args.step.now c.do_step-attempt.new.room.heard.items) c.args.parts.now (record c.do_step-attempt.new.parts { hand = c.take_off.new.hand })) (sym c.count_step-tried.ensures.step_outcome)
-    (record { queues = w.queues; chains = w.chains; ticks = w.ticks; small = w.small; large = w.large; chains_kept = w.chains_kept; seat_kept = w.seat_kept; seat = w.seat })
 
 pub returns-clause-order : goal.returns-clause-order
 returns-clause-order g c =

@@ -4,9 +4,12 @@ use Rattle.boot_data.specs.Hearing.{Heard}
 use Rattle.processor.specs.declared.counting.StepCounted.{StepCounted}
 use Rattle.processor.specs.Programs.{longest_line}
 use Rattle.processor.specs.Orders.{InOrder, count_of, one_more}
+use Rattle.processor.specs.Running.{EndsDid}
 use Rattle.processor.specs.Turns.{RanStep}
 use Rattle.processor.proofs.Keeping.{free_still}
 use Rattle.processor.proofs.Longest.{heard_within}
+use Rattle.processor.proofs.Placing.{queues_worked, chains_worked, seat_worked}
+use Rattle.processor.proofs.Rising.{fallen, going, stepping}
 use Rattle.processor.proofs.Rooming.{key_in, hears_more, past_more, room_left, keys_more}
 use Rattle.processor.proofs.Trying.{heard_line, tried_went}
 use Rattle.processor.proofs.turn.run_element.Goals as goal
@@ -51,13 +54,16 @@ returns-clause-station g c =
     let w = view_of c.send_on.new.hand in
     let keys : List Key = map key_of heard.lines in
     let more = hears_more e n plan c.args.step.now step_outcome _ v keys c.requires.its r.step_outcome c.requires.known had.hears had.past in
-    let past = past_more _ _ e n plan step_outcome c.run_step-tried.result.counted v u w keys r.hand r.number c.requires.known c.requires.low r.rises s.rises had.past in
+    let past = past_more _ _ e n plan step_outcome c.run_step-tried.result.counted v u w keys r.hand r.number c.requires.known c.requires.low
+    (fallen c.args.parts.now.hand c.run_step-tried.new.parts.hand (stepping _ _ _ _ _ _ _ _ r.hand)) (fallen c.run_step-tried.new.parts.hand c.send_on.new.hand (going (call_of c.run_step-tried.new.parts.hand) step_outcome c.is_last-last.result e c.send_on.result.moved u w s.goes)) had.past in
     let are : map key_of c.keep.new.lines.lines ≡ keys ++ key_in step_outcome e n =
     keys_more c.run_step-tried.new.parts.heard.lines c.keep.new.lines.lines step_outcome e n _
     (subst (λ (z : StepOutcome). c.keep.new.lines.lines ≡ c.run_step-tried.new.parts.heard.lines ++ heard_by z e n c.as_slice.result.now) c.step_outcome.ensures c.keep.ensures.effect) ∙ ap (λ z. map key_of z.lines ++ key_in step_outcome e n) r.heard in
     let sized : c.keep.new.lines.room ≡ heard.room = c.keep.ensures.room ∙ ap (λ z. z.room) r.heard in
     let on = s.frame.on ∙ r.on in
     let serves = s.frame.serves ∙ r.serves in
+    let queues = queues_worked _ _ _ _ step_outcome _ r.ends.queues in
+    let seat = (seat_worked step_outcome _ _ r.ends.seat).1 in
     record {
       manned = record {
         parts_are = search rules;
@@ -73,12 +79,12 @@ returns-clause-station g c =
       serves = serves;
       on = on;
       shares_are = λ i. record {
-        queues = by_index (r.worked.small.shares i) (r.worked.large.shares i);
-        chains = r.worked.chains_kept i;
+        queues = by_index (queues.small.shares i) (queues.large.shares i);
+        chains = (chains_worked _ step_outcome _ _ r.ends.chains).1 i;
         hand = (s.frame.share ∙ r.share) i;
-        meters = r.worked.seat_kept i;
+        meters = seat.share i;
       };
-      seat = r.worked.seat;
+      seat = seat.parted;
     }
 
 pub returns-clause-ran : goal.returns-clause-ran
@@ -98,6 +104,7 @@ returns-clause-ran g c =
     let kept = subst (λ (z : StepOutcome). c.keep.new.lines.lines ≡ mid.heard.lines ++ heard_by z e n c.as_slice.result.now) c.step_outcome.ensures c.keep.ensures.effect in
     let bytes = ap (λ (z : List ℕ). mid.heard.lines ++ heard_by tried.step_outcome e n z) c.as_slice.ensures.value in
     let lines = kept ∙ bytes ∙ (ap (λ z. z.lines ++ heard_by tried.step_outcome e n text) r.heard ∙ ap (λ z. old.heard.lines ++ z) (heard_line c.args.step.now tried.step_outcome e n text r.step_outcome)) in
+    let ends : EndsDid shared tried.step_outcome line old new = record { queues = r.ends.queues; chains = r.ends.chains; seat = r.ends.seat } in
     let last : c.is_last-last.result ≡ is_last (is_done tried.step_outcome) n (length (program shared.plan e)) = search rules in
     let goes = subst (λ k. Goes k tried.step_outcome (is_last (is_done tried.step_outcome) n (length (program shared.plan e))) e sent.moved (view_of mid.hand) (view_of new.hand)) r.handle.hand.1
     (subst (λ b. Goes (call_of mid.hand) tried.step_outcome b e sent.moved (view_of mid.hand) (view_of new.hand)) last s.goes) in
@@ -111,12 +118,12 @@ returns-clause-ran g c =
         stepped = view_of mid.hand;
         ran = r.hand;
         goes = goes;
-        ends = record { queues = r.ends.queues; chains = r.ends.chains; seat = r.ends.seat };
+        ends = ends;
         lines = lines;
         signals = r.signals;
       },
       tried_went shared _ _ c.args.p e n c.args.step.now sent line old mid new c.requires.its r.step_outcome r.hand r.number c.requires.known c.requires.low goes
-          r.rises s.rises r.adds s.adds r.ends.queues (record { queues = r.worked.queues; chains = r.worked.chains; ticks = r.worked.ticks; small = r.worked.small; large = r.worked.large; chains_kept = r.worked.chains_kept; seat_kept = r.worked.seat_kept; seat = r.worked.seat }) lines r.signals,
+          r.adds s.adds ends lines r.signals,
     ) in
     (line, both.0, both.1)
 

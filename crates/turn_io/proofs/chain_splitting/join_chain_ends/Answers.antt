@@ -6,7 +6,6 @@ use Rattle.turn_io.proofs.ChainParting.{took_in, still_idle}
 use Rattle.turn_io.proofs.Chains.{its_end, in_ends, is_idle, ends_same, ends_fit}
 use Rattle.turn_io.proofs.Places.{as_long}
 use Rattle.turn_io.proofs.Walking.{walk_on, walked, same_on, next_of}
-use Rattle.turn_io.proofs.Accounting.{chain_joined_at}
 use Rattle.turn_io.proofs.chain_splitting.join_chain_ends.Goals as goal
 
 pub join-requires : goal.join-requires
@@ -49,6 +48,3 @@ returns-clause-joined c = let v = c.loop-other.invariant in let none = c.in-None
     let number = v.number in let same = ap length all in
     subst (λ z. AreChainsJoined c.args.ends.now z c.loop-other.ends) all
     (walked IsChainJoined c.args.ends.now c.loop-other.ends c.loop-other.yielded c.loop-other.i (omega arith) v.walk)
-
-pub returns-clause-effect : goal.returns-clause-effect
-returns-clause-effect c = chain_joined_at c.args.ends.now c.loop-other.ends c.args.others.items (returns-clause-joined c)

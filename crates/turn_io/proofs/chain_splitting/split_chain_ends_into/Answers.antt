@@ -5,7 +5,6 @@ use Rattle.turn_io.proofs.ChainParting.{rests}
 use Rattle.turn_io.proofs.Chains.{its_end, in_ends, is_idle, ends_same, ends_fit}
 use Rattle.turn_io.proofs.Places.{as_long}
 use Rattle.turn_io.proofs.Walking.{AsFar, walk_on, walked, next_holds, same_on, tables_more}
-use Rattle.turn_io.proofs.Accounting.{chain_kept_at, chain_given_at}
 use Rattle.turn_io.proofs.chain_splitting.split_chain_ends_into.Goals as goal
 
 pub split-end-requires-clause-ends : goal.split-end-requires-clause-ends
@@ -33,6 +32,3 @@ loop-i-preserved c = let v = c.loop-i.invariant in let test = c.loop-i-test.true
 pub returns-clause-split : goal.returns-clause-split
 returns-clause-split c = let long = as_long chain_end_table chain_table c.args.ends.now c.args.chains.now c.requires.ends.tables in let past = c.loop-i-test.false in
     walked IsChainSplit c.args.ends.now c.loop-i.ends c.loop-i.born.items c.loop-i.i (omega arith) c.loop-i.invariant.walk
-
-pub returns-clause-effect : goal.returns-clause-effect
-returns-clause-effect c = let all = returns-clause-split c in (chain_kept_at c.args.ends.now c.loop-i.ends c.loop-i.born.items all, chain_given_at c.args.ends.now c.loop-i.ends c.loop-i.born.items all)

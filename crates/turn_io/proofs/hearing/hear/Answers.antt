@@ -1,7 +1,6 @@
 use Rattle.turn_io.proofs.Common.{rules, Heard}
-use Rattle.turn_io.proofs.Using.{its_end, in_ends, ends_same, ends_fit, used_at}
+use Rattle.turn_io.proofs.Using.{its_end, ends_same, ends_fit, used_at}
 use Rattle.turn_io.proofs.Shares.{heard_long}
-use Rattle.turn_io.proofs.Accounting.{did_at, sound_at}
 use Rattle.turn_io.proofs.hearing.hear.Goals as goal
 
 pub hear_line-requires : goal.hear_line-requires
@@ -18,9 +17,3 @@ returns-clause-heard g c = used_at c.args.queues.now c.args.ends.now c.args.inde
 
 pub returns-clause-long : goal.returns-clause-long
 returns-clause-long g c = heard_long _ _ c.hear_line.new.line.items c.hear_line.result c.hear_line.ensures.heard
-
-pub returns-clause-effect : goal.returns-clause-effect
-returns-clause-effect g c = did_at c.args.ends.now c.args.index _ _ _ (in_ends c.args.queues.now c.args.ends.now c.args.index c.requires.ends c.requires.known) c.item_at.ensures.value c.hear_line.ensures.worked
-
-pub returns-clause-frame : goal.returns-clause-frame
-returns-clause-frame g c = sound_at c.args.ends.now c.args.index _ _ _ (in_ends c.args.queues.now c.args.ends.now c.args.index c.requires.ends c.requires.known) c.item_at.ensures.value c.hear_line.ensures.worked

@@ -1,23 +1,16 @@
 use Rattle.turn_io.proofs.Common.{arith}
 use Rattle.turn_io.specs.Outcomes.{HasShut}
-use Rattle.turn_io.proofs.Using.{its_end, in_ends, ends_same, ends_fit, used_at}
-use Rattle.turn_io.proofs.Accounting.{did_at, sound_at}
+use Rattle.turn_io.proofs.Using.{its_end, ends_same, ends_fit, used_at}
 use Rattle.turn_io.proofs.hearing.shut_queue.Goals as goal
 
-pub shut_end-requires : goal.shut_end-requires
-shut_end-requires g c = (omega arith, (omega arith, its_end c.args.queues.now c.args.ends.now c.args.index _ _ c.requires.ends c.requires.known c.item_at.ensures.value c.index-queues-index.is))
+pub shut-requires : goal.shut-requires
+shut-requires g c = (omega arith, (omega arith, its_end c.args.queues.now c.args.ends.now c.args.index _ _ c.requires.ends c.requires.known c.item_at.ensures.value c.index-queues-index.is))
 
 pub returns-clause-handle : goal.returns-clause-handle
-returns-clause-handle g c = ends_same c.args.queues.now c.args.ends.now c.args.index _ _ c.requires.ends c.item_at.ensures.value c.shut_end.ensures.handle
+returns-clause-handle g c = ends_same c.args.queues.now c.args.ends.now c.args.index _ _ c.requires.ends c.item_at.ensures.value c.shut.ensures.handle
 
 pub returns-clause-ends : goal.returns-clause-ends
-returns-clause-ends g c = ends_fit c.args.queues.now c.args.ends.now c.args.index _ _ c.requires.ends c.item_at.ensures.value c.shut_end.ensures.handle
+returns-clause-ends g c = ends_fit c.args.queues.now c.args.ends.now c.args.index _ _ c.requires.ends c.item_at.ensures.value c.shut.ensures.handle
 
 pub returns-clause-shut : goal.returns-clause-shut
-returns-clause-shut g c = used_at c.args.queues.now c.args.ends.now c.args.index _ _ c.requires.ends c.item_at.ensures.value (HasShut c.shut_end.result) c.requires.known c.shut_end.ensures.shut
-
-pub returns-clause-effect : goal.returns-clause-effect
-returns-clause-effect g c = did_at c.args.ends.now c.args.index _ _ _ (in_ends c.args.queues.now c.args.ends.now c.args.index c.requires.ends c.requires.known) c.item_at.ensures.value c.shut_end.ensures.worked
-
-pub returns-clause-frame : goal.returns-clause-frame
-returns-clause-frame g c = sound_at c.args.ends.now c.args.index _ _ _ (in_ends c.args.queues.now c.args.ends.now c.args.index c.requires.ends c.requires.known) c.item_at.ensures.value c.shut_end.ensures.worked
+returns-clause-shut g c = used_at c.args.queues.now c.args.ends.now c.args.index _ _ c.requires.ends c.item_at.ensures.value (HasShut c.shut.result) c.requires.known c.shut.ensures.trace

@@ -1,5 +1,4 @@
-use Rattle.turn_io.proofs.Chains.{its_world, in_ends, is_idle, its_end, ends_same, ends_fit, poked_at}
-use Rattle.turn_io.proofs.Accounting.{chain_did_at, chain_shares_at}
+use Rattle.turn_io.proofs.Chains.{its_world, is_idle, its_end, ends_same, ends_fit, poked_at}
 use Rattle.turn_io.proofs.poking.poke.Goals as goal
 
 pub poke_end-requires-clause-end : goal.poke_end-requires-clause-end
@@ -19,9 +18,3 @@ returns-clause-ends g c = ends_fit c.args.chains.now c.args.ends.now c.args.inde
 
 pub returns-clause-poked : goal.returns-clause-poked
 returns-clause-poked g c = poked_at c.args.chains.now c.args.ends.now c.args.index _ _ c.requires.ends c.requires.known c.item_at.ensures.value _ _ _ c.index-chains-index.is c.poke_end.ensures.poked
-
-pub returns-clause-effect : goal.returns-clause-effect
-returns-clause-effect g c = chain_did_at c.args.ends.now c.args.index _ _ _ (in_ends c.args.chains.now c.args.ends.now c.args.index c.requires.ends c.requires.known) c.item_at.ensures.value c.poke_end.ensures.worked
-
-pub returns-clause-shares : goal.returns-clause-shares
-returns-clause-shares g c = chain_shares_at c.args.ends.now c.args.index _ _ _ (in_ends c.args.chains.now c.args.ends.now c.args.index c.requires.ends c.requires.known) c.item_at.ensures.value c.poke_end.ensures.worked

@@ -4,25 +4,15 @@ use Rattle.proc_chain.specs.Handles.{pact_of}
 use Rattle.proc_chain.specs.Rules.{suits, makes}
 use Rattle.quajects.specs.Anys.{MadeOf, Fits}
 use Rattle.quajects.proofs.Noting.{none_lost, is_run, is_left}
-use Rattle.turn_io.proofs.Telling.{ran_worked, left_worked, refused_reported}
 use Rattle.turn_io.proofs.poking.poke_end.Goals as goal
 
 pub returns-in-Run-clause-poked : goal.returns-in-Run-clause-poked
 returns-in-Run-clause-poked g c = let me = me_of c.args.end.now in let s = c.serve_all-notes.ensures in
     is_run (makes MadeOf (pact_of c.args.chain.now)) (suits Fits (pact_of c.args.chain.now)) me me (me_of c.try_chain-answer.new.end) (me_of c.serve_all-notes.new.end) [] _ _ c.in-Run.turn c.in-Ok.chained c.in-Run.is (none_lost me.0) c.args.end.now.valid c.try_chain-answer.new.end.valid c.in-Ok.ensures.trace c.in-Ok.ensures.effect s.made s.trace s.slot
 
-pub returns-in-Run-clause-worked : goal.returns-in-Run-clause-worked
-returns-in-Run-clause-worked g c = ran_worked c.args.end.now c.serve_all-notes.new.end (makes MadeOf (pact_of c.args.chain.now)) (suits Fits (pact_of c.args.chain.now)) _ _ (returns-in-Run-clause-poked g c)
-
 pub returns-in-Left-clause-poked : goal.returns-in-Left-clause-poked
 returns-in-Left-clause-poked g c = let me = me_of c.args.end.now in
     is_left me me (me_of c.try_chain-answer.new.end) [] _ c.in-Ok.chained c.in-Left.is (none_lost me.0) refl (c.in-Ok.ensures.kept (ap chained_run c.in-Left.is)).1 c.in-Ok.ensures.trace
 
-pub returns-in-Left-clause-worked : goal.returns-in-Left-clause-worked
-returns-in-Left-clause-worked g c = left_worked c.args.end.now c.try_chain-answer.new.end _ (returns-in-Left-clause-poked g c)
-
 pub returns-in-Err-clause-poked : goal.returns-in-Err-clause-poked
 returns-in-Err-clause-poked g c = (c.in-Err.ensures.trace, c.in-Err.ensures.turn.1)
-
-pub returns-in-Err-clause-worked : goal.returns-in-Err-clause-worked
-returns-in-Err-clause-worked g c = refused_reported c.args.end.now c.try_chain-answer.new.end _ c.in-Err.ensures.trace

@@ -1,7 +1,6 @@
 use Rattle.turn_io.proofs.Common.{arith}
 use Rattle.turn_io.specs.Outcomes.{Said}
-use Rattle.turn_io.proofs.Using.{its_end, in_ends, ends_same, ends_fit, used_at}
-use Rattle.turn_io.proofs.Accounting.{did_at, sound_at}
+use Rattle.turn_io.proofs.Using.{its_end, ends_same, ends_fit, used_at}
 use Rattle.turn_io.proofs.saying.say.Goals as goal
 
 pub say_line-requires : goal.say_line-requires
@@ -15,9 +14,3 @@ returns-clause-ends g c = ends_fit c.args.queues.now c.args.ends.now c.args.inde
 
 pub returns-clause-said : goal.returns-clause-said
 returns-clause-said g c = used_at c.args.queues.now c.args.ends.now c.args.index _ _ c.requires.ends c.item_at.ensures.value (Said c.args.line.now c.say_line.result) c.requires.known c.say_line.ensures.said
-
-pub returns-clause-effect : goal.returns-clause-effect
-returns-clause-effect g c = did_at c.args.ends.now c.args.index _ _ _ (in_ends c.args.queues.now c.args.ends.now c.args.index c.requires.ends c.requires.known) c.item_at.ensures.value c.say_line.ensures.worked
-
-pub returns-clause-frame : goal.returns-clause-frame
-returns-clause-frame g c = sound_at c.args.ends.now c.args.index _ _ _ (in_ends c.args.queues.now c.args.ends.now c.args.index c.requires.ends c.requires.known) c.item_at.ensures.value c.say_line.ensures.worked

@@ -1,6 +1,6 @@
 use Rattle.claim_queue.specs.Handles.{view_of}
 use Rattle.claim_queue.proofs.Certain.{distinct_end}
-use Rattle.turn_io.proofs.Shares.{said_put, put_worked, refused_worked}
+use Rattle.turn_io.proofs.Shares.{said_put}
 use Rattle.turn_io.proofs.saying.say_line.Goals as goal
 
 pub returns-in-Ok-clause-said : goal.returns-in-Ok-clause-said
@@ -8,9 +8,3 @@ returns-in-Ok-clause-said g c = let own = c.in-Ok.ensures.owns in (
   c.in-Ok.claim.start,
   said_put g.row.N (view_of c.args.end.now) (view_of c.try_claim.new.end) (view_of c.raise_all.new.end) _ _ _ _ own.0 own.1 (distinct_end c.try_claim.new.end) own.2 c.in-Ok.ensures.trace c.raise_all.ensures.raised,
 )
-
-pub returns-in-Ok-clause-worked : goal.returns-in-Ok-clause-worked
-returns-in-Ok-clause-worked g c = let said = returns-in-Ok-clause-said g c in put_worked c.args.end.now c.raise_all.new.end said.0 _ said.1
-
-pub returns-in-Err-clause-worked : goal.returns-in-Err-clause-worked
-returns-in-Err-clause-worked g c = refused_worked c.args.end.now c.try_claim.new.end _ _ c.in-Err.ensures.trace

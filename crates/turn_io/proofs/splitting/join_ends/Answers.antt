@@ -5,7 +5,6 @@ use Rattle.turn_io.proofs.Parting.{are_joined}
 use Rattle.turn_io.proofs.Places.{as_long, same_at}
 use Rattle.turn_io.proofs.Using.{its_end, in_ends, ends_same}
 use Rattle.turn_io.proofs.Walking.{walk_on, walked, same_on, next_of}
-use Rattle.turn_io.proofs.Accounting.{joined_at}
 use Rattle.turn_io.proofs.splitting.join_ends.Goals as goal
 
 pub join-requires : goal.join-requires
@@ -48,6 +47,3 @@ returns-clause-joined g c = let v = c.loop-other.invariant in let none = c.in-No
     let number = v.number in let same = ap length all in
     subst (λ (z : List (QueueEnd g.row.N)). AreJoined c.args.ends.now z c.loop-other.ends) all
     (are_joined c.args.ends.now c.loop-other.ends c.loop-other.yielded (walked IsJoined c.args.ends.now c.loop-other.ends c.loop-other.yielded c.loop-other.i (omega arith) v.walk))
-
-pub returns-clause-effect : goal.returns-clause-effect
-returns-clause-effect g c = joined_at c.args.ends.now c.loop-other.ends c.args.others.items (returns-clause-joined g c).each

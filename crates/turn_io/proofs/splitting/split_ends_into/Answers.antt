@@ -4,7 +4,6 @@ use Rattle.turn_io.proofs.Parting.{are_split}
 use Rattle.turn_io.proofs.Places.{as_long}
 use Rattle.turn_io.proofs.Using.{its_end, in_ends, ends_same}
 use Rattle.turn_io.proofs.Walking.{AsFar, walk_on, walked, next_holds, same_on, tables_more}
-use Rattle.turn_io.proofs.Accounting.{kept_at, given_at}
 use Rattle.turn_io.proofs.splitting.split_ends_into.Goals as goal
 
 pub split-end-requires : goal.split-end-requires
@@ -34,6 +33,3 @@ loop-i-preserved g c = let v = c.loop-i.invariant in let fit = v.same.tables ∙
 pub returns-clause-split : goal.returns-clause-split
 returns-clause-split g c = let long = as_long end_table queue_table c.args.ends.now c.args.queues.now c.requires.ends in let past = c.loop-i-test.false in
     are_split c.args.ends.now c.loop-i.ends c.loop-i.born.items (walked IsSplit c.args.ends.now c.loop-i.ends c.loop-i.born.items c.loop-i.i (omega arith) c.loop-i.invariant.walk)
-
-pub returns-clause-effect : goal.returns-clause-effect
-returns-clause-effect g c = let all = (returns-clause-split g c).each in (kept_at c.args.ends.now c.loop-i.ends c.loop-i.born.items all, given_at c.args.ends.now c.loop-i.ends c.loop-i.born.items all)

@@ -6,6 +6,7 @@ use Rattle.claim_queue.specs.Handles.{IsOnlyEnd}
 use Rattle.claim_queue.specs.declared.rule.QueueOps.{QueueOps}
 use Rattle.turn_io.specs.Accounts.{Stake, queue_shares}
 use Rattle.turn_io.specs.EndLists.{queue_table, end_table, end_share, share_at}
+use Rattle.turn_io.proofs.Accounting.{said_at, heard_at, shut_at}
 use Rattle.turn_io.proofs.Places.{as_long}
 use Rattle.boot_objects.proofs.Summed.{share_is}
 use Rattle.boot_objects.proofs.Lent.{came_back}
@@ -19,7 +20,9 @@ close_queues-closed-requires g c =
     let back = came_back end_table made.ends lent.result.now new tables lent.ensures.len in
     let fit : map end_table new ≡ map queue_table made.queues.items = c.join_at.ensures.ends ∙ ap (map queue_table) c.as_slice-list.ensures.value in
     let long = as_long end_table queue_table new made.queues.items fit in let one = made.one in
-    let shares = c.shut_queue.ensures.frame.shares ∙ (c.hear.ensures.frame.shares ∙ (c.say-2.ensures.frame.shares ∙ (c.say.ensures.frame.shares ∙ ap queue_shares lent.ensures.value))) in
+    let said = said_at _ c.say.result _ _ _ c.say.ensures.said in let again = said_at _ c.say-2.result _ _ _ c.say-2.ensures.said in
+    let heard = heard_at _ c.hear.result _ _ _ c.hear.ensures.heard in let shut = shut_at c.shut_queue.result _ _ _ c.shut_queue.ensures.shut in
+    let shares = shut.sound.shares ∙ (heard.sound.shares ∙ (again.sound.shares ∙ (said.sound.shares ∙ ap queue_shares lent.ensures.value))) in
     let same : queue_shares c.shut_queue.new.ends 0 ≡ share_at made.ends.items 0 = ap (λ (f : ℕ → ℕ). f 0) shares ∙ share_is made.ends.items 0 in
     let sum : share_at new 0 ≡ queue_shares c.shut_queue.new.ends 0 + (end_share made.other + 0) = sym (share_is new 0) ∙ ap (λ (f : ℕ → Stake QueueOps). (f 0).share) c.join_at.ensures.gained.stakes_are in
     let whole = only_one new (omega arith) (sum ∙ ((λ i. same i + add-zero (end_share made.other) i) ∙ made.whole)) in (

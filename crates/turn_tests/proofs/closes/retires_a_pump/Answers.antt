@@ -2,6 +2,7 @@ use Rattle.std.proofs.Common.{◌≡◌, ℕ, zero, suc, List, [], ◌∷◌, le
 use Rattle.std.specs.List.{All}
 use Rattle.std.specs.Vec.{with_items}
 use Rattle.turn_io.specs.EndLists.{chain_end_table}
+use Rattle.turn_io.proofs.Accounting.{poked_at}
 use Rattle.turn_io.proofs.Places.{as_long}
 use Rattle.turn_io.specs.Accounts.{chain_shares}
 use Rattle.proc_chain.specs.declared.ends.ChainEnd.{ChainEnd}
@@ -22,7 +23,7 @@ pub retire_all-homes-requires-clause-whole : goal.retire_all-homes-requires-clau
 retire_all-homes-requires-clause-whole g c = let made = c.in_ok-world.field-0 in let lent = c.deref_mut-2 in let poked = c.poke-poked in
     let back = came_back chain_end_table made.chain_ends lent.result.now poked.new.ends poked.ensures.handle.tables lent.ensures.len in
     subst (λ z. All IsOnlyEnd z) (sym back) (only_still made.chain_ends.items poked.new.ends (as_long chain_end_table chain_end_table poked.new.ends made.chain_ends.items (poked.ensures.handle.tables ∙ ap (map chain_end_table) lent.ensures.value))
-    (λ q. ap (λ (f : ℕ → ℕ). f q) (poked.ensures.shares ∙ ap chain_shares lent.ensures.value)) made.whole)
+    (λ q. ap (λ (f : ℕ → ℕ). f q) ((poked_at _ _ _ _ _ _ poked.ensures.poked).1 ∙ ap chain_shares lent.ensures.value)) made.whole)
 
 pub bring_all_home-counts-requires-clause-fits : goal.bring_all_home-counts-requires-clause-fits
 bring_all_home-counts-requires-clause-fits g c = let made = c.in_ok-world.field-0 in

@@ -8,6 +8,7 @@ pub mod Joins
 pub mod Rules
 pub mod Entries
 pub mod Steps
+pub mod Sets
 pub mod Answers
 pub mod Reads
 pub mod Wakes

@@ -1,19 +1,18 @@
 //! The table of thread elements and its hands.
-ghost use Rattle.std.specs.Prelude.{◌≡◌, ◌+◌, ◌≤◌, ◌<◌, [], ◌∷◌, ℕ, true, false, None, IfOk, slice_index_or, length};
-ghost use Rattle.std.specs.Prelude.{◌==◌, slice_set};
-ghost use Rattle.thread_table.specs.declared.layout.TheConstants.{WORDS, PROCESSORS, ELEMENTS};
+ghost use Rattle.std.specs.Prelude.{◌≡◌, ◌+◌, ◌≤◌, ◌<◌, [], ℕ, true, None, IfOk, length};
+ghost use Rattle.thread_table.specs.declared.layout.TheConstants.{WORDS, PROCESSORS};
 ghost use Rattle.thread_table.specs.Layout.{last_first};
 ghost use Rattle.thread_table.specs.Rules.{newcomer, HasStood, has, serves, running};
 ghost use Rattle.thread_table.specs.Client.{DidSplit, KeepsElements, PartsShare, HasBoth, AddsShare};
 ghost use Rattle.thread_table.specs.Endings.{IsNewEnd};
 ghost use Rattle.thread_table.specs.Evidence.{SplitBy, JoinedBy};
 ghost use Rattle.thread_table.specs.Answers.{is_in};
-ghost use Rattle.thread_table.specs.Steps.{parted, either, either_on};
 ghost use Rattle.thread_table.specs.Telling.{IsValidHandView};
 
 use crate::first_words::{lay_free, lay_rings};
 use crate::layout::WORDS;
 use crate::rule::{Shape, ThreadRule, View};
+use crate::sets::{BitSet, ProcessorMap};
 use crate::steps::{count_down, count_up, split_off, take_in};
 use atomic_table::{Seat, Table};
 use event_theory::{Element, OutOfMemory, Processor};
@@ -41,9 +40,9 @@ pub struct ThreadTable {
 #[derive(Drop)]
 pub struct Hand {
     pub(crate) seat: Seat<(), View>,
-    pub(crate) held: [bool; 64],
-    pub(crate) served: [bool; 8],
-    pub(crate) running: [Option<Element>; 8],
+    pub(crate) held: BitSet<64>,
+    pub(crate) served: BitSet<8>,
+    pub(crate) running: ProcessorMap,
     ghost bare: { seat.me.1 ≡ [] },
     ghost one: { seat.me.0.member.ends ≡ 1 },
     ghost none: { seat.me.0.own.claimed ≡ None },
@@ -62,21 +61,21 @@ impl Hand {
     pub fn holds(&self, element: Element) -> bool
         ensures { result ≡ has (view_of self.now) element }
     {
-        self.held[usize::from(element.number())]
+        self.held.contains(element.number())
     }
 
     /// Whether the hand serves the processor.
     pub fn serves(&self, processor: Processor) -> bool
         ensures { result ≡ serves (view_of self.now) processor }
     {
-        self.served[usize::from(processor.number())]
+        self.served.contains(processor.number())
     }
 
     /// The element that the hand has on the processor.
     pub fn on_processor(&self, processor: Processor) -> Option<Element>
         ensures { result ≡ running (view_of self.now) processor }
     {
-        self.running[usize::from(processor.number())]
+        self.running.get(processor.number())
     }
 }
 
@@ -109,9 +108,9 @@ impl ThreadTable {
         let (table, seat) = Table::of_words(alloc, row, &shape)?;
         let hand = Hand {
             seat,
-            held: [false; 64],
-            served: [true; 8],
-            running: [None; 8],
+            held: BitSet::from_bits(0),
+            served: BitSet::from_bits(0xFF),
+            running: ProcessorMap::new(),
         };
         Ok((ThreadTable { table, first }, hand))
     }
@@ -136,18 +135,18 @@ impl ThreadTable {
         ensures trace { SplitBy processors (view_of hand.old) (view_of hand.new) }
         ensures handle { IsSameHand hand.old hand.new × AreOfOneTable hand.old result }
     {
-        let mask = marks_of(processors);
         // linearization point: the number of hands becomes one more, before the new hand is made, so it is never too
         // low
         count_up::<Brand>(&self.table.shared, &mut hand.seat);
         // the first word is loaded too, and its number is not used
-        let seat = split_off::<Brand>(&self.table.shared, &mut hand.seat, &mask);
-        hand.served = parted(&hand.served, &mask);
+        let seat = split_off::<Brand>(&self.table.shared, &mut hand.seat, processors);
+        let mask = BitSet::from_bits(processors as u64);
+        hand.served = hand.served.difference(&mask);
         Hand {
             seat,
-            held: [false; 64],
+            held: BitSet::from_bits(0),
             served: mask,
-            running: [None; 8],
+            running: ProcessorMap::new(),
         }
     }
 
@@ -173,76 +172,8 @@ impl ThreadTable {
         take_in::<Brand>(&self.table.shared, &mut hand.seat, seat);
         // the number of hands becomes one less after the join, so it is never too low
         count_down::<Brand>(&self.table.shared, &mut hand.seat);
-        hand.held = either(&hand.held, &held);
-        hand.served = either(&hand.served, &served);
-        hand.running = either_running(&hand.running, &running);
+        hand.held = hand.held.union(&held);
+        hand.served = hand.served.union(&served);
+        hand.running = hand.running.or(&running);
     }
-}
-
-// The bits of the mask that are set.
-fn marks_of(mask: u8) -> [bool; 8]
-    ensures { (p : ℕ) → slice_index_or result p false ≡ is_in mask p }
-{
-    let mut marks = [false; 8];
-    for p in 0..8 {
-        marks[p] = mask >> p & 1 == 1;
-    }
-    marks
-}
-
-fn parted(served: &[bool; 8], mask: &[bool; 8]) -> [bool; 8]
-    ensures { result ≡ parted served.now mask.now }
-{
-    let mut rest = *served;
-    for p in 0..8 {
-        if mask[p] {
-            rest[p] = false;
-        }
-    }
-    rest
-}
-
-fn either<const N: usize>(marks: &[bool; N], others: &[bool; N]) -> [bool; N]
-    ensures { result ≡ either marks.now others.now }
-{
-    let mut all = *marks;
-    for i in 0..N {
-        if others[i] {
-            all[i] = true;
-        }
-    }
-    all
-}
-
-fn either_running(
-    running: &[Option<Element>; 8],
-    others: &[Option<Element>; 8],
-) -> [Option<Element>; 8]
-    ensures { result ≡ either_on running.now others.now }
-{
-    let mut all = [None; 8];
-    for p in 0..8 {
-        all[p] = running[p].or(others[p]);
-    }
-    all
-}
-
-// Marks an element as held by the hand, or no longer.
-pub(crate) fn set_held(held: &mut [bool; 64], element: u8, is: bool)
-    requires { element < ELEMENTS }
-    ensures { held.new ≡ slice_set held.old element is }
-{
-    held[usize::from(element)] = is;
-}
-
-// Records the element that the hand has on a processor.
-pub(crate) fn set_running(
-    running: &mut [Option<Element>; 8],
-    processor: u8,
-    element: Option<Element>,
-)
-    requires { processor < PROCESSORS }
-    ensures { running.new ≡ slice_set running.old processor element }
-{
-    running[usize::from(processor)] = element;
 }

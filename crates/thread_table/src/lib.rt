@@ -55,6 +55,7 @@ mod plays;
 mod processors;
 mod programs;
 mod rule;
+mod sets;
 mod states;
 mod steps;
 mod takings;

@@ -15,10 +15,11 @@ ghost use Rattle.thread_table.specs.Rules.{HasStood, IsActive, has};
 ghost use Rattle.thread_table.specs.Steps.{HandDid};
 ghost use Rattle.thread_table.specs.Views.{HasClaimed};
 
-use crate::hand::{Hand, ThreadTable, set_held};
+use crate::hand::{Hand, ThreadTable};
 use crate::layout::{FREE, READY, wait_ring};
 use crate::plays::EventOf;
 use crate::rule::View;
+use crate::sets::BitSet;
 use crate::steps::{Words, exchange_head, exchange_head_at, load_head, store_place};
 use crate::words::{HeadWord, PlaceWord};
 use atomic_table::Seat;
@@ -46,7 +47,7 @@ pub enum MoveRefusal {
 fn raise<J: EventOf>(
     words: &Words,
     seat: &mut Seat<(), View>,
-    held: &mut [bool; 64],
+    held: &mut BitSet<64>,
     ring: usize,
     head: u64,
     element: u8,
@@ -67,7 +68,7 @@ fn raise<J: EventOf>(
     // linearization point: the place is raised; one store publishes its element and its mark, after the claim, and no
     // other hand writes a claimed place
     store_place::<J>(words, seat, ring, head, element, place.word());
-    set_held(held, element, false);
+    held.set(element, false);
 }
 
 impl ThreadTable {

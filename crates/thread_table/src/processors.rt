@@ -5,7 +5,7 @@ ghost use Rattle.thread_table.specs.Rules.{has, serves, running};
 ghost use Rattle.thread_table.specs.Client.{PutOn, TookOff, ServesSame, OnlySteps};
 ghost use Rattle.thread_table.specs.Evidence.{PutsOn, TakesOff};
 
-use crate::hand::{Hand, ThreadTable, set_held, set_running};
+use crate::hand::{Hand, ThreadTable};
 use crate::steps::{swap_off, swap_on};
 use event_theory::{Element, Processor};
 use std::marker::Brand;
@@ -44,7 +44,7 @@ impl ThreadTable {
             (λ busy. (running (view_of hand.old) processor ≢ None) × (view_of hand.new ≡ view_of hand.old)) }
         ensures handle { IsSameHand hand.old hand.new }
     {
-        if let Some(_) = hand.running[usize::from(processor.number())] {
+        if let Some(_) = hand.running.get(processor.number()) {
             return Err(ProcessorBusy);
         }
         let number = element.number();
@@ -56,8 +56,8 @@ impl ThreadTable {
             processor.number(),
             number,
         );
-        set_held(&mut hand.held, number, false);
-        set_running(&mut hand.running, processor.number(), Some(element));
+        hand.held.set(number, false);
+        hand.running.set(processor.number(), Some(element));
         Ok(())
     }
 
@@ -78,7 +78,7 @@ impl ThreadTable {
             (λ empty. (running (view_of hand.old) processor ≡ None) × (view_of hand.new ≡ view_of hand.old)) }
         ensures handle { IsSameHand hand.old hand.new }
     {
-        let Some(element) = hand.running[usize::from(processor.number())] else {
+        let Some(element) = hand.running.get(processor.number()) else {
             return Err(ProcessorEmpty);
         };
         let number = element.number();
@@ -90,8 +90,8 @@ impl ThreadTable {
             processor.number(),
             number,
         );
-        set_held(&mut hand.held, number, true);
-        set_running(&mut hand.running, processor.number(), None);
+        hand.held.set(number, true);
+        hand.running.set(processor.number(), None);
         Ok(element)
     }
 }

@@ -10,7 +10,7 @@ ghost use Rattle.thread_table.specs.Client.{OnlySteps, IsStopped, HasPending};
 ghost use Rattle.thread_table.specs.Evidence.{StoppedNow, StartAnswer, ParkAnswer, SignalAnswer, DeliverAnswer};
 ghost use Rattle.thread_table.specs.Evidence.{IsPending};
 
-use crate::hand::{Hand, ThreadTable, set_held};
+use crate::hand::{Hand, ThreadTable};
 use crate::steps::{exchange_state, load_state, or_signal, or_stop};
 use crate::words::StateWord;
 use event_theory::{Element, Signal};
@@ -95,7 +95,7 @@ impl ThreadTable {
         if !state.is_parked() {
             return Ok(Started::Cleared);
         }
-        set_held(&mut hand.held, number, true);
+        hand.held.set(number, true);
         Ok(Started::Held)
     }
 
@@ -130,7 +130,7 @@ impl ThreadTable {
         if seen != word {
             return Err(Lost { seen });
         }
-        set_held(&mut hand.held, number, false);
+        hand.held.set(number, false);
         Ok(true)
     }
 

@@ -1,7 +1,6 @@
 //! The atomic steps. One function of each kind serves all element queues, processors and elements.
 ghost use Rattle.std.specs.Prelude.{◌≡◌, ◌≢◌, ◌+◌, ◌*◌, ◌%◌, ◌<◌, ◌≤◌, ◌/◌, ℕ, true, false, [], length};
-ghost use Rattle.std.specs.Prelude.{slice_index_or, Some};
-ghost use Rattle.std.specs.Prelude.{None};
+ghost use Rattle.std.specs.Prelude.{Some, None};
 ghost use Rattle.std.specs.Int.{bit_at};
 ghost use Rattle.std.specs.Int.Bits.{bit_or, bit_and};
 ghost use Rattle.table_theory.specs.Seating.{IsSame};
@@ -15,7 +14,8 @@ ghost use Rattle.thread_table.specs.Shown.{head_shown, tail_shown};
 ghost use Rattle.thread_table.specs.Rules.{HasStood, IsActive, MayStep, has, serves, running};
 ghost use Rattle.thread_table.specs.Views.{count_of, HasClaimed};
 ghost use Rattle.thread_table.specs.Entries.{claim_event, take_event};
-ghost use Rattle.thread_table.specs.Answers.{raise_event};
+ghost use Rattle.thread_table.specs.Answers.{raise_event, is_in};
+ghost use Rattle.thread_table.specs.Sets.{marks};
 ghost use Rattle.thread_table.specs.Steps.{Found, HandDid, IsTurn, ReadPc, CountedUp, CountedDown};
 ghost use Rattle.thread_table.specs.Steps.{rest_of, newborn, both, emptied};
 ghost use Rattle.event_theory.specs.declared.event.Event.TheVariants as events;
@@ -353,19 +353,19 @@ pub(crate) fn count_down<J: Caller>(words: &Words, seat: &mut Seat<(), View>) ->
 pub(crate) fn split_off<J: Mask>(
     words: &Words,
     seat: &mut Seat<(), View>,
-    mask: &[bool; 8],
+    processors: u8,
 ) -> Seat<(), View>
     requires queue { (seat.old.table_id ≡ words.now.table_id) × (words.now.table_id.words ≡ WORDS) }
     requires live { seat.old.me.0.member.ends ≡ 2 }
     requires stands { ∥ HasStood seat.old.id seat.old.me.0 ∥₁ }
-    requires mask { (J.mask ≡ mask.now) × ((p : ℕ) → slice_index_or mask.now p false ≡ true
+    requires mask { (J.mask ≡ marks PROCESSORS processors) × ((p : ℕ) → p < PROCESSORS → is_in processors p ≡ true
         → (serves seat.old.me.0 p ≡ true) × (running seat.old.me.0 p ≡ None)) }
     ensures queue { IsSame seat.old seat.new × (result.table_id ≡ seat.old.table_id) }
     ensures stands { ∥ HasStood seat.new.id seat.new.me.0 ∥₁ × ∥ HasStood result.id result.me.0 ∥₁ }
     ensures split { (seat.new.me ≡ (rest_of J.mask seat.old.me.0, seat.old.me.1))
         × (result.me ≡ (newborn J.mask seat.old.me.0, [])) }
 {
-    let _ = mask;
+    let _ = processors;
     words.split_seat::<Halves<J>>(seat)
 }
 

@@ -114,10 +114,10 @@ impl ThreadTable {
         if found != tail {
             return Err(NextRefusal::Lost { seen: found });
         }
-        hand.held[usize::from(place.element)] = true;
         let Some(element) = Element::new(place.element) else {
             unreachable!()
         };
+        hand.held.set(element.number(), true);
         Ok(element)
     }
 }

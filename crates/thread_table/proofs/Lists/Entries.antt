@@ -1,5 +1,5 @@
 -- Lists whose entries are put one after the other.
-use Rattle.thread_table.proofs.Common.{◌≡◌, ℕ, zero, suc, ◌<◌, ◌≤◌, Bool, true, false, List, [], ◌∷◌, length, get_or, Option, Some, None, refl, sym, ap, ◌∙◌, arith, and_right, ◌≢◌, ◌++◌, ⊎_elim, set, subst, length-set, some, get_elem?, at_set, at_push, ext_get_or, parted, either, either_on}
+use Rattle.thread_table.proofs.Common.{◌≡◌, ℕ, zero, suc, ◌<◌, ◌≤◌, Bool, true, false, List, [], ◌∷◌, length, get_or, Option, Some, None, refl, sym, ap, ◌∙◌, arith, and_right, ◌≢◌, ◌++◌, ⊎_elim, set, subst, length-set, some, get_elem?, at_set, at_push, parted, either, either_on}
 use Rattle.std.proofs.Common.{if◌then◌else◌}
 use Rattle.std.specs.Prelude.{◌&&◌, not}
 use Rattle.std.proofs.Math.Bool.{and-true}
@@ -10,10 +10,6 @@ pub record ArePut {X : Type 0} (d : X) (f : ℕ → X) (n : ℕ) (old xs : List 
   pub long : length xs ≡ length old
   pub done : (i : ℕ) → i < n → get_or xs i d ≡ f i
   pub left : (i : ℕ) → n ≤ i → get_or xs i d ≡ get_or old i d
-
--- all are put
-pub put_all : {X : Type 0} (d : X) (f : ℕ → X) (n : ℕ) (old xs zs : List X) → length zs ≡ length old → length old ≤ n → ((i : ℕ) → get_or zs i d ≡ f i) → ArePut d f n old xs → xs ≡ zs
-put_all d f n old xs zs long all is h = let e : length xs ≡ length old = h.long in ext_get_or d xs zs (h.long ∙ sym long) (λ i below. h.done i (omega arith) ∙ sym (is i))
 
 -- the entries of the marks that are in the first list alone, or in either of two
 abbrev pub parted_at : List Bool → List Bool → ℕ → Bool

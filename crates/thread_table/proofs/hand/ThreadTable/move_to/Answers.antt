@@ -16,6 +16,9 @@ returns-then-found-word-clause-trace c = (
       (c.exchange_head-found.ensures.miss c.if-found-word.true).0 c.if-found-word.true,
 )
 
+pub invariant_of-hand-then-found-word-clause-bare : goal.invariant_of-hand-then-found-word-clause-bare
+invariant_of-hand-then-found-word-clause-bare c = c.exchange_head-found.ensures.queue.1 ∙ (c.load_head-word.ensures.queue.1 ∙ c.args.hand.now.bare)
+
 pub raise-requires-clause-claimed : goal.raise-requires-clause-claimed
 raise-requires-clause-claimed c = let hit = c.exchange_head-found.ensures.hit c.if-found-word.false in
     (claim_known _ _ _ _ _ _ c.of-head.result.mark _ _ c.requires.table.1 (claim_moves c.load_head-word.new.seat.id _ c.number-number.result) hit c.of-head.ensures.0 c.of-head.ensures.1, c.number-number.ensures.within, omega (arith, c.of-head.ensures.1, c.if-head.false))

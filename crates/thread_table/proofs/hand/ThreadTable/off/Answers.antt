@@ -1,4 +1,4 @@
-use Rattle.thread_table.proofs.Common.{◌≡◌, ◌<◌, ◌∙◌, rules, length, arith, ℕ, List, Option, Some, None, get_or, set, true, sym, ap, ap₂, merely, View, transport, get_or_default, call_of, view_of, processor_word, running, TakesOff, HandDid, ELEMENTS, PROCESSORS}
+use Rattle.thread_table.proofs.Common.{◌≡◌, ◌<◌, ◌∙◌, rules, ℕ, List, Option, Some, None, get_or, set, true, sym, ap, ap₂, merely, View, transport, call_of, view_of, processor_word, running, TakesOff, HandDid, ELEMENTS, PROCESSORS}
 use Rattle.event_theory.specs.declared.event.Event.TheVariants as events
 use Rattle.thread_table.proofs.Events.StatesSeen.{takes_off}
 use Rattle.thread_table.proofs.Clients.{off_effect, off_frame}
@@ -6,10 +6,10 @@ use Rattle.thread_table.proofs.ClientBounds.{off_bound}
 use Rattle.thread_table.proofs.hand.ThreadTable.off.Goals as goal
 
 -- what the step says
-offs : (c : goal.After-set_running) → (running (view_of c.args.hand.now) c.args.processor ≡ Some c.in-Some.element) × TakesOff (call_of c.args.hand.now) c.args.processor c.in-Some.element (view_of c.args.hand.now) c.swap_off.new.seat.me.0
+offs : (c : goal.After-set-2) → (running (view_of c.args.hand.now) c.args.processor ≡ Some c.in-Some.element) × TakesOff (call_of c.args.hand.now) c.args.processor c.in-Some.element (view_of c.args.hand.now) c.swap_off.new.seat.me.0
 offs c = let h = c.args.hand.now in let d = c.swap_off.ensures.effect in let p = c.number-2.ensures.value in
     let known : c.in-Some.element < ELEMENTS = search rules in let few : c.args.processor < PROCESSORS = search rules in
-    let stood : running (view_of h) c.args.processor ≡ Some c.in-Some.element = ap₂ (λ (l : List (Option ℕ)) (k : ℕ). get_or l k None) (sym h.putting) (sym (c.from.ensures ∙ c.number.ensures.value)) ∙ (get_or_default h.running c.from.result None _ (let p = c.number.ensures.within in let q = c.from.ensures in let n : length h.running ≡ 8 = search rules in omega arith) ∙ c.in-Some.is) in (
+    let stood : running (view_of h) c.args.processor ≡ Some c.in-Some.element = ap₂ (λ (l : List (Option ℕ)) (k : ℕ). get_or l k None) (sym h.putting) (sym c.number.ensures.value) ∙ (sym c.get.ensures ∙ c.in-Some.is) in (
       stood,
       takes_off (call_of h) c.args.processor c.in-Some.element d.0 (view_of h) _ known few c.requires.mine stood (transport (λ i. HandDid (call_of h) (view_of h) (processor_word (p i)) d.0 (events.Off (call_of h) (p i)) c.swap_off.new.seat.me.0) d.1),
     )
@@ -23,9 +23,9 @@ invariant_of-hand c = let h = c.args.hand.now in let s = c.swap_off.ensures in l
   one = ap (λ (z : View). z.member.ends) has ∙ h.one;
   none = ap (λ (z : View). z.own.claimed) has ∙ h.none;
   fresh = ap (λ (z : View). z.own.fresh) has;
-  holding = c.set_held.ensures ∙ ((λ i. set (h.holding i) (n i) true) ∙ sym (ap (λ (z : View). z.own.held) has));
+  holding = c.set.ensures ∙ ((λ i. set (h.holding i) (n i) true) ∙ sym (ap (λ (z : View). z.own.held) has));
   serving = h.serving ∙ sym (ap (λ (z : View). z.own.serves) has);
-  putting = c.set_running.ensures ∙ ((λ i. set (h.putting i) (c.number-3.ensures.value i) None) ∙ sym (ap (λ (z : View). z.own.on) has));
+  putting = c.set-2.ensures ∙ ((λ i. set (h.putting i) (c.number-3.ensures.value i) None) ∙ sym (ap (λ (z : View). z.own.on) has));
   valid = merely s.effect.1.step.valid;
   stands = s.stands;
 }

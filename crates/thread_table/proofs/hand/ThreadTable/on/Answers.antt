@@ -11,9 +11,9 @@ invariant_of-hand c = let s = c.swap_on.ensures in let h = c.args.hand.now in le
   one = ap (λ (z : View). z.member.ends) has ∙ h.one;
   none = ap (λ (z : View). z.own.claimed) has ∙ h.none;
   fresh = ap (λ (z : View). z.own.fresh) has;
-  holding = c.set_held.ensures ∙ ((λ i. set (h.holding i) c.number-number.result false) ∙ sym (ap (λ (z : View). z.own.held) has));
+  holding = c.set.ensures ∙ ((λ i. set (h.holding i) c.number-number.result false) ∙ sym (ap (λ (z : View). z.own.held) has));
   serving = h.serving ∙ sym (ap (λ (z : View). z.own.serves) has);
-  putting = c.set_running.ensures ∙ ((λ i. set (h.putting i) ((c.number-3.ensures.value ∙ sym p) i) (Some (sym n i))) ∙ sym (ap (λ (z : View). z.own.on) has));
+  putting = c.set-2.ensures ∙ ((λ i. set (h.putting i) ((c.number-3.ensures.value ∙ sym p) i) (Some (sym n i))) ∙ sym (ap (λ (z : View). z.own.on) has));
   valid = merely s.effect.1.step.valid;
   stands = s.stands;
 }

@@ -5,6 +5,7 @@ use Rattle.thread_table.proofs.Clients.{take_effect, take_result, take_error}
 use Rattle.thread_table.proofs.Hands.Unchanged.{take_keeps}
 use Rattle.thread_table.proofs.ClientBounds.{take_bound}
 use Rattle.thread_table.proofs.hand.ThreadTable.take_first.Goals as goal
+use Rattle.thread_table.proofs.hand.ThreadTable.take_first.Goals.{After-new}
 
 pub returns-then-now-tail-clause-trace : goal.returns-then-now-tail-clause-trace
 returns-then-now-tail-clause-trace c = let t = c.load_tail-tail.ensures in let p = c.load_place.ensures in let n = c.load_tail-now.ensures in let bounded : c.of-place.result.element < 256 = search rules in
@@ -19,21 +20,18 @@ returns-then-found-tail-clause-trace c = let t = c.load_tail-tail.ensures in let
     passed_by c.args.hand.now.seat.id _ _ _ _ _ _ _ _ t.found p.found e.0 t.tail e.1 c.if-found-tail.true
 
 -- what the three steps of the taking say
-taken : (c : goal.After-from) → (c.of-place.result.element < ELEMENTS) × TakeAnswer (call_of c.args.hand.now) (view_of c.args.hand.now) c.args.ring (Ok c.of-place.result.element) c.exchange_tail-found.new.seat.me.0
+taken : (c : After-new) → (c.of-place.result.element < ELEMENTS) × TakeAnswer (call_of c.args.hand.now) (view_of c.args.hand.now) c.args.ring (Ok c.of-place.result.element) c.exchange_tail-found.new.seat.me.0
 taken c = let t = c.load_tail-tail.ensures in let p = c.load_place.ensures in let x = c.of-place.result in let h = c.args.hand.now in let w = c.exchange_tail-found.new.seat.me.0 in let id = p.queue.0.1 ∙ t.queue.0.1 in let bounded : x.element < 256 = search rules in
     let d = transport (λ i. HandDid (id i) c.load_place.new.seat.me.0 (tail_word c.args.ring) c.load_tail-tail.result (take_event (id i) c.args.ring) w) (c.exchange_tail-found.ensures.hit c.if-found-tail.false) in
     taken_first _ _ _ _ _ _ _ _ x.element x.mark c.requires.1 t.found p.found t.tail p.place c.of-place.ensures bounded c.if-place-tail.false d
 
-pub bounds-hand-from : goal.bounds-hand-from
-bounds-hand-from c = subst (λ (n : ℕ). n < 64) (sym c.from.ensures) (taken c).0
-
 pub invariant_of-hand-2 : goal.invariant_of-hand-2
-invariant_of-hand-2 c = let t = c.load_tail-tail.ensures in let p = c.load_place.ensures in let h = c.args.hand.now in let e = c.exchange_tail-found.ensures in let has = (taken c).1.8.has in record {
+invariant_of-hand-2 c = let t = c.load_tail-tail.ensures in let p = c.load_place.ensures in let h = c.args.hand.now in let e = c.exchange_tail-found.ensures in let has = (taken c.before.before.before.before).1.8.has in let is : c.number.result ≡ c.of-place.result.element = search rules in record {
   bare = e.queue.1 ∙ (p.queue.1 ∙ (t.queue.1 ∙ h.bare));
   one = ap (λ (z : View). z.member.ends) has ∙ h.one;
   none = ap (λ (z : View). z.own.claimed) has ∙ h.none;
   fresh = ap (λ (z : View). z.own.fresh) has;
-  holding = (λ i. set (h.holding i) (c.from.ensures i) true) ∙ sym (ap (λ (z : View). z.own.held) has);
+  holding = c.set.ensures ∙ ((λ i. set (h.holding i) (is i) true) ∙ sym (ap (λ (z : View). z.own.held) has));
   serving = h.serving ∙ sym (ap (λ (z : View). z.own.serves) has);
   putting = h.putting ∙ sym (ap (λ (z : View). z.own.on) has);
   valid = merely (e.hit c.if-found-tail.false).step.valid;
@@ -41,11 +39,11 @@ invariant_of-hand-2 c = let t = c.load_tail-tail.ensures in let p = c.load_place
 }
 
 pub unreachable-requires : goal.unreachable-requires
-unreachable-requires c = let known : c.of-place.result.element < ELEMENTS = (taken c.before.before.before).0 in search rules
+unreachable-requires c = let known : c.of-place.result.element < ELEMENTS = (taken c.before).0 in search rules
 
 pub returns-clause-trace : goal.returns-clause-trace
 returns-clause-trace c = let is : c.in-Some.element ≡ c.of-place.result.element = search rules in let h = c.args.hand.now in
-    subst (λ (n : ℕ). TakeAnswer (call_of h) (view_of h) c.args.ring (Ok n) c.exchange_tail-found.new.seat.me.0) (sym is) (taken c.before.before.before).1
+    subst (λ (n : ℕ). TakeAnswer (call_of h) (view_of h) c.args.ring (Ok n) c.exchange_tail-found.new.seat.me.0) (sym is) (taken c.before.before.before.before.before).1
 
 pub returns-then-now-tail-clause-effect : goal.returns-then-now-tail-clause-effect
 returns-then-now-tail-clause-effect c = take_effect [] c.args.hand.now.seat.id c.args.ring _ _ (Err nexts.NoneReady) tt (returns-then-now-tail-clause-trace c)

@@ -36,7 +36,7 @@ invariant_of-hand-then-not-is_parked c = let h = c.args.hand.now in let n = c.nu
 }
 
 -- what the two steps say
-starts_held : (c : goal.After-set_held) → StartAnswer (call_of c.args.hand.now) (view_of c.args.hand.now) c.args.element (Ok started.Held) c.exchange_state-seen.new.seat.me.0
+starts_held : (c : goal.After-set) → StartAnswer (call_of c.args.hand.now) (view_of c.args.hand.now) c.args.element (Ok started.Held) c.exchange_state-seen.new.seat.me.0
 starts_held c = let h = c.args.hand.now in let n = c.number-number.ensures.value in let l = c.load_state-word in let id = l.ensures.queue.0.1 in let u = l.new.seat.me.0 in let known : c.args.element < ELEMENTS = search rules in
     let d = transport (λ i. HandDid (id i) u (state_word (n i)) l.result (events.Start (id i) (n i)) c.exchange_state-seen.new.seat.me.0) (c.exchange_state-seen.ensures.hit c.if-seen-word.false) in let found = found_at (ap state_word n) l.ensures.found in
     held_again _ _ _ _ _ _ known found c.if-not-is_stopping.ensures d c.if-not-is_parked.ensures
@@ -47,7 +47,7 @@ invariant_of-hand-2 c = let h = c.args.hand.now in let n = c.number-number.ensur
   one = ap (λ (z : View). z.member.ends) has ∙ h.one;
   none = ap (λ (z : View). z.own.claimed) has ∙ h.none;
   fresh = ap (λ (z : View). z.own.fresh) has;
-  holding = c.set_held.ensures ∙ ((λ i. set (h.holding i) (n i) true) ∙ sym (ap (λ (z : View). z.own.held) has));
+  holding = c.set.ensures ∙ ((λ i. set (h.holding i) (n i) true) ∙ sym (ap (λ (z : View). z.own.held) has));
   serving = h.serving ∙ sym (ap (λ (z : View). z.own.serves) has);
   putting = h.putting ∙ sym (ap (λ (z : View). z.own.on) has);
   valid = merely (e.hit c.if-seen-word.false).step.valid;

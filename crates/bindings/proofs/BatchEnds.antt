@@ -1,31 +1,28 @@
 -- An end of a batch queue keeps its share, and a closed queue leaves no more than its places.
-use Rattle.std.proofs.Common.{◌≡◌, ◌⊎◌, inl, inr, ◌≤◌, ◌<◌, ◌+◌, ◌-◌, ◌*◌, ◌/◌, ◌^◌, ◌∙◌, ℕ, zero, suc, List, [], ◌∷◌, ◌++◌, length, take, set, get_or, slice_get, Some, max, sym, ap, subst, arith}
-use Rattle.std.proofs.Math.Nat.{ℕ_set}
-use Rattle.std.proofs.Math.Logic.{∥∥₁_elim}
+use Rattle.bindings.proofs.Calls.{◌≡◌, ◌⊎◌, inl, inr, ◌≤◌, ◌<◌, ◌+◌, ◌-◌, ◌*◌, ◌/◌, ◌^◌, ◌∙◌, ℕ, zero, suc, List, []}
+use Rattle.bindings.proofs.Calls.{◌∷◌, ◌++◌, length, take, set, get_or, slice_get, Some, max, sym, ap, subst, arith}
+use Rattle.bindings.proofs.Calls.{∥∥₁_elim, slice_get-get_or, the, Result, Ok, Err, MatchResult}
+use Rattle.std.proofs.Math.Nat.{ℕ_set, pow-suc}
 use Rattle.std.proofs.Math.Pow.{pow_mono}
-use Rattle.std.proofs.Math.Nat.{pow-suc}
 use Rattle.std.proofs.Math.Seq.{take-suc}
 use Rattle.std.proofs.lemmas.Nat.{pow_pos}
 use Rattle.std.proofs.lemmas.List.{length-drop}
-use Rattle.std.proofs.lemmas.Option.{slice_get-get_or, slice_get_within}
-use Rattle.bindings.proofs.Buffers.{filled_more}
-use Rattle.bindings.proofs.Telling.{the}
 use Rattle.std.proofs.lemmas.Bool.{cases_lt}
-use Rattle.std.specs.Prelude.{Result, Ok, Err, MatchResult}
-use Rattle.atomic_table.specs.Seated.{TableId}
+use Rattle.std.proofs.lemmas.Option.{slice_get_within}
 use Rattle.table_theory.specs.declared.views.AbsState.{AbsState}
-use Rattle.batch_queue.specs.declared.ends.BatchEnd.{BatchEnd}
-use Rattle.batch_queue.specs.Plain.{BatchQueue}
-use Rattle.batch_queue.specs.declared.refusals.PutRefusal.{PutRefusal}
-use Rattle.batch_queue.specs.declared.refusals.TakeRefusal.{TakeRefusal}
-use Rattle.batch_queue.specs.declared.rule.BatchState.{BatchState}
-use Rattle.batch_queue.specs.Handles.{IsEndOf, view_of, room_of}
-use Rattle.batch_queue.specs.Closings.{ClosedNow}
-use Rattle.batch_queue.specs.Lines.{SameLines, PutLine}
-use Rattle.batch_queue.specs.Object.{items_of}
 use Rattle.batch_queue.specs.Own.{View}
+use Rattle.batch_queue.specs.Object.{items_of}
+use Rattle.batch_queue.specs.declared.rule.BatchState.{BatchState}
+use Rattle.batch_queue.specs.Lines.{SameLines, PutLine}
 use Rattle.batch_queue.specs.Parts.{FilledSome, SameSome}
+use Rattle.batch_queue.specs.Plain.{BatchQueue}
+use Rattle.atomic_table.specs.Seated.{TableId}
+use Rattle.batch_queue.specs.Handles.{IsEndOf}
 use Rattle.batch_queue.specs.Takings.{FilledBuffer}
+use Rattle.batch_queue.specs.declared.ends.BatchEnd.{BatchEnd}
+use Rattle.batch_queue.specs.Closings.{ClosedNow}
+use Rattle.bindings.specs.BatchHeld.{PutRefusal, TakeRefusal, view_of, room_of}
+use Rattle.bindings.proofs.Buffers.{filled_more}
 
 pub put_keeps : (items : List ℕ) (v w : View) (answer : Result ℕ PutRefusal)
     → MatchResult answer (λ start. PutLine items v w) (λ r. SameLines v w) → w.member.share ≡ v.member.share

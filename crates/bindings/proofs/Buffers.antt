@@ -1,10 +1,10 @@
 -- A buffer that is filled place by place.
-use Rattle.std.proofs.Common.{◌≡◌, ◌<◌, ◌≤◌, ℕ, zero, suc, ◌+◌, List, [], ◌∷◌, ◌++◌, length, take, drop, set, refl, sym, ap, subst, ◌∙◌, arith}
-use Rattle.std.proofs.lemmas.List.{drop-set-lt}
+use Rattle.bindings.proofs.Calls.{◌≡◌, ◌<◌, ◌≤◌, ℕ, zero, suc, ◌+◌, List, [], ◌∷◌, ◌++◌, length, take, drop, set, refl}
+use Rattle.bindings.proofs.Calls.{sym, ap, subst, ◌∙◌, arith, IsKeptFrom}
 use Rattle.std.proofs.Math.Seq.{take-suc-set}
+use Rattle.std.proofs.lemmas.List.{drop-set-lt}
 use Rattle.claim_queue.specs.Own.{View}
 use Rattle.claim_queue.specs.Takings.{TookItems, IsLine}
-use Rattle.bindings.specs.QueueTaking.{IsKeptFrom}
 
 drop_one : (n : ℕ) (xs : List ℕ) → drop (suc n) xs ≡ drop 1 (drop n xs)
 drop_one zero xs = refl

@@ -1,7 +1,7 @@
 -- The notes that are handed out, and the inbox of the end that runs them.
-use Rattle.std.proofs.Common.{◌≡◌, ◌<◌, ℕ, pred, List, [], ◌∷◌, ◌++◌, length, refl, sym, ap}
-use Rattle.std.proofs.Math.Arith.{lt-one}
+use Rattle.bindings.proofs.Calls.{◌≡◌, ◌<◌, ℕ, pred, List, [], ◌∷◌, ◌++◌, length, refl, sym, ap}
 use Rattle.std.proofs.Math.Nat.{suc-ne-zero}
+use Rattle.std.proofs.Math.Arith.{lt-one}
 use Rattle.proc_chain.specs.Servings.{Use, took, failed, notes_run}
 use Rattle.bindings.specs.Inboxes.{last_or}
 

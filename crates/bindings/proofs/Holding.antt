@@ -1,10 +1,7 @@
 -- A handle that holds what it held is the same.
-use Rattle.std.proofs.Common.{◌≡◌, Bool, true, Option, refl, sym, ap, subst}
+use Rattle.bindings.proofs.Calls.{◌≡◌, Bool, true, Option, sym, ap, subst, Some, Payload}
 use Rattle.std.proofs.Math.Path.{contract'}
-use Rattle.std.specs.declared.option.Option.TheVariants.{None, Some}
-use Rattle.bindings.specs.declared.handle.Handle.{Handle}
-use Rattle.bindings.specs.declared.payload.Payload.{Payload}
-use Rattle.bindings.specs.Hiding.{is_some}
+use Rattle.bindings.specs.Handles.{Handle, is_some}
 use Rattle.bindings.specs.Lending.{holding}
 
 abbrev as_full : Handle → Payload → (b : Bool) × (b ≡ true) → Handle

@@ -1,11 +1,9 @@
 -- The places left are those put after the places taken, each with its item.
-use Rattle.std.proofs.Common.{◌≡◌, ℕ, List, [], ◌∷◌, map, take, refl, sym, ap, subst, ◌∙◌}
-use Rattle.std.specs.Prelude.{Option, Some}
-use Rattle.table_theory.specs.Listing.{AllRaised}
-use Rattle.table_theory.specs.Positioned.{left_of}
-use Rattle.claim_queue.specs.Own.{View}
+use Rattle.bindings.proofs.Calls.{◌≡◌, ℕ, List, [], ◌∷◌, map, take, refl, sym, ap, subst, ◌∙◌, Option, Some, or_zero}
 use Rattle.claim_queue.specs.Closings.{ClosedNow}
-use Rattle.bindings.specs.QueueTaking.{or_zero}
+use Rattle.table_theory.specs.Positioned.{left_of}
+use Rattle.table_theory.specs.Listing.{AllRaised}
+use Rattle.claim_queue.specs.Own.{View}
 
 or_some : (xs : List ℕ) → map or_zero (map Some xs) ≡ xs
 or_some [] = refl

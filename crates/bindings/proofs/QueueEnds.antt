@@ -1,16 +1,12 @@
 -- An end that takes keeps its share, and has raised what it had raised.
-use Rattle.std.proofs.Common.{◌≡◌, ℕ, zero, suc, List, [], ◌∷◌, ◌++◌, refl, sym, ap, subst, ◌∙◌}
-use Rattle.std.specs.Prelude.{Result, Ok, Err, MatchResult}
-use Rattle.std.specs.declared.option.Option.{Option}
-use Rattle.std.specs.declared.option.Option.TheVariants.{None, Some}
-use Rattle.table_theory.specs.declared.queues.Batch.{Batch}
+use Rattle.bindings.proofs.Calls.{◌≡◌, ℕ, zero, suc, List, [], ◌∷◌, ◌++◌, refl, sym, ap, subst, ◌∙◌, Result, Ok, Err}
+use Rattle.bindings.proofs.Calls.{MatchResult, Option, None, Some, TookEach}
+use Rattle.claim_queue.proofs.Common.{RefusedTake, IsNone, IsOne, IsBegun, JoinedBy, Batch}
+use Rattle.claim_queue.proofs.Answered.{refused_take_own, took_own}
 use Rattle.table_theory.specs.Listing.{AllRaised}
 use Rattle.claim_queue.specs.Own.{View}
-use Rattle.claim_queue.specs.declared.take.TakeRefusal.{TakeRefusal}
-use Rattle.claim_queue.specs.Takings.{TookItems, RefusedTake, IsNone, IsOne, IsLine, IsBegun}
-use Rattle.claim_queue.specs.Endings.{JoinedBy}
-use Rattle.claim_queue.proofs.Answered.{refused_take_own, took_own}
-use Rattle.bindings.specs.QueueTaking.{TookEach, TookSome}
+use Rattle.claim_queue.specs.Takings.{TookItems, IsLine}
+use Rattle.bindings.specs.QueueTaking.{TakeRefusal, TookSome}
 
 -- the end has its share and its claims still
 pub record Keeps (v w : View) : Type 0 where

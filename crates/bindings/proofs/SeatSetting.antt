@@ -1,9 +1,8 @@
 -- The slot in a refused setting.
 use Rattle.std.proofs.Common.{◌<◌, arith}
-use Rattle.meters.specs.Own.{SeatView}
-use Rattle.meters.specs.declared.alarms.SetRefusal.{SetRefusal}
+use Rattle.meters.proofs.Common.{SeatView, NotSet}
 use Rattle.meters.specs.declared.alarms.SetRefusal.TheVariants.{NoRoom, Lost}
-use Rattle.meters.specs.Answers.{NotSet}
+use Rattle.bindings.specs.SeatHeld.{SetRefusal}
 use Rattle.bindings.specs.SeatCalls.{head_of_set}
 
 pub set_small : (v w : SeatView) (r : SetRefusal) → NotSet v r w → head_of_set r < 16

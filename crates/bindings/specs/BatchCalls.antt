@@ -1,20 +1,11 @@
 -- The effects of the calls for C on the handles of batch queues.
-use Rattle.std.specs.Prelude.{◌≡◌, ◌⊎◌, ◌≤◌, ◌<◌, ℕ, ℤ, pos, List, length, Result, Ok, Err}
-use Rattle.std.specs.declared.option.Option.TheVariants.{Some}
-use Rattle.std.specs.declared.option.Option.{Option}
-use Rattle.batch_queue.specs.declared.refusals.PutRefusal.{PutRefusal}
+use Rattle.std.specs.Prelude.{◌≡◌, ◌⊎◌, ◌≤◌, ◌<◌, ℕ, ℤ, pos, List, length, Result, Ok, Err, Some, Option}
 use Rattle.batch_queue.specs.declared.refusals.PutRefusal.TheVariants as not_put
-use Rattle.batch_queue.specs.declared.refusals.TakeRefusal.{TakeRefusal}
 use Rattle.batch_queue.specs.declared.refusals.TakeRefusal.TheVariants as not_taken
+use Rattle.bindings.specs.BatchHeld.{PutRefusal, TakeRefusal, SynthBatchClosed, HeldBatch, places_of, Ended}
+use Rattle.bindings.specs.Handles.{Payload, Batch, WasEnded, Done}
+use Rattle.bindings.specs.Codes.{ShortBuffer}
 use Rattle.bindings.specs.declared.batch.SynthPositions.{SynthPositions}
-use Rattle.bindings.specs.declared.batch.closing.SynthBatchClosed.{SynthBatchClosed}
-use Rattle.bindings.specs.declared.batch.held.HeldBatch.{HeldBatch}
-use Rattle.bindings.specs.declared.payload.Payload.{Payload}
-use Rattle.bindings.specs.declared.payload.Payload.TheVariants.{Batch}
-use Rattle.bindings.specs.Handles.{WasEnded}
-use Rattle.bindings.specs.Codes.{Done, ShortBuffer}
-use Rattle.bindings.specs.BatchHeld.{places_of}
-use Rattle.bindings.specs.BatchClosing.{Ended}
 
 -- the code of a refused put
 abbrev pub code_of_put : PutRefusal → ℤ

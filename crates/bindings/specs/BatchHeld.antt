@@ -1,25 +1,32 @@
 -- The effects of the calls of a batch queue on an end of it. Each definition states what the library's call states.
-use Rattle.std.specs.Prelude.{◌≡◌, ◌⊎◌, ◌≤◌, ◌<◌, ◌+◌, ◌++◌, ℕ}
-use Rattle.std.specs.Prelude.{Bool, true, take, List, length, Result, MatchResult, IfErr}
+use Rattle.std.specs.Prelude.{◌≡◌, ◌≤◌, ◌<◌, ◌+◌, ◌++◌, ℕ, Bool, true, take, List, length, Result, MatchResult, IfErr}
+use Rattle.std.specs.Prelude.{Ok, Err}
 use Rattle.std.specs.Arc.{arc_value}
-use Rattle.batch_queue.specs.declared.layout.TheConstants.{MOST_PLACES}
-use Rattle.batch_queue.specs.declared.refusals.PutRefusal.{PutRefusal}
-use Rattle.batch_queue.specs.declared.refusals.PutRefusal.TheVariants as not_put
-use Rattle.batch_queue.specs.declared.refusals.TakeRefusal.{TakeRefusal}
-use Rattle.batch_queue.specs.Handles.{IsSameEnd, view_of, room_of}
-use Rattle.batch_queue.specs.Handles as batches
-use Rattle.batch_queue.specs.Layout.{IsPowerOfTwo}
-use Rattle.batch_queue.specs.Rules.{newcomer}
-use Rattle.batch_queue.specs.Client.{WhyNotPut, WhyNotPutSome, WhyNotTaken}
-use Rattle.batch_queue.specs.Closings.{ShutNow}
-use Rattle.batch_queue.specs.Endings as endings
-use Rattle.batch_queue.specs.Hints.{LookedAround}
 use Rattle.batch_queue.specs.Lines.{SameLines, PutLine, lines_put, lines_taken, times_parted}
 use Rattle.batch_queue.specs.Parts.{FilledSome, SameSome, WhyNotTakenSome, TookSome, RefusedTakeSome}
 use Rattle.batch_queue.specs.Puts.{IsPut, IsPutSome, RefusedPut, RefusedSome}
+use Rattle.batch_queue.specs.Hints.{LookedAround, IsUpTo, Looked}
+use Rattle.batch_queue.specs.Client.{WhyNotPut, WhyNotPutSome, WhyNotTaken}
+pub use Rattle.batch_queue.specs.Handles.{IsSameEnd, view_of, room_of}
 use Rattle.batch_queue.specs.Takings.{FilledBuffer, TookBatches, RefusedTake}
+use Rattle.batch_queue.specs.Closings.{ShutNow, ClosedNow}
+use Rattle.batch_queue.specs.Rules.{newcomer}
+use Rattle.batch_queue.specs.Plain.{BatchQueue}
+use Rattle.batch_queue.specs.Layout.{IsPowerOfTwo}
+use Rattle.table_theory.specs.Sharing.{the_whole}
+use Rattle.batch_queue.specs.declared.ends.BatchEnd.{BatchEnd}
+use Rattle.batch_queue.specs.declared.look.QueueLook.{QueueLook}
+use Rattle.batch_queue.specs.declared.layout.TheConstants.{MOST_PLACES}
+pub use Rattle.batch_queue.specs.declared.refusals.PutRefusal.{PutRefusal}
+pub use Rattle.batch_queue.specs.declared.refusals.TakeRefusal.{TakeRefusal}
+use Rattle.batch_queue.specs.declared.refusals.PutRefusal.TheVariants as not_put
+use Rattle.batch_queue.specs.Handles as batches
+use Rattle.batch_queue.specs.Endings as endings
 use Rattle.bindings.specs.Shares.{AllOf, WasDivided, WasJoined}
-use Rattle.bindings.specs.declared.batch.held.HeldBatch.{HeldBatch}
+pub use Rattle.bindings.specs.Kinds.{HeldBatch}
+use Rattle.bindings.specs.QueueTaking.{IsKeptFrom}
+use Rattle.bindings.specs.declared.batch.looking.SynthBatchLook.{SynthBatchLook}
+pub use Rattle.bindings.specs.declared.batch.closing.SynthBatchClosed.{SynthBatchClosed}
 
 -- a number of places that a batch queue can have: 1 to MOST_PLACES, and a power of two
 abbrev pub IsCapacity : ℕ → Type 0
@@ -127,3 +134,25 @@ pub record WasShut (was_open : Bool) (x y : HeldBatch) : Type 0 where
   pub same : IsKept x y
   pub effect : DidNothing x y × ((view_of y.end).seen.object.shut ≡ true)
   pub trace : ShutNow (view_of x.end) was_open (view_of y.end)
+
+-- the queue is closed; the `c.left` items left are at the beginning of the buffer, whose rest is unchanged
+abbrev pub ClosedInto : List ℕ → List ℕ → SynthBatchClosed → BatchQueue → BatchEnd → Type 0
+ClosedInto old new c queue end = (c.left ≤ room_of queue) × IsKeptFrom c.left old new
+    × ClosedNow (view_of end) c.put c.taken (take c.left new)
+
+-- the end has all parts, and closed the queue; or the end and the buffer are unchanged
+abbrev pub Ended : List ℕ → List ℕ → Result SynthBatchClosed HeldBatch → HeldBatch → Type 0
+Ended old new (Ok c) x = (x.share.parts ≡ the_whole) × ClosedInto old new c (arc_value x.queue) x.end
+Ended old new (Err y) x = (y ≡ x) × (new ≡ old)
+
+-- the library's own record of the look
+abbrev pub found_by : SynthBatchLook → QueueLook
+found_by a = record { tail = a.tail; published = a.published; head = a.head; shut = a.shut }
+
+-- `look` found this
+pub record WasLookedAt (found : QueueLook) (x y : HeldBatch) : Type 0 where
+  pub same : IsKept x y
+  pub effect : DidNothing x y
+  pub result : (found.tail ≤ found.published) × (found.tail ≤ found.head)
+      × IsUpTo (view_of y.end) found.tail found.published
+  pub trace : Looked (places_of x) (view_of x.end) found (view_of y.end)

@@ -1,31 +1,19 @@
 -- The effects of the calls for C on the handles of chains. An empty handle holds None.
-use Rattle.std.specs.Prelude.{◌≡◌, ◌⊎◌, ℕ, ℤ, true, false, Result, Ok, Err}
-use Rattle.std.specs.declared.option.Option.{Option}
-use Rattle.std.specs.declared.option.Option.TheVariants.{None, Some}
-use Rattle.proc_chain.specs.declared.close.ChainClosed.{ChainClosed}
-use Rattle.proc_chain.specs.declared.chaining.ChainRefusal.{ChainRefusal}
-use Rattle.bindings.specs.ChainHeld.{Ended, IsNewChain, WasChained, WasPulled, has_turn}
-use Rattle.bindings.specs.Codes.{Again, Done, Left, Note, NotRunning, Run, Running}
-use Rattle.bindings.specs.Codes.{code_of_chain, head_of_chain, tail_of_chain}
-use Rattle.bindings.specs.Handles.{Answered, WasEnded}
-use Rattle.bindings.specs.Told.{IsCodeAlone}
-use Rattle.bindings.specs.declared.answer.SynthAnswer.{SynthAnswer}
+use Rattle.std.specs.Prelude.{◌≡◌, ℕ, ℤ, true, false, Result, Ok, Err, Option, Some}
+use Rattle.bindings.specs.Codes.{Again, Done, Left, Note, NotRunning, Run, Running, code_of_chain, head_of_chain}
+use Rattle.bindings.specs.Codes.{tail_of_chain, IsAnswer, IsCodeAlone, SynthAnswer}
+use Rattle.bindings.specs.ChainHeld.{ChainClosed, ChainRefusal, Ended, WasChained, WasPulled, has_turn, Inbox}
+use Rattle.bindings.specs.ChainHeld.{HeldChain, Noted, Pulled}
+use Rattle.bindings.specs.Handles.{Answered, WasEnded, Payload, Chain}
 use Rattle.bindings.specs.declared.chain.SynthChained.{SynthChained}
-use Rattle.bindings.specs.declared.chain.inbox.Inbox.{Inbox}
-use Rattle.bindings.specs.declared.chain.held.HeldChain.{HeldChain}
-use Rattle.bindings.specs.declared.chain.held.Noted.{Noted}
 use Rattle.bindings.specs.declared.chain.held.Noted.TheVariants as noted
-use Rattle.bindings.specs.declared.chain.held.Pulled.{Pulled}
 use Rattle.bindings.specs.declared.chain.held.Pulled.TheVariants as pulled
-use Rattle.bindings.specs.declared.payload.Payload.{Payload}
-use Rattle.bindings.specs.declared.payload.Payload.TheVariants.{Chain}
 
 -- the report of a try to chain a note: Run, Left, or the code and the positions of the refusal
 abbrev pub ReportsNoted : Result Noted ChainRefusal → SynthAnswer → Type 0
 ReportsNoted (Ok noted.Run) reported = IsCodeAlone Run reported
 ReportsNoted (Ok noted.Left) reported = IsCodeAlone Left reported
-ReportsNoted (Err r) reported = (reported.code ≡ code_of_chain r) × (reported.head ≡ head_of_chain r)
-    × (reported.tail ≡ tail_of_chain r)
+ReportsNoted (Err r) reported = IsAnswer (code_of_chain r) (head_of_chain r) (tail_of_chain r) reported
 
 -- the library's `try_chain` was called, and its answer is reported
 abbrev pub IsChainCall : HeldChain → ℕ → Option HeldChain → SynthAnswer → Type 0

@@ -1,28 +1,28 @@
 -- The effects of the calls of a chain on an end of it. Each definition states what the library's call states.
-use Rattle.std.specs.Prelude.{◌≡◌, ◌⊎◌, ◌≤◌, ◌<◌, ◌+◌, ℕ, Bool, true, false, [], ◌∷◌, Result, Ok, Err}
+use Rattle.std.specs.Prelude.{◌≡◌, ℕ, Bool, true, false, [], ◌∷◌, Result, Ok, Err}
 use Rattle.std.specs.Arc.{arc_value}
+use Rattle.proc_chain.specs.Rules.{suits, makes, view_from}
+pub use Rattle.proc_chain.specs.Handles.{IsSameEnd, me_of, view_of}
+use Rattle.proc_chain.specs.Notes.{PutNote, SameNotes}
+use Rattle.proc_chain.specs.Answers.{ChainedNow, NotChained}
+use Rattle.proc_chain.specs.Turns.{HasServed}
+use Rattle.proc_chain.specs.Servings.{KeptNow}
 use Rattle.table_theory.specs.Sharing.{the_whole}
-use Rattle.proc_chain.specs.declared.chaining.ChainRefusal.{ChainRefusal}
+use Rattle.proc_chain.specs.declared.running.Turn.{Turn}
+pub use Rattle.proc_chain.specs.declared.close.ChainClosed.{ChainClosed}
+pub use Rattle.proc_chain.specs.declared.chaining.ChainRefusal.{ChainRefusal}
 use Rattle.proc_chain.specs.declared.chaining.Chained.TheVariants as chained
 use Rattle.proc_chain.specs.declared.held.ServedKept.TheVariants as served
-use Rattle.proc_chain.specs.declared.running.Turn.{Turn}
-use Rattle.proc_chain.specs.Answers.{ChainedNow, NotChained}
 use Rattle.proc_chain.specs.Closings as closings
 use Rattle.proc_chain.specs.Endings as endings
-use Rattle.proc_chain.specs.Handles.{IsSameEnd, me_of, view_of}
 use Rattle.proc_chain.specs.Handles as chains
-use Rattle.proc_chain.specs.Notes.{PutNote, SameNotes}
-use Rattle.proc_chain.specs.Rules.{suits, makes, view_from}
-use Rattle.proc_chain.specs.Servings.{KeptNow}
-use Rattle.proc_chain.specs.Turns.{HasServed}
 use Rattle.bindings.specs.Shares.{AllOf, WasDivided, WasJoined}
-use Rattle.proc_chain.specs.declared.close.ChainClosed.{ChainClosed}
 use Rattle.bindings.specs.Inboxes.{HasLast, FitsAny}
-use Rattle.bindings.specs.declared.chain.inbox.Inbox.{Inbox}
-use Rattle.bindings.specs.declared.chain.held.HeldChain.{HeldChain}
-use Rattle.bindings.specs.declared.chain.held.Noted.{Noted}
+pub use Rattle.bindings.specs.Kinds.{HeldChain}
+pub use Rattle.bindings.specs.declared.chain.held.Noted.{Noted}
+pub use Rattle.bindings.specs.declared.chain.inbox.Inbox.{Inbox}
+pub use Rattle.bindings.specs.declared.chain.held.Pulled.{Pulled}
 use Rattle.bindings.specs.declared.chain.held.Noted.TheVariants as noted
-use Rattle.bindings.specs.declared.chain.held.Pulled.{Pulled}
 use Rattle.bindings.specs.declared.chain.held.Pulled.TheVariants as pulled
 
 -- the end runs notes

@@ -1,13 +1,12 @@
 -- The numbers that report an answer to C.
-use Rattle.std.specs.Prelude.{ℕ, zero, suc, ℤ, pos, negsuc, Result, Ok, Err}
-use Rattle.std.specs.declared.option.Option.{Option}
-use Rattle.std.specs.declared.option.Option.TheVariants.{None, Some}
-use Rattle.claim_queue.specs.declared.claim.ClaimRefusal.{ClaimRefusal}
-use Rattle.claim_queue.specs.declared.claim.ClaimRefusal.TheVariants as claim
+use Rattle.std.specs.Prelude.{ℕ, zero, suc, ℤ, pos, negsuc, Result, Ok, Err, Option, None, Some, ◌≡◌}
 use Rattle.claim_queue.specs.declared.take.TakeRefusal.{TakeRefusal}
+use Rattle.claim_queue.specs.declared.claim.ClaimRefusal.{ClaimRefusal}
 use Rattle.proc_chain.specs.declared.chaining.ChainRefusal.{ChainRefusal}
+use Rattle.claim_queue.specs.declared.claim.ClaimRefusal.TheVariants as claim
 use Rattle.proc_chain.specs.declared.chaining.ChainRefusal.TheVariants as chain
 use Rattle.claim_queue.specs.declared.take.TakeRefusal.TheVariants as take
+pub use Rattle.bindings.specs.declared.answer.SynthAnswer.{SynthAnswer}
 
 -- the call succeeded
 abbrev pub Done : ℤ
@@ -140,3 +139,11 @@ code_of_some zero (Some r) = code_of_take r
 abbrev pub tail_of_some : Option TakeRefusal → ℕ
 tail_of_some None = 0
 tail_of_some (Some r) = tail_of_take r
+
+-- the code and the two positions that are reported
+abbrev pub IsAnswer : ℤ → ℕ → ℕ → SynthAnswer → Type 0
+IsAnswer code head tail reported = (reported.code ≡ code) × (reported.head ≡ head) × (reported.tail ≡ tail)
+
+-- the code, with both positions 0
+abbrev pub IsCodeAlone : ℤ → SynthAnswer → Type 0
+IsCodeAlone code = IsAnswer code 0 0

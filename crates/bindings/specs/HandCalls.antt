@@ -1,17 +1,14 @@
 -- The effects of the calls for C on the handles of hands. An empty handle holds None.
-use Rattle.std.specs.Prelude.{◌≡◌, ◌≢◌, ◌⊎◌, ◌≤◌, ◌<◌, ℕ, ℤ, Bool, true, false, Ok, Err}
-use Rattle.std.specs.declared.option.Option.TheVariants.{None, Some}
+use Rattle.std.specs.Prelude.{◌≡◌, ◌≢◌, ◌⊎◌, ◌≤◌, ◌<◌, ℕ, ℤ, Bool, true, false, Ok, Err, None, Some, map}
+use Rattle.thread_table.specs.Rules.{MayStep, running}
+use Rattle.thread_table.specs.declared.places.Place.{Place}
+use Rattle.thread_table.specs.declared.close.Places.{Places}
 use Rattle.thread_table.specs.declared.programs.Spent as programs
-use Rattle.thread_table.specs.Handles.{view_of}
-use Rattle.thread_table.specs.Rules.{has, serves, running, MayStep}
-use Rattle.bindings.specs.declared.hand.held.HeldHand.{HeldHand}
-use Rattle.bindings.specs.declared.handle.Handle.{Handle}
-use Rattle.bindings.specs.declared.payload.Payload.TheVariants.{Hand}
-use Rattle.bindings.specs.Handles.{held_by, hand_of, AsItWas}
-use Rattle.bindings.specs.Hiding.{is_some}
-use Rattle.bindings.specs.Codes.{Done, NoMemory, EmptyHandle, FullHandle, NoShare, BadNumber}
-use Rattle.bindings.specs.Codes.{Spent, Busy, Vacant, NotHeld, NotServed}
-use Rattle.bindings.specs.HandHeld.{HasNot, WasPutOn, WasTakenOff, WasCounted, WasDone}
+use Rattle.thread_table.specs.declared.places.Place.TheVariants as places
+use Rattle.bindings.specs.HandHeld.{view_of, has, serves, HeldHand, HasNot, WasPutOn, WasTakenOff, WasCounted, WasDone}
+use Rattle.bindings.specs.Codes.{Done, BadNumber, Spent, Busy, Vacant, NotHeld, NotServed}
+use Rattle.bindings.specs.declared.hand.places.SynthPlace.{SynthPlace}
+use Rattle.bindings.specs.declared.hand.places.SynthPlaces.{SynthPlaces}
 
 -- the report of `holds` on the hand x, by its code
 abbrev pub IsHoldsCall : ℕ → HeldHand → Bool → Bool → ℤ → Type 0
@@ -73,3 +70,18 @@ IsStepCall element x y old steps code =
     ⊎ ((code ≡ Spent) × (element < 64) × MayStep (view_of x.hand) element × (steps ≡ old)
     × (r : programs.Spent) × WasDone element (Err r) x y)
     ⊎ ((code ≡ Done) × (element < 64) × MayStep (view_of x.hand) element × WasDone element (Ok steps) x y)
+
+-- a place as it is reported to C
+abbrev pub c_place : Place → SynthPlace
+c_place (places.Processor p) = record { kind = 0; number = p }
+c_place places.Ready = record { kind = 1; number = 0 }
+c_place places.Free = record { kind = 2; number = 0 }
+c_place (places.Wait wait) = record { kind = 3; number = wait }
+c_place places.Stopped = record { kind = 4; number = 0 }
+c_place places.Held = record { kind = 5; number = 0 }
+
+-- the report of a closed table: the place, the steps and the pending signals of each element, and the stop bits
+abbrev pub ReportsPlaces : Places → SynthPlaces → Type 0
+ReportsPlaces c reported = (reported.place ≡ map c_place c.places) × (reported.pc ≡ c.pcs)
+    × (reported.pending ≡ c.pending)
+    × (reported.stops ≡ c.stops)

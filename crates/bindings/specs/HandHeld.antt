@@ -1,15 +1,18 @@
 -- The effects of the calls of a thread table on a hand. Each definition states what the library's call states.
-use Rattle.std.specs.Prelude.{◌≡◌, ◌≢◌, ◌⊎◌, ◌≤◌, ◌<◌, ℕ, ℤ, true, false, Some, None, Result}
+use Rattle.std.specs.Prelude.{◌≡◌, ◌≢◌, ◌⊎◌, ◌≤◌, ◌<◌, ℕ, ℤ, true, false, Some, None, Result, Ok, Err}
 use Rattle.std.specs.Arc.{arc_value}
-use Rattle.thread_table.specs.declared.programs.Spent.{Spent}
-use Rattle.thread_table.specs.Handles.{view_of, call_of, first_of, IsSameHand}
-use Rattle.thread_table.specs.Handles as hands
-use Rattle.thread_table.specs.Rules.{newcomer, has, serves, running}
-use Rattle.thread_table.specs.Endings as endings
 use Rattle.thread_table.specs.Answers.{is_in, DoneAnswer, PutsOn, TakesOff, ReadPc}
-use Rattle.bindings.specs.Codes.{BadNumber, Busy, NotServed}
+pub use Rattle.thread_table.specs.Rules.{newcomer, has, serves, running}
+pub use Rattle.thread_table.specs.Handles.{view_of, call_of, first_of, IsSameHand}
+use Rattle.table_theory.specs.Sharing.{the_whole}
+use Rattle.thread_table.specs.Closings.{ClosedNow}
+use Rattle.thread_table.specs.declared.close.Places.{Places}
+use Rattle.thread_table.specs.declared.programs.Spent.{Spent}
+use Rattle.thread_table.specs.Handles as hands
+use Rattle.thread_table.specs.Endings as endings
 use Rattle.bindings.specs.Shares.{AllOf, HasTwo, HasNoTwo, WasDivided, WasJoined}
-use Rattle.bindings.specs.declared.hand.held.HeldHand.{HeldHand}
+use Rattle.bindings.specs.Codes.{BadNumber, Busy, NotServed}
+pub use Rattle.bindings.specs.Kinds.{HeldHand}
 
 -- the same hand of the same table
 abbrev pub IsSameHeld : HeldHand → HeldHand → Type 0
@@ -89,3 +92,9 @@ WasCounted element steps x y = IsKept x y × ReadPc element (view_of x.hand) ste
 abbrev pub WasDone : ℕ → Result ℕ Spent → HeldHand → HeldHand → Type 0
 WasDone element answer x y = IsKept x y
     × DoneAnswer (call_of x.hand) (view_of x.hand) element answer (view_of y.hand)
+
+-- the hand has all parts, and closed the table as the library's `close` states; or the hand is unchanged
+abbrev pub Ended : Result Places HeldHand → HeldHand → Type 0
+Ended (Ok c) x = (x.share.parts ≡ the_whole)
+    × ClosedNow (call_of x.hand) (view_of x.hand) c.places c.pcs c.pending c.stops
+Ended (Err y) x = y ≡ x

@@ -1,18 +1,13 @@
 -- The moves of a hand, and their reports to C.
-use Rattle.std.specs.Prelude.{◌≡◌, ◌⊎◌, ◌≤◌, ◌<◌, ℕ, ℤ, pos, true, false, Result, Ok, Err}
-use Rattle.std.specs.declared.option.Option.{Option}
-use Rattle.std.specs.declared.option.Option.TheVariants.{Some}
+use Rattle.std.specs.Prelude.{◌≡◌, ◌⊎◌, ◌≤◌, ◌<◌, ℕ, ℤ, pos, true, false, Result, Ok, Err, Option, Some}
+use Rattle.thread_table.specs.Answers.{MoveAnswer, WaitAnswer, IsTicket, head_in, mark_in}
 use Rattle.event_theory.specs.Marks.{wait_ring}
 use Rattle.thread_table.specs.declared.moves.MoveRefusal.{MoveRefusal}
 use Rattle.thread_table.specs.declared.moves.MoveRefusal.TheVariants as moves
-use Rattle.thread_table.specs.Handles.{view_of, call_of}
-use Rattle.thread_table.specs.Rules.{has}
-use Rattle.thread_table.specs.Answers.{MoveAnswer, WaitAnswer, IsTicket, head_in, mark_in}
-use Rattle.bindings.specs.declared.hand.held.HeldHand.{HeldHand}
-use Rattle.bindings.specs.declared.hand.moves.SynthMoved.{SynthMoved}
+use Rattle.bindings.specs.HandHeld.{view_of, call_of, has, HeldHand, IsKept}
 use Rattle.bindings.specs.Codes.{Done, BadNumber, NotHeld}
-use Rattle.bindings.specs.HandHeld.{IsKept}
-use Rattle.bindings.specs.Handles.{Answered}
+use Rattle.bindings.specs.Handles.{Answered, Writes}
+use Rattle.bindings.specs.declared.hand.moves.SynthMoved.{SynthMoved}
 
 -- a move into this element queue gave this answer
 abbrev pub WasMoved : ℕ → ℕ → Result (Unit {0}) MoveRefusal → HeldHand → HeldHand → Type 0
@@ -77,8 +72,7 @@ IsWaitingCall element wait x new reported =
 -- the effect of `ticket`, by its code
 abbrev pub IsTicketCall : ℕ → HeldHand → ℕ → ℕ → Option HeldHand → ℤ → Type 0
 IsTicketCall wait x old_ticket ticket new code =
-    ((code ≡ BadNumber) × (16 ≤ wait) × (new ≡ Some x) × (ticket ≡ old_ticket))
-    ⊎ ((code ≡ Done) × (wait < 16) × (y : HeldHand) × (new ≡ Some y) × WasTicket wait ticket x y)
+    Writes (wait < 16) (16 ≤ wait) (WasTicket wait) x old_ticket ticket new code
 
 -- the effect of `try_wait_at`
 abbrev pub IsWaitingAtCall : ℕ → ℕ → ℕ → HeldHand → Option HeldHand → SynthMoved → Type 0

@@ -1,21 +1,16 @@
 -- Stops, starts, parks, signals and deliveries of a hand, and their reports to C.
-use Rattle.std.specs.Prelude.{◌≡◌, ◌⊎◌, ◌≤◌, ◌<◌, ℕ, ℤ, pos, Bool, true, false, Result, Ok, Err, MatchResult}
-use Rattle.std.specs.declared.option.Option.{Option}
-use Rattle.std.specs.declared.option.Option.TheVariants.{Some}
+use Rattle.std.specs.Prelude.{◌≡◌, ◌⊎◌, ◌≤◌, ◌<◌, ℕ, ℤ, pos, Bool, true, false, Result, Ok, Err, MatchResult, Option}
+use Rattle.thread_table.specs.Answers.{StoppedNow, StartAnswer, ParkAnswer, SignalAnswer, DeliverAnswer, IsPending}
 use Rattle.event_theory.specs.Numbers.{u32_values}
-use Rattle.thread_table.specs.declared.states.Started.{Started}
-use Rattle.thread_table.specs.declared.states.Started.TheVariants as started
+pub use Rattle.thread_table.specs.declared.states.Lost.{Lost}
+pub use Rattle.thread_table.specs.declared.states.Started.{Started}
 use Rattle.thread_table.specs.declared.states.Signalled.{Signalled}
+use Rattle.thread_table.specs.declared.states.Started.TheVariants as started
 use Rattle.thread_table.specs.declared.states.Signalled.TheVariants as signalled
-use Rattle.thread_table.specs.declared.states.Lost.{Lost}
-use Rattle.thread_table.specs.Handles.{view_of, call_of}
-use Rattle.thread_table.specs.Rules.{has}
-use Rattle.thread_table.specs.Answers.{StoppedNow, StartAnswer, ParkAnswer, SignalAnswer, DeliverAnswer}
-use Rattle.bindings.specs.declared.hand.held.HeldHand.{HeldHand}
-use Rattle.bindings.specs.declared.hand.states.SynthState.{SynthState}
+use Rattle.bindings.specs.HandHeld.{view_of, call_of, has, HeldHand, IsKept}
 use Rattle.bindings.specs.Codes.{Done, BadNumber, NotHeld}
-use Rattle.bindings.specs.HandHeld.{IsKept}
-use Rattle.bindings.specs.Handles.{Answered}
+use Rattle.bindings.specs.Handles.{Answered, Writes, Some}
+use Rattle.bindings.specs.declared.hand.states.SynthState.{SynthState}
 
 -- `stop` gave this answer, whether the stop bit was clear
 abbrev pub WasStopped : ℕ → Bool → HeldHand → HeldHand → Type 0
@@ -85,8 +80,7 @@ ReportsDelivery answer old new reported = MatchResult answer (λ mask. (mask < 6
 -- the effect of `stop`, by its code
 abbrev pub IsStopCall : ℕ → HeldHand → Bool → Bool → Option HeldHand → ℤ → Type 0
 IsStopCall element x old_answer answer new code =
-    ((code ≡ BadNumber) × (64 ≤ element) × (new ≡ Some x) × (answer ≡ old_answer))
-    ⊎ ((code ≡ Done) × (element < 64) × (y : HeldHand) × (new ≡ Some y) × WasStopped element answer x y)
+    Writes (element < 64) (64 ≤ element) (WasStopped element) x old_answer answer new code
 
 -- the effect of `try_start`
 abbrev pub IsStartCall : ℕ → HeldHand → ℕ → ℕ → Option HeldHand → SynthState → Type 0
@@ -119,3 +113,12 @@ IsDeliverCall element x old_signals signals new reported =
     × (signals ≡ old_signals))
     ⊎ ((element < 64) × (has (view_of x.hand) element ≡ true)
     × Answered (WereDelivered element) (λ answer. ReportsDelivery answer old_signals signals reported) x new)
+
+-- `pending` gave these signals
+abbrev pub HasPending : ℕ → ℕ → HeldHand → HeldHand → Type 0
+HasPending element signals x y = IsKept x y × IsPending (view_of x.hand) element signals (view_of y.hand)
+
+-- the effect of a read of the pending signals, by its code
+abbrev pub ReadPending : ℕ → ℕ → ℕ → HeldHand → Option HeldHand → ℤ → Type 0
+ReadPending element old_signals signals x new code =
+    Writes (element < 64) (64 ≤ element) (HasPending element) x old_signals signals new code

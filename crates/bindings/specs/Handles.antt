@@ -1,21 +1,12 @@
 -- The contents of a handle, and the effects that all kinds of calls have on it.
-use Rattle.std.specs.Prelude.{◌≡◌, ◌⊎◌, ℤ, true, Result, Ok, Err}
-use Rattle.std.specs.declared.option.Option.{Option}
-use Rattle.std.specs.declared.option.Option.TheVariants.{None, Some}
-use Rattle.bindings.specs.declared.handle.Handle.{Handle}
-use Rattle.bindings.specs.declared.payload.Payload.{Payload}
-use Rattle.bindings.specs.declared.share.Share.{Share}
-use Rattle.bindings.specs.declared.batch.held.HeldBatch.{HeldBatch}
-use Rattle.bindings.specs.declared.queue.held.HeldQueue.{HeldQueue}
-use Rattle.bindings.specs.declared.chain.held.HeldChain.{HeldChain}
-use Rattle.bindings.specs.declared.hand.held.HeldHand.{HeldHand}
-use Rattle.bindings.specs.declared.seat.held.HeldSeat.{HeldSeat}
-use Rattle.bindings.specs.declared.line.held.HeldIn.{HeldIn}
-use Rattle.bindings.specs.declared.line.held.HeldOut.{HeldOut}
-use Rattle.bindings.specs.Codes.{Done, NoMemory, EmptyHandle, FullHandle, OtherObject, BadNumber, Open}
-use Rattle.bindings.specs.Hiding.{is_some}
-use Rattle.bindings.specs.Kinds.{batch_in, queue_in, chain_in, hand_in, seat_in, line_in_in, line_out_in}
-use Rattle.bindings.specs.Shares.{Fit, Exceed}
+pub use Rattle.std.specs.Prelude.{◌≡◌, ◌⊎◌, ℤ, true, Result, Ok, Err, Option, None, Some}
+pub use Rattle.bindings.specs.Kinds.{Payload, HeldBatch, HeldQueue, HeldChain, HeldHand, HeldSeat, HeldIn, HeldOut}
+pub use Rattle.bindings.specs.Kinds.{batch_in, queue_in, chain_in, hand_in, seat_in, line_in_in, line_out_in, Batch}
+pub use Rattle.bindings.specs.Kinds.{Queue, Chain, Hand, Seat, LineIn, LineOut}
+pub use Rattle.bindings.specs.Codes.{Done, NoMemory, EmptyHandle, FullHandle, OtherObject, BadNumber, Open, IsCodeAlone}
+pub use Rattle.bindings.specs.Shares.{Share, Fit, Exceed}
+pub use Rattle.bindings.specs.Hiding.{is_some}
+pub use Rattle.bindings.specs.declared.handle.Handle.{Handle}
 
 -- the contents of the handle, None if it is empty
 abbrev pub held_by : Handle → Option Payload
@@ -69,9 +60,20 @@ HoldsThen {X} old P = (x : X) → old ≡ Some x → P x
 abbrev pub HoldsSome : {X : Type 0} → Option X → (X → Type 0) → Type 0
 HoldsSome {X} now P = (y : X) × (now ≡ Some y) × P y
 
+-- if the handle held an end, P relates the end to what the handle holds now
+abbrev pub LeadsTo : {X : Type 0} → (Handle → Option X) → Handle → Handle → (X → Option X → Type 0) → Type 0
+LeadsTo of old new P = HoldsThen (of old) (λ x. P x (of new))
+
 -- if the handle held an end, the handle holds an end now, and P relates the two
-abbrev pub TurnsThen : {X : Type 0} → Option X → Option X → (X → X → Type 0) → Type 0
-TurnsThen old new P = HoldsThen old (λ x. HoldsSome new (P x))
+abbrev pub TurnsThen : {X : Type 0} → (Handle → Option X) → Handle → Handle → (X → X → Type 0) → Type 0
+TurnsThen of old new P = HoldsThen (of old) (λ x. HoldsSome (of new) (P x))
+
+-- The effect of a call on the end x that writes a value, by its code. If a number of the call is out of range, the code
+-- is BadNumber, and the value is the old one
+abbrev pub Writes : {A X : Type 0} → Type 0 → Type 0 → (A → X → X → Type 0) → X → A → A → Option X → ℤ → Type 0
+Writes {A} {X} Valid OutOfRange Did x old value new code =
+    ((code ≡ BadNumber) × OutOfRange × (new ≡ Some x) × (value ≡ old))
+    ⊎ ((code ≡ Done) × Valid × (y : X) × (new ≡ Some y) × Did value x y)
 
 -- the effect of `free`, by its code
 abbrev pub FreedHandle : {X : Type 0} → (Handle → Option X) → Handle → Handle → ℤ → Type 0

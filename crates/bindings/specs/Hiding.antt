@@ -1,14 +1,12 @@
 -- A box on the heap that is held by its pointer alone.
-use base.Fml.{Fml, ftrue}
-use denote.RattleType.{RattleType}
-use denote.RawPtr.{Ptr}
+use Rattle.std.specs.Prelude.{Bool, true, false, Option, None, Some}
+use Rattle.std.specs.Box.Ownership.{box_owns}
 use Rattle.std.specs.declared.alloc.Global.{Global}
 use Rattle.std.specs.contracts.impls.GlobalAllocator.TheImpl.{ghosts}
+use base.Fml.{Fml, ftrue}
 use mir.Syntax.{Ty}
-use Rattle.std.specs.Prelude.{Bool, true, false}
-use Rattle.std.specs.Box.Ownership.{box_owns}
-use Rattle.std.specs.declared.option.Option.{Option}
-use Rattle.std.specs.declared.option.Option.TheVariants.{None, Some}
+use denote.RawPtr.{Ptr}
+use denote.RattleType.{RattleType}
 
 -- the C library's heap; there is only one
 abbrev pub the_heap : Global

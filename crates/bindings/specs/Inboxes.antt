@@ -1,11 +1,11 @@
 -- The quaject that the chain for C runs: an inbox with the note that was pulled last.
 use Rattle.std.specs.Prelude.{◌≡◌, ℕ, true, false, List, [], ◌∷◌}
-use Rattle.proc_chain.specs.declared.ends.ChainEnd.{ChainEnd}
-use Rattle.proc_chain.specs.declared.ends.ProcChain.{ProcChain}
-use Rattle.proc_chain.specs.declared.quaject.Quaject.{Ghosts}
 use Rattle.proc_chain.specs.Handles.{me_of, opening_of, turn_of, view_of}
 use Rattle.proc_chain.specs.Own.{queue_of}
 use Rattle.proc_chain.specs.Shown.{notes_of}
+use Rattle.proc_chain.specs.declared.ends.ChainEnd.{ChainEnd}
+use Rattle.proc_chain.specs.declared.ends.ProcChain.{ProcChain}
+use Rattle.proc_chain.specs.declared.quaject.Quaject.{Ghosts}
 use Rattle.bindings.specs.declared.chain.inbox.Inbox.{Inbox}
 
 -- the last number of the list, or `first` if the list is empty

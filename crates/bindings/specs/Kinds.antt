@@ -1,15 +1,14 @@
 -- The kinds of ends that a handle can hold.
-use Rattle.std.specs.declared.option.Option.{Option}
-use Rattle.std.specs.declared.option.Option.TheVariants.{None, Some}
-use Rattle.bindings.specs.declared.payload.Payload.{Payload}
-use Rattle.bindings.specs.declared.payload.Payload.TheVariants.{Batch, Queue, Chain, Hand, Seat, LineIn, LineOut}
-use Rattle.bindings.specs.declared.batch.held.HeldBatch.{HeldBatch}
-use Rattle.bindings.specs.declared.queue.held.HeldQueue.{HeldQueue}
-use Rattle.bindings.specs.declared.chain.held.HeldChain.{HeldChain}
-use Rattle.bindings.specs.declared.hand.held.HeldHand.{HeldHand}
-use Rattle.bindings.specs.declared.seat.held.HeldSeat.{HeldSeat}
-use Rattle.bindings.specs.declared.line.held.HeldIn.{HeldIn}
-use Rattle.bindings.specs.declared.line.held.HeldOut.{HeldOut}
+use Rattle.std.specs.Prelude.{Option, None, Some}
+pub use Rattle.bindings.specs.declared.payload.Payload.TheVariants.{Batch, Queue, Chain, Hand, Seat, LineIn, LineOut}
+pub use Rattle.bindings.specs.declared.payload.Payload.{Payload}
+pub use Rattle.bindings.specs.declared.line.held.HeldIn.{HeldIn}
+pub use Rattle.bindings.specs.declared.line.held.HeldOut.{HeldOut}
+pub use Rattle.bindings.specs.declared.hand.held.HeldHand.{HeldHand}
+pub use Rattle.bindings.specs.declared.seat.held.HeldSeat.{HeldSeat}
+pub use Rattle.bindings.specs.declared.batch.held.HeldBatch.{HeldBatch}
+pub use Rattle.bindings.specs.declared.queue.held.HeldQueue.{HeldQueue}
+pub use Rattle.bindings.specs.declared.chain.held.HeldChain.{HeldChain}
 
 -- the end of a batch queue, if the payload is one
 abbrev pub batch_in : Payload → Option HeldBatch

@@ -1,12 +1,10 @@
 -- A handle lends its contents in place, and later holds what the borrower left there.
-use Rattle.std.specs.Prelude.{true, refl}
+use Rattle.std.specs.Prelude.{true, refl, Option, Some}
 use Rattle.std.specs.Borrow.{Lends, LendsIf, MutBor, Fml}
 use denote.RattleType.{RattleType}
-use Rattle.std.specs.declared.option.Option.{Option}
-use Rattle.std.specs.declared.option.Option.TheVariants.{Some}
+use Rattle.bindings.specs.Kinds.{Payload}
 use Rattle.bindings.specs.declared.hidden.Hidden.{Hidden}
 use Rattle.bindings.specs.declared.handle.Handle.{Handle}
-use Rattle.bindings.specs.declared.payload.Payload.{Payload}
 use Rattle.bindings.specs.contracts.hidden.Hidden as hidden
 use Rattle.bindings.specs.contracts.handle.Handle as handle
 use Rattle.bindings.specs.contracts.payload.Payload as payload

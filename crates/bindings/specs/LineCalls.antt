@@ -1,18 +1,10 @@
 -- The effects of the calls for C on the handles of device lines. An empty handle holds None.
-use Rattle.std.specs.Prelude.{◌≡◌, ◌⊎◌, ◌≤◌, ◌<◌, ◌%◌, ◌^◌, ◌++◌, ℕ, ℤ, true, pos, length}
-use Rattle.std.specs.declared.option.Option.{Option}
-use Rattle.std.specs.declared.option.Option.TheVariants.{None, Some}
-use Rattle.spsc_line.specs.Lines.{bytes_sent, bytes_received, bytes_left, capacity_in, known_room, known_bytes}
-use Rattle.spsc_line.specs.Lines.{IsLine, IsNewIn, IsNewOut, SameIn, SameOut, Sends, SendsNothing}
-use Rattle.spsc_line.specs.Lines.{Receives, ReceivesNothing}
-use Rattle.bindings.specs.declared.handle.Handle.{Handle}
-use Rattle.bindings.specs.declared.payload.Payload.TheVariants.{LineIn, LineOut}
-use Rattle.bindings.specs.declared.line.held.HeldIn.{HeldIn}
-use Rattle.bindings.specs.declared.line.held.HeldOut.{HeldOut}
+use Rattle.std.specs.Prelude.{◌≡◌, ◌⊎◌, ◌≤◌, ◌<◌, ◌%◌, ◌^◌, ◌++◌, ℕ, ℤ, true, pos, length, None, Some}
+use Rattle.spsc_line.specs.Lines.{bytes_sent, bytes_received, bytes_left, capacity_in, known_room, known_bytes, IsLine}
+use Rattle.spsc_line.specs.Lines.{IsNewIn, IsNewOut, SameIn, SameOut, Sends, SendsNothing, Receives, ReceivesNothing}
+use Rattle.bindings.specs.Handles.{Option, Handle, LineIn, LineOut, HeldIn, HeldOut, held_by, line_in_of, line_out_of}
+use Rattle.bindings.specs.Handles.{AsItWas, is_some, Done, NoMemory, EmptyHandle, FullHandle, OtherObject, BadNumber}
 use Rattle.bindings.specs.declared.line.SynthLineTotals.{SynthLineTotals}
-use Rattle.bindings.specs.Handles.{held_by, line_in_of, line_out_of, AsItWas}
-use Rattle.bindings.specs.Hiding.{is_some}
-use Rattle.bindings.specs.Codes.{Done, NoMemory, EmptyHandle, FullHandle, OtherObject, BadNumber}
 
 -- the two ends have one mark
 abbrev pub HaveOneMark : HeldIn → HeldOut → Type 0

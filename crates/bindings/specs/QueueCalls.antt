@@ -1,27 +1,15 @@
 -- The effects of the calls for C on the handles of queues. An empty handle holds None.
-use Rattle.std.specs.Prelude.{◌≡◌, ◌⊎◌, ◌≤◌, ◌<◌, ℕ, ℤ, pos, List, length, Result, MatchResult}
-use Rattle.std.specs.declared.option.Option.{Option}
-use Rattle.std.specs.declared.option.Option.TheVariants.{Some}
-use Rattle.claim_queue.specs.declared.claim.ClaimRefusal.{ClaimRefusal}
-use Rattle.claim_queue.specs.declared.take.TakeRefusal.{TakeRefusal}
-use Rattle.bindings.specs.declared.answer.SynthAnswer.{SynthAnswer}
-use Rattle.bindings.specs.declared.answer.SynthClosed.{SynthClosed}
-use Rattle.bindings.specs.declared.queue.held.HeldQueue.{HeldQueue}
-use Rattle.bindings.specs.declared.payload.Payload.{Payload}
-use Rattle.bindings.specs.declared.payload.Payload.TheVariants.{Queue}
-use Rattle.bindings.specs.Handles.{Answered, WasEnded}
-use Rattle.bindings.specs.Codes.{ShortBuffer}
-use Rattle.bindings.specs.Codes.{code_of_claim, head_of_claim, tail_of_claim, code_of_take, tail_of_take}
-use Rattle.bindings.specs.Codes.{code_of_some, tail_of_some}
-use Rattle.bindings.specs.QueueParts.{PutPart, TookPart, TookLinePart, TookSomePart}
-use Rattle.bindings.specs.QueueHeld.{AtSize, places_of}
-use Rattle.bindings.specs.QueueClosing.{EndedHeld}
-use Rattle.bindings.specs.Told.{IsCodeAlone}
+use Rattle.std.specs.Prelude.{◌≡◌, ◌⊎◌, ◌≤◌, ◌<◌, ℕ, ℤ, pos, List, length, Result, MatchResult, Option, Some}
+use Rattle.bindings.specs.Codes.{SynthAnswer, ShortBuffer, code_of_claim, head_of_claim, tail_of_claim, code_of_take}
+use Rattle.bindings.specs.Codes.{tail_of_take, code_of_some, tail_of_some, IsAnswer, IsCodeAlone}
+use Rattle.bindings.specs.QueueParts.{ClaimRefusal, TakeRefusal, SynthClosed, PutPart, TookPart, TookLinePart}
+use Rattle.bindings.specs.QueueParts.{TookSomePart}
+use Rattle.bindings.specs.Handles.{HeldQueue, Payload, Queue, Answered, WasEnded}
+use Rattle.bindings.specs.QueueHeld.{AtSize, places_of, EndedHeld}
 
 -- the report of a put: the code, and the positions in the answer
 abbrev pub ReportsPut : Result ℕ ClaimRefusal → SynthAnswer → Type 0
-ReportsPut answer reported = (reported.code ≡ code_of_claim answer) × (reported.head ≡ head_of_claim answer)
-    × (reported.tail ≡ tail_of_claim answer)
+ReportsPut answer = IsAnswer (code_of_claim answer) (head_of_claim answer) (tail_of_claim answer)
 
 -- the library's `try_put` was called, and its answer is reported
 abbrev pub WasPut : HeldQueue → List ℕ → Option HeldQueue → SynthAnswer → Type 0
@@ -31,8 +19,8 @@ WasPut x items new reported =
 -- the report of a taking: the item or the count, which is written, or the code and the tail of the refusal
 abbrev pub ReportsTake : Result ℕ TakeRefusal → ℕ → ℕ → SynthAnswer → Type 0
 ReportsTake answer old new reported = MatchResult answer
-    (λ x. (new ≡ x) × (reported.code ≡ pos 0) × (reported.head ≡ 0) × (reported.tail ≡ 0))
-    (λ r. (new ≡ old) × (reported.code ≡ code_of_take r) × (reported.head ≡ 0) × (reported.tail ≡ tail_of_take r))
+    (λ x. (new ≡ x) × IsCodeAlone (pos 0) reported)
+    (λ r. (new ≡ old) × IsAnswer (code_of_take r) 0 (tail_of_take r) reported)
 
 -- the library's `try_take` was called, and its answer is reported
 abbrev pub WasTaken : HeldQueue → ℕ → ℕ → Option HeldQueue → SynthAnswer → Type 0
@@ -47,8 +35,7 @@ WasLineTaken x old_line line old_count count new reported =
 
 -- the report of takings of one item each: the code, and the tail in the refusal
 abbrev pub ReportsSome : ℕ → Option TakeRefusal → SynthAnswer → Type 0
-ReportsSome count refusal reported = (reported.code ≡ code_of_some count refusal) × (reported.head ≡ 0)
-    × (reported.tail ≡ tail_of_some refusal)
+ReportsSome count refusal = IsAnswer (code_of_some count refusal) 0 (tail_of_some refusal)
 
 -- items were taken one by one into the buffer, and the reason why no more were taken is reported
 abbrev pub WasTakenUpTo : HeldQueue → List ℕ → List ℕ → ℕ → Option HeldQueue → SynthAnswer → Type 0

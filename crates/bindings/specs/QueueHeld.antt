@@ -1,11 +1,9 @@
 -- A handle of a queue holds an end of a queue of 64 places, or of one of 256.
-use Rattle.std.specs.Prelude.{◌≡◌, ◌⊎◌, ℕ}
-use Rattle.bindings.specs.Shares.{IsOneMark}
-use Rattle.bindings.specs.declared.share.Share.{Share}
-use Rattle.bindings.specs.declared.queue.part.Part.{Part}
-use Rattle.bindings.specs.declared.queue.held.HeldQueue.{HeldQueue}
+use Rattle.std.specs.Prelude.{◌≡◌, ◌⊎◌, ℕ, List, Result, Ok, Err}
+use Rattle.bindings.specs.QueueParts.{Part, IsNewPart, IsOneQueue, SynthClosed, ClosedPart}
+use Rattle.bindings.specs.Shares.{IsOneMark, Share}
 use Rattle.bindings.specs.declared.queue.held.HeldQueue.TheVariants.{Small, Large}
-use Rattle.bindings.specs.QueueParts.{IsNewPart, IsOneQueue}
+pub use Rattle.bindings.specs.Kinds.{HeldQueue}
 
 -- a size that a queue can have
 abbrev pub IsSize : ℕ → Type 0
@@ -45,3 +43,9 @@ AreOfOneQueue = AtSize IsOneQueue
 abbrev pub IsNewHeld : ℕ → ℕ → ℕ → HeldQueue → Type 0
 IsNewHeld places first mark (Small x) = (places ≡ 64) × IsNewPart first mark 64 x
 IsNewHeld places first mark (Large x) = (places ≡ 256) × IsNewPart first mark 256 x
+
+-- the end in a handle closed its queue, of 64 or 256 places; or the end and the buffer are unchanged
+abbrev pub EndedHeld : List ℕ → List ℕ → Result SynthClosed HeldQueue → HeldQueue → Type 0
+EndedHeld old new (Ok c) (Small x) = ClosedPart old new c 64 x
+EndedHeld old new (Ok c) (Large x) = ClosedPart old new c 256 x
+EndedHeld old new (Err y) x = (y ≡ x) × (new ≡ old)

@@ -1,19 +1,28 @@
 -- The effects of the calls of a queue on an end of it. Each definition states what the library's call states.
-use Rattle.std.specs.Prelude.{◌≡◌, ◌≤◌, ℕ, Bool, take, List, [], ◌∷◌, length, Result, MatchResult}
+use Rattle.std.specs.Prelude.{◌≡◌, ◌≤◌, ℕ, Bool, take, List, [], ◌∷◌, length, Result, MatchResult, Option, map, Some}
+use Rattle.std.specs.Prelude.{Ok, Err}
 use Rattle.std.specs.Arc.{arc_value}
-use Rattle.std.specs.declared.option.Option.{Option}
-use Rattle.claim_queue.specs.declared.claim.ClaimRefusal.{ClaimRefusal}
-use Rattle.claim_queue.specs.declared.take.TakeRefusal.{TakeRefusal}
-use Rattle.claim_queue.specs.Handles.{IsSameEnd, AreOfOneQueue, view_of, first_of}
-use Rattle.claim_queue.specs.Rules.{newcomer}
-use Rattle.claim_queue.specs.Puts.{IsPut}
-use Rattle.claim_queue.specs.Answers.{Refused}
-use Rattle.claim_queue.specs.Closings.{ShutNow}
-use Rattle.claim_queue.specs.Endings.{SplitBy, IsNewEnd, JoinedBy}
 use Rattle.claim_queue.specs.Takings.{TookItems, RefusedTake, IsNone, IsOne, IsLine, IsBegun}
-use Rattle.bindings.specs.QueueTaking.{TookSome, IsKeptFrom}
+pub use Rattle.claim_queue.specs.Handles.{IsSameEnd, AreOfOneQueue, view_of, first_of}
+use Rattle.claim_queue.specs.Endings.{SplitBy, IsNewEnd, JoinedBy}
+use Rattle.claim_queue.specs.Walks.{LookAgrees, HasLooked}
+use Rattle.claim_queue.specs.Closings.{ShutNow, ClosedNow}
+use Rattle.claim_queue.specs.Puts.{IsPut}
+use Rattle.claim_queue.specs.Rules.{newcomer}
+use Rattle.claim_queue.specs.Lines.{SameLines}
+use Rattle.claim_queue.specs.Plain.{ClaimQueue}
+use Rattle.claim_queue.specs.Claims.{KeepsClaims}
+use Rattle.claim_queue.specs.Answers.{Refused}
+use Rattle.table_theory.specs.Sharing.{the_whole}
+use Rattle.claim_queue.specs.declared.ends.QueueEnd.{QueueEnd}
+use Rattle.claim_queue.specs.declared.look.QueueLook.{QueueLook}
+pub use Rattle.claim_queue.specs.declared.take.TakeRefusal.{TakeRefusal}
+pub use Rattle.claim_queue.specs.declared.claim.ClaimRefusal.{ClaimRefusal}
 use Rattle.bindings.specs.Shares.{AllOf, WasDivided, WasJoined}
-use Rattle.bindings.specs.declared.queue.part.Part.{Part}
+use Rattle.bindings.specs.QueueTaking.{TookSome, IsKeptFrom}
+pub use Rattle.bindings.specs.declared.queue.part.Part.{Part}
+pub use Rattle.bindings.specs.declared.answer.SynthClosed.{SynthClosed}
+use Rattle.bindings.specs.declared.queue.looking.SynthQueueLook.{SynthQueueLook}
 
 -- the same end of the same queue
 abbrev pub IsSamePart : (n : ℕ) → Part n → Part n → Type 0
@@ -71,3 +80,29 @@ DividedPart n x y born = IsSamePart n x y × (arc_value born.queue ≡ arc_value
 abbrev pub JoinedPart : (n : ℕ) → Part n → Part n → Part n → Type 0
 JoinedPart n x y other = IsSamePart n x y × JoinedBy (view_of x.end) (view_of other.end) (view_of y.end)
     × WasJoined x.share y.share other.share
+
+-- the library's own record of the look
+abbrev pub found_by : SynthQueueLook → QueueLook
+found_by a = record { tail = a.tail; head = a.head; shut = a.shut; raised = a.raised }
+
+-- `look` found this
+pub record LookedAtPart (found : QueueLook) (n : ℕ) (x y : Part n) : Type 0 where
+  pub same : IsKept n x y
+  pub effect : SameLines (view_of x.end) (view_of y.end)
+  pub claims : KeepsClaims (view_of x.end) (view_of y.end)
+  pub result : LookAgrees n found (view_of y.end).seen.object
+  pub trace : HasLooked n (view_of x.end) found (view_of y.end)
+
+-- the queue is closed; the `c.left` items left are at the beginning of the buffer, whose rest is unchanged
+abbrev pub ClosedInto : List ℕ → List ℕ → SynthClosed → (n : ℕ) → ClaimQueue n → QueueEnd n → Type 0
+ClosedInto old new c n queue end = (c.first ≡ first_of queue) × (c.left ≤ n) × IsKeptFrom c.left old new
+    × ClosedNow (view_of end) c.first c.put c.taken (map Some (take c.left new))
+
+-- the end has all parts, and closed its queue
+abbrev pub ClosedPart : List ℕ → List ℕ → SynthClosed → (n : ℕ) → Part n → Type 0
+ClosedPart old new c n x = (x.share.parts ≡ the_whole) × ClosedInto old new c n (arc_value x.queue) x.end
+
+-- the end closed its queue; or the end and the buffer are unchanged
+abbrev pub EndedPart : List ℕ → List ℕ → (n : ℕ) → Result SynthClosed (Part n) → Part n → Type 0
+EndedPart old new n (Ok c) x = ClosedPart old new c n x
+EndedPart old new n (Err y) x = (y ≡ x) × (new ≡ old)

@@ -1,10 +1,8 @@
 -- Items that go into a buffer.
-use Rattle.std.specs.Prelude.{◌≡◌, ℕ, List, [], ◌∷◌, length, drop}
-use Rattle.std.specs.declared.option.Option.{Option}
-use Rattle.std.specs.declared.option.Option.TheVariants.{None, Some}
-use Rattle.claim_queue.specs.Own.{View}
-use Rattle.claim_queue.specs.declared.take.TakeRefusal.{TakeRefusal}
+use Rattle.std.specs.Prelude.{◌≡◌, ℕ, List, [], ◌∷◌, length, drop, Option, None, Some}
 use Rattle.claim_queue.specs.Takings.{TookItems, RefusedTake, IsNone, IsOne}
+use Rattle.claim_queue.specs.Own.{View}
+pub use Rattle.claim_queue.specs.declared.take.TakeRefusal.{TakeRefusal}
 
 -- after its first n places the buffer is unchanged, and its length is unchanged
 abbrev pub IsKeptFrom : ℕ → List ℕ → List ℕ → Type 0

@@ -1,28 +1,19 @@
 -- The effects of the calls for C on the handles of meters. An empty handle holds None.
-use Rattle.std.specs.Prelude.{◌≡◌, ◌⊎◌, ◌≤◌, ◌<◌, ℕ, ℤ, Bool, true, pos, take, map, List, length, Result, MatchResult}
-use Rattle.std.specs.declared.option.Option.{Option}
-use Rattle.std.specs.declared.option.Option.TheVariants.{None, Some}
-use Rattle.event_theory.specs.declared.alarm.Alarm.{Alarm}
-use Rattle.meters.specs.declared.gauges.AdvanceRefusal.{AdvanceRefusal}
+use Rattle.std.specs.Prelude.{◌≡◌, ◌⊎◌, ◌≤◌, ◌<◌, ℕ, ℤ, Bool, pos, take, map, List, length, Result, MatchResult, Option}
 use Rattle.meters.specs.declared.gauges.AdvanceRefusal.TheVariants as advance
-use Rattle.meters.specs.declared.alarms.SetRefusal.{SetRefusal}
 use Rattle.meters.specs.declared.alarms.SetRefusal.TheVariants as set
-use Rattle.meters.specs.declared.close.Metered.{Metered}
-use Rattle.bindings.specs.declared.answer.SynthAnswer.{SynthAnswer}
-use Rattle.bindings.specs.declared.seat.alarm.SynthAlarm.{SynthAlarm}
-use Rattle.bindings.specs.declared.seat.held.HeldSeat.{HeldSeat}
-use Rattle.bindings.specs.declared.seat.SynthMetered.{SynthMetered}
-use Rattle.bindings.specs.Handles.{Answered}
-use Rattle.bindings.specs.Codes.{Done, ShortBuffer, BadNumber}
+use Rattle.bindings.specs.SeatHeld.{Alarm, AdvanceRefusal, SetRefusal, Metered, HeldSeat, WasTicked, WasAdvanced}
+use Rattle.bindings.specs.SeatHeld.{WasSet, WasCancelled, WereFired, WasGauge}
+use Rattle.bindings.specs.Codes.{SynthAnswer, Done, ShortBuffer, BadNumber, IsAnswer, IsCodeAlone}
 use Rattle.bindings.specs.SeatAlarms.{c_alarm, IsAlarm, IsNoAlarm, IsRestKept, IsBlankFrom}
-use Rattle.bindings.specs.SeatHeld.{WasTicked, WasAdvanced, WasSet, WasCancelled, WereFired}
-use Rattle.bindings.specs.Told.{IsCodeAlone}
+use Rattle.bindings.specs.Handles.{Answered, Writes, Some}
+use Rattle.bindings.specs.declared.seat.SynthMetered.{SynthMetered}
+use Rattle.bindings.specs.declared.seat.alarm.SynthAlarm.{SynthAlarm}
 
 -- the effect of `tick`, by its code
 abbrev pub IsTickCall : HeldSeat → ℕ → ℕ → ℕ → ℕ → Option HeldSeat → ℤ → Type 0
 IsTickCall x gauge amount old_before before new code =
-    ((code ≡ BadNumber) × (8 ≤ gauge) × (new ≡ Some x) × (before ≡ old_before))
-    ⊎ ((code ≡ Done) × (gauge < 8) × (y : HeldSeat) × (new ≡ Some y) × WasTicked gauge amount before x y)
+    Writes (gauge < 8) (8 ≤ gauge) (WasTicked gauge amount) x old_before before new code
 
 abbrev pub code_of_advance : AdvanceRefusal → ℤ
 code_of_advance advance.Spent = pos 4
@@ -35,8 +26,8 @@ head_of_advance (advance.Lost clock) = clock
 -- the report of a try to move the clock on: the clock, which is written, or the code and the clock of the refusal
 abbrev pub ReportsAdvance : Result ℕ AdvanceRefusal → ℕ → ℕ → SynthAnswer → Type 0
 ReportsAdvance answer old new reported = MatchResult answer
-    (λ clock. (new ≡ clock) × (reported.code ≡ Done) × (reported.head ≡ 0) × (reported.tail ≡ 0))
-    (λ r. (new ≡ old) × (reported.code ≡ code_of_advance r) × (reported.head ≡ head_of_advance r) × (reported.tail ≡ 0))
+    (λ clock. (new ≡ clock) × IsCodeAlone Done reported)
+    (λ r. (new ≡ old) × IsAnswer (code_of_advance r) (head_of_advance r) 0 reported)
 
 -- the library's `advance` was called, and its answer is reported
 abbrev pub IsAdvanceCall : HeldSeat → ℕ → ℕ → Option HeldSeat → SynthAnswer → Type 0
@@ -54,8 +45,8 @@ head_of_set (set.Lost slot) = slot
 -- the report of a try to set an alarm: the slot, which is written, or the code and the slot of the refusal
 abbrev pub ReportsSet : Result ℕ SetRefusal → ℕ → ℕ → SynthAnswer → Type 0
 ReportsSet answer old new reported = MatchResult answer
-    (λ slot. (new ≡ slot) × (reported.code ≡ Done) × (reported.head ≡ 0) × (reported.tail ≡ 0))
-    (λ r. (new ≡ old) × (reported.code ≡ code_of_set r) × (reported.head ≡ head_of_set r) × (reported.tail ≡ 0))
+    (λ slot. (new ≡ slot) × IsCodeAlone Done reported)
+    (λ r. (new ≡ old) × IsAnswer (code_of_set r) (head_of_set r) 0 reported)
 
 -- the library's `try_set` was called with this alarm, and its answer is reported
 abbrev pub SetsAlarm : HeldSeat → SynthAlarm → ℕ → ℕ → Option HeldSeat → SynthAnswer → Type 0
@@ -89,3 +80,7 @@ abbrev pub ReportsMetered : Metered → SynthMetered → Type 0
 ReportsMetered c reported = (reported.gauges ≡ c.gauges) × (reported.clock ≡ c.clock)
     × (reported.alarms ≡ length c.alarms.items)
     × (take reported.alarms reported.alarm ≡ map c_alarm c.alarms.items) × IsBlankFrom reported.alarms reported.alarm
+
+-- the effect of a read of a gauge, by its code
+abbrev pub ReadGauge : ℕ → ℕ → ℕ → HeldSeat → Option HeldSeat → ℤ → Type 0
+ReadGauge gauge old_value value x new code = Writes (gauge < 8) (8 ≤ gauge) (WasGauge gauge) x old_value value new code

@@ -1,17 +1,21 @@
 -- The effects of the calls of meters on an end of them. Each definition states what the library's call states.
-use Rattle.std.specs.Prelude.{◌≡◌, ◌⊎◌, ◌≤◌, ◌<◌, ◌+◌, ℕ, Bool, List, Result, MatchResult}
+use Rattle.std.specs.Prelude.{◌≡◌, ℕ, Bool, List, Result, MatchResult, Ok, Err}
 use Rattle.std.specs.Arc.{arc_value}
-use Rattle.event_theory.specs.declared.alarm.Alarm.{Alarm}
-use Rattle.meters.specs.declared.gauges.AdvanceRefusal.{AdvanceRefusal}
-use Rattle.meters.specs.declared.alarms.SetRefusal.{SetRefusal}
-use Rattle.meters.specs.Handles.{view_of, first_of, IsSameSeat}
-use Rattle.meters.specs.Handles as meters
+use Rattle.meters.specs.Answers.{Ticked, AdvancedNow, NotAdvanced, SetNow, NotSet, CancelledNow, FiredNow, Loaded}
+pub use Rattle.meters.specs.Handles.{view_of, first_of, IsSameSeat}
+use Rattle.meters.specs.Layout.{gauge_word, clock_word}
+use Rattle.meters.specs.Own.{DidNothing}
 use Rattle.meters.specs.Rules.{newcomer}
+use Rattle.meters.specs.Closings.{ClosedNow}
+use Rattle.table_theory.specs.Sharing.{the_whole}
+pub use Rattle.meters.specs.declared.close.Metered.{Metered}
+pub use Rattle.event_theory.specs.declared.alarm.Alarm.{Alarm}
+pub use Rattle.meters.specs.declared.alarms.SetRefusal.{SetRefusal}
+pub use Rattle.meters.specs.declared.gauges.AdvanceRefusal.{AdvanceRefusal}
+use Rattle.meters.specs.Handles as meters
 use Rattle.meters.specs.Endings as endings
-use Rattle.meters.specs.Answers.{Ticked}
-use Rattle.meters.specs.Answers.{AdvancedNow, NotAdvanced, SetNow, NotSet, CancelledNow, FiredNow}
 use Rattle.bindings.specs.Shares.{AllOf, WasDivided, WasJoined}
-use Rattle.bindings.specs.declared.seat.held.HeldSeat.{HeldSeat}
+pub use Rattle.bindings.specs.Kinds.{HeldSeat}
 
 -- the same end of the same meters
 abbrev pub IsSameHeld : HeldSeat → HeldSeat → Type 0
@@ -65,3 +69,21 @@ WasCancelled slot alarm answer x y = IsKept x y × CancelledNow (view_of x.seat)
 -- `due` gave these alarms
 abbrev pub WereFired : List Alarm → HeldSeat → HeldSeat → Type 0
 WereFired alarms x y = IsKept x y × FiredNow (view_of x.seat) alarms (view_of y.seat)
+
+-- `gauge` gave this value
+pub record WasGauge (gauge value : ℕ) (x y : HeldSeat) : Type 0 where
+  pub same : IsKept x y
+  pub effect : DidNothing (view_of x.seat) (view_of y.seat)
+  pub trace : Loaded (view_of x.seat) (gauge_word gauge) value (view_of y.seat)
+
+-- `clock` gave this tick
+pub record WasClock (clock : ℕ) (x y : HeldSeat) : Type 0 where
+  pub same : IsKept x y
+  pub effect : DidNothing (view_of x.seat) (view_of y.seat)
+  pub trace : Loaded (view_of x.seat) clock_word clock (view_of y.seat)
+
+-- the end has all parts, and closed the meters as the library's `close` states; or the end is unchanged
+abbrev pub Ended : Result Metered HeldSeat → HeldSeat → Type 0
+Ended (Ok c) x = (x.share.parts ≡ the_whole)
+    × ClosedNow (first_of (arc_value x.meters)) (view_of x.seat) c.gauges c.clock c.alarms.items
+Ended (Err y) x = y ≡ x

@@ -1,8 +1,8 @@
 -- The share that an end has of its object, and the mark of the object.
-use Rattle.std.specs.Prelude.{◌≡◌, ◌⊎◌, ◌≤◌, ◌<◌, ◌+◌, ℕ, ℤ}
+use Rattle.std.specs.Prelude.{◌≡◌, ◌≤◌, ◌<◌, ◌+◌, ℕ, ℤ}
 use Rattle.table_theory.specs.Sharing.{given, kept, the_whole}
 use Rattle.bindings.specs.Codes.{NoShare}
-use Rattle.bindings.specs.declared.share.Share.{Share}
+pub use Rattle.bindings.specs.declared.share.Share.{Share}
 
 -- all of the object with this mark
 abbrev pub AllOf : ℕ → Share → Type 0

@@ -1,8 +1,7 @@
 //! The answers of the calls to C.
 ghost use Rattle.std.specs.Prelude.{◌≡◌};
 ghost use Rattle.bindings.specs.Codes.{code_of_claim, head_of_claim, tail_of_claim, code_of_take, tail_of_take};
-ghost use Rattle.bindings.specs.Codes.{code_of_some, tail_of_some};
-ghost use Rattle.bindings.specs.Told.{IsCodeAlone};
+ghost use Rattle.bindings.specs.Codes.{code_of_some, tail_of_some, IsAnswer, IsCodeAlone};
 
 use claim_queue::{ClaimRefusal, TakeRefusal};
 
@@ -84,78 +83,56 @@ pub struct SynthClosed {
     pub left: usize,
 }
 
+/// This code, with these positions.
+pub fn answer_at(code: i32, head: u32, tail: u32) -> SynthAnswer
+    ensures { IsAnswer code head tail result }
+{
+    SynthAnswer { code, head, tail }
+}
+
 /// This code, with both positions 0.
 pub fn answer_of(code: i32) -> SynthAnswer
     ensures { IsCodeAlone code result }
 {
-    SynthAnswer {
-        code,
-        head: 0,
-        tail: 0,
-    }
+    answer_at(code, 0, 0)
 }
 
 /// This code, with this head.
 pub fn answer_with(code: i32, head: u32) -> SynthAnswer
-    ensures { (result.code ≡ code) × (result.head ≡ head) × (result.tail ≡ 0) }
+    ensures { IsAnswer code head 0 result }
 {
-    SynthAnswer {
-        code,
-        head,
-        tail: 0,
-    }
+    answer_at(code, head, 0)
 }
 
 /// The code of the answer, and its positions: the first position of a put, or the positions in the refusal.
 pub fn answer_of_claim(answer: Result<u32, ClaimRefusal>) -> SynthAnswer
-    ensures { (result.code ≡ code_of_claim answer) × (result.head ≡ head_of_claim answer)
-        × (result.tail ≡ tail_of_claim answer) }
+    ensures { IsAnswer (code_of_claim answer) (head_of_claim answer) (tail_of_claim answer) result }
 {
     match answer {
-        Ok(head) => SynthAnswer {
-            code: DONE,
-            head,
-            tail: 0,
-        },
+        Ok(head) => answer_with(DONE, head),
         Err(ClaimRefusal::NoItems) => answer_of(NO_ITEMS),
         Err(ClaimRefusal::TooLong) => answer_of(TOO_LONG),
         Err(ClaimRefusal::Closed) => answer_of(CLOSED),
         Err(ClaimRefusal::Spent) => answer_of(SPENT),
-        Err(ClaimRefusal::Full { head, tail }) => SynthAnswer {
-            code: FULL,
-            head,
-            tail,
-        },
-        Err(ClaimRefusal::Lost { head }) => SynthAnswer {
-            code: LOST,
-            head,
-            tail: 0,
-        },
+        Err(ClaimRefusal::Full { head, tail }) => answer_at(FULL, head, tail),
+        Err(ClaimRefusal::Lost { head }) => answer_with(LOST, head),
     }
 }
 
 /// The code of the refusal, and the position in it.
 pub fn answer_of_take(refusal: TakeRefusal) -> SynthAnswer
-    ensures { (result.code ≡ code_of_take refusal) × (result.head ≡ 0) × (result.tail ≡ tail_of_take refusal) }
+    ensures { IsAnswer (code_of_take refusal) 0 (tail_of_take refusal) result }
 {
     match refusal {
-        TakeRefusal::Empty { at } => SynthAnswer {
-            code: EMPTY,
-            head: 0,
-            tail: at,
-        },
-        TakeRefusal::Lost { tail } => SynthAnswer {
-            code: LOST,
-            head: 0,
-            tail,
-        },
+        TakeRefusal::Empty { at } => answer_at(EMPTY, 0, at),
+        TakeRefusal::Lost { tail } => answer_at(LOST, 0, tail),
         TakeRefusal::Closed => answer_of(CLOSED),
     }
 }
 
 /// Done if anything was taken or nothing was refused, else the refusal's code. The position is the refusal's, or 0.
 pub fn answer_of_some(count: usize, refusal: Option<TakeRefusal>) -> SynthAnswer
-    ensures { (result.code ≡ code_of_some count refusal) × (result.head ≡ 0) × (result.tail ≡ tail_of_some refusal) }
+    ensures { IsAnswer (code_of_some count refusal) 0 (tail_of_some refusal) result }
 {
     let Some(refusal) = refusal else {
         return answer_of(DONE);
@@ -164,9 +141,5 @@ pub fn answer_of_some(count: usize, refusal: Option<TakeRefusal>) -> SynthAnswer
     if count == 0 {
         return refused;
     }
-    SynthAnswer {
-        code: DONE,
-        head: 0,
-        tail: refused.tail,
-    }
+    answer_at(DONE, 0, refused.tail)
 }

@@ -1,14 +1,13 @@
 //! The batch queue for C: each call is one of the library's, on the end that a handle holds.
 ghost use Rattle.std.specs.Prelude.{◌≡◌, ◌≤◌, ◌<◌, length};
+ghost use Rattle.bindings.specs.Handles.{Done, EmptyHandle, held_by, batch_of, AsItWas, NoneIn, HoldsThen, TurnsThen};
+ghost use Rattle.bindings.specs.Handles.{Answered, MadeHandle, FreedHandle, SplitHandle, JoinedHandle, MarksTell};
+ghost use Rattle.bindings.specs.Handles.{Batch};
+ghost use Rattle.bindings.specs.BatchHeld.{IsCapacity, IsNewBatch, SplitBy, Joined, AreOfOneQueue, places_of, Put};
+ghost use Rattle.bindings.specs.BatchHeld.{PutSome, Took, TookUpTo, Counted, WasShut};
 ghost use Rattle.bindings.specs.BatchCalls.{ReportsPut, ReportsPutSome, ReportsTake, code_of_put, positions_of_put};
 ghost use Rattle.bindings.specs.BatchCalls.{WasClosed};
-ghost use Rattle.bindings.specs.BatchHeld.{IsCapacity, IsNewBatch, SplitBy, Joined, AreOfOneQueue};
-ghost use Rattle.bindings.specs.BatchHeld.{places_of, Put, PutSome, Took, TookUpTo, Counted, WasShut};
-ghost use Rattle.bindings.specs.Codes.{Done, EmptyHandle};
-ghost use Rattle.bindings.specs.Handles.{held_by, batch_of, AsItWas, NoneIn, HoldsThen, TurnsThen, Answered};
-ghost use Rattle.bindings.specs.Handles.{MadeHandle, FreedHandle, SplitHandle, JoinedHandle, MarksTell};
 ghost use Rattle.bindings.specs.Shares.{HasTwo, HasNoTwo, IsOneMark};
-ghost use Rattle.bindings.specs.declared.payload.Payload.TheVariants.{Batch};
 
 mod closing;
 pub mod held;
@@ -250,8 +249,7 @@ pub extern "C" fn synth_raw_batch_try_take_some(
 #[unsafe(no_mangle)]
 pub extern "C" fn synth_raw_batch_len(batch: &mut Handle, count: &mut u64) -> i32
     ensures empty { NoneIn batch_of batch.old batch.new ((result ≡ EmptyHandle) × (count.new ≡ count.old)) }
-    ensures counted { TurnsThen (batch_of batch.old) (batch_of batch.new)
-        (λ x y. Counted count.new x y × (result ≡ Done)) }
+    ensures counted { TurnsThen batch_of batch.old batch.new (λ x y. Counted count.new x y × (result ≡ Done)) }
 {
     let Some(held) = batch.find::<HeldBatch>() else {
         return EMPTY_HANDLE;
@@ -278,8 +276,7 @@ pub extern "C" fn synth_raw_batch_capacity(batch: &mut Handle, places: &mut usiz
 #[unsafe(no_mangle)]
 pub extern "C" fn synth_raw_batch_shut(batch: &mut Handle, was_open: &mut bool) -> i32
     ensures empty { NoneIn batch_of batch.old batch.new ((result ≡ EmptyHandle) × (was_open.new ≡ was_open.old)) }
-    ensures shut { TurnsThen (batch_of batch.old) (batch_of batch.new)
-        (λ x y. WasShut was_open.new x y × (result ≡ Done)) }
+    ensures shut { TurnsThen batch_of batch.old batch.new (λ x y. WasShut was_open.new x y × (result ≡ Done)) }
 {
     let Some(held) = batch.find::<HeldBatch>() else {
         return EMPTY_HANDLE;

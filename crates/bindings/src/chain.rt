@@ -1,14 +1,11 @@
 //! The chain for C: each call is one of the library's, on the end that a handle holds. Notes are pulled: the caller
 //! does what a note is for between one call and the next.
 ghost use Rattle.std.specs.Prelude.{◌≡◌, ◌≤◌};
-ghost use Rattle.bindings.specs.ChainCalls.{IsChainCall, ReportsNoted, IsPullCall, WasClosed};
+ghost use Rattle.bindings.specs.Handles.{EmptyHandle, held_by, chain_of, NoneIn, LeadsTo, HoldsThen, MadeHandle};
+ghost use Rattle.bindings.specs.Handles.{FreedHandle, SplitHandle, JoinedHandle, MarksTell, Chain, IsCodeAlone};
 ghost use Rattle.bindings.specs.ChainHeld.{IsNewChain, SplitBy, Joined, AreOfOneChain};
-ghost use Rattle.bindings.specs.Codes.{EmptyHandle};
-ghost use Rattle.bindings.specs.Handles.{held_by, chain_of, NoneIn, HoldsThen};
-ghost use Rattle.bindings.specs.Handles.{MadeHandle, FreedHandle, SplitHandle, JoinedHandle, MarksTell};
+ghost use Rattle.bindings.specs.ChainCalls.{IsChainCall, ReportsNoted, IsPullCall, WasClosed};
 ghost use Rattle.bindings.specs.Shares.{HasTwo, HasNoTwo, IsOneMark};
-ghost use Rattle.bindings.specs.declared.payload.Payload.TheVariants.{Chain};
-ghost use Rattle.bindings.specs.Told.{IsCodeAlone};
 
 mod closing;
 pub mod held;
@@ -16,7 +13,7 @@ mod inbox;
 
 use crate::answer::{
     AGAIN, DONE, EMPTY_HANDLE, FULL, FULL_HANDLE, LEFT, LOST, NOT_RUNNING, NOTE, OPEN, RUN,
-    RUNNING, SPENT, SynthAnswer, answer_of, answer_with,
+    RUNNING, SPENT, SynthAnswer, answer_at, answer_of, answer_with,
 };
 use crate::ends::{fill, free, join, split};
 use crate::handle::Handle;
@@ -43,11 +40,7 @@ fn answer_of_noted(answer: Result<Noted, ChainRefusal>) -> SynthAnswer
         Ok(Noted::Run) => answer_of(RUN),
         Ok(Noted::Left) => answer_of(LEFT),
         Err(ChainRefusal::Spent) => answer_of(SPENT),
-        Err(ChainRefusal::Full { head, tail }) => SynthAnswer {
-            code: FULL,
-            head,
-            tail,
-        },
+        Err(ChainRefusal::Full { head, tail }) => answer_at(FULL, head, tail),
         Err(ChainRefusal::Lost { head }) => answer_with(LOST, head),
     }
 }
@@ -104,7 +97,7 @@ pub extern "C" fn synth_raw_chain_join(alloc: Global, chain: &mut Handle, other:
 #[unsafe(no_mangle)]
 pub extern "C" fn synth_raw_chain_try_chain(chain: &mut Handle, note: u16) -> SynthAnswer
     ensures empty { NoneIn chain_of chain.old chain.new (IsCodeAlone EmptyHandle result) }
-    ensures chained { HoldsThen (chain_of chain.old) (λ x. IsChainCall x note (chain_of chain.new) result) }
+    ensures chained { LeadsTo chain_of chain.old chain.new (λ x y. IsChainCall x note y result) }
 {
     let Some(held) = chain.find::<HeldChain>() else {
         return answer_of(EMPTY_HANDLE);
@@ -116,7 +109,7 @@ pub extern "C" fn synth_raw_chain_try_chain(chain: &mut Handle, note: u16) -> Sy
 #[unsafe(no_mangle)]
 pub extern "C" fn synth_raw_chain_next(chain: &mut Handle, note: &mut u16) -> i32
     ensures empty { NoneIn chain_of chain.old chain.new ((result ≡ EmptyHandle) × (note.new ≡ note.old)) }
-    ensures pulled { HoldsThen (chain_of chain.old) (λ x. IsPullCall x note.old note.new (chain_of chain.new) result) }
+    ensures pulled { LeadsTo chain_of chain.old chain.new (λ x y. IsPullCall x note.old note.new y result) }
 {
     let Some(held) = chain.find::<HeldChain>() else {
         return EMPTY_HANDLE;

@@ -1,11 +1,7 @@
 //! Making, freeing, splitting and joining the ends that handles hold, whatever their kind.
-ghost use Rattle.std.specs.Prelude.{◌≡◌, ℤ, MatchBool};
-ghost use Rattle.std.specs.Option.{MatchOption};
-ghost use Rattle.std.specs.declared.option.Option.TheVariants.{None};
-ghost use Rattle.bindings.specs.Handles.{held_by, end_in, HoldsSome, Filled, FreedHandle, SplitHandle, JoinedHandle};
-ghost use Rattle.bindings.specs.Handles.{MarksTell, MayJoin, MayNotJoin};
-ghost use Rattle.bindings.specs.Shares.{Fit};
-ghost use Rattle.bindings.specs.declared.share.Share.{Share as ShareValue};
+ghost use Rattle.std.specs.Prelude.{◌≡◌, ℤ, MatchBool, MatchOption};
+ghost use Rattle.bindings.specs.Handles.{None, held_by, end_in, HoldsSome, Filled, FreedHandle, SplitHandle};
+ghost use Rattle.bindings.specs.Handles.{JoinedHandle, MarksTell, MayJoin, MayNotJoin, Fit, Share as ShareValue};
 
 use crate::answer::{DONE, EMPTY_HANDLE, FULL_HANDLE, NO_MEMORY, OTHER_OBJECT};
 use crate::handle::Handle;

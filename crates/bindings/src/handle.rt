@@ -1,7 +1,5 @@
 //! The handle that C holds.
-ghost use Rattle.std.specs.Prelude.{◌≡◌};
-ghost use Rattle.std.specs.Option.{MatchOption};
-ghost use Rattle.std.specs.declared.option.Option.TheVariants.{None, Some};
+ghost use Rattle.std.specs.Prelude.{◌≡◌, MatchOption, None, Some};
 ghost use Rattle.bindings.specs.Hiding.{is_some};
 
 use crate::hidden::Hidden;

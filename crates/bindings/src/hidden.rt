@@ -1,7 +1,5 @@
 //! A box as a pointer whose type says nothing of the value there, so that it can cross to C.
-ghost use Rattle.std.specs.Prelude.{◌≡◌, true};
-ghost use Rattle.std.specs.declared.option.Option.{Option as Maybe};
-ghost use Rattle.std.specs.declared.option.Option.TheVariants.{None, Some};
+ghost use Rattle.std.specs.Prelude.{◌≡◌, true, Option as Maybe, None, Some};
 ghost use Rattle.bindings.specs.Hiding.{is_some};
 ghost use Rattle.bindings.specs.declared.payload.Payload.{Payload as PayloadValue};
 
@@ -20,8 +18,8 @@ pub struct Hidden {
 }
 
 impl Model for Hidden {
-    ghost use Rattle.bindings.specs.contracts.payload.Payload.{the_row};
     ghost use Rattle.bindings.specs.Hiding.{hides};
+    ghost use Rattle.bindings.specs.contracts.payload.Payload.{the_row};
 
     ghost also_owns = { λ h. hides the_row h.at h.value };
 }

@@ -1,13 +1,10 @@
 //! The kinds of ends that a handle can hold.
-ghost use Rattle.std.specs.Prelude.{◌≡◌, true, refl};
+ghost use Rattle.std.specs.Prelude.{◌≡◌, true, refl, MatchOption, Option as Maybe, None, Some};
 ghost use Rattle.std.specs.Borrow.{sem};
-ghost use Rattle.std.specs.Option.{MatchOption};
-ghost use Rattle.std.specs.declared.option.Option.{Option as Maybe};
-ghost use Rattle.std.specs.declared.option.Option.TheVariants.{None, Some};
-ghost use Rattle.bindings.specs.Hiding.{is_some};
 ghost use Rattle.bindings.specs.Kinds.{batch_in, queue_in, chain_in, hand_in, seat_in, line_in_in, line_out_in};
+ghost use Rattle.bindings.specs.Kinds.{Payload as PayloadValue};
+ghost use Rattle.bindings.specs.Hiding.{is_some};
 ghost use Rattle.bindings.specs.Lending.{LendsPayload};
-ghost use Rattle.bindings.specs.declared.payload.Payload.{Payload as PayloadValue};
 ghost use Rattle.bindings.specs.declared.payload.Payload.TheVariants as payloads;
 
 use crate::batch::held::HeldBatch;

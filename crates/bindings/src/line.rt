@@ -1,7 +1,6 @@
 //! The device line for C: each call is one of the library's, on the end that a handle holds.
 ghost use Rattle.std.specs.Prelude.{◌≡◌, ◌≤◌, ◌<◌};
-ghost use Rattle.bindings.specs.Codes.{EmptyHandle};
-ghost use Rattle.bindings.specs.Handles.{line_in_of, line_out_of, NoneIn, HoldsThen, FreedHandle, MarksTell};
+ghost use Rattle.bindings.specs.Handles.{EmptyHandle, line_in_of, line_out_of, NoneIn, LeadsTo, FreedHandle, MarksTell};
 ghost use Rattle.bindings.specs.LineCalls.{MadeLine, IsPushCall, IsPopCall, FinishedLine, HaveOneMark, AreOfOneLine};
 
 pub mod held;
@@ -64,7 +63,7 @@ pub extern "C" fn synth_raw_line_new_marked(
 #[unsafe(no_mangle)]
 pub extern "C" fn synth_raw_line_push(input: &mut Handle, byte: u8) -> i32
     ensures empty { NoneIn line_in_of input.old input.new (result ≡ EmptyHandle) }
-    ensures pushed { HoldsThen (line_in_of input.old) (λ x. IsPushCall x byte (line_in_of input.new) result) }
+    ensures pushed { LeadsTo line_in_of input.old input.new (λ x y. IsPushCall x byte y result) }
 {
     let Some(held) = input.find::<HeldIn>() else {
         return EMPTY_HANDLE;
@@ -80,8 +79,7 @@ pub extern "C" fn synth_raw_line_push(input: &mut Handle, byte: u8) -> i32
 #[unsafe(no_mangle)]
 pub extern "C" fn synth_raw_line_pop(output: &mut Handle, byte: &mut u8) -> i32
     ensures empty { NoneIn line_out_of output.old output.new ((result ≡ EmptyHandle) × (byte.new ≡ byte.old)) }
-    ensures popped { HoldsThen (line_out_of output.old)
-        (λ x. IsPopCall x byte.old byte.new (line_out_of output.new) result) }
+    ensures popped { LeadsTo line_out_of output.old output.new (λ x y. IsPopCall x byte.old byte.new y result) }
 {
     let Some(held) = output.find::<HeldOut>() else {
         return EMPTY_HANDLE;

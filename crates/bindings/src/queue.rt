@@ -1,14 +1,12 @@
 //! The claim queue for C: each call is one of the library's, on the end that a handle holds.
 ghost use Rattle.std.specs.Prelude.{◌≡◌, ◌<◌, ◌≤◌, length};
-ghost use Rattle.bindings.specs.Codes.{Done, EmptyHandle};
-ghost use Rattle.bindings.specs.Handles.{held_by, queue_of, NoneIn, HoldsThen, TurnsThen};
-ghost use Rattle.bindings.specs.Handles.{MadeHandle, FreedHandle, SplitHandle, JoinedHandle, MarksTell};
-ghost use Rattle.bindings.specs.declared.payload.Payload.TheVariants.{Queue};
-ghost use Rattle.bindings.specs.QueueCalls.{WasPut, WasTaken, TakesSome, TakesLine, WasClosed};
+ghost use Rattle.bindings.specs.Handles.{Done, EmptyHandle, held_by, queue_of, NoneIn, LeadsTo, HoldsThen, TurnsThen};
+ghost use Rattle.bindings.specs.Handles.{MadeHandle, FreedHandle, SplitHandle, JoinedHandle, MarksTell, Queue};
+ghost use Rattle.bindings.specs.Handles.{IsCodeAlone};
 ghost use Rattle.bindings.specs.QueueHeld.{AtSize, AtSizes, IsSize, IsNewHeld, share_of, HaveOneMark, AreOfOneQueue};
+ghost use Rattle.bindings.specs.QueueCalls.{WasPut, WasTaken, TakesSome, TakesLine, WasClosed};
 ghost use Rattle.bindings.specs.QueueParts.{ShutPart, DividedPart, JoinedPart};
 ghost use Rattle.bindings.specs.Shares.{HasTwo, HasNoTwo};
-ghost use Rattle.bindings.specs.Told.{IsCodeAlone};
 
 mod closing;
 pub mod held;
@@ -84,7 +82,7 @@ pub extern "C" fn synth_raw_queue_join(alloc: Global, queue: &mut Handle, other:
 #[unsafe(no_mangle)]
 pub extern "C" fn synth_raw_queue_try_put(queue: &mut Handle, items: &[u64]) -> SynthAnswer
     ensures empty { NoneIn queue_of queue.old queue.new (IsCodeAlone EmptyHandle result) }
-    ensures put { HoldsThen (queue_of queue.old) (λ x. WasPut x items.now (queue_of queue.new) result) }
+    ensures put { LeadsTo queue_of queue.old queue.new (λ x y. WasPut x items.now y result) }
 {
     let Some(held) = queue.find::<HeldQueue>() else {
         return answer_of(EMPTY_HANDLE);
@@ -97,8 +95,7 @@ pub extern "C" fn synth_raw_queue_try_put(queue: &mut Handle, items: &[u64]) -> 
 #[unsafe(no_mangle)]
 pub extern "C" fn synth_raw_queue_try_take(queue: &mut Handle, item: &mut u64) -> SynthAnswer
     ensures empty { NoneIn queue_of queue.old queue.new (IsCodeAlone EmptyHandle result × (item.new ≡ item.old)) }
-    ensures taken { HoldsThen (queue_of queue.old)
-        (λ x. WasTaken x item.old item.new (queue_of queue.new) result) }
+    ensures taken { LeadsTo queue_of queue.old queue.new (λ x y. WasTaken x item.old item.new y result) }
 {
     let Some(held) = queue.find::<HeldQueue>() else {
         return answer_of(EMPTY_HANDLE);
@@ -168,7 +165,7 @@ pub extern "C" fn synth_raw_queue_try_take_line(
 #[unsafe(no_mangle)]
 pub extern "C" fn synth_raw_queue_shut(queue: &mut Handle, was_open: &mut bool) -> i32
     ensures empty { NoneIn queue_of queue.old queue.new ((result ≡ EmptyHandle) × (was_open.new ≡ was_open.old)) }
-    ensures shut { TurnsThen (queue_of queue.old) (queue_of queue.new)
+    ensures shut { TurnsThen queue_of queue.old queue.new
         (λ x y. AtSize (ShutPart was_open.new) x y × (result ≡ Done)) }
 {
     let Some(held) = queue.find::<HeldQueue>() else {

@@ -1,15 +1,12 @@
 //! The meters for C: each call is one of the library's, on the end that a handle holds.
 ghost use Rattle.std.specs.Prelude.{◌≡◌, ◌≤◌, ◌<◌};
-ghost use Rattle.bindings.specs.Codes.{EmptyHandle};
-ghost use Rattle.bindings.specs.Handles.{held_by, seat_of, NoneIn, HoldsThen, WasEnded};
-ghost use Rattle.bindings.specs.Handles.{MadeHandle, FreedHandle, SplitHandle, JoinedHandle, MarksTell};
-ghost use Rattle.bindings.specs.declared.payload.Payload.TheVariants.{Seat};
-ghost use Rattle.bindings.specs.SeatHeld.{IsNewSeat, SplitBy, Joined, AreOfOneTable};
-ghost use Rattle.bindings.specs.Shares.{HasTwo, HasNoTwo, IsOneMark};
-ghost use Rattle.bindings.specs.SeatClosing.{Ended};
+ghost use Rattle.bindings.specs.Handles.{EmptyHandle, held_by, seat_of, NoneIn, LeadsTo, HoldsThen, WasEnded};
+ghost use Rattle.bindings.specs.Handles.{MadeHandle, FreedHandle, SplitHandle, JoinedHandle, MarksTell, Seat};
+ghost use Rattle.bindings.specs.Codes.{IsAnswer, IsCodeAlone};
 ghost use Rattle.bindings.specs.SeatCalls.{IsTickCall, IsAdvanceCall, IsSetCall, IsCancelCall, IsDueCall};
 ghost use Rattle.bindings.specs.SeatCalls.{ReportsMetered, code_of_advance, head_of_advance, code_of_set, head_of_set};
-ghost use Rattle.bindings.specs.Told.{IsCodeAlone};
+ghost use Rattle.bindings.specs.SeatHeld.{IsNewSeat, SplitBy, Joined, AreOfOneTable, Ended};
+ghost use Rattle.bindings.specs.Shares.{HasTwo, HasNoTwo, IsOneMark};
 
 mod alarm;
 mod closing;
@@ -42,7 +39,7 @@ pub struct SynthMetered {
 
 // The code of the refusal, and the clock in it.
 fn answer_of_advance(refusal: AdvanceRefusal) -> SynthAnswer
-    ensures { (result.code ≡ code_of_advance refusal) × (result.head ≡ head_of_advance refusal) × (result.tail ≡ 0) }
+    ensures { IsAnswer (code_of_advance refusal) (head_of_advance refusal) 0 result }
 {
     match refusal {
         AdvanceRefusal::Spent => answer_of(SPENT),
@@ -53,7 +50,7 @@ fn answer_of_advance(refusal: AdvanceRefusal) -> SynthAnswer
 // The code of the refusal, and the slot in it.
 fn answer_of_set(refusal: SetRefusal) -> SynthAnswer
     requires { head_of_set refusal < 16 }
-    ensures { (result.code ≡ code_of_set refusal) × (result.head ≡ head_of_set refusal) × (result.tail ≡ 0) }
+    ensures { IsAnswer (code_of_set refusal) (head_of_set refusal) 0 result }
 {
     match refusal {
         SetRefusal::NoRoom => answer_of(NO_ROOM),
@@ -150,8 +147,7 @@ pub extern "C" fn synth_raw_seat_tick(
 #[unsafe(no_mangle)]
 pub extern "C" fn synth_raw_seat_advance(seat: &mut Handle, clock: &mut u32) -> SynthAnswer
     ensures empty { NoneIn seat_of seat.old seat.new (IsCodeAlone EmptyHandle result × (clock.new ≡ clock.old)) }
-    ensures advanced { HoldsThen (seat_of seat.old)
-        (λ x. IsAdvanceCall x clock.old clock.new (seat_of seat.new) result) }
+    ensures advanced { LeadsTo seat_of seat.old seat.new (λ x y. IsAdvanceCall x clock.old clock.new y result) }
 {
     let Some(held) = seat.find::<HeldSeat>() else {
         return answer_of(EMPTY_HANDLE);
@@ -174,8 +170,7 @@ pub extern "C" fn synth_raw_seat_try_set(
     slot: &mut u32,
 ) -> SynthAnswer
     ensures empty { NoneIn seat_of seat.old seat.new (IsCodeAlone EmptyHandle result × (slot.new ≡ slot.old)) }
-    ensures set { HoldsThen (seat_of seat.old)
-        (λ x. IsSetCall x alarm.now slot.old slot.new (seat_of seat.new) result) }
+    ensures set { LeadsTo seat_of seat.old seat.new (λ x y. IsSetCall x alarm.now slot.old slot.new y result) }
 {
     let Some(held) = seat.find::<HeldSeat>() else {
         return answer_of(EMPTY_HANDLE);

@@ -1,6 +1,5 @@
 //! How much of its object an end has, and which object that is.
-ghost use Rattle.std.specs.Prelude.{◌≡◌, ◌⊎◌, MatchBool};
-ghost use Rattle.std.specs.Option.{MatchOption};
+ghost use Rattle.std.specs.Prelude.{◌≡◌, ◌⊎◌, MatchBool, MatchOption};
 
 use crate::answer::NO_SHARE;
 use table_theory::shares::MOST_GIVEN;

@@ -1,8 +1,8 @@
 //! Closing a batch queue.
 ghost use Rattle.std.specs.Prelude.{◌≡◌, ◌≤◌, length, take};
-ghost use Rattle.batch_queue.specs.Handles.{IsEndOf, IsOnlyEnd, room_of};
+ghost use Rattle.batch_queue.specs.Handles.{IsEndOf, IsOnlyEnd};
 ghost use Rattle.batch_queue.specs.Lefts.{items_left};
-ghost use Rattle.bindings.specs.BatchClosing.{ClosedInto, Ended};
+ghost use Rattle.bindings.specs.BatchHeld.{room_of, ClosedInto, Ended};
 ghost use Rattle.bindings.specs.QueueTaking.{IsKeptFrom};
 
 use super::held::HeldBatch;

@@ -1,6 +1,5 @@
 //! The end that a handle of a batch queue holds.
-ghost use Rattle.std.specs.Prelude.{◌≡◌, MatchBool};
-ghost use Rattle.std.specs.Option.{MatchOption};
+ghost use Rattle.std.specs.Prelude.{◌≡◌, MatchBool, MatchOption};
 ghost use Rattle.std.specs.Arc.{arc_value};
 ghost use Rattle.batch_queue.specs.Handles.{IsEndOf, view_of};
 
@@ -21,9 +20,8 @@ pub struct HeldBatch {
 }
 
 impl HeldBatch {
-    ghost use Rattle.bindings.specs.BatchHeld.{IsCapacity, IsNewBatch, places_of, Put, PutSome, Took};
-    ghost use Rattle.bindings.specs.BatchHeld.{TookUpTo, Counted};
-    ghost use Rattle.bindings.specs.BatchHeld.{WasShut};
+    ghost use Rattle.bindings.specs.BatchHeld.{IsCapacity, IsNewBatch, places_of, Put, PutSome, Took, TookUpTo};
+    ghost use Rattle.bindings.specs.BatchHeld.{Counted, WasShut};
 
     /// Whether a queue can have so many places: a power of two, 2^24 at most.
     pub fn is_capacity(places: usize) -> bool
@@ -45,11 +43,8 @@ impl HeldBatch {
     {
         let (queue, end) = BatchQueue::new(alloc, places).ok()?;
         let queue = Arc::new(alloc, queue).ok()?;
-        Some(HeldBatch {
-            queue,
-            end,
-            share: Share::all(mark),
-        })
+        let share = Share::all(mark);
+        Some(HeldBatch { queue, end, share })
     }
 
     /// How many places the queue has.
@@ -103,8 +98,8 @@ impl HeldBatch {
 }
 
 impl End for HeldBatch {
-    ghost use Rattle.bindings.specs.BatchHeld.{SplitBy, Joined, AreOfOneQueue};
     ghost use Rattle.bindings.specs.Shares.{HasTwo, HasNoTwo, IsOneMark};
+    ghost use Rattle.bindings.specs.BatchHeld.{SplitBy, Joined, AreOfOneQueue};
 
     type Wish = ();
 
@@ -129,11 +124,8 @@ impl End for HeldBatch {
     fn split(&mut self, _wish: ()) -> Option<HeldBatch> {
         let queue = Arc::try_clone(&self.queue).ok()?;
         let end = self.queue.split(&mut self.end);
-        Some(HeldBatch {
-            queue,
-            end,
-            share: self.share.split(),
-        })
+        let share = self.share.split();
+        Some(HeldBatch { queue, end, share })
     }
 
     fn may_join(&self, other: &HeldBatch) -> bool {
@@ -141,11 +133,7 @@ impl End for HeldBatch {
     }
 
     fn join(&mut self, other: HeldBatch) {
-        let HeldBatch {
-            queue: _queue,
-            end,
-            share,
-        } = other;
+        let HeldBatch { end, share, .. } = other;
         self.queue.join(&mut self.end, end);
         self.share.join(share);
     }

@@ -1,8 +1,7 @@
 //! A look at a batch queue for C.
 ghost use Rattle.std.specs.Prelude.{◌≡◌};
-ghost use Rattle.bindings.specs.BatchLooks.{found_by, WasLookedAt};
-ghost use Rattle.bindings.specs.Codes.{Done, EmptyHandle};
-ghost use Rattle.bindings.specs.Handles.{batch_of, NoneIn, TurnsThen};
+ghost use Rattle.bindings.specs.Handles.{Done, EmptyHandle, batch_of, NoneIn, TurnsThen};
+ghost use Rattle.bindings.specs.BatchHeld.{found_by, WasLookedAt};
 
 use super::held::HeldBatch;
 use crate::answer::{DONE, EMPTY_HANDLE};
@@ -45,7 +44,7 @@ fn report(found: QueueLook) -> SynthBatchLook
 #[unsafe(no_mangle)]
 pub extern "C" fn synth_raw_batch_look(batch: &mut Handle, look: &mut SynthBatchLook) -> i32
     ensures empty { NoneIn batch_of batch.old batch.new ((result ≡ EmptyHandle) × (look.new ≡ look.old)) }
-    ensures looked { TurnsThen (batch_of batch.old) (batch_of batch.new)
+    ensures looked { TurnsThen batch_of batch.old batch.new
         (λ x y. WasLookedAt (found_by look.new) x y × (result ≡ Done)) }
 {
     let Some(held) = batch.find::<HeldBatch>() else {

@@ -1,6 +1,5 @@
 //! The end that a handle of a chain holds.
-ghost use Rattle.std.specs.Prelude.{◌≡◌, true};
-ghost use Rattle.std.specs.Option.{MatchOption};
+ghost use Rattle.std.specs.Prelude.{◌≡◌, true, MatchOption};
 ghost use Rattle.std.specs.Arc.{arc_value};
 ghost use Rattle.proc_chain.specs.Handles.{view_of};
 ghost use Rattle.bindings.specs.Inboxes.{IsHeldEnd};
@@ -53,11 +52,8 @@ impl HeldChain {
             return None;
         };
         let chain = Arc::new(alloc, chain).ok()?;
-        Some(HeldChain {
-            chain,
-            end,
-            share: Share::all(mark),
-        })
+        let share = Share::all(mark);
+        Some(HeldChain { chain, end, share })
     }
 
     /// Whether the end runs notes.
@@ -95,8 +91,8 @@ impl HeldChain {
 }
 
 impl End for HeldChain {
-    ghost use Rattle.bindings.specs.ChainHeld.{SplitBy, Joined, AreOfOneChain};
     ghost use Rattle.bindings.specs.Shares.{HasTwo, HasNoTwo, IsOneMark};
+    ghost use Rattle.bindings.specs.ChainHeld.{SplitBy, Joined, AreOfOneChain};
 
     type Wish = ();
 
@@ -121,11 +117,8 @@ impl End for HeldChain {
     fn split(&mut self, _wish: ()) -> Option<HeldChain> {
         let chain = Arc::try_clone(&self.chain).ok()?;
         let end = self.chain.split(&mut self.end);
-        Some(HeldChain {
-            chain,
-            end,
-            share: self.share.split(),
-        })
+        let share = self.share.split();
+        Some(HeldChain { chain, end, share })
     }
 
     fn may_join(&self, other: &HeldChain) -> bool {
@@ -133,11 +126,7 @@ impl End for HeldChain {
     }
 
     fn join(&mut self, other: HeldChain) {
-        let HeldChain {
-            chain: _chain,
-            end,
-            share,
-        } = other;
+        let HeldChain { end, share, .. } = other;
         self.chain.join(&mut self.end, end);
         self.share.join(share);
     }

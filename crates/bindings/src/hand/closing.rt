@@ -1,9 +1,8 @@
 //! Closing a table.
 ghost use Rattle.std.specs.Prelude.{◌≡◌};
-ghost use Rattle.bindings.specs.Codes.{EmptyHandle};
-ghost use Rattle.bindings.specs.Handles.{held_by, hand_of, NoneIn, HoldsThen, WasEnded};
-ghost use Rattle.bindings.specs.HandClosing.{Ended, ReportsPlaces};
-ghost use Rattle.bindings.specs.declared.payload.Payload.TheVariants.{Hand};
+ghost use Rattle.bindings.specs.Handles.{EmptyHandle, held_by, hand_of, NoneIn, HoldsThen, WasEnded, Hand};
+ghost use Rattle.bindings.specs.HandHeld.{Ended};
+ghost use Rattle.bindings.specs.HandCalls.{ReportsPlaces};
 
 use super::held::HeldHand;
 use super::places::{SynthPlaces, answer_of_places};

@@ -1,9 +1,8 @@
 //! Making, freeing, splitting and joining hands.
 ghost use Rattle.std.specs.Prelude.{◌≤◌};
-ghost use Rattle.bindings.specs.Handles.{hand_of, MadeHandle, FreedHandle, SplitHandle, JoinedHandle, MarksTell};
+ghost use Rattle.bindings.specs.Handles.{hand_of, MadeHandle, FreedHandle, SplitHandle, JoinedHandle, MarksTell, Hand};
 ghost use Rattle.bindings.specs.HandHeld.{IsNewHand, MaySplit, MayNotSplit, SplitBy, Joined, AreOfOneTable};
 ghost use Rattle.bindings.specs.Shares.{IsOneMark};
-ghost use Rattle.bindings.specs.declared.payload.Payload.TheVariants.{Hand};
 
 use super::held::HeldHand;
 use crate::answer::{BAD_NUMBER, FULL_HANDLE};

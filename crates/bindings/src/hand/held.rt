@@ -1,9 +1,8 @@
 //! The hand that a handle holds.
-ghost use Rattle.std.specs.Prelude.{◌≡◌, ◌≢◌, ◌≤◌, None, Some, true};
-ghost use Rattle.std.specs.Option.{MatchOption};
+ghost use Rattle.std.specs.Prelude.{◌≡◌, ◌≢◌, ◌≤◌, None, Some, true, MatchOption};
 ghost use Rattle.std.specs.Arc.{arc_value};
-ghost use Rattle.thread_table.specs.Handles.{IsHandOf, view_of};
 ghost use Rattle.thread_table.specs.Rules.{has, serves, running, MayStep};
+ghost use Rattle.thread_table.specs.Handles.{IsHandOf, view_of};
 
 use crate::answer::{BAD_NUMBER, BUSY, NOT_SERVED};
 use crate::ends::End;
@@ -33,11 +32,8 @@ impl HeldHand {
     {
         let (table, hand) = ThreadTable::new_at(alloc, first).ok()?;
         let table = Arc::new(alloc, table).ok()?;
-        Some(HeldHand {
-            table,
-            hand,
-            share: Share::all(mark),
-        })
+        let share = Share::all(mark);
+        Some(HeldHand { table, hand, share })
     }
 
     /// `Hand::holds`.
@@ -140,11 +136,8 @@ impl End for HeldHand {
     fn split(&mut self, processors: u32) -> Option<HeldHand> {
         let table = Arc::try_clone(&self.table).ok()?;
         let hand = self.table.split(&mut self.hand, processors as u8);
-        Some(HeldHand {
-            table,
-            hand,
-            share: self.share.split(),
-        })
+        let share = self.share.split();
+        Some(HeldHand { table, hand, share })
     }
 
     fn may_join(&self, other: &HeldHand) -> bool {
@@ -152,11 +145,7 @@ impl End for HeldHand {
     }
 
     fn join(&mut self, other: HeldHand) {
-        let HeldHand {
-            table: _table,
-            hand,
-            share,
-        } = other;
+        let HeldHand { hand, share, .. } = other;
         self.table.join(&mut self.hand, hand);
         self.share.join(share);
     }

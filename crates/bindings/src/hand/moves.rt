@@ -1,12 +1,10 @@
 //! Moves of elements for C.
 ghost use Rattle.std.specs.Prelude.{◌≡◌, ◌+◌, true};
 ghost use Rattle.event_theory.specs.Marks.{wait_ring};
-ghost use Rattle.thread_table.specs.Handles.{view_of};
-ghost use Rattle.thread_table.specs.Rules.{has};
-ghost use Rattle.bindings.specs.Codes.{EmptyHandle};
-ghost use Rattle.bindings.specs.Handles.{hand_of, NoneIn, HoldsThen};
 ghost use Rattle.bindings.specs.HandMoves.{WasMoved, WasWaited, WasTicket, ReportsMove, IsMoveCode, IsMovingCall};
 ghost use Rattle.bindings.specs.HandMoves.{IsWaitingCall, IsTicketCall, IsWaitingAtCall};
+ghost use Rattle.bindings.specs.Handles.{EmptyHandle, hand_of, NoneIn, LeadsTo};
+ghost use Rattle.bindings.specs.HandHeld.{view_of, has};
 
 use super::held::HeldHand;
 use super::numbers::{element_of, wait_of};
@@ -107,7 +105,7 @@ fn answer_of_move(answer: Result<(), MoveRefusal>) -> SynthMoved
 #[unsafe(no_mangle)]
 pub extern "C" fn synth_raw_hand_try_ready(hand: &mut Handle, element: u32) -> SynthMoved
     ensures empty { NoneIn hand_of hand.old hand.new (IsMoveCode EmptyHandle result) }
-    ensures moved { HoldsThen (hand_of hand.old) (λ x. IsMovingCall 0 element x (hand_of hand.new) result) }
+    ensures moved { LeadsTo hand_of hand.old hand.new (λ x y. IsMovingCall 0 element x y result) }
 {
     let Some(held) = hand.find::<HeldHand>() else {
         return code_alone(EMPTY_HANDLE);
@@ -126,7 +124,7 @@ pub extern "C" fn synth_raw_hand_try_ready(hand: &mut Handle, element: u32) -> S
 #[unsafe(no_mangle)]
 pub extern "C" fn synth_raw_hand_try_retire(hand: &mut Handle, element: u32) -> SynthMoved
     ensures empty { NoneIn hand_of hand.old hand.new (IsMoveCode EmptyHandle result) }
-    ensures moved { HoldsThen (hand_of hand.old) (λ x. IsMovingCall 1 element x (hand_of hand.new) result) }
+    ensures moved { LeadsTo hand_of hand.old hand.new (λ x y. IsMovingCall 1 element x y result) }
 {
     let Some(held) = hand.find::<HeldHand>() else {
         return code_alone(EMPTY_HANDLE);
@@ -145,7 +143,7 @@ pub extern "C" fn synth_raw_hand_try_retire(hand: &mut Handle, element: u32) -> 
 #[unsafe(no_mangle)]
 pub extern "C" fn synth_raw_hand_try_wait(hand: &mut Handle, element: u32, wait: u32) -> SynthMoved
     ensures empty { NoneIn hand_of hand.old hand.new (IsMoveCode EmptyHandle result) }
-    ensures moved { HoldsThen (hand_of hand.old) (λ x. IsWaitingCall element wait x (hand_of hand.new) result) }
+    ensures moved { LeadsTo hand_of hand.old hand.new (λ x y. IsWaitingCall element wait x y result) }
 {
     let Some(held) = hand.find::<HeldHand>() else {
         return code_alone(EMPTY_HANDLE);
@@ -167,8 +165,7 @@ pub extern "C" fn synth_raw_hand_try_wait(hand: &mut Handle, element: u32, wait:
 #[unsafe(no_mangle)]
 pub extern "C" fn synth_raw_hand_ticket(hand: &mut Handle, wait: u32, ticket: &mut u32) -> i32
     ensures empty { NoneIn hand_of hand.old hand.new ((result ≡ EmptyHandle) × (ticket.new ≡ ticket.old)) }
-    ensures loaded { HoldsThen (hand_of hand.old)
-        (λ x. IsTicketCall wait x ticket.old ticket.new (hand_of hand.new) result) }
+    ensures loaded { LeadsTo hand_of hand.old hand.new (λ x y. IsTicketCall wait x ticket.old ticket.new y result) }
 {
     let Some(held) = hand.find::<HeldHand>() else {
         return EMPTY_HANDLE;
@@ -189,8 +186,7 @@ pub extern "C" fn synth_raw_hand_try_wait_at(
     ticket: u32,
 ) -> SynthMoved
     ensures empty { NoneIn hand_of hand.old hand.new (IsMoveCode EmptyHandle result) }
-    ensures moved { HoldsThen (hand_of hand.old)
-        (λ x. IsWaitingAtCall element wait ticket x (hand_of hand.new) result) }
+    ensures moved { LeadsTo hand_of hand.old hand.new (λ x y. IsWaitingAtCall element wait ticket x y result) }
 {
     let Some(held) = hand.find::<HeldHand>() else {
         return code_alone(EMPTY_HANDLE);

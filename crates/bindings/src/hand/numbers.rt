@@ -1,6 +1,5 @@
 //! Elements, wait queues and signals by the numbers that C gives.
-ghost use Rattle.std.specs.Prelude.{◌≡◌, ◌≤◌, ◌<◌};
-ghost use Rattle.std.specs.Option.{MatchOption};
+ghost use Rattle.std.specs.Prelude.{◌≡◌, ◌≤◌, ◌<◌, MatchOption};
 
 use event_theory::{Element, Signal, WaitNumber};
 

@@ -1,8 +1,7 @@
 //! The pending signals of an element, read for C.
 ghost use Rattle.std.specs.Prelude.{◌≡◌};
-ghost use Rattle.bindings.specs.Codes.{EmptyHandle};
-ghost use Rattle.bindings.specs.Handles.{hand_of, NoneIn, HoldsThen};
-ghost use Rattle.bindings.specs.HandReads.{HasPending, ReadPending};
+ghost use Rattle.bindings.specs.Handles.{EmptyHandle, hand_of, NoneIn, LeadsTo};
+ghost use Rattle.bindings.specs.HandStates.{HasPending, ReadPending};
 
 use super::held::HeldHand;
 use super::numbers::element_of;
@@ -23,8 +22,7 @@ impl HeldHand {
 #[unsafe(no_mangle)]
 pub extern "C" fn synth_raw_hand_pending(hand: &mut Handle, element: u32, signals: &mut u32) -> i32
     ensures empty { NoneIn hand_of hand.old hand.new ((result ≡ EmptyHandle) × (signals.new ≡ signals.old)) }
-    ensures loaded { HoldsThen (hand_of hand.old)
-        (λ x. ReadPending element signals.old signals.new x (hand_of hand.new) result) }
+    ensures loaded { LeadsTo hand_of hand.old hand.new (λ x y. ReadPending element signals.old signals.new x y result) }
 {
     let Some(held) = hand.find::<HeldHand>() else {
         return EMPTY_HANDLE;

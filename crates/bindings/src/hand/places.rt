@@ -1,6 +1,6 @@
 //! The state of a table when it was closed, as C has it.
 ghost use Rattle.std.specs.Prelude.{◌≡◌, map};
-ghost use Rattle.bindings.specs.HandClosing.{c_place, ReportsPlaces};
+ghost use Rattle.bindings.specs.HandCalls.{c_place, ReportsPlaces};
 
 use thread_table::{Place, Places};
 

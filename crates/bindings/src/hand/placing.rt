@@ -1,9 +1,8 @@
 //! The elements of a hand, its processors, and the steps of its elements.
 ghost use Rattle.std.specs.Prelude.{◌≡◌};
-ghost use Rattle.bindings.specs.Codes.{EmptyHandle};
-ghost use Rattle.bindings.specs.Handles.{hand_of, NoneIn, HoldsThen, TurnsThen};
-ghost use Rattle.bindings.specs.HandCalls.{IsHoldsCall, IsServesCall, IsOnProcessorCall, IsOnCall, IsOffCall};
-ghost use Rattle.bindings.specs.HandCalls.{IsPcCall, IsStepCall};
+ghost use Rattle.bindings.specs.HandCalls.{IsHoldsCall, IsServesCall, IsOnProcessorCall, IsOnCall, IsOffCall, IsPcCall};
+ghost use Rattle.bindings.specs.HandCalls.{IsStepCall};
+ghost use Rattle.bindings.specs.Handles.{EmptyHandle, hand_of, NoneIn, HoldsThen, TurnsThen};
 
 use super::held::HeldHand;
 use super::numbers::element_of;
@@ -31,8 +30,7 @@ pub extern "C" fn synth_raw_hand_holds(hand: &mut Handle, element: u32, holds: &
     let Some(held) = hand.find::<HeldHand>() else {
         return EMPTY_HANDLE;
     };
-    let code = tell_holds(held, element, holds);
-    code
+    tell_holds(held, element, holds)
 }
 
 fn tell_serves(held: &HeldHand, processor: u32, serves: &mut bool) -> i32
@@ -56,8 +54,7 @@ pub extern "C" fn synth_raw_hand_serves(hand: &mut Handle, processor: u32, serve
     let Some(held) = hand.find::<HeldHand>() else {
         return EMPTY_HANDLE;
     };
-    let code = tell_serves(held, processor, serves);
-    code
+    tell_serves(held, processor, serves)
 }
 
 fn tell_on_processor(held: &HeldHand, processor: u32, element: &mut u32) -> i32
@@ -88,8 +85,7 @@ pub extern "C" fn synth_raw_hand_on_processor(
     let Some(held) = hand.find::<HeldHand>() else {
         return EMPTY_HANDLE;
     };
-    let code = tell_on_processor(held, processor, element);
-    code
+    tell_on_processor(held, processor, element)
 }
 
 fn put_on(held: &mut HeldHand, processor: u32, element: u32) -> i32
@@ -118,14 +114,12 @@ fn put_on(held: &mut HeldHand, processor: u32, element: u32) -> i32
 #[unsafe(no_mangle)]
 pub extern "C" fn synth_raw_hand_on(hand: &mut Handle, processor: u32, element: u32) -> i32
     ensures empty { NoneIn hand_of hand.old hand.new (result ≡ EmptyHandle) }
-    ensures on { TurnsThen (hand_of hand.old) (hand_of hand.new)
-        (λ x y. IsOnCall processor element x y result) }
+    ensures on { TurnsThen hand_of hand.old hand.new (λ x y. IsOnCall processor element x y result) }
 {
     let Some(held) = hand.find::<HeldHand>() else {
         return EMPTY_HANDLE;
     };
-    let code = put_on(held, processor, element);
-    code
+    put_on(held, processor, element)
 }
 
 fn take_off(held: &mut HeldHand, processor: u32, element: &mut u32) -> i32
@@ -148,14 +142,12 @@ fn take_off(held: &mut HeldHand, processor: u32, element: &mut u32) -> i32
 #[unsafe(no_mangle)]
 pub extern "C" fn synth_raw_hand_off(hand: &mut Handle, processor: u32, element: &mut u32) -> i32
     ensures empty { NoneIn hand_of hand.old hand.new ((result ≡ EmptyHandle) × (element.new ≡ element.old)) }
-    ensures off { TurnsThen (hand_of hand.old) (hand_of hand.new)
-        (λ x y. IsOffCall processor x y element.old element.new result) }
+    ensures off { TurnsThen hand_of hand.old hand.new (λ x y. IsOffCall processor x y element.old element.new result) }
 {
     let Some(held) = hand.find::<HeldHand>() else {
         return EMPTY_HANDLE;
     };
-    let code = take_off(held, processor, element);
-    code
+    take_off(held, processor, element)
 }
 
 fn tell_pc(held: &mut HeldHand, element: u32, steps: &mut u64) -> i32
@@ -175,14 +167,12 @@ fn tell_pc(held: &mut HeldHand, element: u32, steps: &mut u64) -> i32
 #[unsafe(no_mangle)]
 pub extern "C" fn synth_raw_hand_pc(hand: &mut Handle, element: u32, steps: &mut u64) -> i32
     ensures empty { NoneIn hand_of hand.old hand.new ((result ≡ EmptyHandle) × (steps.new ≡ steps.old)) }
-    ensures effect { TurnsThen (hand_of hand.old) (hand_of hand.new)
-        (λ x y. IsPcCall element x y steps.old steps.new result) }
+    ensures effect { TurnsThen hand_of hand.old hand.new (λ x y. IsPcCall element x y steps.old steps.new result) }
 {
     let Some(held) = hand.find::<HeldHand>() else {
         return EMPTY_HANDLE;
     };
-    let code = tell_pc(held, element, steps);
-    code
+    tell_pc(held, element, steps)
 }
 
 fn count_step(held: &mut HeldHand, element: u32, steps: &mut u64) -> i32
@@ -207,12 +197,10 @@ fn count_step(held: &mut HeldHand, element: u32, steps: &mut u64) -> i32
 #[unsafe(no_mangle)]
 pub extern "C" fn synth_raw_hand_step_done(hand: &mut Handle, element: u32, steps: &mut u64) -> i32
     ensures empty { NoneIn hand_of hand.old hand.new ((result ≡ EmptyHandle) × (steps.new ≡ steps.old)) }
-    ensures done { TurnsThen (hand_of hand.old) (hand_of hand.new)
-        (λ x y. IsStepCall element x y steps.old steps.new result) }
+    ensures done { TurnsThen hand_of hand.old hand.new (λ x y. IsStepCall element x y steps.old steps.new result) }
 {
     let Some(held) = hand.find::<HeldHand>() else {
         return EMPTY_HANDLE;
     };
-    let code = count_step(held, element, steps);
-    code
+    count_step(held, element, steps)
 }

@@ -1,10 +1,8 @@
 //! Looks at the eight processors of a hand.
-ghost use Rattle.std.specs.Prelude.{◌≡◌, ◌≢◌, ◌≤◌, ◌<◌, MatchBool, true, false, None, Some};
-ghost use Rattle.std.specs.Option.{MatchOption};
-ghost use Rattle.thread_table.specs.Handles.{view_of};
-ghost use Rattle.thread_table.specs.Rules.{serves, running, MayStep};
+ghost use Rattle.std.specs.Prelude.{◌≡◌, ◌≢◌, ◌≤◌, ◌<◌, MatchBool, true, false, None, Some, MatchOption};
+ghost use Rattle.thread_table.specs.Rules.{MayStep};
 ghost use Rattle.thread_table.specs.Answers.{is_in};
-ghost use Rattle.bindings.specs.HandHeld.{ServesAll, LacksOne, HasNoneOn, HasOneOn, HasNot};
+ghost use Rattle.bindings.specs.HandHeld.{view_of, serves, running, ServesAll, LacksOne, HasNoneOn, HasOneOn, HasNot};
 
 use super::held::HeldHand;
 use event_theory::{Element, Processor};

@@ -1,14 +1,12 @@
 //! Stop bits, stop cells and signals for C.
 ghost use Rattle.std.specs.Prelude.{◌≡◌, ◌<◌, true};
 ghost use Rattle.event_theory.specs.Numbers.{u32_values};
-ghost use Rattle.thread_table.specs.Handles.{view_of};
-ghost use Rattle.thread_table.specs.Rules.{has};
-ghost use Rattle.bindings.specs.Codes.{EmptyHandle};
-ghost use Rattle.bindings.specs.Handles.{hand_of, NoneIn, HoldsThen};
 ghost use Rattle.bindings.specs.HandStates.{WasStopped, WasStarted, WasParked, WasSignalled, WereDelivered};
 ghost use Rattle.bindings.specs.HandStates.{number_of_start, is_raised, IsStateCode, ReportsLost, IsFitState};
-ghost use Rattle.bindings.specs.HandStates.{ReportsStart, ReportsPark, ReportsDelivery};
-ghost use Rattle.bindings.specs.HandStates.{IsStopCall, IsStartCall, IsParkCall, IsSignalCall, IsDeliverCall};
+ghost use Rattle.bindings.specs.HandStates.{ReportsStart, ReportsPark, ReportsDelivery, IsStopCall, IsStartCall};
+ghost use Rattle.bindings.specs.HandStates.{IsParkCall, IsSignalCall, IsDeliverCall};
+ghost use Rattle.bindings.specs.Handles.{EmptyHandle, hand_of, NoneIn, LeadsTo, HoldsThen};
+ghost use Rattle.bindings.specs.HandHeld.{view_of, has};
 
 use super::held::HeldHand;
 use super::numbers::{element_of, signal_of};
@@ -193,8 +191,7 @@ pub extern "C" fn synth_raw_hand_try_park(
     parked: &mut bool,
 ) -> SynthState
     ensures empty { NoneIn hand_of hand.old hand.new (IsStateCode EmptyHandle result × (parked.new ≡ parked.old)) }
-    ensures parked { HoldsThen (hand_of hand.old)
-        (λ x. IsParkCall element x parked.old parked.new (hand_of hand.new) result) }
+    ensures parked { LeadsTo hand_of hand.old hand.new (λ x y. IsParkCall element x parked.old parked.new y result) }
 {
     let Some(held) = hand.find::<HeldHand>() else {
         return code_alone(EMPTY_HANDLE);

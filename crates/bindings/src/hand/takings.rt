@@ -1,16 +1,17 @@
 //! Takings of elements for C.
 ghost use Rattle.std.specs.Prelude.{◌≡◌, ◌+◌, ◌<◌};
-ghost use Rattle.event_theory.specs.Numbers.{u32_values};
 ghost use Rattle.event_theory.specs.Marks.{wait_ring};
-ghost use Rattle.bindings.specs.Codes.{EmptyHandle};
-ghost use Rattle.bindings.specs.Handles.{hand_of, NoneIn, HoldsThen};
-ghost use Rattle.bindings.specs.HandTakings.{WasTaken, IsFit, code_of_next, tail_of_next, ReportsTaking};
-ghost use Rattle.bindings.specs.HandTakings.{IsTakingCall, IsWakingCall};
-ghost use Rattle.bindings.specs.Told.{IsCodeAlone};
+ghost use Rattle.event_theory.specs.Numbers.{u32_values};
+ghost use Rattle.bindings.specs.HandTakings.{WasTaken, IsFit, code_of_next, tail_of_next, ReportsTaking, IsTakingCall};
+ghost use Rattle.bindings.specs.HandTakings.{IsWakingCall};
+ghost use Rattle.bindings.specs.Handles.{EmptyHandle, hand_of, NoneIn, LeadsTo, IsCodeAlone};
+ghost use Rattle.bindings.specs.Codes.{IsAnswer};
 
 use super::held::HeldHand;
 use super::numbers::wait_of;
-use crate::answer::{BAD_NUMBER, DONE, EMPTY, EMPTY_HANDLE, LOST, SynthAnswer, answer_of};
+use crate::answer::{
+    BAD_NUMBER, DONE, EMPTY, EMPTY_HANDLE, LOST, SynthAnswer, answer_at, answer_of,
+};
 use crate::handle::Handle;
 use event_theory::{Element, WaitNumber};
 use thread_table::NextRefusal;
@@ -41,15 +42,11 @@ impl HeldHand {
 /// The code of the refusal, and the tail in it.
 pub(super) fn answer_of_next(refusal: NextRefusal) -> SynthAnswer
     requires { tail_of_next refusal < u32_values }
-    ensures { (result.code ≡ code_of_next refusal) × (result.head ≡ 0) × (result.tail ≡ tail_of_next refusal) }
+    ensures { IsAnswer (code_of_next refusal) 0 (tail_of_next refusal) result }
 {
     match refusal {
         NextRefusal::NoneReady => answer_of(EMPTY),
-        NextRefusal::Lost { seen } => SynthAnswer {
-            code: LOST,
-            head: 0,
-            tail: seen as u32,
-        },
+        NextRefusal::Lost { seen } => answer_at(LOST, 0, seen as u32),
     }
 }
 
@@ -71,8 +68,7 @@ fn tell_taking(answer: Result<Element, NextRefusal>, element: &mut u32) -> Synth
 #[unsafe(no_mangle)]
 pub extern "C" fn synth_raw_hand_try_next(hand: &mut Handle, element: &mut u32) -> SynthAnswer
     ensures empty { NoneIn hand_of hand.old hand.new (IsCodeAlone EmptyHandle result × (element.new ≡ element.old)) }
-    ensures taken { HoldsThen (hand_of hand.old)
-        (λ x. IsTakingCall 0 x element.old element.new (hand_of hand.new) result) }
+    ensures taken { LeadsTo hand_of hand.old hand.new (λ x y. IsTakingCall 0 x element.old element.new y result) }
 {
     let Some(held) = hand.find::<HeldHand>() else {
         return answer_of(EMPTY_HANDLE);
@@ -85,8 +81,7 @@ pub extern "C" fn synth_raw_hand_try_next(hand: &mut Handle, element: &mut u32) 
 #[unsafe(no_mangle)]
 pub extern "C" fn synth_raw_hand_try_free(hand: &mut Handle, element: &mut u32) -> SynthAnswer
     ensures empty { NoneIn hand_of hand.old hand.new (IsCodeAlone EmptyHandle result × (element.new ≡ element.old)) }
-    ensures taken { HoldsThen (hand_of hand.old)
-        (λ x. IsTakingCall 1 x element.old element.new (hand_of hand.new) result) }
+    ensures taken { LeadsTo hand_of hand.old hand.new (λ x y. IsTakingCall 1 x element.old element.new y result) }
 {
     let Some(held) = hand.find::<HeldHand>() else {
         return answer_of(EMPTY_HANDLE);
@@ -103,8 +98,7 @@ pub extern "C" fn synth_raw_hand_try_wake(
     element: &mut u32,
 ) -> SynthAnswer
     ensures empty { NoneIn hand_of hand.old hand.new (IsCodeAlone EmptyHandle result × (element.new ≡ element.old)) }
-    ensures taken { HoldsThen (hand_of hand.old)
-        (λ x. IsWakingCall wait x element.old element.new (hand_of hand.new) result) }
+    ensures taken { LeadsTo hand_of hand.old hand.new (λ x y. IsWakingCall wait x element.old element.new y result) }
 {
     let Some(held) = hand.find::<HeldHand>() else {
         return answer_of(EMPTY_HANDLE);

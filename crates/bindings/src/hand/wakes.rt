@@ -1,10 +1,8 @@
 //! Notifies, and takings of those that wait, for C.
 ghost use Rattle.std.specs.Prelude.{◌≡◌};
-ghost use Rattle.bindings.specs.Codes.{EmptyHandle};
-ghost use Rattle.bindings.specs.Handles.{hand_of, NoneIn, HoldsThen};
-ghost use Rattle.bindings.specs.HandWakes.{WasNotified, WasTriedBefore, IsFitBefore, ReportsBefore};
-ghost use Rattle.bindings.specs.HandWakes.{IsNotifyCall, IsBeforeCall};
-ghost use Rattle.bindings.specs.Told.{IsCodeAlone};
+ghost use Rattle.bindings.specs.HandTakings.{WasNotified, WasTriedBefore, IsFitBefore, ReportsBefore, IsNotifyCall};
+ghost use Rattle.bindings.specs.HandTakings.{IsBeforeCall};
+ghost use Rattle.bindings.specs.Handles.{EmptyHandle, hand_of, NoneIn, LeadsTo, HoldsThen, IsCodeAlone};
 
 use super::held::HeldHand;
 use super::numbers::wait_of;
@@ -53,8 +51,7 @@ fn tell_before(answer: Result<Option<Element>, NextRefusal>, element: &mut u32) 
 #[unsafe(no_mangle)]
 pub extern "C" fn synth_raw_hand_notify(hand: &mut Handle, wait: u32, head: &mut u32) -> i32
     ensures empty { NoneIn hand_of hand.old hand.new ((result ≡ EmptyHandle) × (head.new ≡ head.old)) }
-    ensures notified { HoldsThen (hand_of hand.old)
-        (λ x. IsNotifyCall wait x head.old head.new (hand_of hand.new) result) }
+    ensures notified { LeadsTo hand_of hand.old hand.new (λ x y. IsNotifyCall wait x head.old head.new y result) }
 {
     let Some(held) = hand.find::<HeldHand>() else {
         return EMPTY_HANDLE;

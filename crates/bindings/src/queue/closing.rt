@@ -1,8 +1,8 @@
 //! Closing a queue.
 ghost use Rattle.std.specs.Prelude.{◌≡◌, ◌≤◌, length};
-ghost use Rattle.table_theory.specs.Listing.{AllRaised};
 ghost use Rattle.claim_queue.specs.Handles.{IsEndOf, IsOnlyEnd, view_of};
-ghost use Rattle.bindings.specs.QueueClosing.{ClosedInto, EndedPart};
+ghost use Rattle.table_theory.specs.Listing.{AllRaised};
+ghost use Rattle.bindings.specs.QueueParts.{ClosedInto, EndedPart};
 
 use super::held::HeldQueue;
 use super::part::Part;
@@ -56,8 +56,7 @@ impl<const N: usize> Part<N> {
 }
 
 impl HeldQueue {
-    ghost use Rattle.bindings.specs.QueueHeld.{places_of};
-    ghost use Rattle.bindings.specs.QueueClosing.{EndedHeld};
+    ghost use Rattle.bindings.specs.QueueHeld.{places_of, EndedHeld};
 
     /// `ClaimQueue::close`, when the end has all parts. Else the end is returned.
     pub fn close(self, out: &mut [u64]) -> Result<SynthClosed, HeldQueue>

@@ -1,10 +1,9 @@
 //! The end that a handle of a queue holds.
-ghost use Rattle.std.specs.Prelude.{◌≡◌, ◌≤◌, length, MatchBool};
-ghost use Rattle.std.specs.Option.{MatchOption};
-ghost use Rattle.bindings.specs.QueueHeld.{AtSize, AtSizes, IsSize, HaveOneMark, AreOfOneQueue, IsNewHeld};
-ghost use Rattle.bindings.specs.QueueHeld.{places_of, share_of};
-ghost use Rattle.bindings.specs.QueueParts.{PutPart, TookPart, TookLinePart, TookSomePart};
-ghost use Rattle.bindings.specs.QueueParts.{ShutPart, DividedPart, JoinedPart};
+ghost use Rattle.std.specs.Prelude.{◌≡◌, ◌≤◌, length, MatchBool, MatchOption};
+ghost use Rattle.bindings.specs.QueueHeld.{AtSize, AtSizes, IsSize, HaveOneMark, AreOfOneQueue, IsNewHeld, places_of};
+ghost use Rattle.bindings.specs.QueueHeld.{share_of};
+ghost use Rattle.bindings.specs.QueueParts.{PutPart, TookPart, TookLinePart, TookSomePart, ShutPart, DividedPart};
+ghost use Rattle.bindings.specs.QueueParts.{JoinedPart};
 ghost use Rattle.bindings.specs.Shares.{HasTwo, HasNoTwo};
 
 use super::part::Part;

@@ -1,9 +1,8 @@
 //! A look at a claim queue for C.
 ghost use Rattle.std.specs.Prelude.{◌≡◌};
-ghost use Rattle.bindings.specs.Codes.{Done, EmptyHandle};
-ghost use Rattle.bindings.specs.Handles.{queue_of, NoneIn, TurnsThen};
+ghost use Rattle.bindings.specs.Handles.{Done, EmptyHandle, queue_of, NoneIn, TurnsThen};
+ghost use Rattle.bindings.specs.QueueParts.{found_by, LookedAtPart};
 ghost use Rattle.bindings.specs.QueueHeld.{AtSize};
-ghost use Rattle.bindings.specs.QueueLooks.{found_by, LookedAtPart};
 
 use super::held::HeldQueue;
 use super::part::Part;
@@ -59,7 +58,7 @@ fn report(found: QueueLook) -> SynthQueueLook
 #[unsafe(no_mangle)]
 pub extern "C" fn synth_raw_queue_look(queue: &mut Handle, look: &mut SynthQueueLook) -> i32
     ensures empty { NoneIn queue_of queue.old queue.new ((result ≡ EmptyHandle) × (look.new ≡ look.old)) }
-    ensures looked { TurnsThen (queue_of queue.old) (queue_of queue.new)
+    ensures looked { TurnsThen queue_of queue.old queue.new
         (λ x y. AtSize (LookedAtPart (found_by look.new)) x y × (result ≡ Done)) }
 {
     let Some(held) = queue.find::<HeldQueue>() else {

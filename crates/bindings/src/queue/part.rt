@@ -1,9 +1,8 @@
 //! One end of a queue, whose queue other handles share.
-ghost use Rattle.std.specs.Prelude.{◌≡◌, ◌≤◌, length};
-ghost use Rattle.std.specs.Option.{MatchOption};
+ghost use Rattle.std.specs.Prelude.{◌≡◌, ◌≤◌, length, MatchOption};
 ghost use Rattle.std.specs.Arc.{arc_value};
-ghost use Rattle.table_theory.specs.Listing.{AllRaised};
 ghost use Rattle.claim_queue.specs.Handles.{IsEndOf, view_of};
+ghost use Rattle.table_theory.specs.Listing.{AllRaised};
 
 use super::taking::{copy_line, take_up_to};
 use crate::share::Share;
@@ -35,11 +34,8 @@ impl<const N: usize> Part<N> {
     {
         let (queue, end) = ClaimQueue::<N>::new(alloc, first).ok()?;
         let queue = Arc::new(alloc, queue).ok()?;
-        Some(Part {
-            queue,
-            end,
-            share: Share::all(mark),
-        })
+        let share = Share::all(mark);
+        Some(Part { queue, end, share })
     }
 
     /// A new end of the queue, or None if no more handles can be counted.
@@ -49,11 +45,8 @@ impl<const N: usize> Part<N> {
     {
         let queue = Arc::try_clone(&self.queue).ok()?;
         let end = self.queue.split(&mut self.end);
-        Some(Part {
-            queue,
-            end,
-            share: self.share.split(),
-        })
+        let share = self.share.split();
+        Some(Part { queue, end, share })
     }
 
     /// Takes in another end of the queue.
@@ -62,11 +55,7 @@ impl<const N: usize> Part<N> {
         requires parts { Fit self.old.share other.share }
         ensures { JoinedPart N self.old self.new other.entry }
     {
-        let Part {
-            queue: _queue,
-            end,
-            share,
-        } = other;
+        let Part { end, share, .. } = other;
         self.queue.join(&mut self.end, end);
         self.share.join(share);
     }

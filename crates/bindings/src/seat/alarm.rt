@@ -1,6 +1,5 @@
 //! Alarms as C has them.
-ghost use Rattle.std.specs.Prelude.{◌≡◌, ◌≤◌, length, take, map};
-ghost use Rattle.std.specs.Option.{MatchOption};
+ghost use Rattle.std.specs.Prelude.{◌≡◌, ◌≤◌, length, take, map, MatchOption};
 ghost use Rattle.bindings.specs.SeatAlarms.{c_alarm, IsAlarm, IsNoAlarm, IsRestKept};
 
 use event_theory::{Alarm, Element, Signal};

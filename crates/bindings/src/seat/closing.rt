@@ -1,6 +1,6 @@
 //! Closing meters.
 ghost use Rattle.std.specs.Prelude.{◌≡◌};
-ghost use Rattle.bindings.specs.SeatClosing.{Ended};
+ghost use Rattle.bindings.specs.SeatHeld.{Ended};
 
 use super::held::HeldSeat;
 use meters::Metered;

@@ -1,6 +1,5 @@
 //! The end that a handle of meters holds.
-ghost use Rattle.std.specs.Prelude.{◌≡◌, ◌<◌};
-ghost use Rattle.std.specs.Option.{MatchOption};
+ghost use Rattle.std.specs.Prelude.{◌≡◌, ◌<◌, MatchOption};
 ghost use Rattle.std.specs.Arc.{arc_value};
 ghost use Rattle.meters.specs.Handles.{IsSeatOf, view_of};
 
@@ -77,8 +76,8 @@ impl HeldSeat {
 }
 
 impl End for HeldSeat {
-    ghost use Rattle.bindings.specs.SeatHeld.{SplitBy, Joined, AreOfOneTable};
     ghost use Rattle.bindings.specs.Shares.{HasTwo, HasNoTwo, IsOneMark};
+    ghost use Rattle.bindings.specs.SeatHeld.{SplitBy, Joined, AreOfOneTable};
 
     type Wish = ();
 
@@ -115,11 +114,7 @@ impl End for HeldSeat {
     }
 
     fn join(&mut self, other: HeldSeat) {
-        let HeldSeat {
-            meters: _meters,
-            seat,
-            share,
-        } = other;
+        let HeldSeat { seat, share, .. } = other;
         self.meters.join(&mut self.seat, seat);
         self.share.join(share);
     }

@@ -1,8 +1,8 @@
 //! The meters' numbers, read for C.
 ghost use Rattle.std.specs.Prelude.{◌≡◌, ◌<◌};
-ghost use Rattle.bindings.specs.Codes.{Done, EmptyHandle};
-ghost use Rattle.bindings.specs.Handles.{seat_of, NoneIn, HoldsThen, TurnsThen};
-ghost use Rattle.bindings.specs.SeatReads.{WasGauge, WasClock, ReadGauge};
+ghost use Rattle.bindings.specs.Handles.{Done, EmptyHandle, seat_of, NoneIn, LeadsTo, TurnsThen};
+ghost use Rattle.bindings.specs.SeatHeld.{WasGauge, WasClock};
+ghost use Rattle.bindings.specs.SeatCalls.{ReadGauge};
 
 use super::held::HeldSeat;
 use crate::answer::{BAD_NUMBER, DONE, EMPTY_HANDLE};
@@ -29,8 +29,7 @@ impl HeldSeat {
 #[unsafe(no_mangle)]
 pub extern "C" fn synth_raw_seat_gauge(seat: &mut Handle, gauge: u32, value: &mut u64) -> i32
     ensures empty { NoneIn seat_of seat.old seat.new ((result ≡ EmptyHandle) × (value.new ≡ value.old)) }
-    ensures loaded { HoldsThen (seat_of seat.old)
-        (λ x. ReadGauge gauge value.old value.new x (seat_of seat.new) result) }
+    ensures loaded { LeadsTo seat_of seat.old seat.new (λ x y. ReadGauge gauge value.old value.new x y result) }
 {
     let Some(held) = seat.find::<HeldSeat>() else {
         return EMPTY_HANDLE;
@@ -46,8 +45,7 @@ pub extern "C" fn synth_raw_seat_gauge(seat: &mut Handle, gauge: u32, value: &mu
 #[unsafe(no_mangle)]
 pub extern "C" fn synth_raw_seat_clock(seat: &mut Handle, clock: &mut u32) -> i32
     ensures empty { NoneIn seat_of seat.old seat.new ((result ≡ EmptyHandle) × (clock.new ≡ clock.old)) }
-    ensures loaded { TurnsThen (seat_of seat.old) (seat_of seat.new)
-        (λ x y. WasClock clock.new x y × (result ≡ Done)) }
+    ensures loaded { TurnsThen seat_of seat.old seat.new (λ x y. WasClock clock.new x y × (result ≡ Done)) }
 {
     let Some(held) = seat.find::<HeldSeat>() else {
         return EMPTY_HANDLE;

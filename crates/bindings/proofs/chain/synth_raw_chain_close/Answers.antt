@@ -1,5 +1,5 @@
-use Rattle.bindings.proofs.Calls.{refl, sym, ap, subst, ◌∙◌, Result, Ok, Err, Some, Done, Open, held_by, of_kind}
-use Rattle.bindings.proofs.Calls.{chain_in, Chain, at_value, unboxed}
+use Rattle.bindings.proofs.Calls.{refl, sym, ap, subst, ◌∙◌, Ok, Err, Some, Done, of_kind, chain_in, at_value, unboxed}
+use Rattle.bindings.specs.Handles.{Open, held_by, Chain}
 use Rattle.bindings.specs.ChainCalls.{WasClosed, runs_none}
 use Rattle.bindings.specs.ChainHeld.{Ended}
 use Rattle.bindings.proofs.chain.synth_raw_chain_close.Goals as goal

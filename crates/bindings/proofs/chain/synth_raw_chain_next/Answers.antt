@@ -1,4 +1,5 @@
-use Rattle.bindings.proofs.Calls.{refl, sym, ap, ◌∙◌, Some, Note, Again, Done, of_kind, chain_in, at_value}
+use Rattle.bindings.proofs.Calls.{refl, sym, ap, ◌∙◌, Some, Done, of_kind, chain_in, at_value}
+use Rattle.bindings.specs.Codes.{Note, Again}
 use Rattle.bindings.specs.ChainCalls.{IsPullCall, runs_notes}
 use Rattle.bindings.specs.declared.chain.held.Pulled.TheVariants as pulled
 use Rattle.bindings.proofs.chain.synth_raw_chain_next.Goals as goal

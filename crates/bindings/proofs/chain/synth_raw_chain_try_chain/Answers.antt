@@ -1,4 +1,4 @@
-use Rattle.bindings.proofs.Calls.{refl, ap, Some, of_kind, chain_in, answered, at_value}
+use Rattle.bindings.proofs.Calls.{ap, Some, of_kind, chain_in, answered, at_value}
 use Rattle.bindings.specs.ChainCalls.{IsChainCall}
 use Rattle.bindings.proofs.chain.synth_raw_chain_try_chain.Goals as goal
 

@@ -1,5 +1,4 @@
-use Rattle.bindings.proofs.Calls.{inl, inr, refl, ap, pos, length, Some, of_kind, line_out_in, at_value}
-use Rattle.bindings.specs.declared.line.held.HeldOut.{HeldOut}
+use Rattle.bindings.proofs.Calls.{inl, inr, refl, ap, pos, length, Some, of_kind, line_out_in, at_value, HeldOut}
 use Rattle.bindings.specs.LineCalls.{IsPopCall}
 use Rattle.bindings.proofs.line.synth_raw_line_pop.Goals as goal
 

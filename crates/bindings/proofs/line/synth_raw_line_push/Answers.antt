@@ -1,5 +1,4 @@
-use Rattle.bindings.proofs.Calls.{inl, inr, refl, pos, ap, Some, of_kind, line_in_in, at_value, no_answer}
-use Rattle.bindings.specs.declared.line.held.HeldIn.{HeldIn}
+use Rattle.bindings.proofs.Calls.{inl, inr, refl, pos, ap, Some, of_kind, line_in_in, at_value, no_answer, HeldIn}
 use Rattle.bindings.specs.LineCalls.{IsPushCall}
 use Rattle.bindings.proofs.line.synth_raw_line_push.Goals as goal
 

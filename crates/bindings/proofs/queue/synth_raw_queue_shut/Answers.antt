@@ -1,6 +1,6 @@
 use Rattle.bindings.proofs.Calls.{◌≡◌, refl, pos, ap, Some, HoldsSome, of_kind, queue_in, at_value}
-use Rattle.bindings.specs.QueueHeld.{AtSize}
 use Rattle.bindings.specs.QueueParts.{ShutPart}
+use Rattle.bindings.specs.QueueHeld.{AtSize}
 use Rattle.bindings.proofs.queue.synth_raw_queue_shut.Goals as goal
 
 pub returns-clause-shut : goal.returns-clause-shut

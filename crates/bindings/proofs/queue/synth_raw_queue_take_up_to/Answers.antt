@@ -1,4 +1,4 @@
-use Rattle.bindings.proofs.Calls.{rules, inr, refl, ap, Some, of_kind, queue_in, answered, at_value}
+use Rattle.bindings.proofs.Calls.{rules, inr, ap, Some, of_kind, queue_in, answered, at_value}
 use Rattle.bindings.specs.QueueCalls.{TakesSome}
 use Rattle.bindings.proofs.queue.synth_raw_queue_take_up_to.Goals as goal
 

@@ -1,4 +1,4 @@
-use Rattle.bindings.proofs.Calls.{refl, ap, Some, of_kind, queue_in, answered, at_value}
+use Rattle.bindings.proofs.Calls.{ap, Some, of_kind, queue_in, answered, at_value}
 use Rattle.bindings.specs.QueueCalls.{WasPut}
 use Rattle.bindings.proofs.queue.synth_raw_queue_try_put.Goals as goal
 

@@ -6,7 +6,7 @@ use Rattle.bindings.proofs.seat.synth_raw_seat_try_set.Goals as goal
 pub returns-in-Ok-clause-set : goal.returns-in-Ok-clause-set
 returns-in-Ok-clause-set c = let a = c.try_set-answer in let t = c.answer_of-in-Ok.ensures in let m = c.in-Some-alarm_of in
     at_value (λ x. IsSetCall x c.args.alarm.now c.args.slot.now c.in-Ok.found (Some a.new.self) c.answer_of-in-Ok.result) (ap (of_kind seat_in) c.in-Some.ensures.value)
-    (inr (m.ensures.0, (m.alarm, m.ensures.1, answered a.new.self (Ok c.in-Ok.found) c.in-Ok.ensures (refl, t.0, t.1, t.2))))
+    (inr (m.ensures.0, (m.alarm, m.ensures.1, answered a.new.self (Ok c.in-Ok.found) c.in-Ok.ensures (refl, t))))
 
 pub answer_of_set-requires : goal.answer_of_set-requires
 answer_of_set-requires c = set_small _ _ c.in-Err.refusal c.in-Err.ensures.1
@@ -14,4 +14,4 @@ answer_of_set-requires c = set_small _ _ c.in-Err.refusal c.in-Err.ensures.1
 pub returns-in-Err-clause-set : goal.returns-in-Err-clause-set
 returns-in-Err-clause-set c = let a = c.try_set-answer in let t = c.answer_of_set.ensures in let m = c.in-Some-alarm_of in let r = c.in-Err.refusal in
     at_value (λ x. IsSetCall x c.args.alarm.now c.args.slot.now c.args.slot.now (Some a.new.self) c.answer_of_set.result) (ap (of_kind seat_in) c.in-Some.ensures.value)
-    (inr (m.ensures.0, (m.alarm, m.ensures.1, answered a.new.self (Err r) c.in-Err.ensures (refl, t.0, t.1, t.2))))
+    (inr (m.ensures.0, (m.alarm, m.ensures.1, answered a.new.self (Err r) c.in-Err.ensures (refl, t))))

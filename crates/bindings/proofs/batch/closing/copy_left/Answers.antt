@@ -1,7 +1,7 @@
-use Rattle.std.proofs.Common.{rules, sym, ◌∙◌}
+use Rattle.bindings.proofs.Calls.{rules, sym, ◌∙◌}
 use Rattle.batch_queue.specs.Lefts.{items_left}
-use Rattle.bindings.proofs.BatchEnds.{next_left}
 use Rattle.bindings.proofs.Buffers.{kept_more}
+use Rattle.bindings.proofs.BatchEnds.{next_left}
 use Rattle.bindings.proofs.batch.closing.copy_left.Goals as goal
 
 pub loop-i-preserved : goal.loop-i-preserved

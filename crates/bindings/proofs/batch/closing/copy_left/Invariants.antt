@@ -1,6 +1,5 @@
-use Rattle.std.proofs.Common.{◌≡◌, take}
+use Rattle.bindings.proofs.Calls.{◌≡◌, take, IsKeptFrom}
 use Rattle.batch_queue.specs.Lefts.{items_left}
-use Rattle.bindings.specs.QueueTaking.{IsKeptFrom}
 use Rattle.bindings.proofs.batch.closing.copy_left.Given as goal
 
 abbrev pub invariant-loop-i : goal.invariant-loop-i

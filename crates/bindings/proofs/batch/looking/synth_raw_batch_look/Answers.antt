@@ -1,10 +1,6 @@
-use Rattle.std.proofs.Common.{◌≡◌, refl, ap, subst, pos}
-use Rattle.std.specs.declared.option.Option.TheVariants.{Some}
+use Rattle.bindings.proofs.Calls.{◌≡◌, refl, ap, subst, pos, Some, HoldsSome, of_kind, batch_in, at_value}
 use Rattle.batch_queue.specs.declared.look.QueueLook.{QueueLook}
-use Rattle.bindings.specs.BatchLooks.{found_by, WasLookedAt}
-use Rattle.bindings.specs.Handles.{HoldsSome, of_kind}
-use Rattle.bindings.specs.Kinds.{batch_in}
-use Rattle.bindings.proofs.Telling.{at_value}
+use Rattle.bindings.specs.BatchHeld.{found_by, WasLookedAt}
 use Rattle.bindings.proofs.batch.looking.synth_raw_batch_look.Goals as goal
 
 pub returns-clause-looked : goal.returns-clause-looked

@@ -1,15 +1,12 @@
-use Rattle.bindings.proofs.Calls.{rules, ℕ, inr, subst, refl, ap, Some, of_kind, hand_in, answered, at_value}
+use Rattle.bindings.proofs.Calls.{rules, ℕ, inr, subst, ap, Some, of_kind, hand_in, answered, at_value}
 use Rattle.bindings.specs.HandMoves.{WasWaited, IsWaitingAtCall}
 use Rattle.bindings.proofs.hand.moves.synth_raw_hand_try_wait_at.Goals as goal
 
 pub returns-clause-moved : goal.returns-clause-moved
-returns-clause-moved c = let a = c.try_wait_at-answer in let y = a.new.self in let t = c.answer_of_move in let e = c.in-Some-element_of in let m = c.in-Some-wait_of in
-    at_value (λ x. IsWaitingAtCall c.args.element c.args.wait c.args.ticket x (Some y) t.result) (ap (of_kind hand_in) c.in-Some.ensures.value)
-    (inr (
-      e.ensures.1,
-      m.ensures.1,
-      inr (
-        search rules,
-        answered y a.result (subst (λ (n : ℕ). WasWaited c.args.wait n c.args.ticket a.result c.in-Some.held.now y) e.ensures.0 (subst (λ (q : ℕ). WasWaited q e.element c.args.ticket a.result c.in-Some.held.now y) m.ensures.0 a.ensures)) t.ensures,
-      ),
-    ))
+returns-clause-moved c = let a = c.try_wait_at-answer in let y = a.new.self in let x = c.in-Some.held.now in
+    let e = c.in-Some-element_of in let m = c.in-Some-wait_of in let ticket = c.args.ticket in
+    let did = subst (λ (q : ℕ). WasWaited q e.element ticket a.result x y) m.ensures.0 a.ensures in
+    let is = subst (λ (n : ℕ). WasWaited c.args.wait n ticket a.result x y) e.ensures.0 did in
+    at_value (λ z. IsWaitingAtCall c.args.element c.args.wait ticket z (Some y) c.answer_of_move.result)
+    (ap (of_kind hand_in) c.in-Some.ensures.value)
+    (inr (e.ensures.1, m.ensures.1, inr (search rules, answered y a.result is c.answer_of_move.ensures)))

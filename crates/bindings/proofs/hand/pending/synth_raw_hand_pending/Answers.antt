@@ -1,13 +1,9 @@
-use Rattle.std.proofs.Common.{ℕ, inr, refl, subst, pos, ap}
-use Rattle.bindings.specs.HandReads.{HasPending, ReadPending}
-use Rattle.std.specs.declared.option.Option.TheVariants.{Some}
-use Rattle.bindings.specs.Handles.{of_kind}
-use Rattle.bindings.specs.Kinds.{hand_in}
-use Rattle.bindings.proofs.Telling.{at_value}
+use Rattle.bindings.proofs.Calls.{ℕ, inr, refl, subst, pos, ap, Some, of_kind, hand_in, at_value}
+use Rattle.bindings.specs.HandStates.{HasPending, ReadPending}
 use Rattle.bindings.proofs.hand.pending.synth_raw_hand_pending.Goals as goal
 
 pub returns-clause-loaded : goal.returns-clause-loaded
 returns-clause-loaded c = let a = c.pending in let y = a.new.self in let m = c.in-Some-element_of in
-    at_value (λ x. ReadPending c.args.element c.args.signals.now a.result x (Some y) (pos 0))
-    (ap (of_kind hand_in) c.in-Some.ensures.value)
-    (inr (refl, m.ensures.1, y, refl, subst (λ (n : ℕ). HasPending n a.result c.in-Some.held.now y) m.ensures.0 a.ensures))
+    let did = subst (λ (n : ℕ). HasPending n a.result c.in-Some.held.now y) m.ensures.0 a.ensures in
+    at_value (λ x. ReadPending c.args.element c.args.signals.now a.result x (Some y) (pos 0)) (ap (of_kind hand_in) c.in-Some.ensures.value)
+    (inr (refl, m.ensures.1, y, refl, did))

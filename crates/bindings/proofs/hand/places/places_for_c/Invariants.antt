@@ -1,5 +1,5 @@
 use Rattle.std.proofs.Common.{◌≡◌, take, map, length}
-use Rattle.bindings.specs.HandClosing.{c_place}
+use Rattle.bindings.specs.HandCalls.{c_place}
 use Rattle.bindings.proofs.hand.places.places_for_c.Given as goal
 
 abbrev pub invariant-loop-i : goal.invariant-loop-i

@@ -1,17 +1,15 @@
-use Rattle.bindings.proofs.Calls.{ℕ, ◌+◌, inr, subst, arith, refl, ap, Some, of_kind, hand_in, answered, at_value}
-use Rattle.thread_table.specs.Handles.{view_of, call_of}
-use Rattle.bindings.specs.HandWakes.{WasTriedBefore, IsBeforeCall}
+use Rattle.bindings.proofs.Calls.{ℕ, inr, subst, arith, ap, Some, of_kind, hand_in, answered, at_value}
+use Rattle.bindings.specs.HandTakings.{WasTriedBefore, IsBeforeCall}
 use Rattle.bindings.proofs.HandFits.{fit_before}
 use Rattle.bindings.proofs.hand.wakes.synth_raw_hand_try_wake_before.Goals as goal
 
 pub tell_before-requires : goal.tell_before-requires
-tell_before-requires c = let x = c.in-Some.held.now in let a = c.try_wake_before-answer in let m = c.in-Some-wait_of in let is = m.ensures.0 in let below = m.ensures.1 in
-    fit_before (call_of x.hand) (m.wait + 2) c.args.head (view_of x.hand) (view_of a.new.self.hand) a.result (omega arith) a.new.self.hand.valid a.ensures.1
+tell_before-requires c = let a = c.try_wake_before-answer in let m = c.in-Some-wait_of in let is = m.ensures.0 in
+    let below = m.ensures.1 in
+    fit_before m.wait c.args.head c.in-Some.held.now a.new.self a.result (omega arith) a.ensures
 
 pub returns-clause-taken : goal.returns-clause-taken
-returns-clause-taken c = let a = c.try_wake_before-answer in let y = a.new.self in let t = c.tell_before in let m = c.in-Some-wait_of in
-    at_value (λ x. IsBeforeCall c.args.wait c.args.head x c.args.element.now t.new.element (Some y) t.result) (ap (of_kind hand_in) c.in-Some.ensures.value)
-    (inr (
-      m.ensures.1,
-      answered y a.result (subst (λ (q : ℕ). WasTriedBefore q c.args.head a.result c.in-Some.held.now y) m.ensures.0 a.ensures) t.ensures,
-    ))
+returns-clause-taken c = let a = c.try_wake_before-answer in let t = c.tell_before in let m = c.in-Some-wait_of in
+    let did = subst (λ (n : ℕ). WasTriedBefore n c.args.head a.result c.in-Some.held.now a.new.self) m.ensures.0 a.ensures in
+    at_value (λ x. IsBeforeCall c.args.wait c.args.head x c.args.element.now t.new.element (Some a.new.self) t.result) (ap (of_kind hand_in) c.in-Some.ensures.value)
+    (inr (m.ensures.1, answered a.new.self a.result did t.ensures))

@@ -1,44 +1,29 @@
 -- The value in the box is lent in place, and the handle follows it. Nothing is called.
-use Rattle.std.proofs.Common.{◌≡◌, ℕ, Bool, true, false, List, [], ◌∷◌, ◌++◌, refl, sym, ap, ◌∙◌, subst}
+use Rattle.bindings.proofs.Walking.{◌≡◌, ℕ, true, List, [], ◌∷◌, ◌++◌, refl, sym, ap, ◌∙◌, bare, Val, vptr, vstruct}
+use Rattle.bindings.proofs.Walking.{vcons, vnil, of_list, ent, sep, never, fst∗, GName, Fml, ftrue, fsep, flft, Env}
+use Rattle.bindings.proofs.Walking.{fact, tables, Logic, sem, ‵, raw, ◌⊛◌, some, later, at_ret, ◌$◌, ◌∵◌, !, qed, move}
+use Rattle.bindings.proofs.Walking.{keep, drop, use1, split, join, pick, fsplit, fsplit3, fjoin, fpick, fpack, feq_i}
+use Rattle.bindings.proofs.Walking.{feq_l, rewrite, suffices, frame, await, group, done, whole, sub, look_in, stop, fld}
+use Rattle.bindings.proofs.Walking.{load, addr, of_opd, first, blocks, exec, returns, enter, alloc_all, pass_all}
+use Rattle.bindings.proofs.Walking.{free_all, look_at, get, through, sets, sets_last, env, RawPtr, no, lone, cell_at}
+use Rattle.bindings.proofs.Walking.{part_at, mem, RattleType, Valss, Ptr, block_ptr, null_ptr, ptr_val, in_a_block}
+use Rattle.bindings.proofs.Walking.{plain, mut_ref_to, nothing, heard, opens, shape, within, says, Stays, stay_dropped}
+use Rattle.bindings.proofs.Walking.{walk_of, ends_at, Goes-spent_ref, proved, Option, Some, may_free, hides, is_some}
+use Rattle.bindings.proofs.Walking.{there}
+use denote.Memory.{part_of}
 use seplogic.Ra.Ura.{Ura}
 use base.Fraction.{full_share}
-use mir.Raw.{raw as bare}
 use mir.Syntax.{named}
-use mir.Val.{Val, vptr, vstruct, vcons, vnil, of_list}
-use base.Logic.{ent, sep, never, fst∗}
-use base.Fml.{GName, Fml, ftrue, fsep, flft}
-use prog.Wp.{Env}
-use contract.Monad.{fact}
-use contract.Running.{tables}
-use types.Logic.{Logic, sem}
-use types.Kit.{‵, raw, ◌⊛◌, some, later, at_ret, ◌$◌, ◌∵◌, !, qed, move, keep, drop, use1, split, join, pick, fsplit, fsplit3, fjoin, fpick, fpack, feq_i, feq_l, rewrite, suffices, frame, await, group, done}
-use types.Part.{whole, sub, look_in}
-use types.Run.{stop, fld, load, addr, of_opd, first, blocks, exec, returns, enter}
-use types.ByLocal.{alloc_all, pass_all, free_all, look_at, get, through, sets, sets_last, env}
-use denote.Builtin.{RawPtr}
-use denote.Exit.{no}
 use denote.Follow.{follows, lends_Part}
-use denote.Memory.{lone, cell_at, part_at, part_of, mem}
-use denote.RattleType.{RattleType, Valss}
-use denote.RawPtr.{Ptr, block_ptr, null_ptr, ptr_val, in_a_block}
 use denote.Ref.{MutRef, mut_vals, mut_Tells}
-use denote.Signature.{plain, mut_ref_to}
-use denote.Steps.{nothing, heard, opens}
-use denote.Struct.Owning.{shape}
-use denote.Struct.Struct.{within}
-use denote.Triple.Walked.{says, Stays, stay_dropped, walk_of, ends_at, Goes-spent_ref}
 use Rattle.std.proofs.VecSteps.Shapes.{after}
-use Rattle.std.proofs.raw_atomic.Walks.{proved}
-use Rattle.std.specs.declared.option.Option.{Option}
-use Rattle.std.specs.declared.option.Option.TheVariants.{None, Some}
-use Rattle.bindings.specs.Hiding.{may_free, hides, is_some}
 use Rattle.bindings.specs.Lending.{leading}
 use Rattle.bindings.specs.declared.hidden.Hidden.{Hidden}
 use Rattle.bindings.specs.declared.payload.Payload.{Payload}
+use Rattle.bindings.proofs.hidden.Hidden.as_mut.Statement.{statement}
 use Rattle.bindings.specs.contracts.hidden.Hidden as hidden
 use Rattle.bindings.specs.contracts.payload.Payload as payload
 use Rattle.bindings.specs.contracts.hidden.Hidden.as_mut as f
-use Rattle.bindings.proofs.hidden.Hidden.as_mut.Statement.{statement}
 use Rattle.bindings.proofs.hidden.Hidden.as_mut.Code as code
 
 abbrev R : RattleType
@@ -47,17 +32,8 @@ R = hidden.the_row
 abbrev T : RattleType
 T = payload.the_row
 
-abbrev IsFalse : Bool → Type 0
-IsFalse false = Unit {0}
-IsFalse true = ⊥
-
 abbrev stayed : Stays f.ended.signature.params f.ended.kept
 stayed = (stay_dropped (mut_ref_to (0 ∷ []) tt (plain (λ _. R))) no, tt)
-
--- the value that is there
-there : {X : Type 0} (m : Option X) → is_some m ≡ true → (x : X) × (m ≡ Some x)
-there None h = absurd (subst IsFalse h tt)
-there (Some x) h = (x, refl)
 
 -- the handle that has this pointer
 abbrev word : ℕ → ℕ → Val

@@ -1,54 +1,27 @@
 -- The loose box owns what the handle owned: the value and the right to free its block. Nothing is called.
-use Rattle.std.proofs.Common.{◌≡◌, Bool, true, false, List, [], ◌∷◌, ◌++◌, refl, sym, ap, ◌∙◌, subst}
-use mir.Val.{Val, vptr, vstruct, vcons, vnil, of_list}
-use mir.Raw.{raw as bare}
-use base.Logic.{SProp, ent, emp, never, id⊢, fst∗}
-use prog.Wp.{WpFn}
-use contract.Monad.{fact, fact_i}
-use contract.Running.{tables}
-use types.Logic.{sem}
-use types.Kit.{‵, raw, ◌⊛◌, ◌$◌, ◌∵◌, !, qed, by, move, keep, drop, use0, split, fsplit, fjoin, fpick, feq_l, suffices, rewrite}
-use types.Part.{agg, sub, whole}
-use types.Run.{stop, fld, of_opd, no_more, and_then, returns, enter}
-use types.ByLocal.{alloc_all, pass_all, free_all, look_at, get, get_in, sets}
-use denote.RattleType.{RattleType, owns}
-use denote.Exit.{yes}
-use denote.Memory.{lone}
-use denote.RawPtr.{Ptr, block_ptr, null_ptr, ptr_val, in_a_block}
-use denote.Signature.{types_at, plain}
-use denote.Steps.{nothing, heard}
-use denote.Triple.Entry.{alive}
-use denote.Triple.Walked.{Stays, stay_dropped, walk_of}
-use Rattle.core.proofs.alloc.Calls.{Goes-blank, handle_tells}
-use Rattle.std.proofs.raw_atomic.Walks.{proved_at, leaves}
+use Rattle.bindings.proofs.Walking.{◌≡◌, true, List, [], ◌∷◌, ◌++◌, refl, sym, ap, ◌∙◌, subst, Val, vptr, vstruct}
+use Rattle.bindings.proofs.Walking.{vcons, vnil, of_list, bare, SProp, ent, emp, never, id⊢, fst∗, WpFn, fact, fact_i}
+use Rattle.bindings.proofs.Walking.{tables, sem, ‵, raw, ◌⊛◌, ◌$◌, ◌∵◌, !, qed, by, move, keep, drop, use0, split}
+use Rattle.bindings.proofs.Walking.{fsplit, fjoin, fpick, feq_l, suffices, rewrite, agg, sub, whole, stop, fld, of_opd}
+use Rattle.bindings.proofs.Walking.{no_more, and_then, returns, enter, alloc_all, pass_all, free_all, look_at, get}
+use Rattle.bindings.proofs.Walking.{get_in, sets, RattleType, owns, yes, lone, Ptr, block_ptr, null_ptr, ptr_val}
+use Rattle.bindings.proofs.Walking.{in_a_block, types_at, plain, nothing, heard, alive, Stays, stay_dropped, walk_of}
+use Rattle.bindings.proofs.Walking.{Goes-blank, handle_tells, proved_at, leaves, ghosts, Option, Some, both, Loose}
+use Rattle.bindings.proofs.Walking.{loose_good, loose_in, al, may_free, hides, is_some, there}
 use Rattle.std.proofs.alloc.Global.TheLaws as heap_laws
 use Rattle.std.specs.contracts.alloc.Global as heap
-use Rattle.std.specs.contracts.impls.GlobalAllocator.TheImpl.{ghosts}
-use Rattle.std.specs.declared.option.Option.{Option}
-use Rattle.std.specs.declared.option.Option.TheVariants.{None, Some}
-use Rattle.loose_box.proofs.Values.{both, Loose, loose_good, loose_in, al}
-use Rattle.bindings.specs.Hiding.{may_free, hides, is_some}
-use Rattle.bindings.specs.contracts.payload.Payload as held
-use Rattle.bindings.specs.contracts.hidden.Hidden as hidden
 use Rattle.bindings.specs.contracts.hidden.Hidden.into_loose.{ended, clauses}
 use Rattle.bindings.specs.contracts.hidden.Hidden.into_loose.Key.{name as #self}
 use Rattle.bindings.proofs.hidden.Hidden.into_loose.Statement.{statement}
+use Rattle.bindings.specs.contracts.payload.Payload as held
+use Rattle.bindings.specs.contracts.hidden.Hidden as hidden
 use Rattle.bindings.proofs.hidden.Hidden.into_loose.Code as code
 
 abbrev To : RattleType
 To = Loose held.the_row heap.the_row heap_laws.the_row_laws ghosts
 
-abbrev IsFalse : Bool → Type 0
-IsFalse false = Unit {0}
-IsFalse true = ⊥
-
 abbrev stayed : Stays ended.signature.params ended.kept
 stayed = (stay_dropped (plain (λ _. hidden.the_row)) yes, (stay_dropped (plain (λ _. heap.the_row)) yes, tt))
-
--- the value that is there
-there : {X : Type 0} (m : Option X) → is_some m ≡ true → (x : X) × (m ≡ Some x)
-there None h = absurd (subst IsFalse h tt)
-there (Some x) h = (x, refl)
 
 pub into_loose_spec : {M : Type 1} → statement M
 into_loose_spec 𝓤 𝓛 𝓜 𝓡 wired =

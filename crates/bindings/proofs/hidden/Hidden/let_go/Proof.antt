@@ -1,29 +1,16 @@
 -- Nothing is owned, so nothing is lost.
-use Rattle.std.proofs.Common.{◌≡◌, List, [], ◌∷◌, ◌++◌, refl, sym, ap, ◌∙◌, subst, lit<}
-use mir.Val.{Val, vunit, vstruct, vcons, vnil, of_list}
-use base.Logic.{SProp, ent, id⊢}
-use prog.Wp.{WpFn}
-use contract.Monad.{fact}
-use contract.Running.{tables}
-use types.Kit.{‵, raw, ◌⊛◌, ◌$◌, ◌∵◌, !, qed, by, move, keep, drop, split, fsplit, fjoin, fpick, feq_l, feq_i, suffices}
-use types.Run.{of_opd, unit_lit, returns, enter}
-use types.ByLocal.{alloc_all, pass_all, free_all, look_at, sets}
-use denote.RattleType.{owns}
-use denote.Exit.{yes}
-use denote.RawPtr.{Ptr, block_ptr, null_ptr, ptr_val}
-use denote.Signature.{types_at, plain}
-use denote.Steps.{nothing, heard}
+use Rattle.bindings.proofs.Walking.{◌≡◌, List, [], ◌∷◌, ◌++◌, refl, sym, ap, ◌∙◌, subst, lit<, Val, vunit, vstruct}
+use Rattle.bindings.proofs.Walking.{vcons, vnil, of_list, SProp, ent, id⊢, WpFn, fact, tables, ‵, raw, ◌⊛◌, ◌$◌, ◌∵◌, ! }
+use Rattle.bindings.proofs.Walking.{qed, by, move, keep, drop, split, fsplit, fjoin, fpick, feq_l, feq_i, suffices}
+use Rattle.bindings.proofs.Walking.{of_opd, unit_lit, returns, enter, alloc_all, pass_all, free_all, look_at, sets}
+use Rattle.bindings.proofs.Walking.{owns, yes, Ptr, block_ptr, null_ptr, ptr_val, types_at, plain, nothing, heard}
+use Rattle.bindings.proofs.Walking.{alive, Stays, stay_dropped, walk_of, Goes-blank, proved_at, leaves, None}
 use denote.Param.{layout}
-use denote.Triple.Entry.{alive}
-use denote.Triple.Walked.{Stays, stay_dropped, walk_of}
-use Rattle.core.proofs.alloc.Calls.{Goes-blank}
 use Rattle.core.proofs.cell.Inside.{Good}
-use Rattle.std.proofs.raw_atomic.Walks.{proved_at, leaves}
-use Rattle.std.specs.declared.option.Option.TheVariants.{None}
-use Rattle.bindings.specs.contracts.hidden.Hidden as hidden
 use Rattle.bindings.specs.contracts.hidden.Hidden.let_go.{ended, clauses}
 use Rattle.bindings.specs.contracts.hidden.Hidden.let_go.Key.{name as #self}
 use Rattle.bindings.proofs.hidden.Hidden.let_go.Statement.{statement}
+use Rattle.bindings.specs.contracts.hidden.Hidden as hidden
 use Rattle.bindings.proofs.hidden.Hidden.let_go.Code as code
 
 abbrev stayed : Stays ended.signature.params ended.kept

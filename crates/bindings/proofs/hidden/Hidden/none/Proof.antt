@@ -1,29 +1,13 @@
 -- An empty handle owns nothing.
-use Rattle.std.proofs.Common.{◌≡◌, List, [], ◌∷◌, refl, lit<}
-use mir.Val.{Val, vstruct, vcons, vnil}
-use base.Logic.{SProp, emp}
-use base.Fml.{ftrue}
-use contract.Monad.{fact, fact_i}
-use contract.Running.{tables}
-use types.Kit.{‵, raw, ◌⊛◌, ◌$◌, ◌∵◌, !, qed, by, keep, use0, split, fjoin, fpack, feq_i}
-use types.Part.{agg}
-use types.Run.{lit, no_more, and_then, returns, enter}
-use types.ByLocal.{alloc_all, pass_all, free_all, look_at, sets}
-use denote.RattleType.{Valss, owns}
-use denote.Builtin.{RawPtr}
-use denote.RawPtr.{null_ptr, ptr_val}
-use denote.Signature.{types_at}
-use denote.Steps.{nothing}
-use denote.Struct.Owning.{shape}
-use denote.Struct.Struct.{within}
-use denote.Triple.Entry.{alive}
-use denote.Triple.Walked.{Stays, walk_of}
-use Rattle.std.proofs.raw_atomic.Walks.{proved_at, leaves}
-use Rattle.std.specs.declared.option.Option.TheVariants.{None}
-use Rattle.bindings.specs.contracts.hidden.Hidden as hidden
+use Rattle.bindings.proofs.Walking.{◌≡◌, List, [], ◌∷◌, refl, lit<, Val, vstruct, vcons, vnil, SProp, emp, ftrue, fact}
+use Rattle.bindings.proofs.Walking.{fact_i, tables, ‵, raw, ◌⊛◌, ◌$◌, ◌∵◌, !, qed, by, keep, use0, split, fjoin, fpack}
+use Rattle.bindings.proofs.Walking.{feq_i, agg, lit, no_more, and_then, returns, enter, alloc_all, pass_all, free_all}
+use Rattle.bindings.proofs.Walking.{look_at, sets, Valss, owns, RawPtr, null_ptr, ptr_val, types_at, nothing, shape}
+use Rattle.bindings.proofs.Walking.{within, alive, Stays, walk_of, proved_at, leaves, None}
 use Rattle.bindings.specs.contracts.hidden.Hidden.none.{ended, clauses}
 use Rattle.bindings.specs.contracts.hidden.Hidden.none.Key.{name as #self}
 use Rattle.bindings.proofs.hidden.Hidden.none.Statement.{statement}
+use Rattle.bindings.specs.contracts.hidden.Hidden as hidden
 use Rattle.bindings.proofs.hidden.Hidden.none.Code as code
 
 abbrev stayed : Stays ended.signature.params ended.kept

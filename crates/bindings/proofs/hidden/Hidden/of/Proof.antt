@@ -1,37 +1,18 @@
 -- The handle owns what the loose box owned: the value and the right to free its block. Nothing is called.
-use Rattle.std.proofs.Common.{◌≡◌, List, [], ◌∷◌, ◌++◌, refl, sym, subst}
-use mir.Val.{Val, vptr, vstruct, vcons, vnil}
-use base.Logic.{SProp, ent, emp, id⊢}
-use base.Fml.{ftrue}
-use prog.Wp.{WpFn}
-use contract.Monad.{fact, fact_i}
-use contract.Running.{tables}
-use types.Kit.{‵, raw, ◌⊛◌, ◌$◌, ◌∵◌, !, qed, by, move, keep, use0, split, fsplit, fjoin, fpack, feq_i, suffices}
-use types.Part.{agg, sub, whole}
-use types.Run.{stop, fld, of_opd, no_more, and_then, returns, enter}
-use types.ByLocal.{alloc_all, pass_all, free_all, look_at, get, get_in, sets}
-use denote.RattleType.{RattleType, Valss, owns}
-use denote.Builtin.{RawPtr}
-use denote.Exit.{yes}
-use denote.RawPtr.{block_ptr}
-use denote.Signature.{types_at, plain}
-use denote.Steps.{nothing}
-use denote.Struct.Owning.{shape}
-use denote.Struct.Struct.{within}
-use denote.Triple.Entry.{alive}
-use denote.Triple.Walked.{Stays, stay_dropped, walk_of}
-use Rattle.core.proofs.alloc.Calls.{Goes-blank}
-use Rattle.std.proofs.raw_atomic.Walks.{proved_at, leaves}
+use Rattle.bindings.proofs.Walking.{◌≡◌, List, [], ◌∷◌, ◌++◌, refl, sym, subst, Val, vptr, vstruct, vcons, vnil, SProp}
+use Rattle.bindings.proofs.Walking.{ent, emp, id⊢, ftrue, WpFn, fact, fact_i, tables, ‵, raw, ◌⊛◌, ◌$◌, ◌∵◌, !, qed, by}
+use Rattle.bindings.proofs.Walking.{move, keep, use0, split, fsplit, fjoin, fpack, feq_i, suffices, agg, sub, whole}
+use Rattle.bindings.proofs.Walking.{stop, fld, of_opd, no_more, and_then, returns, enter, alloc_all, pass_all, free_all}
+use Rattle.bindings.proofs.Walking.{look_at, get, get_in, sets, RattleType, Valss, owns, RawPtr, yes, block_ptr}
+use Rattle.bindings.proofs.Walking.{types_at, plain, nothing, shape, within, alive, Stays, stay_dropped, walk_of}
+use Rattle.bindings.proofs.Walking.{Goes-blank, proved_at, leaves, ghosts, Some, both, Loose, loose_good, loose_out}
 use Rattle.std.proofs.alloc.Global.TheLaws as heap_laws
 use Rattle.std.specs.contracts.alloc.Global as heap
-use Rattle.std.specs.contracts.impls.GlobalAllocator.TheImpl.{ghosts}
-use Rattle.std.specs.declared.option.Option.TheVariants.{Some}
-use Rattle.loose_box.proofs.Values.{both, Loose, loose_good, loose_out}
-use Rattle.bindings.specs.contracts.payload.Payload as held
-use Rattle.bindings.specs.contracts.hidden.Hidden as hidden
 use Rattle.bindings.specs.contracts.hidden.Hidden.of.{ended, clauses}
 use Rattle.bindings.specs.contracts.hidden.Hidden.of.Key.{name as #self}
 use Rattle.bindings.proofs.hidden.Hidden.of.Statement.{statement}
+use Rattle.bindings.specs.contracts.payload.Payload as held
+use Rattle.bindings.specs.contracts.hidden.Hidden as hidden
 use Rattle.bindings.proofs.hidden.Hidden.of.Code as code
 
 abbrev From : RattleType

@@ -1,5 +1,5 @@
 use Rattle.std.proofs.Common.{rules}
-use Rattle.claim_queue.specs.Handles.{view_of}
+use Rattle.bindings.specs.QueueParts.{view_of}
 use Rattle.bindings.proofs.QueueClosed.{closed_left}
 use Rattle.bindings.proofs.queue.closing.close_queue.Goals as goal
 

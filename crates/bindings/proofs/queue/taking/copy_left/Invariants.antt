@@ -1,5 +1,4 @@
-use Rattle.std.proofs.Common.{◌≡◌, take, map}
-use Rattle.bindings.specs.QueueTaking.{IsKeptFrom, or_zero}
+use Rattle.bindings.proofs.Calls.{◌≡◌, take, map, IsKeptFrom, or_zero}
 use Rattle.bindings.proofs.queue.taking.copy_left.Given as goal
 
 abbrev pub invariant-loop-i : goal.invariant-loop-i

@@ -1,8 +1,7 @@
-use Rattle.std.proofs.Common.{rules, ◌∙◌, ℕ, List, sym, subst}
-use Rattle.claim_queue.specs.Handles.{view_of}
-use Rattle.bindings.specs.QueueTaking.{TookEach}
-use Rattle.bindings.proofs.QueueEnds.{each_more}
+use Rattle.bindings.proofs.Calls.{rules, ◌∙◌, ℕ, List, sym, subst, TookEach}
+use Rattle.bindings.specs.QueueParts.{view_of}
 use Rattle.bindings.proofs.Buffers.{kept_more, filled_more}
+use Rattle.bindings.proofs.QueueEnds.{each_more}
 use Rattle.bindings.proofs.queue.taking.take_up_to.Goals as goal
 
 pub loop-i-preserved : goal.loop-i-preserved

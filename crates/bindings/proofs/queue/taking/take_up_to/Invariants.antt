@@ -1,6 +1,5 @@
-use Rattle.std.proofs.Common.{take}
-use Rattle.claim_queue.specs.Handles.{IsSameEnd, view_of}
-use Rattle.bindings.specs.QueueTaking.{TookEach, IsKeptFrom}
+use Rattle.bindings.proofs.Calls.{take, TookEach, IsKeptFrom}
+use Rattle.bindings.specs.QueueParts.{IsSameEnd, view_of}
 use Rattle.bindings.proofs.queue.taking.take_up_to.Given as goal
 
 abbrev pub invariant-loop-i : goal.invariant-loop-i

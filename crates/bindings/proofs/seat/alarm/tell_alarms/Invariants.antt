@@ -1,5 +1,5 @@
-use Rattle.std.proofs.Common.{◌≡◌, take, map}
-use Rattle.bindings.specs.SeatAlarms.{c_alarm, IsRestKept}
+use Rattle.bindings.proofs.Calls.{◌≡◌, take, map}
+use Rattle.bindings.specs.SeatAlarms.{IsRestKept, c_alarm}
 use Rattle.bindings.proofs.seat.alarm.tell_alarms.Given as goal
 
 abbrev pub invariant-loop-i : goal.invariant-loop-i

@@ -1,9 +1,5 @@
-use Rattle.std.proofs.Common.{◌≡◌, refl, ap, pos}
-use Rattle.std.specs.declared.option.Option.TheVariants.{Some}
-use Rattle.bindings.specs.SeatReads.{WasClock}
-use Rattle.bindings.specs.Handles.{HoldsSome, of_kind}
-use Rattle.bindings.specs.Kinds.{seat_in}
-use Rattle.bindings.proofs.Telling.{at_value}
+use Rattle.bindings.proofs.Calls.{◌≡◌, refl, ap, pos, Some, HoldsSome, of_kind, seat_in, at_value}
+use Rattle.bindings.specs.SeatHeld.{WasClock}
 use Rattle.bindings.proofs.seat.reading.synth_raw_seat_clock.Goals as goal
 
 pub returns-clause-loaded : goal.returns-clause-loaded

@@ -1,9 +1,5 @@
-use Rattle.std.proofs.Common.{rules, inr, refl, pos, ap}
-use Rattle.std.specs.declared.option.Option.TheVariants.{Some}
-use Rattle.bindings.specs.SeatReads.{ReadGauge}
-use Rattle.bindings.specs.Handles.{of_kind}
-use Rattle.bindings.specs.Kinds.{seat_in}
-use Rattle.bindings.proofs.Telling.{at_value}
+use Rattle.bindings.proofs.Calls.{rules, inr, refl, pos, ap, Some, of_kind, seat_in, at_value}
+use Rattle.bindings.specs.SeatCalls.{ReadGauge}
 use Rattle.bindings.proofs.seat.reading.synth_raw_seat_gauge.Goals as goal
 
 pub returns-clause-loaded : goal.returns-clause-loaded

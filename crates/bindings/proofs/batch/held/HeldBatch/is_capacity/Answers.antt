@@ -1,4 +1,4 @@
-use Rattle.std.proofs.Math.Logic.{∥∥₁_elim}
+use Rattle.bindings.proofs.Calls.{∥∥₁_elim}
 use Rattle.bindings.proofs.BatchEnds.{no_power}
 use Rattle.bindings.proofs.batch.held.HeldBatch.is_capacity.Goals as goal
 

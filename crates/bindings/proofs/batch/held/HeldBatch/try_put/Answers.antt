@@ -1,7 +1,7 @@
-use Rattle.bindings.proofs.Calls.{◌≤◌, ℕ, length, refl, sym, ap, subst, ◌∙◌, MatchResult, IfErr}
-use Rattle.batch_queue.specs.Client.{WhyNotPut}
-use Rattle.batch_queue.specs.Handles.{view_of, room_of}
+use Rattle.std.proofs.Common.{◌≤◌, ℕ, length, refl, sym, ap, subst, ◌∙◌, MatchResult, IfErr}
 use Rattle.batch_queue.specs.Puts.{IsPut, RefusedPut}
+use Rattle.batch_queue.specs.Client.{WhyNotPut}
+use Rattle.bindings.specs.BatchHeld.{view_of, room_of}
 use Rattle.bindings.proofs.BatchEnds.{put_keeps}
 use Rattle.bindings.proofs.batch.held.HeldBatch.try_put.Goals as goal
 

@@ -1,6 +1,6 @@
-use Rattle.bindings.proofs.Calls.{ℕ, length, take, refl, sym, ap, subst, ◌∙◌, MatchResult}
-use Rattle.batch_queue.specs.Handles.{view_of, room_of}
+use Rattle.std.proofs.Common.{ℕ, length, take, refl, sym, ap, subst, ◌∙◌, MatchResult}
 use Rattle.batch_queue.specs.Takings.{TookBatches, RefusedTake}
+use Rattle.bindings.specs.BatchHeld.{view_of, room_of}
 use Rattle.bindings.proofs.BatchEnds.{take_keeps}
 use Rattle.bindings.proofs.batch.held.HeldBatch.try_take.Goals as goal
 

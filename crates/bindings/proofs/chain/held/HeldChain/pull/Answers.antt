@@ -1,10 +1,8 @@
 use Rattle.bindings.proofs.Calls.{rules, sym, ap, subst, ◌∙◌, ℕ, List, [], ◌∷◌, length, None, Some}
-use Rattle.proc_chain.specs.Handles.{me_of, view_of}
-use Rattle.proc_chain.specs.Own.{queue_of}
-use Rattle.proc_chain.specs.Shown.{notes_of}
-use Rattle.proc_chain.specs.Servings.{HasRun}
+use Rattle.proc_chain.proofs.Common.{queue_of, notes_of, view_of}
 use Rattle.proc_chain.specs.Turns.{HasServed}
-use Rattle.bindings.specs.declared.chain.inbox.Inbox.{Inbox}
+use Rattle.proc_chain.specs.Servings.{HasRun}
+use Rattle.bindings.specs.ChainHeld.{me_of, Inbox}
 use Rattle.bindings.specs.Inboxes.{last_or}
 use Rattle.bindings.proofs.Handing.{none_run, one_run, last_on}
 use Rattle.bindings.proofs.chain.held.HeldChain.pull.Goals as goal

@@ -1,7 +1,6 @@
-use Rattle.std.proofs.Common.{◌≡◌, ◌<◌, ℕ, true, None}
-use Rattle.thread_table.specs.Handles.{view_of}
-use Rattle.thread_table.specs.Rules.{running}
+use Rattle.bindings.proofs.Calls.{◌≡◌, ◌<◌, ℕ, true, None}
 use Rattle.thread_table.specs.Answers.{is_in}
+use Rattle.bindings.specs.HandHeld.{view_of, running}
 use Rattle.bindings.proofs.hand.held.HeldHand.has_none_on.Given as goal
 
 abbrev pub invariant-loop-p : goal.invariant-loop-p

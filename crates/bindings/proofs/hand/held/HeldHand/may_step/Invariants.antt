@@ -1,6 +1,5 @@
-use Rattle.std.proofs.Common.{◌≡◌, ◌≢◌, ◌<◌, ℕ, true, Some}
-use Rattle.thread_table.specs.Handles.{view_of}
-use Rattle.thread_table.specs.Rules.{serves, running}
+use Rattle.bindings.proofs.Calls.{◌≡◌, ◌≢◌, ◌<◌, ℕ, true, Some}
+use Rattle.bindings.specs.HandHeld.{view_of, serves, running}
 use Rattle.bindings.proofs.hand.held.HeldHand.may_step.Given as goal
 
 abbrev pub invariant-loop-p : goal.invariant-loop-p

@@ -1,8 +1,6 @@
-use Rattle.thread_table.specs.Handles.{view_of, call_of}
-use Rattle.thread_table.proofs.Hands.Unchanged.{signal_keeps}
-use Rattle.bindings.proofs.HandFits.{still_known}
+use Rattle.bindings.proofs.HandKeeps.{signal_keeps, call_of, known_after}
 use Rattle.bindings.proofs.hand.held.HeldHand.signal.Goals as goal
 
 pub invariant_of-self-clause-known : goal.invariant_of-self-clause-known
-invariant_of-self-clause-known c = let x = c.args.self.now in let y = c.signal.new.hand in
-    still_known x.share.parts (view_of x.hand) (view_of y) (signal_keeps (call_of x.hand) c.args.element c.args.signal (view_of x.hand) (view_of y) c.signal.result c.signal.ensures.trace) x.known
+invariant_of-self-clause-known c = let x = c.args.self.now in let t = c.signal in
+    known_after x t.new.hand (signal_keeps (call_of x.hand) c.args.element c.args.signal _ _ t.result t.ensures.trace)

@@ -1,8 +1,6 @@
-use Rattle.thread_table.specs.Handles.{view_of, call_of}
-use Rattle.thread_table.proofs.Hands.Unchanged.{park_keeps}
-use Rattle.bindings.proofs.HandFits.{still_known}
+use Rattle.bindings.proofs.HandKeeps.{park_keeps, call_of, known_after}
 use Rattle.bindings.proofs.hand.held.HeldHand.try_park.Goals as goal
 
 pub invariant_of-self-clause-known : goal.invariant_of-self-clause-known
-invariant_of-self-clause-known c = let x = c.args.self.now in let y = c.try_park.new.hand in
-    still_known x.share.parts (view_of x.hand) (view_of y) (park_keeps (call_of x.hand) c.args.element (view_of x.hand) (view_of y) c.try_park.result c.try_park.ensures.trace) x.known
+invariant_of-self-clause-known c = let x = c.args.self.now in let t = c.try_park in
+    known_after x t.new.hand (park_keeps (call_of x.hand) c.args.element _ _ t.result t.ensures.trace)

@@ -1,8 +1,6 @@
-use Rattle.thread_table.specs.Handles.{view_of, call_of}
-use Rattle.thread_table.proofs.Hands.Unchanged.{move_keeps}
-use Rattle.bindings.proofs.HandFits.{still_known}
+use Rattle.bindings.proofs.HandKeeps.{move_keeps, call_of, known_after}
 use Rattle.bindings.proofs.hand.held.HeldHand.try_retire.Goals as goal
 
 pub invariant_of-self-clause-known : goal.invariant_of-self-clause-known
-invariant_of-self-clause-known c = let x = c.args.self.now in let y = c.try_retire.new.hand in
-    still_known x.share.parts (view_of x.hand) (view_of y) (move_keeps (call_of x.hand) 1 c.args.element (view_of x.hand) (view_of y) c.try_retire.result c.try_retire.ensures.trace) x.known
+invariant_of-self-clause-known c = let x = c.args.self.now in let t = c.try_retire in
+    known_after x t.new.hand (move_keeps (call_of x.hand) 1 c.args.element _ _ t.result t.ensures.trace)

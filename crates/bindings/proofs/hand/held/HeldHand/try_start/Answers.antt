@@ -1,8 +1,6 @@
-use Rattle.thread_table.specs.Handles.{view_of, call_of}
-use Rattle.thread_table.proofs.Hands.Unchanged.{start_keeps}
-use Rattle.bindings.proofs.HandFits.{still_known}
+use Rattle.bindings.proofs.HandKeeps.{start_keeps, call_of, known_after}
 use Rattle.bindings.proofs.hand.held.HeldHand.try_start.Goals as goal
 
 pub invariant_of-self-clause-known : goal.invariant_of-self-clause-known
-invariant_of-self-clause-known c = let x = c.args.self.now in let y = c.try_start.new.hand in
-    still_known x.share.parts (view_of x.hand) (view_of y) (start_keeps (call_of x.hand) c.args.element (view_of x.hand) (view_of y) c.try_start.result c.try_start.ensures.trace) x.known
+invariant_of-self-clause-known c = let x = c.args.self.now in let t = c.try_start in
+    known_after x t.new.hand (start_keeps (call_of x.hand) c.args.element _ _ t.result t.ensures.trace)

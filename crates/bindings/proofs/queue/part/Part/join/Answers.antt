@@ -1,4 +1,4 @@
-use Rattle.claim_queue.specs.Handles.{view_of}
+use Rattle.bindings.specs.QueueParts.{view_of}
 use Rattle.bindings.proofs.QueueEnds.{joined_raised}
 use Rattle.bindings.proofs.queue.part.Part.join.Goals as goal
 

@@ -1,5 +1,5 @@
 use Rattle.std.proofs.Common.{sym, ◌∙◌, take, length}
-use Rattle.claim_queue.specs.Handles.{view_of}
+use Rattle.bindings.specs.QueueParts.{view_of}
 use Rattle.bindings.proofs.QueueEnds.{some_keeps, still_raised}
 use Rattle.bindings.proofs.queue.part.Part.take_up_to.Goals as goal
 

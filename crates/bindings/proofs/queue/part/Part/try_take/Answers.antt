@@ -1,4 +1,4 @@
-use Rattle.claim_queue.specs.Handles.{view_of}
+use Rattle.bindings.specs.QueueParts.{view_of}
 use Rattle.bindings.proofs.QueueEnds.{take_keeps, still_raised}
 use Rattle.bindings.proofs.queue.part.Part.try_take.Goals as goal
 

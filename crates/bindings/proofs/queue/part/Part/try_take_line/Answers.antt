@@ -1,5 +1,5 @@
 use Rattle.std.proofs.Common.{rules}
-use Rattle.claim_queue.specs.Handles.{view_of}
+use Rattle.bindings.specs.QueueParts.{view_of}
 use Rattle.bindings.proofs.QueueEnds.{line_keeps, still_raised}
 use Rattle.bindings.proofs.Buffers.{line_filled}
 use Rattle.bindings.proofs.queue.part.Part.try_take_line.Goals as goal

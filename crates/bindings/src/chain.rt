@@ -7,7 +7,6 @@ ghost use Rattle.bindings.specs.ChainHeld.{IsNewChain, SplitBy, Joined, AreOfOne
 ghost use Rattle.bindings.specs.ChainCalls.{IsChainCall, ReportsNoted, IsPullCall, WasClosed};
 ghost use Rattle.bindings.specs.Shares.{HasTwo, HasNoTwo, IsOneMark};
 
-mod closing;
 pub mod held;
 mod inbox;
 

@@ -1,17 +1,17 @@
 //! The meters for C: each call is one of the library's, on the end that a handle holds.
 ghost use Rattle.std.specs.Prelude.{◌≡◌, ◌≤◌, ◌<◌};
 ghost use Rattle.bindings.specs.Handles.{EmptyHandle, held_by, seat_of, NoneIn, LeadsTo, HoldsThen, WasEnded};
-ghost use Rattle.bindings.specs.Handles.{MadeHandle, FreedHandle, SplitHandle, JoinedHandle, MarksTell, Seat};
+ghost use Rattle.bindings.specs.Handles.{MadeHandle, FreedHandle, SplitHandle, JoinedHandle, MarksTell, Seat, Done};
+ghost use Rattle.bindings.specs.Handles.{TurnsThen};
 ghost use Rattle.bindings.specs.Codes.{IsAnswer, IsCodeAlone};
 ghost use Rattle.bindings.specs.SeatCalls.{IsTickCall, IsAdvanceCall, IsSetCall, IsCancelCall, IsDueCall};
 ghost use Rattle.bindings.specs.SeatCalls.{ReportsMetered, code_of_advance, head_of_advance, code_of_set, head_of_set};
-ghost use Rattle.bindings.specs.SeatHeld.{IsNewSeat, SplitBy, Joined, AreOfOneTable, Ended};
+ghost use Rattle.bindings.specs.SeatCalls.{ReadGauge};
+ghost use Rattle.bindings.specs.SeatHeld.{IsNewSeat, SplitBy, Joined, AreOfOneTable, Ended, WasClock};
 ghost use Rattle.bindings.specs.Shares.{HasTwo, HasNoTwo, IsOneMark};
 
 mod alarm;
-mod closing;
 pub mod held;
-mod reading;
 
 use crate::answer::{
     BAD_NUMBER, DONE, EMPTY_HANDLE, FULL_HANDLE, LOST, NO_ROOM, OPEN, SHORT_BUFFER, SPENT,
@@ -233,6 +233,35 @@ pub extern "C" fn synth_raw_seat_due(
     }
     let fired = held.due();
     *count = tell_alarms(fired.as_slice(), alarms);
+    DONE
+}
+
+/// `Meters::gauge`. The gauges are 0 to 7.
+#[unsafe(no_mangle)]
+pub extern "C" fn synth_raw_seat_gauge(seat: &mut Handle, gauge: u32, value: &mut u64) -> i32
+    ensures empty { NoneIn seat_of seat.old seat.new ((result ≡ EmptyHandle) × (value.new ≡ value.old)) }
+    ensures loaded { LeadsTo seat_of seat.old seat.new (λ x y. ReadGauge gauge value.old value.new x y result) }
+{
+    let Some(held) = seat.find::<HeldSeat>() else {
+        return EMPTY_HANDLE;
+    };
+    if gauge > 7 {
+        return BAD_NUMBER;
+    }
+    *value = held.gauge(gauge as usize);
+    DONE
+}
+
+/// `Meters::clock`.
+#[unsafe(no_mangle)]
+pub extern "C" fn synth_raw_seat_clock(seat: &mut Handle, clock: &mut u32) -> i32
+    ensures empty { NoneIn seat_of seat.old seat.new ((result ≡ EmptyHandle) × (clock.new ≡ clock.old)) }
+    ensures loaded { TurnsThen seat_of seat.old seat.new (λ x y. WasClock clock.new x y × (result ≡ Done)) }
+{
+    let Some(held) = seat.find::<HeldSeat>() else {
+        return EMPTY_HANDLE;
+    };
+    *clock = held.clock();
     DONE
 }
 

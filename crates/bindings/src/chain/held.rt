@@ -1,5 +1,5 @@
 //! The end that a handle of a chain holds.
-ghost use Rattle.std.specs.Prelude.{◌≡◌, true, MatchOption};
+ghost use Rattle.std.specs.Prelude.{◌≡◌, true, false, MatchOption};
 ghost use Rattle.std.specs.Arc.{arc_value};
 ghost use Rattle.proc_chain.specs.Handles.{view_of};
 ghost use Rattle.bindings.specs.Inboxes.{IsHeldEnd};
@@ -7,7 +7,7 @@ ghost use Rattle.bindings.specs.Inboxes.{IsHeldEnd};
 use super::inbox::Inbox;
 use crate::ends::End;
 use crate::share::Share;
-use proc_chain::{ChainEnd, ChainRefusal, Chained, ProcChain, ServedKept};
+use proc_chain::{ChainClosed, ChainEnd, ChainRefusal, Chained, ProcChain, ServedKept};
 use std::alloc::Global;
 use std::sync::Arc;
 
@@ -42,7 +42,7 @@ pub enum Pulled {
 }
 
 impl HeldChain {
-    ghost use Rattle.bindings.specs.ChainHeld.{IsNewChain, WasChained, WasPulled, has_turn};
+    ghost use Rattle.bindings.specs.ChainHeld.{IsNewChain, WasChained, WasPulled, Ended, has_turn};
 
     /// The only end of a new chain.
     pub fn new(alloc: Global, first: u32, mark: u64) -> Option<HeldChain>
@@ -87,6 +87,27 @@ impl HeldChain {
             ServedKept::More { ran: 0 } => Pulled::Again,
             ServedKept::More { .. } => Pulled::Note(self.chain.quaject(&mut self.end).note),
         }
+    }
+
+    /// `ProcChain::close`, when the end has all parts. Else the end is returned.
+    pub fn close(self) -> Result<ChainClosed<Inbox>, HeldChain>
+        requires { has_turn self ≡ false }
+        ensures { Ended result self }
+    {
+        if self.share.parts != u64::MAX {
+            return Err(self);
+        }
+        let HeldChain { chain, end, share } = self;
+        let chain = match Arc::try_unwrap(chain) {
+            Ok(chain) => chain,
+            Err(chain) => {
+                return Err(HeldChain { chain, end, share });
+            }
+        };
+        let Ok(closed) = chain.close(end) else {
+            unreachable!()
+        };
+        Ok(closed)
     }
 }
 

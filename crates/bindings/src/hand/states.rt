@@ -4,7 +4,7 @@ ghost use Rattle.event_theory.specs.Numbers.{u32_values};
 ghost use Rattle.bindings.specs.HandStates.{WasStopped, WasStarted, WasParked, WasSignalled, WereDelivered};
 ghost use Rattle.bindings.specs.HandStates.{number_of_start, is_raised, IsStateCode, ReportsLost, IsFitState};
 ghost use Rattle.bindings.specs.HandStates.{ReportsStart, ReportsPark, ReportsDelivery, IsStopCall, IsStartCall};
-ghost use Rattle.bindings.specs.HandStates.{IsParkCall, IsSignalCall, IsDeliverCall};
+ghost use Rattle.bindings.specs.HandStates.{IsParkCall, IsSignalCall, IsDeliverCall, HasPending, ReadPending};
 ghost use Rattle.bindings.specs.Handles.{EmptyHandle, hand_of, NoneIn, LeadsTo, HoldsThen};
 ghost use Rattle.bindings.specs.HandHeld.{view_of, has};
 
@@ -60,6 +60,13 @@ impl HeldHand {
         ensures { WereDelivered element result self.old self.new }
     {
         self.table.try_deliver(&mut self.hand, element)
+    }
+
+    /// `ThreadTable::pending`.
+    pub fn pending(&mut self, element: Element) -> u16
+        ensures { HasPending element result self.old self.new }
+    {
+        self.table.pending(&mut self.hand, element)
     }
 }
 
@@ -253,4 +260,20 @@ pub extern "C" fn synth_raw_hand_try_deliver(
     }
     let answer = held.try_deliver(element);
     tell_delivery(answer, signals)
+}
+
+/// `ThreadTable::pending`. The elements are 0 to 63.
+#[unsafe(no_mangle)]
+pub extern "C" fn synth_raw_hand_pending(hand: &mut Handle, element: u32, signals: &mut u32) -> i32
+    ensures empty { NoneIn hand_of hand.old hand.new ((result ≡ EmptyHandle) × (signals.new ≡ signals.old)) }
+    ensures loaded { LeadsTo hand_of hand.old hand.new (λ x y. ReadPending element signals.old signals.new x y result) }
+{
+    let Some(held) = hand.find::<HeldHand>() else {
+        return EMPTY_HANDLE;
+    };
+    let Some(element) = element_of(element) else {
+        return BAD_NUMBER;
+    };
+    *signals = held.pending(element) as u32;
+    DONE
 }

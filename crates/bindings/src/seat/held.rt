@@ -7,7 +7,7 @@ use crate::ends::End;
 use crate::share::Share;
 use arrayvec::ArrayVec;
 use event_theory::Alarm;
-use meters::{AdvanceRefusal, MeterSeat, Meters, SetRefusal};
+use meters::{AdvanceRefusal, MeterSeat, Metered, Meters, SetRefusal};
 use std::alloc::Global;
 use std::sync::Arc;
 
@@ -23,6 +23,7 @@ pub struct HeldSeat {
 
 impl HeldSeat {
     ghost use Rattle.bindings.specs.SeatHeld.{IsNewSeat, WasTicked, WasAdvanced, WasSet, WasCancelled, WereFired};
+    ghost use Rattle.bindings.specs.SeatHeld.{WasGauge, WasClock, Ended};
 
     /// The only end of new meters.
     pub fn new(alloc: Global, clock: u32, mark: u64) -> Option<HeldSeat>
@@ -72,6 +73,49 @@ impl HeldSeat {
         ensures { WereFired result.items self.old self.new }
     {
         self.meters.due(&mut self.seat)
+    }
+
+    /// `Meters::gauge`.
+    pub fn gauge(&mut self, gauge: usize) -> u64
+        requires { gauge < 8 }
+        ensures { WasGauge gauge result self.old self.new }
+    {
+        self.meters.gauge(&mut self.seat, gauge)
+    }
+
+    /// `Meters::clock`.
+    pub fn clock(&mut self) -> u32
+        ensures { WasClock result self.old self.new }
+    {
+        self.meters.clock(&mut self.seat)
+    }
+
+    /// `Meters::close`, when the end has all parts. Else the end is returned.
+    pub fn close(self) -> Result<Metered, HeldSeat>
+        ensures { Ended result self }
+    {
+        if self.share.parts != u64::MAX {
+            return Err(self);
+        }
+        let HeldSeat {
+            meters,
+            seat,
+            share,
+        } = self;
+        let meters = match Arc::try_unwrap(meters) {
+            Ok(meters) => meters,
+            Err(meters) => {
+                return Err(HeldSeat {
+                    meters,
+                    seat,
+                    share,
+                });
+            }
+        };
+        let Ok(metered) = meters.close(seat) else {
+            unreachable!()
+        };
+        Ok(metered)
     }
 }
 

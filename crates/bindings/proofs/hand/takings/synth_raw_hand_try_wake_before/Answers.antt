@@ -1,7 +1,7 @@
 use Rattle.bindings.proofs.Calls.{ℕ, inr, subst, arith, ap, Some, of_kind, hand_in, answered, at_value}
 use Rattle.bindings.specs.HandTakings.{WasTriedBefore, IsBeforeCall}
 use Rattle.bindings.proofs.HandFits.{fit_before}
-use Rattle.bindings.proofs.hand.wakes.synth_raw_hand_try_wake_before.Goals as goal
+use Rattle.bindings.proofs.hand.takings.synth_raw_hand_try_wake_before.Goals as goal
 
 pub tell_before-requires : goal.tell_before-requires
 tell_before-requires c = let a = c.try_wake_before-answer in let m = c.in-Some-wait_of in let is = m.ensures.0 in

@@ -1,6 +1,6 @@
 use Rattle.bindings.proofs.Calls.{ℕ, inr, refl, subst, pos, ap, Some, of_kind, hand_in, at_value}
 use Rattle.bindings.specs.HandStates.{HasPending, ReadPending}
-use Rattle.bindings.proofs.hand.pending.synth_raw_hand_pending.Goals as goal
+use Rattle.bindings.proofs.hand.states.synth_raw_hand_pending.Goals as goal
 
 pub returns-clause-loaded : goal.returns-clause-loaded
 returns-clause-loaded c = let a = c.pending in let y = a.new.self in let m = c.in-Some-element_of in

@@ -1,6 +1,6 @@
 use Rattle.bindings.proofs.Calls.{◌≡◌, refl, ap, pos, Some, HoldsSome, of_kind, seat_in, at_value}
 use Rattle.bindings.specs.SeatHeld.{WasClock}
-use Rattle.bindings.proofs.seat.reading.synth_raw_seat_clock.Goals as goal
+use Rattle.bindings.proofs.seat.synth_raw_seat_clock.Goals as goal
 
 pub returns-clause-loaded : goal.returns-clause-loaded
 returns-clause-loaded c = at_value (λ x. HoldsSome (Some c.clock.new.self)

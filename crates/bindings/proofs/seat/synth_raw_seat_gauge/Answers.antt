@@ -1,6 +1,6 @@
 use Rattle.bindings.proofs.Calls.{rules, inr, refl, pos, ap, Some, of_kind, seat_in, at_value}
 use Rattle.bindings.specs.SeatCalls.{ReadGauge}
-use Rattle.bindings.proofs.seat.reading.synth_raw_seat_gauge.Goals as goal
+use Rattle.bindings.proofs.seat.synth_raw_seat_gauge.Goals as goal
 
 pub returns-clause-loaded : goal.returns-clause-loaded
 returns-clause-loaded c = let y = c.gauge.new.self in

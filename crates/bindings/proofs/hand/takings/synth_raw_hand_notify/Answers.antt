@@ -1,6 +1,6 @@
 use Rattle.bindings.proofs.Calls.{ℕ, inr, refl, subst, pos, ap, Some, of_kind, hand_in, at_value}
 use Rattle.bindings.specs.HandTakings.{WasNotified, IsNotifyCall}
-use Rattle.bindings.proofs.hand.wakes.synth_raw_hand_notify.Goals as goal
+use Rattle.bindings.proofs.hand.takings.synth_raw_hand_notify.Goals as goal
 
 pub returns-clause-notified : goal.returns-clause-notified
 returns-clause-notified c = let a = c.notify in let y = a.new.self in let m = c.in-Some-wait_of in

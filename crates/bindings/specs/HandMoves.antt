@@ -70,9 +70,8 @@ IsWaitingCall element wait x new reported =
     ⊎ ((element < 64) × (wait < 16) × HeldOrNot (WasMoved (wait_ring wait) element) element x new reported)
 
 -- the effect of `ticket`, by its code
-abbrev pub IsTicketCall : ℕ → HeldHand → ℕ → ℕ → Option HeldHand → ℤ → Type 0
-IsTicketCall wait x old_ticket ticket new code =
-    Writes (wait < 16) (16 ≤ wait) (WasTicket wait) x old_ticket ticket new code
+abbrev pub IsTicketCall : ℕ → ℕ → ℕ → ℤ → HeldHand → Option HeldHand → Type 0
+IsTicketCall wait = Writes (wait < 16) (16 ≤ wait) (WasTicket wait)
 
 -- the effect of `try_wait_at`
 abbrev pub IsWaitingAtCall : ℕ → ℕ → ℕ → HeldHand → Option HeldHand → SynthMoved → Type 0

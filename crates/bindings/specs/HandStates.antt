@@ -78,20 +78,19 @@ ReportsDelivery answer old new reported = MatchResult answer (λ mask. (mask < 6
     (λ lost. (new ≡ old) × ReportsLost lost reported)
 
 -- the effect of `stop`, by its code
-abbrev pub IsStopCall : ℕ → HeldHand → Bool → Bool → Option HeldHand → ℤ → Type 0
-IsStopCall element x old_answer answer new code =
-    Writes (element < 64) (64 ≤ element) (WasStopped element) x old_answer answer new code
+abbrev pub IsStopCall : ℕ → Bool → Bool → ℤ → HeldHand → Option HeldHand → Type 0
+IsStopCall element = Writes (element < 64) (64 ≤ element) (WasStopped element)
 
 -- the effect of `try_start`
-abbrev pub IsStartCall : ℕ → HeldHand → ℕ → ℕ → Option HeldHand → SynthState → Type 0
-IsStartCall element x old_number number new reported =
+abbrev pub IsStartCall : ℕ → ℕ → ℕ → SynthState → HeldHand → Option HeldHand → Type 0
+IsStartCall element old_number number reported x new =
     (IsStateCode BadNumber reported × (64 ≤ element) × (new ≡ Some x) × (number ≡ old_number))
     ⊎ ((element < 64)
     × Answered (WasStarted element) (λ answer. ReportsStart answer old_number number reported) x new)
 
 -- the effect of `try_park`
-abbrev pub IsParkCall : ℕ → HeldHand → Bool → Bool → Option HeldHand → SynthState → Type 0
-IsParkCall element x old_answer is new reported =
+abbrev pub IsParkCall : ℕ → Bool → Bool → SynthState → HeldHand → Option HeldHand → Type 0
+IsParkCall element old_answer is reported x new =
     (IsStateCode BadNumber reported × (64 ≤ element) × (new ≡ Some x) × (is ≡ old_answer))
     ⊎ (IsStateCode NotHeld reported × (element < 64) × (has (view_of x.hand) element ≡ false) × (new ≡ Some x)
     × (is ≡ old_answer))
@@ -99,15 +98,15 @@ IsParkCall element x old_answer is new reported =
     × Answered (WasParked element) (λ answer. ReportsPark answer old_answer is reported) x new)
 
 -- the effect of `signal`, by its code
-abbrev pub IsSignalCall : ℕ → ℕ → HeldHand → Bool → Bool → Option HeldHand → ℤ → Type 0
-IsSignalCall element signal x old_answer is new code =
+abbrev pub IsSignalCall : ℕ → ℕ → Bool → Bool → ℤ → HeldHand → Option HeldHand → Type 0
+IsSignalCall element signal old_answer is code x new =
     ((code ≡ BadNumber) × ((64 ≤ element) ⊎ (16 ≤ signal)) × (new ≡ Some x) × (is ≡ old_answer))
     ⊎ ((code ≡ Done) × (element < 64) × (signal < 16) × (y : HeldHand) × (new ≡ Some y) × (answer : Signalled)
     × (is ≡ is_raised answer) × WasSignalled element signal answer x y)
 
 -- the effect of `try_deliver`
-abbrev pub IsDeliverCall : ℕ → HeldHand → ℕ → ℕ → Option HeldHand → SynthState → Type 0
-IsDeliverCall element x old_signals signals new reported =
+abbrev pub IsDeliverCall : ℕ → ℕ → ℕ → SynthState → HeldHand → Option HeldHand → Type 0
+IsDeliverCall element old_signals signals reported x new =
     (IsStateCode BadNumber reported × (64 ≤ element) × (new ≡ Some x) × (signals ≡ old_signals))
     ⊎ (IsStateCode NotHeld reported × (element < 64) × (has (view_of x.hand) element ≡ false) × (new ≡ Some x)
     × (signals ≡ old_signals))
@@ -119,6 +118,5 @@ abbrev pub HasPending : ℕ → ℕ → HeldHand → HeldHand → Type 0
 HasPending element signals x y = IsKept x y × IsPending (view_of x.hand) element signals (view_of y.hand)
 
 -- the effect of a read of the pending signals, by its code
-abbrev pub ReadPending : ℕ → ℕ → ℕ → HeldHand → Option HeldHand → ℤ → Type 0
-ReadPending element old_signals signals x new code =
-    Writes (element < 64) (64 ≤ element) (HasPending element) x old_signals signals new code
+abbrev pub ReadPending : ℕ → ℕ → ℕ → ℤ → HeldHand → Option HeldHand → Type 0
+ReadPending element = Writes (element < 64) (64 ≤ element) (HasPending element)

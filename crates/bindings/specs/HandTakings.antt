@@ -67,12 +67,12 @@ ReportsBefore (Ok (Some element)) old new reported = (new ≡ element) × IsCode
 ReportsBefore (Err r) old new reported = (new ≡ old) × IsAnswer (code_of_next r) 0 (tail_of_next r) reported
 
 -- the effect of `notify`, by its code
-abbrev pub IsNotifyCall : ℕ → HeldHand → ℕ → ℕ → Option HeldHand → ℤ → Type 0
-IsNotifyCall wait x old_head head new code = Writes (wait < 16) (16 ≤ wait) (WasNotified wait) x old_head head new code
+abbrev pub IsNotifyCall : ℕ → ℕ → ℕ → ℤ → HeldHand → Option HeldHand → Type 0
+IsNotifyCall wait = Writes (wait < 16) (16 ≤ wait) (WasNotified wait)
 
 -- the effect of `try_wake_before`
-abbrev pub IsBeforeCall : ℕ → ℕ → HeldHand → ℕ → ℕ → Option HeldHand → SynthAnswer → Type 0
-IsBeforeCall wait head x old_element element new reported =
+abbrev pub IsBeforeCall : ℕ → ℕ → ℕ → ℕ → SynthAnswer → HeldHand → Option HeldHand → Type 0
+IsBeforeCall wait head old_element element reported x new =
     (IsCodeAlone BadNumber reported × (16 ≤ wait) × (new ≡ Some x) × (element ≡ old_element))
     ⊎ ((wait < 16)
     × Answered (WasTriedBefore wait head) (λ answer. ReportsBefore answer old_element element reported) x new)

@@ -70,8 +70,8 @@ TurnsThen of old new P = HoldsThen (of old) (λ x. HoldsSome (of new) (P x))
 
 -- The effect of a call on the end x that writes a value, by its code. If a number of the call is out of range, the code
 -- is BadNumber, and the value is the old one
-abbrev pub Writes : {A X : Type 0} → Type 0 → Type 0 → (A → X → X → Type 0) → X → A → A → Option X → ℤ → Type 0
-Writes {A} {X} Valid OutOfRange Did x old value new code =
+abbrev pub Writes : {A X : Type 0} → Type 0 → Type 0 → (A → X → X → Type 0) → A → A → ℤ → X → Option X → Type 0
+Writes {A} {X} Valid OutOfRange Did old value code x new =
     ((code ≡ BadNumber) × OutOfRange × (new ≡ Some x) × (value ≡ old))
     ⊎ ((code ≡ Done) × Valid × (y : X) × (new ≡ Some y) × Did value x y)
 

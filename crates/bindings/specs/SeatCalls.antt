@@ -11,9 +11,8 @@ use Rattle.bindings.specs.declared.seat.SynthMetered.{SynthMetered}
 use Rattle.bindings.specs.declared.seat.alarm.SynthAlarm.{SynthAlarm}
 
 -- the effect of `tick`, by its code
-abbrev pub IsTickCall : HeldSeat → ℕ → ℕ → ℕ → ℕ → Option HeldSeat → ℤ → Type 0
-IsTickCall x gauge amount old_before before new code =
-    Writes (gauge < 8) (8 ≤ gauge) (WasTicked gauge amount) x old_before before new code
+abbrev pub IsTickCall : ℕ → ℕ → ℕ → ℕ → ℤ → HeldSeat → Option HeldSeat → Type 0
+IsTickCall gauge amount = Writes (gauge < 8) (8 ≤ gauge) (WasTicked gauge amount)
 
 abbrev pub code_of_advance : AdvanceRefusal → ℤ
 code_of_advance advance.Spent = pos 4
@@ -60,16 +59,16 @@ IsSetCall x alarm old_slot slot new reported =
     ⊎ (IsAlarm alarm × SetsAlarm x alarm old_slot slot new reported)
 
 -- the effect of `cancel`, by its code
-abbrev pub IsCancelCall : HeldSeat → ℕ → SynthAlarm → Bool → Bool → Option HeldSeat → ℤ → Type 0
-IsCancelCall x slot alarm old_answer answer new code =
+abbrev pub IsCancelCall : ℕ → SynthAlarm → Bool → Bool → ℤ → HeldSeat → Option HeldSeat → Type 0
+IsCancelCall slot alarm old_answer answer code x new =
     ((code ≡ BadNumber) × ((16 ≤ slot) ⊎ IsNoAlarm alarm) × (new ≡ Some x) × (answer ≡ old_answer))
     ⊎ ((code ≡ Done) × (slot < 16) × IsAlarm alarm × (is : Alarm) × (c_alarm is ≡ alarm)
     × (y : HeldSeat) × (new ≡ Some y)
     × WasCancelled slot is answer x y)
 
 -- the effect of `due`, by its code: the alarms are at the beginning of the buffer, whose rest is unchanged
-abbrev pub IsDueCall : HeldSeat → List SynthAlarm → List SynthAlarm → ℕ → ℕ → Option HeldSeat → ℤ → Type 0
-IsDueCall x old_alarms alarms old_count count new code =
+abbrev pub IsDueCall : List SynthAlarm → List SynthAlarm → ℕ → ℕ → ℤ → HeldSeat → Option HeldSeat → Type 0
+IsDueCall old_alarms alarms old_count count code x new =
     ((code ≡ ShortBuffer) × (length old_alarms < 16) × (new ≡ Some x) × (alarms ≡ old_alarms) × (count ≡ old_count))
     ⊎ ((code ≡ Done) × (16 ≤ length old_alarms) × (fired : List Alarm) × (count ≡ length fired)
     × (take count alarms ≡ map c_alarm fired)
@@ -82,5 +81,5 @@ ReportsMetered c reported = (reported.gauges ≡ c.gauges) × (reported.clock �
     × (take reported.alarms reported.alarm ≡ map c_alarm c.alarms.items) × IsBlankFrom reported.alarms reported.alarm
 
 -- the effect of a read of a gauge, by its code
-abbrev pub ReadGauge : ℕ → ℕ → ℕ → HeldSeat → Option HeldSeat → ℤ → Type 0
-ReadGauge gauge old_value value x new code = Writes (gauge < 8) (8 ≤ gauge) (WasGauge gauge) x old_value value new code
+abbrev pub ReadGauge : ℕ → ℕ → ℕ → ℤ → HeldSeat → Option HeldSeat → Type 0
+ReadGauge gauge = Writes (gauge < 8) (8 ≤ gauge) (WasGauge gauge)

@@ -130,8 +130,7 @@ pub extern "C" fn synth_raw_seat_tick(
     before: &mut u64,
 ) -> i32
     ensures empty { NoneIn seat_of seat.old seat.new ((result ≡ EmptyHandle) × (before.new ≡ before.old)) }
-    ensures ticked { HoldsThen (seat_of seat.old)
-        (λ x. IsTickCall x gauge amount before.old before.new (seat_of seat.new) result) }
+    ensures ticked { LeadsTo seat_of seat.old seat.new (IsTickCall gauge amount before.old before.new result) }
 {
     let Some(held) = seat.find::<HeldSeat>() else {
         return EMPTY_HANDLE;
@@ -197,8 +196,8 @@ pub extern "C" fn synth_raw_seat_cancel(
     cancelled: &mut bool,
 ) -> i32
     ensures empty { NoneIn seat_of seat.old seat.new ((result ≡ EmptyHandle) × (cancelled.new ≡ cancelled.old)) }
-    ensures cancelled { HoldsThen (seat_of seat.old)
-        (λ x. IsCancelCall x slot alarm.now cancelled.old cancelled.new (seat_of seat.new) result) }
+    ensures cancelled { LeadsTo seat_of seat.old seat.new
+        (IsCancelCall slot alarm.now cancelled.old cancelled.new result) }
 {
     let Some(held) = seat.find::<HeldSeat>() else {
         return EMPTY_HANDLE;
@@ -222,8 +221,7 @@ pub extern "C" fn synth_raw_seat_due(
 ) -> i32
     ensures empty { NoneIn seat_of seat.old seat.new
         ((result ≡ EmptyHandle) × (alarms.new ≡ alarms.old) × (count.new ≡ count.old)) }
-    ensures due { HoldsThen (seat_of seat.old)
-        (λ x. IsDueCall x alarms.old alarms.new count.old count.new (seat_of seat.new) result) }
+    ensures due { LeadsTo seat_of seat.old seat.new (IsDueCall alarms.old alarms.new count.old count.new result) }
 {
     let Some(held) = seat.find::<HeldSeat>() else {
         return EMPTY_HANDLE;
@@ -240,7 +238,7 @@ pub extern "C" fn synth_raw_seat_due(
 #[unsafe(no_mangle)]
 pub extern "C" fn synth_raw_seat_gauge(seat: &mut Handle, gauge: u32, value: &mut u64) -> i32
     ensures empty { NoneIn seat_of seat.old seat.new ((result ≡ EmptyHandle) × (value.new ≡ value.old)) }
-    ensures loaded { LeadsTo seat_of seat.old seat.new (λ x y. ReadGauge gauge value.old value.new x y result) }
+    ensures loaded { LeadsTo seat_of seat.old seat.new (ReadGauge gauge value.old value.new result) }
 {
     let Some(held) = seat.find::<HeldSeat>() else {
         return EMPTY_HANDLE;

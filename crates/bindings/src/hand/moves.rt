@@ -165,7 +165,7 @@ pub extern "C" fn synth_raw_hand_try_wait(hand: &mut Handle, element: u32, wait:
 #[unsafe(no_mangle)]
 pub extern "C" fn synth_raw_hand_ticket(hand: &mut Handle, wait: u32, ticket: &mut u32) -> i32
     ensures empty { NoneIn hand_of hand.old hand.new ((result ≡ EmptyHandle) × (ticket.new ≡ ticket.old)) }
-    ensures loaded { LeadsTo hand_of hand.old hand.new (λ x y. IsTicketCall wait x ticket.old ticket.new y result) }
+    ensures loaded { LeadsTo hand_of hand.old hand.new (IsTicketCall wait ticket.old ticket.new result) }
 {
     let Some(held) = hand.find::<HeldHand>() else {
         return EMPTY_HANDLE;

@@ -25,7 +25,7 @@ fn tell_holds(held: &HeldHand, element: u32, holds: &mut bool) -> i32
 pub extern "C" fn synth_raw_hand_holds(hand: &mut Handle, element: u32, holds: &mut bool) -> i32
     ensures empty { NoneIn hand_of hand.old hand.new ((result ≡ EmptyHandle) × (holds.new ≡ holds.old)) }
     ensures effect { HoldsThen (hand_of hand.old)
-        (λ x. ((hand_of hand.new) ≡ (hand_of hand.old)) × IsHoldsCall element x holds.old holds.new result) }
+        (λ x. (hand_of hand.new ≡ hand_of hand.old) × IsHoldsCall element x holds.old holds.new result) }
 {
     let Some(held) = hand.find::<HeldHand>() else {
         return EMPTY_HANDLE;
@@ -48,8 +48,7 @@ fn tell_serves(held: &HeldHand, processor: u32, serves: &mut bool) -> i32
 pub extern "C" fn synth_raw_hand_serves(hand: &mut Handle, processor: u32, serves: &mut bool) -> i32
     ensures empty { NoneIn hand_of hand.old hand.new ((result ≡ EmptyHandle) × (serves.new ≡ serves.old)) }
     ensures effect { HoldsThen (hand_of hand.old)
-        (λ x. ((hand_of hand.new) ≡ (hand_of hand.old))
-        × IsServesCall processor x serves.old serves.new result) }
+        (λ x. (hand_of hand.new ≡ hand_of hand.old) × IsServesCall processor x serves.old serves.new result) }
 {
     let Some(held) = hand.find::<HeldHand>() else {
         return EMPTY_HANDLE;
@@ -79,8 +78,7 @@ pub extern "C" fn synth_raw_hand_on_processor(
 ) -> i32
     ensures empty { NoneIn hand_of hand.old hand.new ((result ≡ EmptyHandle) × (element.new ≡ element.old)) }
     ensures effect { HoldsThen (hand_of hand.old)
-        (λ x. ((hand_of hand.new) ≡ (hand_of hand.old))
-        × IsOnProcessorCall processor x element.old element.new result) }
+        (λ x. (hand_of hand.new ≡ hand_of hand.old) × IsOnProcessorCall processor x element.old element.new result) }
 {
     let Some(held) = hand.find::<HeldHand>() else {
         return EMPTY_HANDLE;

@@ -5,7 +5,7 @@ ghost use Rattle.bindings.specs.HandStates.{WasStopped, WasStarted, WasParked, W
 ghost use Rattle.bindings.specs.HandStates.{number_of_start, is_raised, IsStateCode, ReportsLost, IsFitState};
 ghost use Rattle.bindings.specs.HandStates.{ReportsStart, ReportsPark, ReportsDelivery, IsStopCall, IsStartCall};
 ghost use Rattle.bindings.specs.HandStates.{IsParkCall, IsSignalCall, IsDeliverCall, HasPending, ReadPending};
-ghost use Rattle.bindings.specs.Handles.{EmptyHandle, hand_of, NoneIn, LeadsTo, HoldsThen};
+ghost use Rattle.bindings.specs.Handles.{EmptyHandle, hand_of, NoneIn, LeadsTo};
 ghost use Rattle.bindings.specs.HandHeld.{view_of, has};
 
 use super::held::HeldHand;
@@ -155,8 +155,7 @@ fn tell_delivery(answer: Result<u16, Lost>, signals: &mut u32) -> SynthState
 #[unsafe(no_mangle)]
 pub extern "C" fn synth_raw_hand_stop(hand: &mut Handle, element: u32, was_clear: &mut bool) -> i32
     ensures empty { NoneIn hand_of hand.old hand.new ((result ≡ EmptyHandle) × (was_clear.new ≡ was_clear.old)) }
-    ensures stopped { HoldsThen (hand_of hand.old)
-        (λ x. IsStopCall element x was_clear.old was_clear.new (hand_of hand.new) result) }
+    ensures stopped { LeadsTo hand_of hand.old hand.new (IsStopCall element was_clear.old was_clear.new result) }
 {
     let Some(held) = hand.find::<HeldHand>() else {
         return EMPTY_HANDLE;
@@ -177,8 +176,7 @@ pub extern "C" fn synth_raw_hand_try_start(
     started: &mut u32,
 ) -> SynthState
     ensures empty { NoneIn hand_of hand.old hand.new (IsStateCode EmptyHandle result × (started.new ≡ started.old)) }
-    ensures started { HoldsThen (hand_of hand.old)
-        (λ x. IsStartCall element x started.old started.new (hand_of hand.new) result) }
+    ensures started { LeadsTo hand_of hand.old hand.new (IsStartCall element started.old started.new result) }
 {
     let Some(held) = hand.find::<HeldHand>() else {
         return code_alone(EMPTY_HANDLE);
@@ -198,7 +196,7 @@ pub extern "C" fn synth_raw_hand_try_park(
     parked: &mut bool,
 ) -> SynthState
     ensures empty { NoneIn hand_of hand.old hand.new (IsStateCode EmptyHandle result × (parked.new ≡ parked.old)) }
-    ensures parked { LeadsTo hand_of hand.old hand.new (λ x y. IsParkCall element x parked.old parked.new y result) }
+    ensures parked { LeadsTo hand_of hand.old hand.new (IsParkCall element parked.old parked.new result) }
 {
     let Some(held) = hand.find::<HeldHand>() else {
         return code_alone(EMPTY_HANDLE);
@@ -222,8 +220,7 @@ pub extern "C" fn synth_raw_hand_signal(
     raised: &mut bool,
 ) -> i32
     ensures empty { NoneIn hand_of hand.old hand.new ((result ≡ EmptyHandle) × (raised.new ≡ raised.old)) }
-    ensures signalled { HoldsThen (hand_of hand.old)
-        (λ x. IsSignalCall element signal x raised.old raised.new (hand_of hand.new) result) }
+    ensures signalled { LeadsTo hand_of hand.old hand.new (IsSignalCall element signal raised.old raised.new result) }
 {
     let Some(held) = hand.find::<HeldHand>() else {
         return EMPTY_HANDLE;
@@ -246,8 +243,7 @@ pub extern "C" fn synth_raw_hand_try_deliver(
     signals: &mut u32,
 ) -> SynthState
     ensures empty { NoneIn hand_of hand.old hand.new (IsStateCode EmptyHandle result × (signals.new ≡ signals.old)) }
-    ensures delivered { HoldsThen (hand_of hand.old)
-        (λ x. IsDeliverCall element x signals.old signals.new (hand_of hand.new) result) }
+    ensures delivered { LeadsTo hand_of hand.old hand.new (IsDeliverCall element signals.old signals.new result) }
 {
     let Some(held) = hand.find::<HeldHand>() else {
         return code_alone(EMPTY_HANDLE);
@@ -266,7 +262,7 @@ pub extern "C" fn synth_raw_hand_try_deliver(
 #[unsafe(no_mangle)]
 pub extern "C" fn synth_raw_hand_pending(hand: &mut Handle, element: u32, signals: &mut u32) -> i32
     ensures empty { NoneIn hand_of hand.old hand.new ((result ≡ EmptyHandle) × (signals.new ≡ signals.old)) }
-    ensures loaded { LeadsTo hand_of hand.old hand.new (λ x y. ReadPending element signals.old signals.new x y result) }
+    ensures loaded { LeadsTo hand_of hand.old hand.new (ReadPending element signals.old signals.new result) }
 {
     let Some(held) = hand.find::<HeldHand>() else {
         return EMPTY_HANDLE;

@@ -5,7 +5,7 @@ ghost use Rattle.event_theory.specs.Numbers.{u32_values};
 ghost use Rattle.bindings.specs.HandTakings.{WasTaken, IsFit, code_of_next, tail_of_next, ReportsTaking, IsTakingCall};
 ghost use Rattle.bindings.specs.HandTakings.{IsWakingCall, WasNotified, WasTriedBefore, IsFitBefore, ReportsBefore};
 ghost use Rattle.bindings.specs.HandTakings.{IsNotifyCall, IsBeforeCall};
-ghost use Rattle.bindings.specs.Handles.{EmptyHandle, hand_of, NoneIn, LeadsTo, IsCodeAlone, HoldsThen};
+ghost use Rattle.bindings.specs.Handles.{EmptyHandle, hand_of, NoneIn, LeadsTo, IsCodeAlone};
 ghost use Rattle.bindings.specs.Codes.{IsAnswer};
 
 use super::held::HeldHand;
@@ -148,7 +148,7 @@ fn tell_before(answer: Result<Option<Element>, NextRefusal>, element: &mut u32) 
 #[unsafe(no_mangle)]
 pub extern "C" fn synth_raw_hand_notify(hand: &mut Handle, wait: u32, head: &mut u32) -> i32
     ensures empty { NoneIn hand_of hand.old hand.new ((result ≡ EmptyHandle) × (head.new ≡ head.old)) }
-    ensures notified { LeadsTo hand_of hand.old hand.new (λ x y. IsNotifyCall wait x head.old head.new y result) }
+    ensures notified { LeadsTo hand_of hand.old hand.new (IsNotifyCall wait head.old head.new result) }
 {
     let Some(held) = hand.find::<HeldHand>() else {
         return EMPTY_HANDLE;
@@ -169,8 +169,7 @@ pub extern "C" fn synth_raw_hand_try_wake_before(
     element: &mut u32,
 ) -> SynthAnswer
     ensures empty { NoneIn hand_of hand.old hand.new (IsCodeAlone EmptyHandle result × (element.new ≡ element.old)) }
-    ensures taken { HoldsThen (hand_of hand.old)
-        (λ x. IsBeforeCall wait head x element.old element.new (hand_of hand.new) result) }
+    ensures taken { LeadsTo hand_of hand.old hand.new (IsBeforeCall wait head element.old element.new result) }
 {
     let Some(held) = hand.find::<HeldHand>() else {
         return answer_of(EMPTY_HANDLE);

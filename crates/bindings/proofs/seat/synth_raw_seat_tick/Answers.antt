@@ -4,5 +4,5 @@ use Rattle.bindings.proofs.seat.synth_raw_seat_tick.Goals as goal
 
 pub returns-clause-ticked : goal.returns-clause-ticked
 returns-clause-ticked c = let y = c.tick.new.self in
-    at_value (λ x. IsTickCall x c.args.gauge c.args.amount c.args.before.now c.tick.result (Some y) (pos 0)) (ap (of_kind seat_in) c.in-Some.ensures.value)
+    at_value (λ x. IsTickCall c.args.gauge c.args.amount c.args.before.now c.tick.result (pos 0) x (Some y)) (ap (of_kind seat_in) c.in-Some.ensures.value)
     (inr (refl, search rules, y, refl, c.tick.ensures))

@@ -5,5 +5,5 @@ use Rattle.bindings.proofs.hand.states.synth_raw_hand_pending.Goals as goal
 pub returns-clause-loaded : goal.returns-clause-loaded
 returns-clause-loaded c = let a = c.pending in let y = a.new.self in let m = c.in-Some-element_of in
     let did = subst (λ (n : ℕ). HasPending n a.result c.in-Some.held.now y) m.ensures.0 a.ensures in
-    at_value (λ x. ReadPending c.args.element c.args.signals.now a.result x (Some y) (pos 0)) (ap (of_kind hand_in) c.in-Some.ensures.value)
+    at_value (λ x. ReadPending c.args.element c.args.signals.now a.result (pos 0) x (Some y)) (ap (of_kind hand_in) c.in-Some.ensures.value)
     (inr (refl, m.ensures.1, y, refl, did))

@@ -10,5 +10,5 @@ tell_delivery-requires c = let a = c.try_deliver-answer in let m = c.in-Some-ele
 pub returns-clause-delivered : goal.returns-clause-delivered
 returns-clause-delivered c = let a = c.try_deliver-answer in let t = c.tell_delivery in let m = c.in-Some-element_of in
     let did = subst (λ (n : ℕ). WereDelivered n a.result c.in-Some.held.now a.new.self) m.ensures.0 a.ensures in
-    at_value (λ x. IsDeliverCall c.args.element x c.args.signals.now t.new.signals (Some a.new.self) t.result) (ap (of_kind hand_in) c.in-Some.ensures.value)
+    at_value (λ x. IsDeliverCall c.args.element c.args.signals.now t.new.signals t.result x (Some a.new.self)) (ap (of_kind hand_in) c.in-Some.ensures.value)
     (inr (inr (m.ensures.1, search rules, answered a.new.self a.result did t.ensures)))

@@ -10,5 +10,5 @@ tell_park-requires c = let a = c.try_park-answer in let m = c.in-Some-element_of
 pub returns-clause-parked : goal.returns-clause-parked
 returns-clause-parked c = let a = c.try_park-answer in let t = c.tell_park in let m = c.in-Some-element_of in
     let did = subst (λ (n : ℕ). WasParked n a.result c.in-Some.held.now a.new.self) m.ensures.0 a.ensures in
-    at_value (λ x. IsParkCall c.args.element x c.args.parked.now t.new.parked (Some a.new.self) t.result) (ap (of_kind hand_in) c.in-Some.ensures.value)
+    at_value (λ x. IsParkCall c.args.element c.args.parked.now t.new.parked t.result x (Some a.new.self)) (ap (of_kind hand_in) c.in-Some.ensures.value)
     (inr (inr (m.ensures.1, search rules, answered a.new.self a.result did t.ensures)))

@@ -10,5 +10,5 @@ tell_start-requires c = let a = c.try_start-answer in let m = c.in-Some-element_
 pub returns-clause-started : goal.returns-clause-started
 returns-clause-started c = let a = c.try_start-answer in let t = c.tell_start in let m = c.in-Some-element_of in
     let did = subst (λ (n : ℕ). WasStarted n a.result c.in-Some.held.now a.new.self) m.ensures.0 a.ensures in
-    at_value (λ x. IsStartCall c.args.element x c.args.started.now t.new.started (Some a.new.self) t.result) (ap (of_kind hand_in) c.in-Some.ensures.value)
+    at_value (λ x. IsStartCall c.args.element c.args.started.now t.new.started t.result x (Some a.new.self)) (ap (of_kind hand_in) c.in-Some.ensures.value)
     (inr (m.ensures.1, answered a.new.self a.result did t.ensures))

@@ -11,5 +11,5 @@ tell_before-requires c = let a = c.try_wake_before-answer in let m = c.in-Some-w
 pub returns-clause-taken : goal.returns-clause-taken
 returns-clause-taken c = let a = c.try_wake_before-answer in let t = c.tell_before in let m = c.in-Some-wait_of in
     let did = subst (λ (n : ℕ). WasTriedBefore n c.args.head a.result c.in-Some.held.now a.new.self) m.ensures.0 a.ensures in
-    at_value (λ x. IsBeforeCall c.args.wait c.args.head x c.args.element.now t.new.element (Some a.new.self) t.result) (ap (of_kind hand_in) c.in-Some.ensures.value)
+    at_value (λ x. IsBeforeCall c.args.wait c.args.head c.args.element.now t.new.element t.result x (Some a.new.self)) (ap (of_kind hand_in) c.in-Some.ensures.value)
     (inr (m.ensures.1, answered a.new.self a.result did t.ensures))

@@ -25,7 +25,7 @@ use Rattle.batch_queue.specs.Endings as endings
 use Rattle.bindings.specs.Shares.{AllOf, WasDivided, WasJoined}
 pub use Rattle.bindings.specs.Kinds.{HeldBatch}
 use Rattle.bindings.specs.QueueTaking.{IsKeptFrom}
-use Rattle.bindings.specs.declared.batch.looking.SynthBatchLook.{SynthBatchLook}
+use Rattle.bindings.specs.declared.batch.SynthBatchLook.{SynthBatchLook}
 pub use Rattle.bindings.specs.declared.batch.closing.SynthBatchClosed.{SynthBatchClosed}
 
 -- a number of places that a batch queue can have: 1 to MOST_PLACES, and a power of two

@@ -22,7 +22,7 @@ use Rattle.bindings.specs.Shares.{AllOf, WasDivided, WasJoined}
 use Rattle.bindings.specs.QueueTaking.{TookSome, IsKeptFrom}
 pub use Rattle.bindings.specs.declared.queue.part.Part.{Part}
 pub use Rattle.bindings.specs.declared.answer.SynthClosed.{SynthClosed}
-use Rattle.bindings.specs.declared.queue.looking.SynthQueueLook.{SynthQueueLook}
+use Rattle.bindings.specs.declared.queue.SynthQueueLook.{SynthQueueLook}
 
 -- the same end of the same queue
 abbrev pub IsSamePart : (n : ℕ) → Part n → Part n → Type 0

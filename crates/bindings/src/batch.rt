@@ -4,14 +4,13 @@ ghost use Rattle.bindings.specs.Handles.{Done, EmptyHandle, held_by, batch_of, A
 ghost use Rattle.bindings.specs.Handles.{Answered, MadeHandle, FreedHandle, SplitHandle, JoinedHandle, MarksTell};
 ghost use Rattle.bindings.specs.Handles.{Batch};
 ghost use Rattle.bindings.specs.BatchHeld.{IsCapacity, IsNewBatch, SplitBy, Joined, AreOfOneQueue, places_of, Put};
-ghost use Rattle.bindings.specs.BatchHeld.{PutSome, Took, TookUpTo, Counted, WasShut};
+ghost use Rattle.bindings.specs.BatchHeld.{PutSome, Took, TookUpTo, Counted, WasShut, found_by, WasLookedAt};
 ghost use Rattle.bindings.specs.BatchCalls.{ReportsPut, ReportsPutSome, ReportsTake, code_of_put, positions_of_put};
 ghost use Rattle.bindings.specs.BatchCalls.{WasClosed};
 ghost use Rattle.bindings.specs.Shares.{HasTwo, HasNoTwo, IsOneMark};
 
 mod closing;
 pub mod held;
-mod looking;
 
 use crate::answer::{
     BAD_NUMBER, CLOSED, DONE, EMPTY, EMPTY_HANDLE, FULL, FULL_HANDLE, LOST, NO_ITEMS, OPEN,
@@ -21,7 +20,7 @@ use crate::ends::{fill, free, join, split};
 use crate::handle::Handle;
 use crate::kind::Kind;
 use crate::payload::Payload;
-use batch_queue::{PutRefusal, TakeRefusal};
+use batch_queue::{PutRefusal, QueueLook, TakeRefusal};
 use closing::SynthBatchClosed;
 use held::HeldBatch;
 use loose_box::Loose;
@@ -113,6 +112,29 @@ fn tell_take(
             *positions = SynthPositions { head: 0, tail: at };
             SHORT_BUFFER
         }
+    }
+}
+
+/// The result of a look at a batch queue: the tail, the position up to which all is published from the tail on, the
+/// head, and whether the queue is shut.
+#[repr(C)]
+#[derive(Drop)]
+pub struct SynthBatchLook {
+    pub tail: u64,
+    pub published: u64,
+    pub head: u64,
+    pub shut: bool,
+}
+
+// The result of the look, as C has it.
+fn report(found: QueueLook) -> SynthBatchLook
+    ensures { found ≡ found_by result }
+{
+    SynthBatchLook {
+        tail: found.tail,
+        published: found.published,
+        head: found.head,
+        shut: found.shut,
     }
 }
 
@@ -282,6 +304,20 @@ pub extern "C" fn synth_raw_batch_shut(batch: &mut Handle, was_open: &mut bool) 
         return EMPTY_HANDLE;
     };
     *was_open = held.shut();
+    DONE
+}
+
+/// `BatchQueue::look`.
+#[unsafe(no_mangle)]
+pub extern "C" fn synth_raw_batch_look(batch: &mut Handle, look: &mut SynthBatchLook) -> i32
+    ensures empty { NoneIn batch_of batch.old batch.new ((result ≡ EmptyHandle) × (look.new ≡ look.old)) }
+    ensures looked { TurnsThen batch_of batch.old batch.new
+        (λ x y. WasLookedAt (found_by look.new) x y × (result ≡ Done)) }
+{
+    let Some(held) = batch.find::<HeldBatch>() else {
+        return EMPTY_HANDLE;
+    };
+    *look = report(held.look());
     DONE
 }
 

@@ -1,6 +1,5 @@
 //! Thread elements for C: each call is one of the library's, by the hand that a handle holds.
 
-mod closing;
 mod ends;
 pub mod held;
 mod moves;

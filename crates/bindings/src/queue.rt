@@ -5,12 +5,11 @@ ghost use Rattle.bindings.specs.Handles.{MadeHandle, FreedHandle, SplitHandle, J
 ghost use Rattle.bindings.specs.Handles.{IsCodeAlone};
 ghost use Rattle.bindings.specs.QueueHeld.{AtSize, AtSizes, IsSize, IsNewHeld, share_of, HaveOneMark, AreOfOneQueue};
 ghost use Rattle.bindings.specs.QueueCalls.{WasPut, WasTaken, TakesSome, TakesLine, WasClosed};
-ghost use Rattle.bindings.specs.QueueParts.{ShutPart, DividedPart, JoinedPart};
+ghost use Rattle.bindings.specs.QueueParts.{ShutPart, DividedPart, JoinedPart, found_by, LookedAtPart};
 ghost use Rattle.bindings.specs.Shares.{HasTwo, HasNoTwo};
 
 mod closing;
 pub mod held;
-mod looking;
 mod part;
 mod taking;
 
@@ -22,9 +21,33 @@ use crate::ends::{fill, free, join, split};
 use crate::handle::Handle;
 use crate::kind::Kind;
 use crate::payload::Payload;
+use claim_queue::QueueLook;
 use held::{HeldQueue, is_size};
 use loose_box::Loose;
 use std::alloc::Global;
+
+/// The result of a look at a claim queue: the tail, the head, whether the queue is shut, and how many items are raised
+/// from the tail on.
+#[repr(C)]
+#[derive(Drop)]
+pub struct SynthQueueLook {
+    pub tail: u32,
+    pub head: u32,
+    pub raised: u32,
+    pub shut: bool,
+}
+
+// The result of the look, as C has it.
+fn report(found: QueueLook) -> SynthQueueLook
+    ensures { found ≡ found_by result }
+{
+    SynthQueueLook {
+        tail: found.tail,
+        head: found.head,
+        raised: found.raised,
+        shut: found.shut,
+    }
+}
 
 /// An empty queue of 64 or 256 places, whose first position is `first`. Each queue has a mark of its own.
 #[unsafe(no_mangle)]
@@ -172,6 +195,20 @@ pub extern "C" fn synth_raw_queue_shut(queue: &mut Handle, was_open: &mut bool) 
         return EMPTY_HANDLE;
     };
     *was_open = held.shut();
+    DONE
+}
+
+/// `ClaimQueue::look`.
+#[unsafe(no_mangle)]
+pub extern "C" fn synth_raw_queue_look(queue: &mut Handle, look: &mut SynthQueueLook) -> i32
+    ensures empty { NoneIn queue_of queue.old queue.new ((result ≡ EmptyHandle) × (look.new ≡ look.old)) }
+    ensures looked { TurnsThen queue_of queue.old queue.new
+        (λ x y. AtSize (LookedAtPart (found_by look.new)) x y × (result ≡ Done)) }
+{
+    let Some(held) = queue.find::<HeldQueue>() else {
+        return EMPTY_HANDLE;
+    };
+    *look = report(held.look());
     DONE
 }
 

@@ -5,7 +5,7 @@ ghost use Rattle.batch_queue.specs.Handles.{IsEndOf, view_of};
 
 use crate::ends::End;
 use crate::share::Share;
-use batch_queue::{BatchEnd, BatchQueue, MOST_PLACES, PutRefusal, TakeRefusal};
+use batch_queue::{BatchEnd, BatchQueue, MOST_PLACES, PutRefusal, QueueLook, TakeRefusal};
 use std::alloc::Global;
 use std::sync::Arc;
 
@@ -21,7 +21,7 @@ pub struct HeldBatch {
 
 impl HeldBatch {
     ghost use Rattle.bindings.specs.BatchHeld.{IsCapacity, IsNewBatch, places_of, Put, PutSome, Took, TookUpTo};
-    ghost use Rattle.bindings.specs.BatchHeld.{Counted, WasShut};
+    ghost use Rattle.bindings.specs.BatchHeld.{Counted, WasShut, WasLookedAt};
 
     /// Whether a queue can have so many places: a power of two, 2^24 at most.
     pub fn is_capacity(places: usize) -> bool
@@ -94,6 +94,13 @@ impl HeldBatch {
         ensures { WasShut result self.old self.new }
     {
         self.queue.shut(&mut self.end)
+    }
+
+    /// `BatchQueue::look`.
+    pub fn look(&mut self) -> QueueLook
+        ensures { WasLookedAt result self.old self.new }
+    {
+        self.queue.look(&mut self.end)
     }
 }
 

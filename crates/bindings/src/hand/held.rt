@@ -10,7 +10,7 @@ use crate::share::Share;
 use event_theory::{Element, Processor};
 use std::alloc::Global;
 use std::sync::Arc;
-use thread_table::{Hand, Spent, ThreadTable};
+use thread_table::{Hand, Places, Spent, ThreadTable};
 
 /// One hand of a table of thread elements that other handles share.
 #[derive(Drop)]
@@ -23,7 +23,7 @@ pub struct HeldHand {
 }
 
 impl HeldHand {
-    ghost use Rattle.bindings.specs.HandHeld.{IsNewHand, WasPutOn, WasTakenOff, WasCounted, WasDone};
+    ghost use Rattle.bindings.specs.HandHeld.{IsNewHand, WasPutOn, WasTakenOff, WasCounted, WasDone, Ended};
 
     /// The only hand of a new table.
     pub fn new(alloc: Global, first: u32, mark: u64) -> Option<HeldHand>
@@ -96,6 +96,26 @@ impl HeldHand {
         ensures { WasDone element result self.old self.new }
     {
         self.table.step_done(&mut self.hand, element)
+    }
+
+    /// `ThreadTable::close`, when the hand has all parts. Else the hand is returned.
+    pub fn close(self) -> Result<Places, HeldHand>
+        ensures { Ended result self }
+    {
+        if self.share.parts != u64::MAX {
+            return Err(self);
+        }
+        let HeldHand { table, hand, share } = self;
+        let table = match Arc::try_unwrap(table) {
+            Ok(table) => table,
+            Err(table) => {
+                return Err(HeldHand { table, hand, share });
+            }
+        };
+        let Ok(places) = table.close(hand) else {
+            unreachable!()
+        };
+        Ok(places)
     }
 }
 

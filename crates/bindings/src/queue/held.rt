@@ -3,12 +3,12 @@ ghost use Rattle.std.specs.Prelude.{◌≡◌, ◌≤◌, length, MatchBool, Mat
 ghost use Rattle.bindings.specs.QueueHeld.{AtSize, AtSizes, IsSize, HaveOneMark, AreOfOneQueue, IsNewHeld, places_of};
 ghost use Rattle.bindings.specs.QueueHeld.{share_of};
 ghost use Rattle.bindings.specs.QueueParts.{PutPart, TookPart, TookLinePart, TookSomePart, ShutPart, DividedPart};
-ghost use Rattle.bindings.specs.QueueParts.{JoinedPart};
+ghost use Rattle.bindings.specs.QueueParts.{JoinedPart, LookedAtPart};
 ghost use Rattle.bindings.specs.Shares.{HasTwo, HasNoTwo};
 
 use super::part::Part;
 use crate::ends::End;
-use claim_queue::{ClaimRefusal, TakeRefusal};
+use claim_queue::{ClaimRefusal, QueueLook, TakeRefusal};
 use std::alloc::Global;
 
 /// An end of a queue of either size.
@@ -95,6 +95,16 @@ impl HeldQueue {
         match self {
             HeldQueue::Small(part) => part.shut(),
             HeldQueue::Large(part) => part.shut(),
+        }
+    }
+
+    /// `ClaimQueue::look`.
+    pub fn look(&mut self) -> QueueLook
+        ensures { AtSize (LookedAtPart result) self.old self.new }
+    {
+        match self {
+            HeldQueue::Small(part) => part.look(),
+            HeldQueue::Large(part) => part.look(),
         }
     }
 }

@@ -7,7 +7,7 @@ ghost use Rattle.table_theory.specs.Listing.{AllRaised};
 use super::taking::{copy_line, take_up_to};
 use crate::share::Share;
 use arrayvec::ArrayVec;
-use claim_queue::{ClaimQueue, ClaimRefusal, QueueEnd, TakeRefusal};
+use claim_queue::{ClaimQueue, ClaimRefusal, QueueEnd, QueueLook, TakeRefusal};
 use std::alloc::Global;
 use std::sync::Arc;
 
@@ -24,7 +24,7 @@ pub struct Part<const N: usize> {
 
 impl<const N: usize> Part<N> {
     ghost use Rattle.bindings.specs.QueueParts.{IsNewPart, PutPart, TookPart, TookLinePart, TookSomePart, ShutPart};
-    ghost use Rattle.bindings.specs.QueueParts.{DividedPart, JoinedPart, IsOneQueue};
+    ghost use Rattle.bindings.specs.QueueParts.{DividedPart, JoinedPart, IsOneQueue, LookedAtPart};
     ghost use Rattle.bindings.specs.Shares.{Fit, HasTwo};
 
     /// An empty queue's first and only end.
@@ -101,5 +101,12 @@ impl<const N: usize> Part<N> {
         ensures { ShutPart result N self.old self.new }
     {
         self.queue.shut(&mut self.end)
+    }
+
+    /// `ClaimQueue::look`.
+    pub fn look(&mut self) -> QueueLook
+        ensures { LookedAtPart result N self.old self.new }
+    {
+        self.queue.look(&mut self.end)
     }
 }

@@ -1,7 +1,7 @@
 use Rattle.bindings.proofs.Calls.{◌≡◌, refl, ap, subst, pos, Some, HoldsSome, of_kind, batch_in, at_value}
 use Rattle.batch_queue.specs.declared.look.QueueLook.{QueueLook}
 use Rattle.bindings.specs.BatchHeld.{found_by, WasLookedAt}
-use Rattle.bindings.proofs.batch.looking.synth_raw_batch_look.Goals as goal
+use Rattle.bindings.proofs.batch.synth_raw_batch_look.Goals as goal
 
 pub returns-clause-looked : goal.returns-clause-looked
 returns-clause-looked c = let y = c.look.new.self in

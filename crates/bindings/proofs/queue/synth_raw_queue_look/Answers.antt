@@ -2,7 +2,7 @@ use Rattle.bindings.proofs.Calls.{◌≡◌, refl, ap, subst, pos, Some, HoldsSo
 use Rattle.claim_queue.specs.declared.look.QueueLook.{QueueLook}
 use Rattle.bindings.specs.QueueParts.{found_by, LookedAtPart}
 use Rattle.bindings.specs.QueueHeld.{AtSize}
-use Rattle.bindings.proofs.queue.looking.synth_raw_queue_look.Goals as goal
+use Rattle.bindings.proofs.queue.synth_raw_queue_look.Goals as goal
 
 pub returns-clause-looked : goal.returns-clause-looked
 returns-clause-looked c = let y = c.look.new.self in

@@ -12,7 +12,7 @@
 #include <sys/mman.h>
 
 /* The bytes that the head of synthesis.h names. */
-enum { PER_PLACE = 16, BATCH = 600, QUEUE = 350, CHAIN = 650, METERS = 410, LINE = 650, ELEMENTS = 16400, SPLIT = 120 };
+enum { PER_PLACE = 16, BATCH = 540, QUEUE = 280, CHAIN = 600, METERS = 360, LINE = 540, ELEMENTS = 16350, SPLIT = 64 };
 
 static size_t taken_before;
 

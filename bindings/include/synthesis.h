@@ -33,8 +33,8 @@
  * - Not cancellation-safe: a thread that is cancelled asynchronously within a call, or leaves it by longjmp, breaks its
  *   handle, and takers may wait for good for what it put.
  * - Handles may lie side by side, since tries don't write to them.
- * - A batch queue takes 600 bytes of memory and 16 for each place, a claim queue 350 and 16, a chain 650, meters 410, a
- *   line 650 and its room, thread elements 16,400, and each split 120.
+ * - A batch queue takes 540 bytes of memory and 16 for each place, a claim queue 280 and 16, a chain 600, meters 360, a
+ *   line 540 and its room, thread elements 16,350, and each split 64.
  * - Two copies of the library in one process may be used side by side: to a join their objects are different ones, as
  *   long as neither copy made more than 268,435,456.
  *

@@ -1,4 +1,4 @@
-use Rattle.std.proofs.Common.{rules, arith, ◌≡◌, ◌+◌, ℕ, List, map, ap, sym, subst, ◌∙◌}
+use Rattle.std.proofs.Common.{rules, arith, ◌≡◌, ◌+◌, ℕ, List, [], ◌∷◌, map, ap, sym, subst, ◌∙◌}
 use Rattle.std.proofs.Math.Nat.{add-zero}
 use Rattle.std.specs.List.{All}
 use Rattle.claim_queue.specs.declared.ends.QueueEnd.{QueueEnd}
@@ -20,7 +20,7 @@ close_queues-closed-requires g c =
     let back = came_back end_table made.ends lent.result.now new tables lent.ensures.len in
     let fit : map end_table new ≡ map queue_table made.queues.items = c.join_at.ensures.ends ∙ ap (map queue_table) c.as_slice-list.ensures.value in
     let long = as_long end_table queue_table new made.queues.items fit in let one = made.one in
-    let said = said_at _ c.say.result _ _ _ c.say.ensures.said in let again = said_at _ c.say-2.result _ _ _ c.say-2.ensures.said in
+    let said = said_at (104 ∷ 105 ∷ 10 ∷ []) c.say.result _ _ _ c.say.ensures.said in let again = said_at (33 ∷ 10 ∷ []) c.say-2.result _ _ _ c.say-2.ensures.said in
     let heard = heard_at _ c.hear.result _ _ _ c.hear.ensures.heard in let shut = shut_at c.shut_queue.result _ _ _ c.shut_queue.ensures.shut in
     let shares = shut.sound.shares ∙ (heard.sound.shares ∙ (again.sound.shares ∙ (said.sound.shares ∙ ap queue_shares lent.ensures.value))) in
     let same : queue_shares c.shut_queue.new.ends 0 ≡ share_at made.ends.items 0 = ap (λ (f : ℕ → ℕ). f 0) shares ∙ share_is made.ends.items 0 in

@@ -143,7 +143,7 @@ fn nothing() {{}}
 
 def closing(rule, look, item="()", bound="", more="", rest="", shape="Shape"):
     """The head, the body in the right order and the others of a crate, by its own names."""
-    named = CLOSES.format(rule="{" + rule + ", Shape, View" + (", Pact" if "Pact" in shape else "") + "}", look=look, more=more)
+    named = CLOSES.format(rule="{" + rule.partition("<")[0] + ", Shape, View" + (", Pact" if "Pact" in shape else "") + "}", look=look, more=more)
     last, seat, made = f"Last<{item}, View>", f"Seat<{item}, View>", f"Closed<{item}, Global>"
     counts = "count::<_, _, _, _, Brand>"
     words, table = f"&Shared<{item}, View, {shape}, {rule}>", f"Table<{item}, View, {shape}, {rule}, Global>"
@@ -170,7 +170,7 @@ TRIALS = [
         (DERIVED[5:], (NO_COPY,)), (MOVED, (NO_VALUE,))]),
     ("proc_chain", "layout", CHAIN_HEAD, CHAIN_RIGHT, [(CHAIN_PRIVATE, (NO_FIELD, NO_NAME)), (CHAIN_LET_GO, (LET_GO,)), (CHAIN_MOVED, (NO_VALUE,))]),
     ("proc_chain", "layout", *closing("ChainRule", "load", "Q", "<Q: Quaject>", "use crate::quaject::Quaject;\n", ", 0", shape="Shape<Pact<Q::World, Q>>")),
-    ("claim_queue", "layout", *closing("ClaimRule", "load_head")),
+    ("claim_queue", "layout", *closing("ClaimRule<Free>", "load_head", more="use table_theory::protocol::Free;\n")),
     ("meters", "layout", *closing("MeterRule", "load_clock")),
     ("thread_table", "hand", *closing("ThreadRule", "load_head", rest=", 0")),
 ]

@@ -1,6 +1,6 @@
 -- The works of a boot: they may be done, one device more has its work, and what a device gives back keeps what its work
 -- promises.
-use Rattle.boot_threads.proofs.Common.{◌≡◌, ℕ, suc, ◌+◌, List, [], ◌∷◌, ◌∙◌, length, refl, sym, ap, subst, arith, Some, slice_get, ◌++◌, false, get_or, Option, PlannedTty, AllThree, Device, AreDevicesOf, Shared, Parts, Work, IsServing, AreServing, ArePosted, HasWorked, HasServed, Point, ProcChain, IsEndOf, AnyQuaject, RawTty, Queues, IsEndAt, end_of, LineOut, SameOut, Served}
+use Rattle.boot_threads.proofs.Common.{◌≡◌, ℕ, suc, ◌+◌, List, [], ◌∷◌, ◌∙◌, length, refl, sym, ap, subst, arith, Some, slice_get, ◌++◌, false, get_or, Option, PlannedTty, AllThree, Device, AreDevicesOf, Shared, Parts, Work, IsServing, AreServing, ArePosted, HasWorked, HasServed, Calls, ProcChain, IsEndOf, AnyQuaject, RawTty, Queues, IsEndAt, end_of, LineOut, SameOut, Served}
 use Rattle.std.specs.List.{All}
 use Rattle.std.proofs.lemmas.List.Elements.{All-nil, All-cons}
 use Rattle.boot_objects.specs.Devices.{IsAtWork}
@@ -70,7 +70,7 @@ module _ {G : Type 0} where
   serving_none [] = tt
   serving_none (w ∷ old) = (refl, serving_none old)
 
-pub served_so : {G : Type 0} (T : G → ℕ → Point → G → Type 0) (shared : Shared) (work : Work G) (chain count : ℕ) (line line' : LineOut) (tty tty' : RawTty) (its : ProcChain AnyQuaject Queues)
+pub served_so : {G : Type 0} (T : Calls G) (shared : Shared) (work : Work G) (chain count : ℕ) (line line' : LineOut) (tty tty' : RawTty) (its : ProcChain AnyQuaject Queues)
     → work ≡ works.Serve chain line tty count → MayWork shared work → its ≡ get_or shared.chains.items chain its
     → SameOut line line' → tty'.index ≡ tty.index → IsEndAt shared.queues.small.items tty'.index (end_of tty') → IsEndOf its tty'.chain → turn_of tty'.chain ≡ false
     → Served its count line tty line' tty' → HasWorked T shared work (worked.Served line' tty')

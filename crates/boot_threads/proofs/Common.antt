@@ -47,7 +47,7 @@ pub use Rattle.thread_table.specs.declared.rule.MadeEvent.{MadeEvent}
 pub use Rattle.turn_dispatch.specs.Holdings.{HoldsSame, IsFree}
 pub use Rattle.turn_io.specs.Accounts.{Stake, chain_stake, idle_chain, no_stake, stake}
 pub use Rattle.turn_io.specs.Splits.{AllThree}
-pub use Rattle.turn_io.specs.declared.gate.Point.{Point}
+pub use Rattle.processor.specs.Points.{Calls, calls}
 pub use Rattle.boot_threads.specs.Crews.{GaveBack, WasJoined, WasRun, StartReports}
 pub use Rattle.boot_threads.specs.Devices.{PutEach, Served, Try, bytes_of, lines_of, refused}
 pub use Rattle.boot_threads.specs.Elements.{HoldsFrom, Moved, PutInto, TookFree, claims, free_taken, many_held, move_by, moves_in, own_takings, ring_of}

@@ -1,5 +1,5 @@
 -- The results of the processors and the devices, by their works.
-use Rattle.boot_threads.proofs.Common.{◌≡◌, ℕ, zero, suc, ◌+◌, ◌<◌, ◌≤◌, ◌^◌, List, [], ◌∷◌, ◌∙◌, map, take, drop, length, refl, sym, ap, subst, arith, Option, Some, None, Result, Ok, slice_get, AllZip, le_prop, ∥∥₁_elim, BootPlan, PlannedTty, Point, ProcChain, IsEndOf, AnyQuaject, Queues, IsEndAt, end_of, AllThree, Device, AreDevicesOf, Shared, RawTty, LineIn, LineOut, SameIn, SameOut, Work, Worked, GaveBack, IsServing, AreServing, input_of, IsTyped, AreTyped, Back, HasWorked, HasServed}
+use Rattle.boot_threads.proofs.Common.{◌≡◌, ℕ, zero, suc, ◌+◌, ◌<◌, ◌≤◌, ◌^◌, List, [], ◌∷◌, ◌∙◌, map, take, drop, length, refl, sym, ap, subst, arith, Option, Some, None, Result, Ok, slice_get, AllZip, le_prop, ∥∥₁_elim, BootPlan, PlannedTty, Calls, ProcChain, IsEndOf, AnyQuaject, Queues, IsEndAt, end_of, AllThree, Device, AreDevicesOf, Shared, RawTty, LineIn, LineOut, SameIn, SameOut, Work, Worked, GaveBack, IsServing, AreServing, input_of, IsTyped, AreTyped, Back, HasWorked, HasServed}
 use Rattle.std.proofs.lemmas.Option.{same_Some}
 use Rattle.boot_data.specs.QueueLists.{raw_queue}
 use Rattle.boot_data.specs.BootPlans.{plan_of}
@@ -80,7 +80,7 @@ pub still_line : (i i' : LineIn) (o o' : LineOut) → IsLine i o → SameIn i i'
 still_line i i' o o' line a b =
     let x = a.0 in let y = b.0 in (y.0 ∙ line.0 ∙ sym x.0, y.1 ∙ line.1 ∙ sym x.1, y.2 ∙ line.2 ∙ sym x.2, y.3 ∙ line.3 ∙ sym x.3)
 
-gave_served : (G : Type 0) (T : G → ℕ → Point → G → Type 0) (shared : Shared) (chain count : ℕ) (line : LineOut) (tty : RawTty) (back : Worked G) → HasWorked T shared (works.Serve chain line tty count) back
+gave_served : (G : Type 0) (T : Calls G) (shared : Shared) (chain count : ℕ) (line : LineOut) (tty : RawTty) (back : Worked G) → HasWorked T shared (works.Serve chain line tty count) back
     → (line' : LineOut) × (tty' : RawTty) × (back ≡ worked.Served line' tty') × HasServed shared chain count line tty line' tty'
 gave_served G T shared chain count line tty (worked.Processed station) h = absurd h
 gave_served G T shared chain count line tty (worked.Served line' tty') h = (line', tty', refl, h)
@@ -102,7 +102,7 @@ raws_at shared t count device line tty d s = (
   },
 )
 
-pub device_back : {G : Type 0} (ran : RunsOf G) (refused : RefusalsOf G) (T : G → ℕ → Point → G → Type 0) (shared : Shared) (devices : List Device) (posts ws : List (Work G)) (backs : List (Back G)) (inputs : List LineIn)
+pub device_back : {G : Type 0} (ran : RunsOf G) (refused : RefusalsOf G) (T : Calls G) (shared : Shared) (devices : List Device) (posts ws : List (Work G)) (backs : List (Back G)) (inputs : List LineIn)
     → AreDevicesOf shared.plan shared.queues shared.chains.items devices → AreServing shared.plan.ttys devices posts ws → AllZip (GaveBack ran refused (HasWorked T) shared) ws backs
     → AreTyped shared.plan.ttys (drop (length posts) backs) (map input_of devices) inputs
     → (t : ℕ) (p : PlannedTty) (device : Device) (input : LineIn) (back : Worked G) → slice_get shared.plan.ttys t ≡ Some p → slice_get devices t ≡ Some device → slice_get inputs t ≡ Some input

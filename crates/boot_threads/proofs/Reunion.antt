@@ -1,5 +1,5 @@
 -- The stations of the processors come together again.
-use Rattle.boot_threads.proofs.Common.{◌≡◌, ℕ, ◌+◌, ◌<◌, ◌≤◌, true, List, [], ◌∷◌, ◌∙◌, map, length, get_or, sym, ap, subst, arith, Option, None, AllZip, or_left, or_right, Point, IsFree, Shared, Parts, account, shares, get_or-copies, Work, GaveBack, NoneOn, ArePosted, HasWorked}
+use Rattle.boot_threads.proofs.Common.{◌≡◌, ℕ, ◌+◌, ◌<◌, ◌≤◌, true, List, [], ◌∷◌, ◌∙◌, map, length, get_or, sym, ap, subst, arith, Option, None, AllZip, or_left, or_right, Calls, IsFree, Shared, Parts, account, shares, get_or-copies, Work, GaveBack, NoneOn, ArePosted, HasWorked}
 use mathlib.Core.Logic.{dite}
 use native.Mathlib.Decide.{dec_lt}
 use Rattle.processor.specs.Accounts.{◌⊕◌, unheard, Shares, no_shares, both_shares}
@@ -44,7 +44,7 @@ parted_more : (old mid born back new rest : Shares) → both_shares mid born ≡
 parted_more old mid born back new rest whole same parted =
     sym whole ∙ ap (both_shares mid) (sym same) ∙ ap (λ z. both_shares z back) parted ∙ shares_add.regroups new rest back ∙ ap (both_shares new) (shares_swap rest back)
 
-module _ (G : Type 0) (ran : RunsOf G) (refused : RefusalsOf G) (T : G → ℕ → Point → G → Type 0) (shared : Shared) (turns : ℕ) where
+module _ (G : Type 0) (ran : RunsOf G) (refused : RefusalsOf G) (T : Calls G) (shared : Shared) (turns : ℕ) where
   -- the results of the processors from this one on: their turns; no work of the first station; the shares that were
   -- given to them; and, for a station to which they are joined, the processors that they serve, without an element on
   -- them

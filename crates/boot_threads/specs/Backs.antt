@@ -2,7 +2,6 @@
 use Rattle.std.specs.Prelude.{◌≡◌, ◌++◌, ◌+◌, ◌<◌, ℕ, List, [], ◌∷◌, map, length, Ok}
 use Rattle.boot_data.specs.declared.plan.PlannedTty.{PlannedTty}
 use Rattle.boot_data.specs.QueueLists.{raw_queue}
-use Rattle.turn_io.specs.declared.gate.Point.{Point}
 use Rattle.turn_io.specs.EndLists.{end_share, chain_end_share}
 use Rattle.turn_dispatch.specs.Holdings.{IsFree}
 use Rattle.boot_objects.specs.declared.device.Device.{Device}
@@ -14,6 +13,7 @@ use Rattle.processor.specs.declared.station.Station.{Station}
 use Rattle.processor.specs.Accounts.{Account, nothing, ◌⊕◌, account, unheard, shares}
 use Rattle.processor.specs.Logs.{IsFresh}
 use Rattle.processor.specs.Manning.{IsRunnable}
+use Rattle.processor.specs.Points.{Calls}
 use Rattle.processor.specs.RawEnds.{IsRawAt}
 use Rattle.quajects.specs.declared.raw.RawTty.{RawTty}
 use Rattle.quajects.specs.Raws.{end_of, overruns_of}
@@ -66,7 +66,7 @@ module _ {G : Type 0} where
   -- Each processor, from the number p on, had so many turns on a station of these objects. The processor could use the
   -- station, and the station had done nothing. Its gate observed these turns. The thread of exactly this work gave back
   -- the station and the gate as the turns left them
-  abbrev pub AllTurned : RunsOf G → (G → ℕ → Point → G → Type 0) → Shared → ℕ → ℕ → List G
+  abbrev pub AllTurned : RunsOf G → Calls G → Shared → ℕ → ℕ → List G
       → List (Processed G) → Type 0
   AllTurned ran T shared p turns [] [] = Unit {0}
   AllTurned ran T shared p turns (gate ∷ gates) (one ∷ came) =
@@ -79,7 +79,7 @@ module _ {G : Type 0} where
   -- Each processor left on its station what its log says. After all stations are joined to what the first station had
   -- kept, `last` has the shares that the first station had before its splits. It has done the work that it had done and
   -- theirs. It serves each processor, and no element is on one
-  pub record CameTogether (ran : RunsOf G) (T : G → ℕ → Point → G → Type 0) (shared : Shared)
+  pub record CameTogether (ran : RunsOf G) (T : Calls G) (shared : Shared)
       (turns : ℕ) (gates : List G) (old last : Parts) (came : List (Processed G)) : Type 0 where
     pub turned : AllTurned ran T shared 0 turns gates came
     pub shares_are : shares last ≡ shares old

@@ -1,13 +1,13 @@
 -- The works that the threads of a kernel may do, and their results.
 use Rattle.std.specs.Prelude.{◌≡◌, ℕ, Some, false, Result}
 use Rattle.std.specs.List.{slice_get}
-use Rattle.turn_io.specs.declared.gate.Point.{Point}
 use Rattle.proc_chain.specs.declared.ends.ProcChain.{ProcChain}
 use Rattle.proc_chain.specs.Handles.{turn_of, IsEndOf}
 use Rattle.processor.specs.declared.shared.Shared.{Shared}
 use Rattle.processor.specs.declared.station.Parts.{Parts}
 use Rattle.processor.specs.Logs.{RanTurns}
 use Rattle.processor.specs.Manning.{IsRunnable, KeepsStation}
+use Rattle.processor.specs.Points.{Calls}
 use Rattle.quajects.specs.declared.any.AnyQuaject.{AnyQuaject}
 use Rattle.quajects.specs.declared.raw.RawTty.{RawTty}
 use Rattle.quajects.specs.declared.world.Queues.{Queues}
@@ -31,9 +31,9 @@ RunsOf G = Runs Shared (Work G) (Worked G)
 abbrev pub RefusalsOf : Type 0 → Type 1
 RefusalsOf G = Refusals Shared (Work G)
 
--- A processor had so many turns, of which its gate observed each and became `gate'`. The turns left on its station what
--- their log says. The processor can still use the station
-abbrev pub HasRun : {G : Type 0} → (G → ℕ → Point → G → Type 0) → Shared → ℕ → ℕ → G → G → Parts → Parts → Type 0
+-- A processor had so many turns. Its gate observed each, got its result, and became `gate'`. The turns left on
+-- its station what their log says. The processor can still use the station
+abbrev pub HasRun : {G : Type 0} → Calls G → Shared → ℕ → ℕ → G → G → Parts → Parts → Type 0
 HasRun T shared p turns gate gate' old new =
     KeepsStation shared p old new × RanTurns T shared p turns gate gate' old new
 
@@ -60,7 +60,7 @@ abbrev pub MayWork : {G : Type 0} → Shared → Work G → Type 0
 MayWork shared (works.Process station p turns gate) = IsRunnable shared p station.parts
 MayWork shared (works.Serve chain line tty count) = IsServable shared chain tty
 
-abbrev pub HasWorked : {G : Type 0} → (G → ℕ → Point → G → Type 0) → Shared → Work G → Worked G → Type 0
+abbrev pub HasWorked : {G : Type 0} → Calls G → Shared → Work G → Worked G → Type 0
 HasWorked T shared (works.Process station p turns gate) (worked.Processed back) =
     HasRun T shared p turns gate back.gate station.parts back.station.parts
 HasWorked T shared (works.Serve chain line tty count) (worked.Served line' tty') =

@@ -30,6 +30,7 @@ ghost use Rattle.spsc_line.specs.declared.line_out.LineOut.{LineOut};
 ghost use Rattle.spsc_line.specs.Lines.{bytes_sent, bytes_received, bytes_left};
 ghost use Rattle.thread_table.specs.declared.hand.ThreadTable.{ThreadTable};
 ghost use Rattle.thread_table.specs.Handles.{view_of, IsOnlyHand};
+ghost use Rattle.processor.specs.Points.{calls};
 ghost use Rattle.boot_threads.specs.declared.work.Work.{Work};
 ghost use Rattle.boot_threads.specs.declared.work.Processed.{Processed};
 ghost use Rattle.boot_threads.specs.declared.work.Worked.{Worked};
@@ -44,8 +45,7 @@ ghost use Rattle.boot_threads.specs.Works.{Back, MayWork, HasWorked};
 
 use crate::starting::Witness;
 use crate::work::{Work, Worked};
-use processor::Shared;
-use turn_io::Gate;
+use processor::{Shared, TurnGate};
 
 /// The first station of new objects, once it is prepared, is as the report of a boot requires. All free elements were
 /// taken, and the elements freed again are no thread's. The plan's alarms were set, and nothing else was done.
@@ -101,12 +101,12 @@ pub fn all_is_served()
 /// Conditions: the works of new objects' devices follow the others, and the bytes of each tty were typed. Then the
 /// device of each tty that gave anything back served its tty, and its ends have the shares that they had. Once the
 /// device's line is finished, all bytes that the plan types were served.
-pub fn devices_come_back<R: Witness<Shared, Worked<G>, Work<G>>, G: Gate + Drop>()
+pub fn devices_come_back<R: Witness<Shared, Worked<G>, Work<G>>, G: TurnGate + Drop>()
     ensures { (shared : Shared) (devices : List Device) (posts works : List (Work G))
         (backs : List (Back G)) (inputs : List LineIn)
         → AreDevicesOf shared.plan shared.queues shared.chains.items devices
         → AreServing shared.plan.ttys devices posts works
-        → AllZip (GaveBack R.ran R.refused (HasWorked G.observes) shared) works backs
+        → AllZip (GaveBack R.ran R.refused (HasWorked (calls G.observes G.learns)) shared) works backs
         → AreTyped shared.plan.ttys (drop (length posts) backs) (map input_of devices) inputs
         → (t : ℕ) (p : PlannedTty) (device : Device) (input : LineIn) (back : Worked G)
         → slice_get shared.plan.ttys t ≡ Some p → slice_get devices t ≡ Some device
@@ -118,13 +118,13 @@ pub fn devices_come_back<R: Witness<Shared, Worked<G>, Work<G>>, G: Gate + Drop>
 /// Condition: each processor gave its station back. Then each left on the station what its log says, and its gate
 /// observed each turn of the log. Once all stations are joined to what the first had kept, the result has the shares
 /// that the first station had. It has done the work of all, and serves all processors; no element is on a processor.
-pub fn stations_come_together<R: Witness<Shared, Worked<G>, Work<G>>, G: Gate + Drop>()
+pub fn stations_come_together<R: Witness<Shared, Worked<G>, Work<G>>, G: TurnGate + Drop>()
     ensures { (shared : Shared) (turns : ℕ) (gates : List G) (old new last : Parts) (posts works : List (Work G))
         (devices : List Device) (backs : List (Back G)) (came : List (Processed G))
         → ArePosted shared 0 turns gates old new posts → AreServing shared.plan.ttys devices posts works
-        → AllZip (GaveBack R.ran R.refused (HasWorked G.observes) shared) works backs
+        → AllZip (GaveBack R.ran R.refused (HasWorked (calls G.observes G.learns)) shared) works backs
         → take (length posts) backs ≡ map back_of came
         → AllJoined new (map parts_of came) last → NoneOn new
         → ((k : ℕ) → length gates ≤ k → k < 8 → IsFree k (view_of new.hand))
-        → CameTogether R.ran G.observes shared turns gates old last came }
+        → CameTogether R.ran (calls G.observes G.learns) shared turns gates old last came }
 {}

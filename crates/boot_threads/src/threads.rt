@@ -1,6 +1,7 @@
 //! The threads of a kernel, from their start to their end.
 ghost use Rattle.std.specs.Prelude.{◌≡◌, ◌+◌, ◌≤◌, [], All, drop, length, vec_len, vec_capacity};
 ghost use Rattle.std.specs.List.{AllZip};
+ghost use Rattle.processor.specs.Points.{calls};
 ghost use Rattle.boot_threads.specs.Crews.{StartReports, GaveBack};
 ghost use Rattle.boot_threads.specs.Typings.{AreTyped};
 ghost use Rattle.boot_threads.specs.Works.{MayWork, HasWorked};
@@ -9,12 +10,11 @@ use crate::crew::{join_all, start_all};
 use crate::starting::{Started, Witness};
 use crate::typing::type_all;
 use crate::work::{Back, Work, Worked};
-use processor::Shared;
+use processor::{Shared, TurnGate};
 use spsc_line::LineIn;
 use std::sync::Wait;
 use std::thread;
 use std::thread::Scope;
-use turn_io::Gate;
 
 type Handles<G> = Vec<Started<Shared, Worked<G>, Work<G>>>;
 
@@ -31,7 +31,7 @@ fn start_and_type<'s, E, R, G>(
 ) -> (Handles<G>, Vec<LineIn>)
 where
     R: Witness<Shared, Worked<G>, Work<G>> + Wait + Sync,
-    G: Gate + Send + Drop + 's,
+    G: TurnGate + Send + Drop + 's,
     requires may { All (MayWork shared.now) works.items }
     requires number { vec_len works ≡ processors + length shared.now.plan.ttys }
     requires lines { vec_len lines ≡ length shared.now.plan.ttys }
@@ -64,14 +64,14 @@ pub fn run_kernel<R, G>(
 ) -> (Vec<Back<G>>, Vec<LineIn>)
 where
     R: Witness<Shared, Worked<G>, Work<G>> + Wait + Sync,
-    G: Gate + Send + Drop,
+    G: TurnGate + Send + Drop,
     requires may { All (MayWork shared.now) works.items }
     requires number { vec_len works ≡ processors + length shared.now.plan.ttys }
     requires lines { vec_len lines ≡ length shared.now.plan.ttys }
     requires handles { (handles.items ≡ []) × (vec_len works ≤ vec_capacity handles) }
     requires backs { (backs.items ≡ []) × (vec_len works ≤ vec_capacity backs) }
     requires room { (typed.items ≡ []) × (vec_len lines ≤ vec_capacity typed) }
-    ensures worked { AllZip (GaveBack R.ran R.refused (HasWorked G.observes) shared.now) works.items
+    ensures worked { AllZip (GaveBack R.ran R.refused (HasWorked (calls G.observes G.learns)) shared.now) works.items
         result.0.items }
     ensures typed { AreTyped shared.now.plan.ttys (drop processors result.0.items) lines.items result.1.items }
 {

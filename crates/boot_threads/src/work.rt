@@ -1,15 +1,15 @@
 //! The works of a kernel's threads: each processor has its turns, and each device serves its tty.
 ghost use Rattle.std.specs.Prelude.{◌≡◌, ◌<◌, length};
+ghost use Rattle.processor.specs.Points.{calls};
 ghost use Rattle.boot_threads.specs.Works.{MayWork, HasWorked};
 
 use crate::device::serve_device;
 use crate::starting::{Job, NotStarted};
 use event_theory::Processor;
-use processor::{Shared, Station, run};
+use processor::{Shared, Station, TurnGate, run};
 use quajects::RawTty;
 use spsc_line::LineOut;
 use std::sync::Wait;
-use turn_io::Gate;
 
 /// The work of a thread of the kernel.
 #[derive(Drop)]
@@ -47,10 +47,10 @@ pub enum Worked<G> {
 /// The result of a thread of the kernel, or the substitute for a thread that can't be started.
 pub type Back<G> = Result<Worked<G>, NotStarted<Shared, Work<G>>>;
 
-impl<G: Gate + Drop> Job<Shared, Worked<G>> for Work<G> {
+impl<G: TurnGate + Drop> Job<Shared, Worked<G>> for Work<G> {
     ghost may_run = { MayWork };
 
-    ghost gives = { HasWorked G.observes };
+    ghost gives = { HasWorked (calls G.observes G.learns) };
 
     fn run<R: Wait>(self, rt: &R, shared: &Shared) -> Worked<G> {
         match self {

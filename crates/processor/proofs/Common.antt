@@ -37,13 +37,13 @@ pub use Rattle.turn_io.specs.Accounts.{StaySound, at_each, both_chain, both_queu
 pub use Rattle.turn_io.specs.EndLists.{OnEnd, knows_shut_at}
 pub use Rattle.turn_io.specs.declared.gate.Point.TheVariants.{Turn}
 pub use Rattle.processor.specs.Accounts.{account, nothing, seat_parted, shares, shown_in, ◌⊕◌}
-pub use Rattle.processor.specs.Outcomes.{IsOutcomeOf, is_done, line_in}
+pub use Rattle.processor.specs.Outcomes.{IsOutcomeOf, is_done}
 pub use Rattle.processor.specs.Doings.{heard_by, is_heard, raised_by, saw_shut}
 pub use Rattle.processor.specs.Entries.{FollowsStep, LogEntry, beginning, trying}
 pub use Rattle.processor.specs.Logs.{Climbs, HasDone, Ran, Went, numbers_of}
 pub use Rattle.processor.specs.Manning.{KeepsStation}
 pub use Rattle.processor.specs.Partings.{HaveBoth}
-pub use Rattle.processor.specs.Points.{HookedTurns}
+pub use Rattle.processor.specs.Points.{Calls, GateSawTurn, HookedTurns}
 pub use Rattle.processor.specs.Programs.{AreHears, IsHear, hear_count, hears_in, is_hear, program, same_key, step_of}
 pub use Rattle.processor.specs.Rooms.{IsPast, key_of}
 pub use Rattle.processor.specs.Running.{Goes, Stepped}

@@ -1,5 +1,5 @@
 -- A line that was heard is no longer than the longest that a plan's steps can hear.
-use Rattle.processor.proofs.Common.{◌≡◌, ◌≤◌, ℕ, zero, suc, ◌||◌, Bool, true, false, if◌then◌else◌, List, [], ◌∷◌, length, Some, Ok, sym, ap, ◌∙◌, arith, BootPlan, PlannedThread, Small, Large, QueueEnd, Step, steps_at, step_of, StepOutcome, IsOutcomeOf, line_in, is_heard}
+use Rattle.processor.proofs.Common.{◌≡◌, ◌≤◌, ℕ, zero, suc, ◌||◌, Bool, true, false, if◌then◌else◌, List, [], ◌∷◌, length, Some, Ok, sym, ap, ◌∙◌, arith, BootPlan, PlannedThread, Small, Large, QueueEnd, Step, steps_at, step_of, StepOutcome, IsOutcomeOf, is_heard}
 use Rattle.std.proofs.Math.Bool.{or-true as or_true}
 use Rattle.std.proofs.lemmas.Option.{same_Some}
 use Rattle.std.specs.List.{slice_get, list_any}
@@ -28,8 +28,8 @@ as_large : (b : Bool) → b ≡ true → 256 ≤ (if b then 256 else 64)
 as_large true is = omega arith
 as_large false is = cc
 
-pub heard_within : (plan : BootPlan) (e n : ℕ) (step : Step) (step_outcome : StepOutcome) (text : List ℕ) (old new : List (QueueEnd 64)) (old' new' : List (QueueEnd 256)) → step_of plan e n ≡ Some step → IsOutcomeOf step step_outcome (line_in step text)
-    → QueuesDid step_outcome (line_in step text) old new old' new' → is_heard step_outcome ≡ true → length text ≤ longest_line plan
+pub heard_within : (plan : BootPlan) (e n : ℕ) (step : Step) (step_outcome : StepOutcome) (text : List ℕ) (old new : List (QueueEnd 64)) (old' new' : List (QueueEnd 256)) → step_of plan e n ≡ Some step → IsOutcomeOf step step_outcome text
+    → QueuesDid step_outcome text old new old' new' → is_heard step_outcome ≡ true → length text ≤ longest_line plan
 heard_within plan e n (steps.Hear queue) (step_outcomes.Hear (Small at) (answers.Taken paid)) text old new old' new' is d did heard =
     let on = did.1.0 in
     let long = heard_long on.end on.after text (Ok tt) on.does in

@@ -1,15 +1,13 @@
 -- The sights of the gate around a try, and turn by turn.
-use Rattle.processor.proofs.Common.{◌≡◌, ◌+◌, ℕ, suc, List, [], ◌∷◌, ◌++◌, Option, length, refl, ap, arith, subst, ◌∙◌, QueueEnd, QueueIndex, LogEntry, Parts, Shared, HookedTurns, Turn, view_of}
+use Rattle.processor.proofs.Common.{◌≡◌, ◌+◌, ℕ, suc, List, [], ◌∷◌, ◌++◌, Option, length, refl, ap, arith, subst, ◌∙◌, QueueEnd, QueueIndex, LogEntry, Parts, Shared, Calls, GateSawTurn, HookedTurns, view_of}
 use Rattle.std.proofs.Math.Nat.{add-zero}
 use Rattle.std.proofs.lemmas.List.{length-append}
 use Rattle.thread_table.specs.declared.hand.Hand.{Hand}
 use Rattle.thread_table.specs.Answers.{PutsOn}
 use Rattle.thread_table.specs.Handles.{IsSameHand}
-use Rattle.turn_io.specs.declared.gate.Point.{Point}
 use Rattle.processor.specs.declared.outcome.TurnOutcome.{TurnOutcome}
 use Rattle.processor.specs.declared.outcome.TurnOutcome.TheVariants as outcomes
 use Rattle.processor.specs.Orders.{CameInOrder, Count, QueueShown, QueueStood, TurnInOrder, TurnsInOrder, after_ticket, count_of, one_more}
-use Rattle.processor.specs.Points.{GateSaw, points_out}
 use Rattle.processor.specs.Sights.{Sights}
 use Rattle.processor.specs.Turns.{CameOf}
 
@@ -30,13 +28,13 @@ put_counts call p element old new puts same =
     λ i. record { table = same.0 i; hand = same.1 i; steps = long i }
 
 -- one turn more
-pub turns_more : {G : Type 0} (S : Sights) (T : G → ℕ → Point → G → Type 0) (shared : Shared) (p number : ℕ) (log : List LogEntry) (entry : LogEntry) (old mid new : Parts) (g h g' : G) → TurnsInOrder S T shared p number log old mid g h
-    → TurnInOrder S shared p entry mid new → GateSaw T p (Turn (number + length log) ∷ points_out entry.outcome) h g' → TurnsInOrder S T shared p number (log ++ entry ∷ []) old new g g'
+pub turns_more : {G : Type 0} (S : Sights) (T : Calls G) (shared : Shared) (p number : ℕ) (log : List LogEntry) (entry : LogEntry) (old mid new : Parts) (g h g' : G) → TurnsInOrder S T shared p number log old mid g h
+    → TurnInOrder S shared p entry mid new → GateSawTurn T p (number + length log) entry h g' → TurnsInOrder S T shared p number (log ++ entry ∷ []) old new g g'
 turns_more S T shared p number [] entry old mid new g h g' t turn saw = (
   new,
   g',
   subst (λ z. TurnInOrder S shared p entry z new) t.0 turn,
-  subst (λ (n : ℕ). GateSaw T p (Turn n ∷ points_out entry.outcome) g g') (add-zero number) (subst (λ z. GateSaw T p (Turn (number + 0) ∷ points_out entry.outcome) z g') t.1 saw),
+  subst (λ (n : ℕ). GateSawTurn T p n entry g g') (add-zero number) (subst (λ z. GateSawTurn T p (number + 0) entry z g') t.1 saw),
   (refl, refl),
 )
 turns_more S T shared p number (first ∷ log) entry old mid new g h g' t turn saw = (
@@ -45,7 +43,7 @@ turns_more S T shared p number (first ∷ log) entry old mid new g h g' t turn s
   t.2,
   t.3,
   turns_more S T shared p (suc number) log entry t.0 mid new t.1 h g' t.4 turn
-      (subst (λ (n : ℕ). GateSaw T p (Turn n ∷ points_out entry.outcome) h g') (shift number (length log)) saw),
+      (subst (λ (n : ℕ). GateSawTurn T p n entry h g') (shift number (length log)) saw),
 )
   where
     shift : (a b : ℕ) → a + suc b ≡ suc a + b
@@ -56,7 +54,7 @@ came_of : (S : Sights) (shared : Shared) (p : ℕ) (outcome : TurnOutcome) (line
 came_of S shared p (outcomes.Idle idle) line old new c = c
 came_of S shared p (outcomes.OfElement begun had) line old new c = (c.0, c.1, c.2)
 
-pub told_of : {G : Type 0} (S : Sights) (T : G → ℕ → Point → G → Type 0) (shared : Shared) (p number : ℕ) (log : List LogEntry) (old new : Parts) (g g' : G) → TurnsInOrder S T shared p number log old new g g' → HookedTurns T shared p number log old new g g'
+pub told_of : {G : Type 0} (S : Sights) (T : Calls G) (shared : Shared) (p number : ℕ) (log : List LogEntry) (old new : Parts) (g g' : G) → TurnsInOrder S T shared p number log old new g g' → HookedTurns T shared p number log old new g g'
 told_of S T shared p number [] old new g g' t = t
 told_of S T shared p number (entry ∷ log) old new g g' t =
     (t.0, t.1, (t.2.0, t.2.1, came_of S shared p entry.outcome entry.line t.2.0 t.0 t.2.2), t.3, told_of S T shared p (suc number) log t.0 new t.1 g' t.4)

@@ -1,5 +1,5 @@
 -- The result of the try of a step: how it is counted, what its ends did, and what they know.
-use Rattle.processor.proofs.Common.{◌≡◌, ◌+◌, ◌==◌, ◌<◌, ⊎_elim, ℕ, zero, suc, Bool, true, false, cond, List, [], ◌∷◌, ◌++◌, map, length, get_or, set, Some, Result, Ok, Err, refl, sym, ap, subst, ◌∙◌, arith, if◌then◌else◌, eqb-true, eqb_tells, append-nil, QueueIndex, Small, Large, Step, QueueEnd, by_index, OnEnd, knows_shut_at, Counted, CountAnswer, IsNumber, counted_step, Tally, AddsToTally, followed_by, view_of, View, done_at, StepOutcome, Rescheduled, Shared, Parts, shown_in, IsOutcomeOf, is_done, line_in, heard_by, raised_by, saw_shut, FollowsStep, trying, Climbs, Went, numbers_of, Key, program, step_of, Stepped, Goes, is_last}
+use Rattle.processor.proofs.Common.{◌≡◌, ◌+◌, ◌==◌, ◌<◌, ⊎_elim, ℕ, zero, suc, Bool, true, false, cond, List, [], ◌∷◌, ◌++◌, map, length, get_or, set, Some, Result, Ok, Err, refl, sym, ap, subst, ◌∙◌, arith, if◌then◌else◌, eqb-true, eqb_tells, append-nil, QueueIndex, Small, Large, Step, QueueEnd, by_index, OnEnd, knows_shut_at, Counted, CountAnswer, IsNumber, counted_step, Tally, AddsToTally, followed_by, view_of, View, done_at, StepOutcome, Rescheduled, Shared, Parts, shown_in, IsOutcomeOf, is_done, heard_by, raised_by, saw_shut, FollowsStep, trying, Climbs, Went, numbers_of, Key, program, step_of, Stepped, Goes, is_last}
 use Rattle.std.proofs.Common.{slice_get}
 use Rattle.std.proofs.Math.Bool.{Bool-set}
 use Rattle.std.proofs.lemmas.Bool.{leb-true, and_parts as split}
@@ -41,11 +41,6 @@ line_heard_at (Small k) line (Ok done) old new old' new' h = h.0.does.0
 line_heard_at (Small k) line (Err refusal) old new old' new' h = h.0.does.0
 line_heard_at (Large k) line (Ok done) old new old' new' h = h.0.does.0
 line_heard_at (Large k) line (Err refusal) old new old' new' h = h.0.does.0
-
--- the record of a line that was heard
-pub heard_line : (step : Step) (step_outcome : StepOutcome) (e n : ℕ) (text : List ℕ) → IsOutcomeOf step step_outcome (line_in step text) → heard_by step_outcome e n text ≡ heard_by step_outcome e n (line_in step text)
-heard_line (steps.Say queue said) (step_outcomes.Hear at answer) e n text d = absurd d
-heard_line step step_outcome e n text d = refl
 
 -- a say with this answer found its queue shut
 found_so : {n : ℕ} (line : List ℕ) (old new : QueueEnd n) → Said {A = Unit {0}} line (Err claims.Closed) old new → end_knows_shut new ≡ true

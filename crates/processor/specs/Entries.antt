@@ -40,6 +40,15 @@ pub record LogEntry : Type 0 where
   pub outcome : TurnOutcome
   pub line : List ℕ
 
+-- the result of tending the alarms, if they were tended: then there is an answer of the clock
+abbrev pub tended_of : Option (Result ℕ AdvanceRefusal) → List Alarm → Option Tended
+tended_of None fired = None
+tended_of (Some advanced) fired = Some (record { advanced = advanced; fired = fired })
+
+-- the entry of a turn, of the values that a gate gets
+abbrev pub entry_of : Option (Result ℕ AdvanceRefusal) → List Alarm → TurnOutcome → List ℕ → LogEntry
+entry_of advanced fired outcome line = record { tended = tended_of advanced fired; outcome = outcome; line = line }
+
 -- THE ACCOUNT OF A TURN
 
 -- the account of tending the alarms: the clock's advance, if made, and the fired alarms with their signals

@@ -4,7 +4,6 @@ use Rattle.std.specs.List.{All, AllByRecursion, list_any}
 use Rattle.boot_data.specs.Hearing.{Key}
 use Rattle.boot_data.specs.declared.boot_plan.BootPlan.{BootPlan}
 use Rattle.boot_data.specs.declared.plan.QueueIndex.{QueueIndex}
-use Rattle.turn_io.specs.declared.gate.Point.{Point}
 use Rattle.turn_io.specs.Accounts.{by_index, StaySound}
 use Rattle.turn_io.specs.EndLists.{ClaimedInOrder, TookInOrder, knows_shut_at}
 use Rattle.thread_table.specs.Handles.{view_of}
@@ -13,7 +12,7 @@ use Rattle.processor.specs.declared.shared.Shared.{Shared}
 use Rattle.processor.specs.declared.station.Parts.{Parts}
 use Rattle.processor.specs.Accounts.{Account, nothing, ◌⊕◌, account, seat_parted}
 use Rattle.processor.specs.Entries.{LogEntry, entry_account, FollowsPlan, turn_saw_shut}
-use Rattle.processor.specs.Points.{HookedTurns}
+use Rattle.processor.specs.Points.{Calls, HookedTurns}
 use Rattle.processor.specs.Stations.{IsUnused}
 
 -- the account of a log: the sum of its turns, in their order
@@ -87,8 +86,8 @@ pub record Leaves (plan : BootPlan) (log : List LogEntry) (parts : Parts) : Type
 
 -- Processor p had this many turns. The log has the result of each, in order, and each was reported to the gate. The
 -- ends did the log's sum. On a fresh station the turns leave what the log says
-pub record RanTurns {G : Type 0} (T : G → ℕ → Point → G → Type 0) (shared : Shared) (p turns : ℕ) (gate gate' : G)
-    (old new : Parts) : Type 0 where
+pub record RanTurns {G : Type 0} (T : Calls G) (shared : Shared) (p turns : ℕ) (gate gate' : G) (old new : Parts)
+    : Type 0 where
   pub log : List LogEntry
   pub many : length log ≡ turns
   pub reported : HookedTurns T shared p 0 log old new gate gate'

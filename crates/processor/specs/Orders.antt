@@ -11,8 +11,6 @@ use Rattle.quajects.specs.contracts.any.AnyQuajectQuaject.TheImpl.{ghosts}
 use Rattle.quajects.specs.declared.any.AnyQuaject.{AnyQuaject}
 use Rattle.quajects.specs.declared.world.Queues.{Queues}
 use Rattle.thread_table.specs.declared.hand.Hand.{Hand}
-use Rattle.turn_io.specs.declared.gate.Point.{Point}
-use Rattle.turn_io.specs.declared.gate.Point.TheVariants.{Turn}
 use Rattle.processor.specs.declared.step_outcome.StepOutcome.{StepOutcome}
 use Rattle.processor.specs.declared.step_outcome.StepOutcome.TheVariants as step_outcomes
 use Rattle.processor.specs.declared.outcome.TurnResult.{TurnResult}
@@ -24,7 +22,7 @@ use Rattle.processor.specs.declared.station.Parts.{Parts}
 use Rattle.processor.specs.Entries.{LogEntry}
 use Rattle.processor.specs.Logs.{RanTurns}
 use Rattle.processor.specs.Pipes.{readers_of, writers_of}
-use Rattle.processor.specs.Points.{GateSaw, points_out}
+use Rattle.processor.specs.Points.{Calls, GateSawTurn}
 use Rattle.processor.specs.Queues.{waits_at}
 use Rattle.processor.specs.Sights.{ChainShown, LargeShown, Sights, SmallShown}
 use Rattle.processor.specs.Turns.{BegunAt, CameOf, HadTurn, TendedBy}
@@ -130,18 +128,18 @@ abbrev pub TurnInOrder : Sights → Shared → ℕ → LogEntry → Parts → Pa
 TurnInOrder S shared p entry old new =
     (mid : Parts) × TendedBy p entry.tended old mid × CameInOrder S shared p entry.outcome entry.line mid new
 
--- The turns of the log, one after the other, the first with this number. For each turn the gate was called with the
--- turn's number, then with the points of its step, and with nothing else. Each turn did its parts in order
-abbrev pub TurnsInOrder : {G : Type 0} → Sights → (G → ℕ → Point → G → Type 0) → Shared → ℕ → ℕ → List LogEntry → Parts
-    → Parts → G → G → Type 0
+-- The turns of the log, one after the other, the first with this number. In each the gate was called as `GateSawTurn`
+-- says, and otherwise never. Each turn did its parts in order
+abbrev pub TurnsInOrder : {G : Type 0} → Sights → Calls G → Shared → ℕ → ℕ → List LogEntry → Parts → Parts → G → G
+    → Type 0
 TurnsInOrder S T shared p number [] old new gate gate' = (new ≡ old) × (gate' ≡ gate)
 TurnsInOrder {G} S T shared p number (entry ∷ log) old new gate gate' = (between : Parts) × (reported : G)
     × TurnInOrder S shared p entry old between
-    × GateSaw T p (Turn number ∷ points_out entry.outcome) gate reported
+    × GateSawTurn T p number entry gate reported
     × TurnsInOrder S T shared p (suc number) log between new reported gate'
 
 -- this many turns with their log, and each turn of this log did its parts in order
-pub record RanTurnsInOrder {G : Type 0} (S : Sights) (T : G → ℕ → Point → G → Type 0) (shared : Shared) (p turns : ℕ)
-    (gate gate' : G) (old new : Parts) : Type 0 where
+pub record RanTurnsInOrder {G : Type 0} (S : Sights) (T : Calls G) (shared : Shared) (p turns : ℕ) (gate gate' : G)
+    (old new : Parts) : Type 0 where
   pub turned : RanTurns T shared p turns gate gate' old new
   pub order : TurnsInOrder S T shared p 0 turned.log old new gate gate'

@@ -68,8 +68,3 @@ IsOutcomeOf (steps.Poke mover) (step_outcomes.Poke at answer) line = (at ≡ mov
 IsOutcomeOf steps.Pass step_outcomes.Pass line = line ≡ []
 IsOutcomeOf (steps.Close queue) (step_outcomes.Close at was_open readers writers) line = (at ≡ queue) × (line ≡ [])
 IsOutcomeOf step step_outcome line = ⊥
-
--- the line of a step: the line that a say is to put, and for another step the line heard
-abbrev pub line_in : Step → List ℕ → List ℕ
-line_in (steps.Say queue text) heard = said_line text
-line_in step heard = heard

@@ -12,7 +12,7 @@ ghost use Rattle.thread_table.specs.Rules.{has};
 ghost use Rattle.thread_table.specs.Answers.{PutsOn};
 ghost use Rattle.thread_table.specs.Entries.{HoldsLess};
 ghost use Rattle.processor.specs.Acts.{AddsOnly};
-ghost use Rattle.processor.specs.Outcomes.{IsOutcomeOf, line_in};
+ghost use Rattle.processor.specs.Outcomes.{IsOutcomeOf};
 ghost use Rattle.processor.specs.Doings.{raised_by};
 ghost use Rattle.processor.specs.Orders.{InOrder, count_of};
 ghost use Rattle.processor.specs.Points.{GateSaw, points_of};
@@ -83,7 +83,8 @@ pub(crate) fn seat(
     OnProcessor(())
 }
 
-// Tries a thread's step once, with the thread's element on its processor. A line that is heard goes into `room.heard`.
+// Tries a thread's step once, with the thread's element on its processor. The line that it says or hears goes into
+// `room.line`.
 pub(crate) fn do_step<R: Wait, G: Watch>(
     rt: &R,
     shared: &Shared,
@@ -96,13 +97,13 @@ pub(crate) fn do_step<R: Wait, G: Watch>(
 ) -> StepTry
     requires parts { ArePartsOf shared.now parts.old }
     requires fits { Fits shared.now.queues (length shared.now.chains.items) step.now }
-    requires empty { room.old.heard.items ≡ [] }
-    ensures step_outcome { IsOutcomeOf step.now result.step_outcome (line_in step.now room.new.heard.items) }
+    requires empty { room.old.line.items ≡ [] }
+    ensures step_outcome { IsOutcomeOf step.now result.step_outcome room.new.line.items }
     ensures parts { ArePartsOf shared.now parts.new }
     ensures handle { AreSameParts parts.old parts.new }
     ensures hand { HandDid (call_of parts.old.hand) shared.now.plan result.step_outcome (view_of parts.old.hand)
         (view_of parts.new.hand) }
-    ensures ends { EndsDid shared.now result.step_outcome (line_in step.now room.new.heard.items) parts.old parts.new }
+    ensures ends { EndsDid shared.now result.step_outcome room.new.line.items parts.old parts.new }
     ensures acts { AddsOnly (raised_by result.step_outcome) (view_of parts.old.hand) (view_of parts.new.hand) }
     ensures heard { parts.new.heard ≡ parts.old.heard }
     ensures signals { parts.new.signals ≡ parts.old.signals }

@@ -26,11 +26,18 @@ pub struct StepCounted {
 }
 
 impl StepCounted {
-    // The result of the step.
-    pub(crate) fn step_outcome(&self) -> &StepOutcome
+    /// The result of the step.
+    pub fn step_outcome(&self) -> &StepOutcome
         ensures { result.now ≡ self.now.step_outcome }
     {
         &self.step_outcome
+    }
+
+    /// Whether the step is counted.
+    pub fn counted(&self) -> Counted
+        ensures { result ≡ self.now.counted }
+    {
+        self.counted
     }
 }
 

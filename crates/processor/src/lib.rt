@@ -24,6 +24,7 @@ mod steps;
 mod ticket;
 mod tries;
 mod turn;
+mod turn_gate;
 mod waking;
 mod watch;
 
@@ -38,6 +39,7 @@ pub use step_outcome::StepOutcome;
 pub use ticket::Ticket;
 pub use tries::{HearAnswer, SayAnswer, Unheard, Unsaid};
 pub use turn::run;
+pub use turn_gate::TurnGate;
 pub use turn_io::{Gate, Point};
 pub use waking::WakeDone;
 pub use watch::Watch;

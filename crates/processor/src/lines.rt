@@ -13,28 +13,28 @@ use claim_queue::{ClaimRefusal, QueueEnd, TakeRefusal};
 use quajects::Queues;
 use turn_io::{Gate, hear, say};
 
-// The lists that the turns of a run use again, so that no turn fills new lists with zeros: one for a line that is
-// heard, and one for a line that is said, or taken from a queue of 64 places.
+// The lists that the turns of a run use again, so that no turn fills new lists with zeros: one for the line that a step
+// says or hears, and one for a line that is taken from a queue of 64 places.
 #[derive(Drop)]
 pub(crate) struct LineRoom {
-    pub(crate) heard: ArrayVec<u64, 256>,
+    pub(crate) line: ArrayVec<u64, 256>,
     pub(crate) short: ArrayVec<u64, 64>,
 }
 
 impl LineRoom {
     // Both empty.
     pub(crate) fn new() -> Self
-        ensures { (result.heard.items ≡ []) × (result.short.items ≡ []) }
+        ensures { (result.line.items ≡ []) × (result.short.items ≡ []) }
     {
         LineRoom {
-            heard: ArrayVec::new(),
+            line: ArrayVec::new(),
             short: ArrayVec::new(),
         }
     }
 }
 
 // Makes the list the line as which a text is said.
-pub(crate) fn write_line(text: &Text<63>, line: &mut ArrayVec<u64, 64>)
+pub(crate) fn write_line(text: &Text<63>, line: &mut ArrayVec<u64, 256>)
     ensures { line.new.items ≡ said_line text.now }
 {
     line.clear();
@@ -89,14 +89,14 @@ fn hear_small<G: Gate>(
 ) -> Result<(), TakeRefusal>
     requires small { AreEndsOf queues.now.small.items small.old }
     requires there { at < length queues.now.small.items }
-    requires empty { room.old.heard.items ≡ [] }
+    requires empty { room.old.line.items ≡ [] }
     ensures handle { AreSameEnds small.old small.new }
-    ensures heard { OnEnd at (Heard room.new.heard.items result) small.old small.new }
+    ensures heard { OnEnd at (Heard room.new.line.items result) small.old small.new }
     ensures hook { G.observes gate.old p TakeAnswered gate.new }
 {
     room.short.clear();
     let answer = hear(queues.small.as_slice(), small, at, &mut room.short, p, gate);
-    copy(room.short.as_slice(), &mut room.heard);
+    copy(room.short.as_slice(), &mut room.line);
     answer
 }
 
@@ -113,13 +113,13 @@ pub(crate) fn hear_at<G: Gate>(
     requires small { AreEndsOf queues.now.small.items small.old }
     requires large { AreEndsOf queues.now.large.items large.old }
     requires there { IsThere queues.now queue }
-    requires empty { room.old.heard.items ≡ [] }
+    requires empty { room.old.line.items ≡ [] }
     ensures handle { AreSameEnds small.old small.new × AreSameEnds large.old large.new }
-    ensures heard { HeardAt queue room.new.heard.items result small.old small.new large.old large.new }
+    ensures heard { HeardAt queue room.new.line.items result small.old small.new large.old large.new }
     ensures hook { G.observes gate.old p TakeAnswered gate.new }
 {
     match queue {
         QueueIndex::Small(at) => hear_small(queues, small, at, room, p, gate),
-        QueueIndex::Large(at) => hear(queues.large.as_slice(), large, at, &mut room.heard, p, gate),
+        QueueIndex::Large(at) => hear(queues.large.as_slice(), large, at, &mut room.line, p, gate),
     }
 }

@@ -26,7 +26,7 @@ use claim_queue::QueueEnd;
 use std::sync::Wait;
 use thread_table::Hand;
 
-// One try to say a text in a queue.
+// One try to say a text in a queue. Its line goes into `line`.
 pub(crate) fn say_step<R: Wait, G: Watch>(
     rt: &R,
     shared: &Shared,
@@ -35,7 +35,7 @@ pub(crate) fn say_step<R: Wait, G: Watch>(
     large: &mut [QueueEnd<256>],
     queue: QueueIndex,
     text: &Text<63>,
-    line: &mut ArrayVec<u64, 64>,
+    line: &mut ArrayVec<u64, 256>,
     p: u8,
     gate: &mut G,
 ) -> SayAnswer<WakeDone>
@@ -46,7 +46,8 @@ pub(crate) fn say_step<R: Wait, G: Watch>(
     ensures hand { HandDid (call_of hand.old) shared.now.plan (step_outcomes.Say queue result) (view_of hand.old)
         (view_of hand.new) }
     ensures acts { AddsOnly no_events (view_of hand.old) (view_of hand.new) }
-    ensures queues { QueuesDid (step_outcomes.Say queue result) (said_line text.now) small.old small.new large.old large.new }
+    ensures line { line.new.items ≡ said_line text.now }
+    ensures queues { QueuesDid (step_outcomes.Say queue result) line.new.items small.old small.new large.old large.new }
     ensures hook { GateSaw G.observes p (points_of (step_outcomes.Say queue result)) gate.old gate.new }
     ensures order { QueuesInOrder G.shown shared.now.plan (count_of hand.old) (step_outcomes.Say queue result) small.old small.new
         large.old large.new }
@@ -76,7 +77,7 @@ pub(crate) fn say_step<R: Wait, G: Watch>(
     }
 }
 
-// One try to hear a line of a queue.
+// One try to hear a line of a queue. The line goes into `room.line`.
 pub(crate) fn hear_step<R: Wait, G: Watch>(
     rt: &R,
     shared: &Shared,
@@ -92,11 +93,11 @@ pub(crate) fn hear_step<R: Wait, G: Watch>(
     requires small { AreEndsOf shared.now.queues.small.items small.old }
     requires large { AreEndsOf shared.now.queues.large.items large.old }
     requires there { IsThere shared.now.queues queue }
-    requires empty { room.old.heard.items ≡ [] }
+    requires empty { room.old.line.items ≡ [] }
     ensures hand { HandDid (call_of hand.old) shared.now.plan (step_outcomes.Hear queue result) (view_of hand.old)
         (view_of hand.new) }
     ensures acts { AddsOnly no_events (view_of hand.old) (view_of hand.new) }
-    ensures queues { QueuesDid (step_outcomes.Hear queue result) room.new.heard.items small.old small.new large.old large.new }
+    ensures queues { QueuesDid (step_outcomes.Hear queue result) room.new.line.items small.old small.new large.old large.new }
     ensures hook { GateSaw G.observes p (points_of (step_outcomes.Hear queue result)) gate.old gate.new }
     ensures order { QueuesInOrder G.shown shared.now.plan (count_of hand.old) (step_outcomes.Hear queue result) small.old small.new
         large.old large.new }

@@ -5,7 +5,7 @@ ghost use Rattle.turn_dispatch.specs.Holdings.{IsFree};
 ghost use Rattle.turn_dispatch.specs.Tallies.{AddsToTally, followed_by};
 ghost use Rattle.thread_table.specs.Handles.{view_of, call_of};
 ghost use Rattle.thread_table.specs.Rules.{has, done_at};
-ghost use Rattle.processor.specs.Outcomes.{IsOutcomeOf, line_in};
+ghost use Rattle.processor.specs.Outcomes.{IsOutcomeOf};
 ghost use Rattle.processor.specs.Doings.{heard_by, is_heard, raised_by};
 ghost use Rattle.processor.specs.Orders.{InOrder, count_of, one_more};
 ghost use Rattle.processor.specs.Points.{GateSaw, points_of};
@@ -42,14 +42,14 @@ pub(crate) fn run_step<R: Wait, G: Watch>(
     requires held { has (view_of parts.old.hand) element ≡ true }
     requires free { IsFree p (view_of parts.old.hand) }
     requires fits { Fits shared.now.queues (length shared.now.chains.items) step.now }
-    requires empty { room.old.heard.items ≡ [] }
+    requires empty { room.old.line.items ≡ [] }
     ensures parts { ArePartsOf shared.now parts.new }
     ensures handle { AreSameParts parts.old parts.new }
     ensures held { has (view_of parts.new.hand) element ≡ true }
     ensures hand { Stepped (call_of parts.old.hand) shared.now.plan p element result.step_outcome result.counted
         (view_of parts.old.hand) (view_of parts.new.hand) }
-    ensures step_outcome { IsOutcomeOf step.now result.step_outcome (line_in step.now room.new.heard.items) }
-    ensures ends { EndsDid shared.now result.step_outcome (line_in step.now room.new.heard.items) parts.old parts.new }
+    ensures step_outcome { IsOutcomeOf step.now result.step_outcome room.new.line.items }
+    ensures ends { EndsDid shared.now result.step_outcome room.new.line.items parts.old parts.new }
     ensures adds { AddsToTally (followed_by (raised_by result.step_outcome) (counted_step result.counted element
         (done_at (view_of parts.old.hand).seen.object element))) (view_of parts.old.hand) (view_of parts.new.hand) }
     ensures number { IsNumber result.counted element (view_of parts.old.hand) (view_of parts.new.hand) }

@@ -23,7 +23,7 @@ use turn_dispatch::{Waited, make_ready, retire, wait_in};
 
 /// The queue to which an element went after its turn. On false the queue has no position left, and the hand holds the
 /// element.
-#[derive(Clone, Copy)]
+#[derive(Clone, Copy, Debug, PartialEq, Eq)]
 pub enum Moved {
     /// To the ready ring.
     Ready(bool),
@@ -40,6 +40,22 @@ pub enum Moved {
 pub struct Rescheduled {
     tried: StepCounted,
     moved: Moved,
+}
+
+impl Rescheduled {
+    /// The result of the step, and whether it is counted.
+    pub fn tried(&self) -> &StepCounted
+        ensures { result.now ≡ self.now.tried }
+    {
+        &self.tried
+    }
+
+    /// The queue to which the element went.
+    pub fn moved(&self) -> Moved
+        ensures { result ≡ self.now.moved }
+    {
+        self.moved
+    }
 }
 
 // Moves an element on after its step, by its deed and by the ticket with which it is to wait, if there is one.

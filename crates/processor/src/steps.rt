@@ -2,7 +2,7 @@
 ghost use Rattle.std.specs.Prelude.{◌≡◌, [], length};
 ghost use Rattle.thread_table.specs.Handles.{view_of, call_of};
 ghost use Rattle.processor.specs.Acts.{AddsOnly};
-ghost use Rattle.processor.specs.Outcomes.{IsOutcomeOf, line_in};
+ghost use Rattle.processor.specs.Outcomes.{IsOutcomeOf};
 ghost use Rattle.processor.specs.Doings.{raised_by};
 ghost use Rattle.processor.specs.Orders.{InOrder, count_of};
 ghost use Rattle.processor.specs.Points.{GateSaw, points_of};
@@ -23,7 +23,7 @@ use std::sync::Wait;
 use turn_dispatch::{calls_only_add, start, wake};
 use turn_io::poke;
 
-// Tries a step of a thread once. A line that is heard goes into `room.heard`.
+// Tries a step of a thread once. The line that it says or hears goes into `room.line`.
 pub(crate) fn try_step<R: Wait, G: Watch>(
     rt: &R,
     shared: &Shared,
@@ -35,13 +35,13 @@ pub(crate) fn try_step<R: Wait, G: Watch>(
 ) -> StepOutcome
     requires parts { ArePartsOf shared.now parts.old }
     requires fits { Fits shared.now.queues (length shared.now.chains.items) step.now }
-    requires empty { room.old.heard.items ≡ [] }
-    ensures step_outcome { IsOutcomeOf step.now result (line_in step.now room.new.heard.items) }
+    requires empty { room.old.line.items ≡ [] }
+    ensures step_outcome { IsOutcomeOf step.now result room.new.line.items }
     ensures parts { ArePartsOf shared.now parts.new }
     ensures handle { AreSameParts parts.old parts.new }
     ensures hand { HandDid (call_of parts.old.hand) shared.now.plan result (view_of parts.old.hand)
         (view_of parts.new.hand) }
-    ensures ends { EndsDid shared.now result (line_in step.now room.new.heard.items) parts.old parts.new }
+    ensures ends { EndsDid shared.now result room.new.line.items parts.old parts.new }
     ensures acts { AddsOnly (raised_by result) (view_of parts.old.hand) (view_of parts.new.hand) }
     ensures heard { parts.new.heard ≡ parts.old.heard }
     ensures signals { parts.new.signals ≡ parts.old.signals }
@@ -61,7 +61,7 @@ pub(crate) fn try_step<R: Wait, G: Watch>(
                 parts.large.as_mut_slice(),
                 *queue,
                 text,
-                &mut room.short,
+                &mut room.line,
                 p,
                 gate,
             ),

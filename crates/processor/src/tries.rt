@@ -72,6 +72,13 @@ pub(crate) struct WasShut<W> {
 }
 
 impl Unsaid {
+    /// Why the line was not put.
+    pub fn refusal(&self) -> ClaimRefusal
+        ensures { result ≡ self.now.refusal }
+    {
+        self.refusal
+    }
+
     // The ticket with which the element is to wait, if the pipe had no room for its line.
     pub(crate) fn ticket_if_full(&self) -> Option<&Ticket>
         ensures { option_copied result ≡ if_full self.now.refusal self.now.ticket }
@@ -84,6 +91,13 @@ impl Unsaid {
 }
 
 impl Unheard {
+    /// Why no line was taken.
+    pub fn refusal(&self) -> TakeRefusal
+        ensures { result ≡ self.now.refusal }
+    {
+        self.refusal
+    }
+
     // The ticket with which the element is to wait, if the pipe had no line.
     pub(crate) fn ticket_if_empty(&self) -> Option<&Ticket>
         ensures { option_copied result ≡ if_empty self.now.refusal self.now.ticket }
@@ -155,10 +169,10 @@ pub(crate) fn try_hear<G: Gate>(
     requires small { AreEndsOf shared.now.queues.small.items small.old }
     requires large { AreEndsOf shared.now.queues.large.items large.old }
     requires there { IsThere shared.now.queues queue }
-    requires empty { room.old.heard.items ≡ [] }
+    requires empty { room.old.line.items ≡ [] }
     requires ticket { IsTicketOf (readers_of (waits_at shared.now.plan queue)) ticket }
     ensures handle { AreSameEnds small.old small.new × AreSameEnds large.old large.new }
-    ensures heard { HeardAt queue room.new.heard.items (heard result) small.old small.new large.old large.new }
+    ensures heard { HeardAt queue room.new.line.items (heard result) small.old small.new large.old large.new }
     ensures refused { IsUnheard ticket result }
     ensures hook { G.observes gate.old p TakeAnswered gate.new }
 {

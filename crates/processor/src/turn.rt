@@ -1,17 +1,17 @@
 //! The turns of a processor.
-ghost use Rattle.std.specs.Prelude.{◌≡◌, ◌<◌, ◌≤◌, ℕ, List, [], ◌∷◌, true, length, Option, Some, IfOk, MatchResult};
+ghost use Rattle.std.specs.Prelude.{◌≡◌, ◌<◌, ◌≤◌, [], ◌∷◌, true, length, Some, IfOk, MatchResult};
 ghost use Rattle.turn_dispatch.specs.Sendings.{Sent};
 ghost use Rattle.thread_table.specs.Handles.{view_of, call_of};
 ghost use Rattle.thread_table.specs.Rules.{has, done_at};
 ghost use Rattle.processor.specs.declared.outcome.TurnResult.TheVariants as hads;
 ghost use Rattle.processor.specs.Accounts.{nothing};
 ghost use Rattle.processor.specs.Doings.{saw_shut};
-ghost use Rattle.processor.specs.Entries.{FollowsStep, LogEntry, OutcomeFollows, Tended, beginning, having};
-ghost use Rattle.processor.specs.Entries.{outcome_account, outcome_saw_shut, tending, trying};
+ghost use Rattle.processor.specs.Entries.{FollowsStep, LogEntry, OutcomeFollows, beginning, having};
+ghost use Rattle.processor.specs.Entries.{outcome_account, outcome_saw_shut, tended_of, tending, trying};
 ghost use Rattle.processor.specs.Logs.{HasDone, Ran, Went};
 ghost use Rattle.processor.specs.Manning.{IsRunnable, KeepsStation};
 ghost use Rattle.processor.specs.Orders.{CameInOrder, RanTurnsInOrder, InOrder, TurnInOrder, count_of, one_more};
-ghost use Rattle.processor.specs.Points.{GateSaw, points_of, points_out};
+ghost use Rattle.processor.specs.Points.{GateSaw, TurnEnded, calls, points_of, points_out};
 ghost use Rattle.processor.specs.Programs.{program, step_of};
 ghost use Rattle.processor.specs.Turns.{AreAtRest, BegunAt, IdleAt, TendedBy, RanStep, is_last};
 
@@ -27,6 +27,7 @@ use crate::watch::Watch;
 use arrayvec::ArrayVec;
 use boot_data::plan::Step;
 use event_theory::{Alarm, Element, Processor};
+use meters::AdvanceRefusal;
 use std::sync::Wait;
 use turn_dispatch::{Begun, Idle, begin, retire, tend_alarms};
 use turn_io::Point;
@@ -57,17 +58,17 @@ fn run_element<R: Wait, G: Watch>(
     requires low { begun.now.number < 64 }
     requires its { step_of shared.now.plan begun.now.element begun.now.number ≡ Some step.now }
     requires all { steps ≡ length (program shared.now.plan begun.now.element) }
+    requires empty { room.old.line.items ≡ [] }
     ensures station { KeepsStation shared.now p parts.old parts.new }
-    ensures ran { (line : List ℕ)
-        × RanStep shared.now p begun.now.element begun.now.number result line parts.old parts.new
-        × Went (FollowsStep shared.now.plan begun.now.element begun.now.number result line)
-        (trying begun.now.element begun.now.number result line) (saw_shut result.tried.step_outcome) parts.old parts.new }
+    ensures ran { RanStep shared.now p begun.now.element begun.now.number result room.new.line.items parts.old parts.new
+        × Went (FollowsStep shared.now.plan begun.now.element begun.now.number result room.new.line.items)
+        (trying begun.now.element begun.now.number result room.new.line.items) (saw_shut result.tried.step_outcome)
+        parts.old parts.new }
     ensures hook { GateSaw G.observes p (points_of result.tried.step_outcome) gate.old gate.new }
     ensures order { InOrder G.shown shared.now.plan (one_more (count_of parts.old.hand)) result.tried.step_outcome parts.old
         parts.new }
 {
     steps_fit();
-    room.heard.clear();
     let element = begun.element;
     let number = begun.number;
     let tried = run_step(rt, shared, parts, p, element, step, room, gate);
@@ -76,7 +77,7 @@ fn run_element<R: Wait, G: Watch>(
         tried.step_outcome(),
         element,
         number,
-        room.heard.as_slice(),
+        room.line.as_slice(),
     );
     let last = is_last(tried.step_outcome().is_done(), number, steps);
     let threads = &shared.threads;
@@ -125,7 +126,7 @@ fn retire_at<R: Wait>(
 }
 
 // An element from the ready ring has its turn, if there is one: its next step is tried, or it is retired if it has no
-// step left.
+// step left. The line that a step says or hears goes into `room.line`.
 fn dispatch<R: Wait, G: Watch>(
     rt: &R,
     shared: &Shared,
@@ -135,10 +136,11 @@ fn dispatch<R: Wait, G: Watch>(
     gate: &mut G,
 ) -> TurnOutcome
     requires station { IsRunnable shared.now p parts.old }
+    requires empty { room.old.line.items ≡ [] }
     ensures station { KeepsStation shared.now p parts.old parts.new }
-    ensures came { (line : List ℕ) × CameInOrder G.shown shared.now p result line parts.old parts.new
-        × Went (OutcomeFollows shared.now.plan result line) (outcome_account result line) (outcome_saw_shut result)
-        parts.old parts.new }
+    ensures came { CameInOrder G.shown shared.now p result room.new.line.items parts.old parts.new
+        × Went (OutcomeFollows shared.now.plan result room.new.line.items)
+        (outcome_account result room.new.line.items) (outcome_saw_shut result) parts.old parts.new }
     ensures hook { GateSaw G.observes p (points_out result) gate.old gate.new }
 {
     steps_fit();
@@ -159,27 +161,33 @@ fn dispatch<R: Wait, G: Watch>(
     }
 }
 
-// Processor 0 tends the alarms. The list is room for the alarms that are fired.
-fn tend(shared: &Shared, parts: &mut Parts, p: Processor, fired: &mut ArrayVec<Alarm, 16>)
+// Processor 0 tends the alarms, and no other does. The list then has the alarms that were fired.
+fn tend(
+    shared: &Shared,
+    parts: &mut Parts,
+    p: Processor,
+    fired: &mut ArrayVec<Alarm, 16>,
+) -> Option<Result<u32, AdvanceRefusal>>
     requires station { IsRunnable shared.now p parts.old }
     ensures station { KeepsStation shared.now p parts.old parts.new }
-    ensures tended { (tended : Option Tended) × TendedBy p tended parts.old parts.new
-        × HasDone (tending tended) parts.old parts.new }
+    ensures tended { TendedBy p (tended_of result fired.new.items) parts.old parts.new
+        × HasDone (tending (tended_of result fired.new.items)) parts.old parts.new }
 {
     if p.number() != 0 {
-        return;
+        return None;
     }
     let threads = &shared.threads;
-    let _ = tend_alarms(
+    let advanced = tend_alarms(
         threads,
         &mut parts.hand,
         &shared.meters,
         &mut parts.meters,
         fired,
     );
+    Some(advanced)
 }
 
-// One turn, with room for the alarms that are fired in it, and for a line.
+// One turn, with room for the alarms that are fired in it, and for a line. At its end the gate gets its result.
 fn turn<R: Wait, G: Watch>(
     rt: &R,
     shared: &Shared,
@@ -193,16 +201,25 @@ fn turn<R: Wait, G: Watch>(
     ensures station { KeepsStation shared.now p parts.old parts.new }
     ensures turn { (entry : LogEntry) × TurnInOrder G.shown shared.now p entry parts.old parts.new
         × Ran shared.now.plan (entry ∷ []) parts.old parts.new
-        × GateSaw G.observes p (points_out entry.outcome) gate.old gate.new }
+        × TurnEnded (calls G.observes G.learns) p entry gate.old gate.new }
 {
-    tend(shared, parts, p, fired);
-    let _ = dispatch(rt, shared, parts, p, room, gate);
+    let advanced = tend(shared, parts, p, fired);
+    room.line.clear();
+    let outcome = dispatch(rt, shared, parts, p, room, gate);
+    gate.turned(
+        p.number(),
+        advanced,
+        fired.as_slice(),
+        outcome,
+        room.line.as_slice(),
+    );
 }
 
 /// Exactly this many turns of a processor. In each turn the gate is called with the turn's number, from 0. Then
 /// processor 0 tends the alarms, and the oldest element of the ready ring has its turn: one try of its next step.
-/// Within a step the gate is called as `Point` says, and otherwise never. Returns the station, with what its ends did,
-/// and what was heard and signalled.
+/// Within a step the gate is called as `Point` says. At the end of the turn it gets the turn's result, by
+/// `TurnGate::turned`. It is never called otherwise. Returns the station, with what its ends did, and what was heard and
+/// signalled.
 ///
 /// Conditions: the station is one of `shared`, and its hand serves the processor, which has no element.
 pub fn run<R: Wait, G: Watch>(
@@ -215,7 +232,8 @@ pub fn run<R: Wait, G: Watch>(
 ) -> Station
     requires station { IsRunnable shared.now p station.parts }
     ensures station { KeepsStation shared.now p station.parts result.parts }
-    ensures turned { RanTurnsInOrder G.shown G.observes shared.now p turns gate.old gate.new station.parts result.parts }
+    ensures turned { RanTurnsInOrder G.shown (calls G.observes G.learns) shared.now p turns gate.old gate.new station.parts
+        result.parts }
 {
     let Station { mut parts } = station;
     let mut fired = ArrayVec::new();

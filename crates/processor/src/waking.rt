@@ -2,6 +2,7 @@
 //!
 //! The type keeps an order: those who wait are woken after the try that has news for them. A `WakeDone`, which a deed
 //! reports, contains the debt that only a try makes; so no `WakeDone` exists before its try.
+ghost use Rattle.std.specs.Prelude.{◌≡◌};
 ghost use Rattle.turn_dispatch.specs.Tallies.{no_events};
 ghost use Rattle.thread_table.specs.Handles.{view_of, call_of, IsHandOf, IsSameHand};
 ghost use Rattle.processor.specs.Acts.{AddsOnly};
@@ -18,6 +19,15 @@ use turn_dispatch::{Woken, wake};
 pub struct WakeDone {
     woken: Option<Woken>,
     owed: WakeDue,
+}
+
+impl WakeDone {
+    /// The elements that were woken; None if the queue is no pipe.
+    pub fn woken(&self) -> Option<Woken>
+        ensures { result ≡ self.now.woken }
+    {
+        self.woken
+    }
 }
 
 // Wakes all who wait in a wait queue, where there is one, as a try owes it to them.

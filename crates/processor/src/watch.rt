@@ -4,17 +4,17 @@
 //! fixed, so that no proof can put another value in the place of one that was shown.
 ghost use Rattle.processor.specs.Sights.{Sights};
 
+use crate::turn_gate::TurnGate;
 use claim_queue::QueueEnd;
 use meters::MeterSeat;
 use proc_chain::ChainEnd;
 use quajects::AnyQuaject;
 use thread_table::Hand;
-use turn_io::Gate;
 
 /// A gate that is shown a hand and an end together. Every gate is one. Code that is generic over a gate knows of
 /// `shown` only what a call of its methods ensured. So a contract that says of a hand and an end that they were shown
 /// says that they were there at one moment.
-pub trait Watch: Gate {
+pub trait Watch: TurnGate {
     // The gate was shown this hand and this end, as they were at one moment.
     ghost shown: { Sights };
 
@@ -35,7 +35,7 @@ pub trait Watch: Gate {
         ensures { shown.seat hand.now seat.now };
 }
 
-impl<G: Gate> Watch for G {
+impl<G: TurnGate> Watch for G {
     ghost shown = { record {
       small = λ hand end. Unit {0};
       large = λ hand end. Unit {0};

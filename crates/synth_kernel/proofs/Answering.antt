@@ -1,5 +1,5 @@
 -- Answers of a boot, from those of its parts.
-use Rattle.synth_kernel.proofs.Common.{◌≡◌, ℕ, suc, ◌+◌, List, [], ◌∷◌, length, Option, Some, None, refl, sym, ap, subst, ◌∙◌, AllByRecursion, BootPlan, TornDown, Point, Shared, Parts, LogEntry, Leaves, HooksSaw, BootWithHooks}
+use Rattle.synth_kernel.proofs.Common.{◌≡◌, ℕ, suc, ◌+◌, List, [], ◌∷◌, length, Option, Some, None, refl, sym, ap, subst, ◌∙◌, AllByRecursion, BootPlan, TornDown, Calls, Shared, Parts, LogEntry, Leaves, HooksSaw, BootWithHooks}
 use Rattle.std.proofs.Common.{◌==◌, Result, Ok, Err, IfOk, eq-eqb, ne_eqb}
 use Rattle.std.specs.Option.{is_some}
 use Rattle.processor.specs.Entries.{Tended}
@@ -17,7 +17,7 @@ use Rattle.boot_threads.specs.Works.{RunsOf}
 pub alone : (Did : BootPlan → ClosedTables → List (List LogEntry) → Type 0) (read : Option (List ℕ)) (ended : Ended) (old new : Option (List ℕ)) → IsBoot Did read ended old new → IsBootAnswer Did read ended
 alone Did read ended old new boot = record { plan = boot.plan; says = boot.says; report = boot.run.report; booted = boot.run.booted; ends = boot.run.ends }
 
-module _ {G : Type 0} (ran : RunsOf G) (shown : TornDown → Type 0) (T : G → ℕ → Point → G → Type 0) (turns : ℕ) (gates : List G) where
+module _ {G : Type 0} (ran : RunsOf G) (shown : TornDown → Type 0) (T : Calls G) (turns : ℕ) (gates : List G) where
   pub boots : (read : Option (List ℕ)) (answer : Result (Booted G) BootFault) (plan : BootPlan) (old new : Option (List ℕ)) → Says read plan
       → IfOk answer (λ booted. IsRun (BootWithHooks ran shown T turns gates booted.gates.items booted.closed) plan booted.ended old new) → IfOk answer (λ booted. IsBoot (BootWithHooks ran shown T turns gates booted.gates.items booted.closed) read booted.ended old new)
   boots read (Ok booted) plan old new says run = record { plan = plan; says = says; run = run }
@@ -28,14 +28,14 @@ tends : (p : ℕ) (tended : Option Tended) (old new : Parts) → TendedBy p tend
 tends p None old new by = sym (ne_eqb p 0 by.0)
 tends p (Some tended) old new by = sym (eq-eqb p 0 by.0)
 
-all_tend : {G : Type 0} (T : G → ℕ → Point → G → Type 0) (shared : Shared) (p number : ℕ) (log : List LogEntry) (old new : Parts) (gate gate' : G) → HookedTurns T shared p number log old new gate gate'
+all_tend : {G : Type 0} (T : Calls G) (shared : Shared) (p number : ℕ) (log : List LogEntry) (old new : Parts) (gate gate' : G) → HookedTurns T shared p number log old new gate gate'
     → AllByRecursion (λ (entry : LogEntry). is_some entry.tended ≡ (p == 0)) log
 all_tend T shared p number [] old new gate gate' reported = tt
 all_tend T shared p number (entry ∷ log) old new gate gate' reported =
     (tends p entry.tended old reported.2.0 reported.2.1, all_tend T shared p (suc number) log reported.0 new reported.1 gate' reported.4)
 
 -- the facts that remain if the gates and the closed objects are forgotten
-module _ {G : Type 0} (ran : RunsOf G) (shown : TornDown → Type 0) (T : G → ℕ → Point → G → Type 0) (turns : ℕ) where
+module _ {G : Type 0} (ran : RunsOf G) (shown : TornDown → Type 0) (T : Calls G) (turns : ℕ) where
   had_one : (shared : Shared) (p : ℕ) (gate back : G) (log : List LogEntry) → HookSaw ran T shared p turns gate back log → IsLogOf shared.plan p turns log
   had_one shared p gate back log reported = subst (IsLogOf shared.plan p turns) reported.log_is (record {
     many = reported.turned.many;

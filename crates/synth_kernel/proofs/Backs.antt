@@ -1,5 +1,5 @@
 -- The results of all threads, by the works: the stations of the processors, followed by the results of the devices.
-use Rattle.synth_kernel.proofs.Common.{◌≡◌, ◌≤◌, ℕ, zero, suc, ◌+◌, true, List, [], ◌∷◌, ◌++◌, map, length, Option, Some, Result, Ok, Err, slice_get, refl, sym, ap, subst, ◌∙◌, arith, length-map, AllZip, PlannedTty, Point, AllThree, Device, Shared, Parts, Work, Worked, back_of, GaveBack, AreServing, ArePosted, Back, HasWorked, Served, processed_in, served_in, all_there}
+use Rattle.synth_kernel.proofs.Common.{◌≡◌, ◌≤◌, ℕ, zero, suc, ◌+◌, true, List, [], ◌∷◌, ◌++◌, map, length, Option, Some, Result, Ok, Err, slice_get, refl, sym, ap, subst, ◌∙◌, arith, length-map, AllZip, PlannedTty, Calls, AllThree, Device, Shared, Parts, Work, Worked, back_of, GaveBack, AreServing, ArePosted, Back, HasWorked, Served, processed_in, served_in, all_there}
 use Rattle.std.proofs.Common.{take}
 use Rattle.std.proofs.lemmas.List.{nil_from_length}
 use Rattle.boot_threads.specs.declared.work.Worked.TheVariants as worked
@@ -15,7 +15,7 @@ pub record Sorted {G : Type 0} (posts ttys : ℕ) (backs : List (Back G)) : Type
   pub posts_are : length (processed_in backs) ≡ posts
   pub ttys_are : length (served_in backs) ≡ ttys
 
-module _ {G : Type 0} (ran : RunsOf G) (refused : RefusalsOf G) (T : G → ℕ → Point → G → Type 0) (shared : Shared) where
+module _ {G : Type 0} (ran : RunsOf G) (refused : RefusalsOf G) (T : Calls G) (shared : Shared) where
   -- one device's work
   few_serve : (ttys : List PlannedTty) (devices : List Device) (ws : List (Work G)) (backs : List (Back G)) → AllThree IsServing ttys devices ws → AllZip (GaveBack ran refused (HasWorked T) shared) ws backs
       → (processed_in backs ≡ []) × (length (served_in backs) ≤ length ttys)

@@ -35,7 +35,7 @@ pub use Rattle.quajects.specs.declared.raw.RawTty.{RawTty}
 pub use Rattle.spsc_line.specs.Lines.{IsLine}
 pub use Rattle.spsc_line.specs.declared.line_in.LineIn.{LineIn}
 pub use Rattle.turn_io.specs.Splits.{AllThree}
-pub use Rattle.turn_io.specs.declared.gate.Point.{Point}
+pub use Rattle.processor.specs.Points.{Calls, calls}
 pub use Rattle.synth_kernel.specs.Boots.{HooksSaw, BootWithHooks, IsBootOf}
 pub use Rattle.synth_kernel.specs.Gatherings.{TotalsAre, all_there, processed_in, served_in, tty_of}
 pub use Rattle.synth_kernel.specs.Readies.{IsReady}

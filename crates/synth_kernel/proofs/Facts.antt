@@ -1,5 +1,5 @@
 -- What a boot knows of what came back, by the works that it gave.
-use Rattle.synth_kernel.proofs.Common.{◌≡◌, ℕ, zero, suc, ◌+◌, List, [], ◌∷◌, map, drop, length, Option, Some, Result, slice_get, refl, sym, ap, subst, ◌∙◌, arith, length-map, AllZip, PlannedTty, AreRawsOf, Point, AllThree, Device, Shared, RawTty, Typed, LineIn, IsLine, Work, Worked, GaveBack, AreServing, input_of, AreTyped, Back, HasWorked, Served, served_in, tty_of, TotalsAre}
+use Rattle.synth_kernel.proofs.Common.{◌≡◌, ℕ, zero, suc, ◌+◌, List, [], ◌∷◌, map, drop, length, Option, Some, Result, slice_get, refl, sym, ap, subst, ◌∙◌, arith, length-map, AllZip, PlannedTty, AreRawsOf, Calls, AllThree, Device, Shared, RawTty, Typed, LineIn, IsLine, Work, Worked, GaveBack, AreServing, input_of, AreTyped, Back, HasWorked, Served, served_in, tty_of, TotalsAre}
 use Rattle.std.proofs.Common.{◌<◌, ◌%◌}
 use Rattle.std.proofs.lemmas.Option.{slice_get_within as at_below}
 use Rattle.boot_data.specs.QueueLists.{raw_queue}
@@ -75,7 +75,7 @@ same_served a b x y e = (cc, cc)
 abbrev pub did_of : Served → closed.Device
 did_of one = device_of one.line one.tty
 
-module _ {G : Type 0} (ran : RunsOf G) (refused : RefusalsOf G) (T : G → ℕ → Point → G → Type 0) (shared : Shared) (devices : List Device) (posts ws : List (Work G)) (backs : List (Back G)) (inputs : List LineIn) (are : AreDevicesOf shared.plan shared.queues shared.chains.items devices)
+module _ {G : Type 0} (ran : RunsOf G) (refused : RefusalsOf G) (T : Calls G) (shared : Shared) (devices : List Device) (posts ws : List (Work G)) (backs : List (Back G)) (inputs : List LineIn) (are : AreDevicesOf shared.plan shared.queues shared.chains.items devices)
     (serving : AreServing shared.plan.ttys devices posts ws) (gave : AllZip (GaveBack ran refused (HasWorked T) shared) ws backs) (typed : AreTyped shared.plan.ttys (drop (length posts) backs) (map input_of devices) inputs)
     (f : Sorted (length posts) (length shared.plan.ttys) backs) where
   device_came : (t : ℕ) (p : PlannedTty) (device : Device) (input : LineIn) (one : Served) → slice_get shared.plan.ttys t ≡ Some p → slice_get devices t ≡ Some device → slice_get inputs t ≡ Some input

@@ -1,5 +1,5 @@
 -- What a boot knows when all that it gave its threads came back, and all was joined and closed.
-use Rattle.synth_kernel.proofs.Common.{◌≡◌, ◌≤◌, ℕ, zero, suc, ◌+◌, true, List, [], ◌∷◌, map, drop, length, Option, Some, Ok, flat_map, refl, sym, ap, subst, ◌∙◌, arith, length-map, All, AllZip, AllByRecursion, BootPlan, Report, TornDown, AllClosed, AreRawsOf, TookRaws, HasWholes, Point, AllThree, Shared, Parts, LogEntry, Leaves, hear_count, ArePartsOf, heard_lines, AllJoined, Typed, IsReported, LineIn, IsLine, Work, Processed, Worked, parts_of, gate_of, back_of, GaveBack, input_of, ArePosted, AreTyped, Back, HasWorked, as_many_posts, Served, Ready, IsBootOf, HooksSaw, BootWithHooks, processed_in, served_in, all_there, tty_of, TotalsAre, IsReady}
+use Rattle.synth_kernel.proofs.Common.{◌≡◌, ◌≤◌, ℕ, zero, suc, ◌+◌, true, List, [], ◌∷◌, map, drop, length, Option, Some, Ok, flat_map, refl, sym, ap, subst, ◌∙◌, arith, length-map, All, AllZip, AllByRecursion, BootPlan, Report, TornDown, AllClosed, AreRawsOf, TookRaws, HasWholes, Calls, AllThree, Shared, Parts, LogEntry, Leaves, hear_count, ArePartsOf, heard_lines, AllJoined, Typed, IsReported, LineIn, IsLine, Work, Processed, Worked, parts_of, gate_of, back_of, GaveBack, input_of, ArePosted, AreTyped, Back, HasWorked, as_many_posts, Served, Ready, IsBootOf, HooksSaw, BootWithHooks, processed_in, served_in, all_there, tty_of, TotalsAre, IsReady}
 use Rattle.boot_data.specs.Hearing.{Key}
 use Rattle.boot_objects.proofs.Backs.{come_home}
 use Rattle.processor.specs.Accounts.{Account, account}
@@ -21,7 +21,7 @@ use Rattle.synth_kernel.proofs.Closing.{did_all}
 use Rattle.synth_kernel.proofs.Facts.{did_of, lines_pair, raws_are, had_back, devices_ended, devices_shown}
 use Rattle.boot_threads.specs.Works.{RunsOf, RefusalsOf}
 
-module _ {G : Type 0} (ran : RunsOf G) (refused : RefusalsOf G) (T : G → ℕ → Point → G → Type 0) (shared : Shared) where
+module _ {G : Type 0} (ran : RunsOf G) (refused : RefusalsOf G) (T : Calls G) (shared : Shared) where
   -- each station that came back is of the shared objects
   parts_all : (p turns : ℕ) (gates : List G) (old new : Parts) (posts : List (Work G)) (came : List (Processed G)) → ArePosted shared p turns gates old new posts
       → AllZip (GaveBack ran refused (HasWorked T) shared) posts (map back_of came) → All (ArePartsOf shared) (map parts_of came)
@@ -51,7 +51,7 @@ module _ {G : Type 0} (ran : RunsOf G) (refused : RefusalsOf G) (T : G → ℕ �
     (record { old = had.0; manned = had.1; fresh = had.2; new = s.station; joined = had.3; stays = had.4.0; turned = had.4.1; log_is = refl }, rest.2),
   )
 
-module _ {G : Type 0} (ran : RunsOf G) (refused : RefusalsOf G) (shown : TornDown → Type 0) (T : G → ℕ → Point → G → Type 0) (plan : BootPlan) (turns : ℕ) (gates : List G) (ready : Ready G) (r : IsReady plan turns gates ready) (backs : List (Back G)) (inputs : List LineIn)
+module _ {G : Type 0} (ran : RunsOf G) (refused : RefusalsOf G) (shown : TornDown → Type 0) (T : Calls G) (plan : BootPlan) (turns : ℕ) (gates : List G) (ready : Ready G) (r : IsReady plan turns gates ready) (backs : List (Back G)) (inputs : List LineIn)
     (gave : AllZip (GaveBack ran refused (HasWorked T) ready.shared) ready.works.items backs) (typed : AreTyped ready.shared.plan.ttys (drop (length gates) backs) ready.inputs.items inputs) where
   posts_long : length r.posts ≡ length gates
   posts_long = as_many_posts ready.shared 0 turns gates r.first ready.station.parts r.posts r.posted

@@ -15,7 +15,6 @@ use Rattle.boot_script.specs.Plans.{text_plan}
 use Rattle.boot_script.specs.Reports.{report_text}
 use Rattle.boot_objects.specs.declared.closing.all.TornDown.{TornDown}
 use Rattle.turn_io.specs.declared.gate.NoGate.{NoGate}
-use Rattle.turn_io.specs.declared.gate.Point.{Point}
 use Rattle.processor.specs.declared.shared.Shared.{Shared}
 use Rattle.processor.specs.declared.station.Parts.{Parts}
 use Rattle.processor.specs.declared.station.Station.{Station}
@@ -23,6 +22,7 @@ use Rattle.processor.specs.Accounts.{Account, account}
 use Rattle.processor.specs.Entries.{LogEntry}
 use Rattle.processor.specs.Logs.{IsFresh, Leaves, RanTurns}
 use Rattle.processor.specs.Manning.{IsRunnable, KeepsStation}
+use Rattle.processor.specs.Points.{Calls, calls}
 use Rattle.processor.specs.Stations.{ArePartsOf}
 use Rattle.quajects.specs.declared.any.AnyQuaject.{AnyQuaject}
 use Rattle.quajects.specs.Homes.{homes_in}
@@ -69,11 +69,11 @@ pub record LogsHaveTurns (processors turns : ℕ) (plan : BootPlan) (closed : Cl
 -- THE RESULTS OF A BOOT WITH GATES
 
 -- The processor p had so many turns on a station of these objects. The processor could use the station, still can, and
--- the station had done nothing. `log` is the log of these turns. The gate observed these turns and nothing else, and so
--- became `gate'`. The thread of exactly this work, on these objects, was joined and gave back the station and the gate,
--- as `ran` says. A proof knows of `ran` only what joining a thread ensures
-pub record HookSaw {G : Type 0} (ran : RunsOf G) (T : G → ℕ → Point → G → Type 0)
-    (shared : Shared) (p turns : ℕ) (gate gate' : G) (log : List LogEntry) : Type 0 where
+-- the station had done nothing. `log` is the log of these turns. The gate observed these turns, got this log entry by
+-- entry, and nothing else, and so became `gate'`. The thread of exactly this work, on these objects, was joined
+-- and gave back the station and the gate, as `ran` says. A proof knows of `ran` only what joining a thread ensures
+pub record HookSaw {G : Type 0} (ran : RunsOf G) (T : Calls G) (shared : Shared) (p turns : ℕ) (gate gate' : G)
+    (log : List LogEntry) : Type 0 where
   pub old : Station
   pub manned : IsRunnable shared p old.parts
   pub fresh : IsFresh old.parts
@@ -85,8 +85,8 @@ pub record HookSaw {G : Type 0} (ran : RunsOf G) (T : G → ℕ → Point → G 
   pub log_is : turned.log ≡ log
 
 -- each of these gates observed the turns of its processor, from the number p on, in their order
-abbrev pub HooksSaw : {G : Type 0} → RunsOf G → (G → ℕ → Point → G → Type 0) → Shared → ℕ → ℕ
-    → List G → List G → List (List LogEntry) → Type 0
+abbrev pub HooksSaw : {G : Type 0} → RunsOf G → Calls G → Shared → ℕ → ℕ → List G → List G → List (List LogEntry)
+    → Type 0
 HooksSaw ran T shared p turns [] [] [] = Unit {0}
 HooksSaw ran T shared p turns (gate ∷ gates) (gate' ∷ gates') (log ∷ logs) =
     HookSaw ran T shared p turns gate gate' log × HooksSaw ran T shared (p + 1) turns gates gates' logs
@@ -102,13 +102,14 @@ pub record DidAll (plan : BootPlan) (did : Account) (parts : Parts) : Type 0 whe
   pub large : (q : ℕ) → (account parts).queues (Large q) ≡ did.queues (Large q)
   pub chains : (k : ℕ) → k < length plan.movers → (account parts).chains k ≡ did.chains k
 
--- Each gate observed the turns of its processor on objects of the plan, in a thread that was joined, and came back at
--- its place. `ended` is the result of closing these objects, and was shown to the runtime. The ends that closed all
--- belong to these objects. They did the work before the turns, followed by what the logs come to. The closed tables are
--- made from `ended` and from the work of ends, quajects and devices, and show the numbers of `ended`
-pub record BootWithHooks {G : Type 0} (ran : RunsOf G) (shown : TornDown → Type 0)
-    (T : G → ℕ → Point → G → Type 0) (turns : ℕ) (gates back : List G) (ended : TornDown) (plan : BootPlan)
-    (closed : ClosedTables) (logs : List (List LogEntry)) : Type 0 where
+-- Each gate observed the turns of its processor on objects of the plan, and got its log, in a thread that was
+-- joined, and came back at its place. `ended` is the result of closing these objects, and was shown to the runtime. The
+-- ends that closed all belong to these objects. They did the work before the turns, followed by what the logs come to.
+-- The closed tables are made from `ended` and from the work of ends, quajects and devices, and show the numbers of
+-- `ended`
+pub record BootWithHooks {G : Type 0} (ran : RunsOf G) (shown : TornDown → Type 0) (T : Calls G) (turns : ℕ)
+    (gates back : List G) (ended : TornDown) (plan : BootPlan) (closed : ClosedTables) (logs : List (List LogEntry))
+    : Type 0 where
   pub shared : Shared
   pub plan_is : shared.plan ≡ plan
   pub reported : HooksSaw ran T shared 0 turns gates back logs
@@ -124,9 +125,9 @@ pub record BootWithHooks {G : Type 0} (ran : RunsOf G) (shown : TornDown → Typ
   pub typed : List Typed
   pub shows : Shows closed ended typed
 
--- the law of the gate that does nothing: it allows any call
-abbrev pub SawNothing : NoGate → ℕ → Point → NoGate → Type 0
-SawNothing old p point new = Unit {0}
+-- the calls of the gate that does nothing: it allows any, and keeps nothing of what it gets
+abbrev pub SawNothing : Calls NoGate
+SawNothing = calls (λ old p point new. Unit {0}) (λ old p entry new. new ≡ old)
 
 -- a boot without gates: its gates are so many gates that do nothing, which came back
 pub record CameBackPlain (ran : RunsOf NoGate) (shown : TornDown → Type 0)

@@ -1,10 +1,10 @@
 -- The objects of a boot when its threads have stopped.
 use Rattle.std.specs.Prelude.{◌≡◌, ℕ, List, drop}
 use Rattle.std.specs.List.{AllZip}
-use Rattle.turn_io.specs.declared.gate.Point.{Point}
 use Rattle.boot_threads.specs.Crews.{GaveBack}
 use Rattle.boot_threads.specs.Typings.{AreTyped}
 use Rattle.boot_threads.specs.Works.{Back, HasWorked, RunsOf, RefusalsOf}
+use Rattle.processor.specs.Points.{Calls}
 use Rattle.spsc_line.specs.declared.line_in.LineIn.{LineIn}
 use Rattle.synth_kernel.specs.declared.ready.Ready.{Ready}
 use Rattle.synth_kernel.specs.declared.running.Stopped.{Stopped}
@@ -14,7 +14,7 @@ use Rattle.synth_kernel.specs.Gatherings.{IsGathered}
 -- devices, whose works follow those of so many processors. The results were gathered. The objects, and the room for
 -- answers and report, are those that were ready
 pub record HasStopped {G : Type 0} (ran : RunsOf G) (refused : RefusalsOf G)
-    (T : G → ℕ → Point → G → Type 0) (processors : ℕ) (ready : Ready G) (stopped : Stopped G) : Type 0 where
+    (T : Calls G) (processors : ℕ) (ready : Ready G) (stopped : Stopped G) : Type 0 where
   pub shared_is : stopped.shared ≡ ready.shared
   pub backs : List (Back G)
   pub worked : AllZip (GaveBack ran refused (HasWorked T) ready.shared) ready.works.items backs

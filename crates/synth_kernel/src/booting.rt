@@ -1,5 +1,6 @@
 //! A boot, from its plan to its report.
 ghost use Rattle.std.specs.Prelude.{◌≤◌, vec_len, IfOk};
+ghost use Rattle.processor.specs.Points.{calls};
 ghost use Rattle.synth_kernel.specs.Boots.{IsBootOf, BootWithHooks};
 
 use crate::gathering::Gathered;
@@ -11,10 +12,9 @@ use boot_objects::TornDown;
 use boot_report::report_boot;
 use boot_threads::{Witness, Work, Worked};
 use event_theory::OutOfMemory;
-use processor::Shared;
+use processor::{Shared, TurnGate};
 use std::alloc::Global;
 use std::sync::Wait;
-use turn_io::Gate;
 
 /// Boots a plan, a processor for each gate, with so many turns on each, and makes the report. Returns the gates, each
 /// at its place, and the result of closing all. `OutOfMemory` is returned only if an allocation was refused or a thread
@@ -31,9 +31,9 @@ pub(crate) fn boot_plan<R, G>(
 ) -> Result<(Report, Vec<G>, TornDown), OutOfMemory>
 where
     R: Witness<Shared, Worked<G>, Work<G>> + Wait + Sync,
-    G: Gate + Send + Drop,
+    G: TurnGate + Send + Drop,
     requires gates { (1 ≤ vec_len gates) × (vec_len gates ≤ 8) }
-    ensures { IfOk result (λ r. IsBootOf (BootWithHooks R.ran R.shown G.observes turns gates.items r.1.items r.2) plan r.0) }
+    ensures { IfOk result (λ r. IsBootOf (BootWithHooks R.ran R.shown (calls G.observes G.learns) turns gates.items r.1.items r.2) plan r.0) }
 {
     let processors = gates.len();
     let ready = get_ready(rt, alloc, plan, turns, gates)?;

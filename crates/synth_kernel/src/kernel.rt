@@ -4,6 +4,7 @@ ghost use Rattle.std.specs.Io.KnownBytes.{Keeps};
 ghost use Rattle.boot_script.specs.Plans.{text_plan};
 ghost use Rattle.boot_script.specs.StreamFaults.{IsReadFault, IsWriteFault};
 ghost use Rattle.boot_objects.specs.declared.closing.all.TornDown.{TornDown};
+ghost use Rattle.processor.specs.Points.{calls};
 ghost use Rattle.synth_kernel.specs.Boots.{BootWithHooks, CameBackPlain, HasNumbers, IsBoot, IsBootAnswer};
 ghost use Rattle.synth_kernel.specs.Boots.{IsBootFault, IsRead};
 
@@ -13,10 +14,10 @@ use boot_data::BootPlan;
 use boot_script::{ScriptRefusal, Sink, Source, parse_boot, read_script};
 use boot_threads::{Witness, Work, Worked};
 use event_theory::OutOfMemory;
-use processor::Shared;
+use processor::{Shared, TurnGate};
 use std::alloc::Global;
 use std::sync::Wait;
-use turn_io::{Gate, NoGate};
+use turn_io::NoGate;
 
 /// The maximum number of bytes of a script, and one more.
 const BUFFER_BYTES: usize = 65_537;
@@ -114,11 +115,11 @@ where
     R: Witness<Shared, Worked<G>, Work<G>> + Wait + Sync,
     I: Source,
     O: Sink,
-    G: Gate + Send + Drop,
+    G: TurnGate + Send + Drop,
     requires number { (1 ≤ processors) × (processors ≤ 8) }
     requires gates { vec_len gates ≡ processors }
     ensures numbers { IfOk result (HasNumbers processors turns) }
-    ensures ok { IfOk result (λ booted. IsBoot (BootWithHooks R.ran R.shown G.observes turns gates.items booted.gates.items
+    ensures ok { IfOk result (λ booted. IsBoot (BootWithHooks R.ran R.shown (calls G.observes G.learns) turns gates.items booted.gates.items
         booted.closed) (I.remaining reader.old) booted.ended (O.contents writer.old) (O.contents writer.new)) }
     ensures fault { IfErr result (λ fault. IfSome (I.remaining reader.old) (λ bytes. IsBootFault
         (text_plan bytes) fault)) }
@@ -174,11 +175,11 @@ where
     R: Witness<Shared, Worked<G>, Work<G>> + Wait + Sync,
     I: Source + Drop,
     O: Sink + Drop,
-    G: Gate + Send + Drop,
+    G: TurnGate + Send + Drop,
     requires number { (1 ≤ processors) × (processors ≤ 8) }
     requires gates { vec_len gates ≡ processors }
     ensures ok { IfOk result (λ ended. (back : List G) × (closed : TornDown)
-        × IsBootAnswer (BootWithHooks R.ran R.shown G.observes turns gates.items back closed) (I.remaining reader) ended) }
+        × IsBootAnswer (BootWithHooks R.ran R.shown (calls G.observes G.learns) turns gates.items back closed) (I.remaining reader) ended) }
     ensures fault { IfErr result (λ fault. IfSome (I.remaining reader) (λ bytes. IsBootFault (text_plan bytes)
         fault)) }
     ensures read { IfErr result (λ fault. fault ≡ BootFault.Read → (last : I) × IsReadFault I.answers reader last) }

@@ -3,6 +3,7 @@ ghost use Rattle.std.specs.Prelude.{◌≡◌, ◌≢◌, ◌≤◌, vec_len, If
 ghost use Rattle.std.specs.Io.KnownBytes.{Keeps};
 ghost use Rattle.boot_laws.specs.Saying.{live_threads};
 ghost use Rattle.boot_script.specs.StreamFaults.{IsWriteFault};
+ghost use Rattle.processor.specs.Points.{calls};
 ghost use Rattle.synth_kernel.specs.Boots.{ended_of, BootWithHooks, HasNumbers, IsLate, IsRun};
 
 use crate::booting::boot_plan;
@@ -12,10 +13,9 @@ use boot_objects::TornDown;
 use boot_report::live_of;
 use boot_script::{Sink, print_report};
 use boot_threads::{Witness, Work, Worked};
-use processor::Shared;
+use processor::{Shared, TurnGate};
 use std::alloc::Global;
 use std::sync::Wait;
-use turn_io::Gate;
 
 /// The outcome of a boot whose report was printed: the gates, each at its place, with the record of its turns; the
 /// result of closing all, from which the report was made; and the numbers of processors and of turns on each. Only the
@@ -91,11 +91,11 @@ pub(crate) fn boot_and_print<R, O, G>(
 where
     R: Witness<Shared, Worked<G>, Work<G>> + Wait + Sync,
     O: Sink,
-    G: Gate + Send + Drop,
+    G: TurnGate + Send + Drop,
     requires number { (1 ≤ processors) × (processors ≤ 8) }
     requires gates { vec_len gates ≡ processors }
     ensures numbers { IfOk result (HasNumbers processors turns) }
-    ensures ok { IfOk result (λ booted. IsRun (BootWithHooks R.ran R.shown G.observes turns gates.items booted.gates.items
+    ensures ok { IfOk result (λ booted. IsRun (BootWithHooks R.ran R.shown (calls G.observes G.learns) turns gates.items booted.gates.items
         booted.closed) plan booted.ended (O.contents writer.old) (O.contents writer.new)) }
     ensures fault { IfErr result (λ fault. IsLate fault) }
     ensures unwritten { IfErr result (λ fault. fault ≢ BootFault.Write

@@ -1,5 +1,6 @@
 //! The threads of a boot, from their start to the gathering of their results.
 ghost use Rattle.std.specs.Prelude.{IfOk};
+ghost use Rattle.processor.specs.Points.{calls};
 ghost use Rattle.synth_kernel.specs.Readies.{IsReadyFor};
 ghost use Rattle.synth_kernel.specs.Stops.{HasStopped};
 
@@ -9,10 +10,9 @@ use boot_objects::Answers;
 use boot_report::Lines;
 use boot_threads::{Witness, Work, Worked, run_kernel};
 use event_theory::OutOfMemory;
-use processor::Shared;
+use processor::{Shared, TurnGate};
 use std::alloc::Global;
 use std::sync::Wait;
-use turn_io::Gate;
 
 /// The objects of a boot when its threads have stopped, with the gathered results of the threads, and room for the
 /// answers and the report.
@@ -37,9 +37,9 @@ pub(crate) fn run_threads<R, G>(
 ) -> Result<Stopped<G>, OutOfMemory>
 where
     R: Witness<Shared, Worked<G>, Work<G>> + Wait + Sync,
-    G: Gate + Send + Drop,
+    G: TurnGate + Send + Drop,
     requires ready { IsReadyFor processors ready }
-    ensures { IfOk result (HasStopped R.ran R.refused G.observes processors ready) }
+    ensures { IfOk result (HasStopped R.ran R.refused (calls G.observes G.learns) processors ready) }
 {
     let handles = Vec::with_capacity(alloc, ready.works.len())?;
     let Ready {

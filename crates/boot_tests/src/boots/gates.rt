@@ -3,6 +3,9 @@
 use super::*;
 use crossbeam_utils::Backoff;
 use crossbeam_utils::atomic::AtomicCell;
+use event_theory::Alarm;
+use meters::AdvanceRefusal;
+use processor::{TurnGate, TurnOutcome};
 use std::alloc::AllocError;
 use turn_io::{Gate, Point};
 
@@ -50,6 +53,17 @@ impl Gate for Hold<'_> {
             self.given_up.store(true);
         }
     }
+}
+
+impl TurnGate for Hold<'_> {
+    fn turned(
+        &mut self,
+        _p: u8,
+        _advanced: Option<Result<u32, AdvanceRefusal>>,
+        _fired: &[Alarm],
+        _outcome: TurnOutcome,
+        _line: &[u64],
+    ) {}
 }
 
 /// Whether these are the gates of so many processors, from 0 on, and each counted so many turns.

@@ -7,7 +7,9 @@ ghost use Rattle.processor.specs.Stations.{ArePartsOf};
 
 use super::partings::stand_two;
 use super::*;
-use event_theory::WaitNumber;
+use event_theory::{Alarm, WaitNumber};
+use meters::AdvanceRefusal;
+use processor::{TurnGate, TurnOutcome};
 use std::test::*;
 use turn_dispatch::wake;
 use turn_io::{Gate, Point, say, shut_queue};
@@ -54,6 +56,17 @@ impl<'r, 's, R: Wait> Gate for Sayer<'r, 's, R> {
         say_or_shut(queues, &mut self.ends, self.shuts);
         let _woken = wake(self.rt, &self.shared.threads, &mut self.hand, self.wait);
     }
+}
+
+impl<'r, 's, R: Wait> TurnGate for Sayer<'r, 's, R> {
+    fn turned(
+        &mut self,
+        _p: u8,
+        _advanced: Option<Result<u32, AdvanceRefusal>>,
+        _fired: &[Alarm],
+        _outcome: TurnOutcome,
+        _line: &[u64],
+    ) {}
 }
 
 /// Makes sure that a queue exists.

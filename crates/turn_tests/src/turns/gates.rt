@@ -5,7 +5,8 @@ ghost use Rattle.meters.specs.Handles.{IsSeatOf};
 use super::partings::stand_two;
 use super::*;
 use event_theory::Element;
-use meters::Alarm;
+use meters::{AdvanceRefusal, Alarm};
+use processor::{TurnGate, TurnOutcome};
 use std::test::*;
 use thread_table::NextRefusal;
 use turn_dispatch::make_ready;
@@ -23,6 +24,17 @@ impl Gate for Recorder {
     fn between(&mut self, p: u8, point: Point) {
         let _short = self.points.push((p, point));
     }
+}
+
+impl TurnGate for Recorder {
+    fn turned(
+        &mut self,
+        _p: u8,
+        _advanced: Option<Result<u32, AdvanceRefusal>>,
+        _fired: &[Alarm],
+        _outcome: TurnOutcome,
+        _line: &[u64],
+    ) {}
 }
 
 /// The gate is called for each turn, with its number, between the parts of a say, and after the try of a hear. It is
@@ -76,6 +88,17 @@ impl<'r, 's, R: Wait> Gate for Taker<'r, 's, R> {
     }
 }
 
+impl<'r, 's, R: Wait> TurnGate for Taker<'r, 's, R> {
+    fn turned(
+        &mut self,
+        _p: u8,
+        _advanced: Option<Result<u32, AdvanceRefusal>>,
+        _fired: &[Alarm],
+        _outcome: TurnOutcome,
+        _line: &[u64],
+    ) {}
+}
+
 /// When the gate is called for a turn, the turn's element is still in the ready ring. The element of the turn before is
 /// there again; within a step it is not.
 #[test]
@@ -127,6 +150,17 @@ impl<'s> Gate for Canceller<'s> {
             let _short = self.cancelled.push(cancelled);
         }
     }
+}
+
+impl<'s> TurnGate for Canceller<'s> {
+    fn turned(
+        &mut self,
+        _p: u8,
+        _advanced: Option<Result<u32, AdvanceRefusal>>,
+        _fired: &[Alarm],
+        _outcome: TurnOutcome,
+        _line: &[u64],
+    ) {}
 }
 
 const TWO_ALARMS: &[u8] = b"synthesis 2

@@ -7,7 +7,7 @@ pub returns-in-Put-clause-queues : goal.returns-in-Put-clause-queues
 returns-in-Put-clause-queues g c = (
   tt,
   subst (λ (z : List ℕ). SaidAt c.args.queue z (Ok tt) c.args.small.now c.try_say-answer.new.small c.args.large.now c.try_say-answer.new.large)
-      (c.as_slice.ensures.value ∙ c.write_line.ensures) c.in-Put.ensures.said,
+      c.as_slice.ensures.value c.in-Put.ensures.said,
 )
 
 pub returns-in-Put-clause-order : goal.returns-in-Put-clause-order

@@ -1,4 +1,4 @@
-use Rattle.processor.proofs.Common.{◌≡◌, ◌<◌, ◌≤◌, ℕ, true, List, length, ◌++◌, map, rules, sym, ap, ◌∙◌, subst, arith, AllByRecursion, by_index, view_of, call_of, StepOutcome, Rescheduled, Parts, is_done, line_in, heard_by, is_heard, saw_shut, FollowsStep, trying, Went, Key, AreHears, hear_count, program, key_of, IsPast, Goes, is_last}
+use Rattle.processor.proofs.Common.{◌≡◌, ◌<◌, ◌≤◌, ℕ, true, List, length, ◌++◌, map, rules, sym, ap, ◌∙◌, subst, arith, AllByRecursion, by_index, view_of, call_of, StepOutcome, Rescheduled, Parts, is_done, heard_by, is_heard, saw_shut, FollowsStep, trying, Went, Key, AreHears, hear_count, program, key_of, IsPast, Goes, is_last}
 use Rattle.std.proofs.lemmas.List.{length-map}
 use Rattle.boot_data.specs.Hearing.{Heard}
 use Rattle.processor.specs.declared.counting.StepCounted.{StepCounted}
@@ -11,7 +11,7 @@ use Rattle.processor.proofs.Longest.{heard_within}
 use Rattle.processor.proofs.Placing.{queues_worked, chains_worked, seat_worked}
 use Rattle.processor.proofs.Rising.{fallen, going, stepping}
 use Rattle.processor.proofs.Rooming.{key_in, hears_more, past_more, room_left, keys_more}
-use Rattle.processor.proofs.Trying.{heard_line, tried_went}
+use Rattle.processor.proofs.Trying.{tried_went}
 use Rattle.processor.proofs.turn.run_element.Goals as goal
 
 pub keep-requires-clause-room : goal.keep-requires-clause-room
@@ -33,7 +33,7 @@ keep-requires-clause-few g c is =
     let plan = c.args.shared.now.plan in
     let r = c.run_step-tried.ensures in
     let had = c.requires.station.room in
-    let text = c.run_step-tried.new.room.heard.items in
+    let text = c.run_step-tried.new.room.line.items in
     let it = subst (λ (z : StepOutcome). is_heard z ≡ true) c.step_outcome.ensures is in
     let short : length text ≤ longest_line plan = heard_within plan c.args.begun.now.element c.args.begun.now.number c.args.step.now c.run_step-tried.result.step_outcome text _ _ _ _ c.requires.its r.step_outcome r.ends.queues it in
     let long : length text ≤ c.args.parts.now.heard.longest = let most = had.longest in omega arith in
@@ -99,16 +99,15 @@ returns-clause-ran g c =
     let mid = c.run_step-tried.new.parts in
     let new : Parts = record mid { hand = c.send_on.new.hand; heard = c.keep.new.lines } in
     let sent : Rescheduled = record { tried = tried; moved = c.send_on.result.moved } in
-    let text = c.run_step-tried.new.room.heard.items in
-    let line = line_in c.args.step.now text in
+    let line = c.run_step-tried.new.room.line.items in
     let kept = subst (λ (z : StepOutcome). c.keep.new.lines.lines ≡ mid.heard.lines ++ heard_by z e n c.as_slice.result.now) c.step_outcome.ensures c.keep.ensures.effect in
     let bytes = ap (λ (z : List ℕ). mid.heard.lines ++ heard_by tried.step_outcome e n z) c.as_slice.ensures.value in
-    let lines = kept ∙ bytes ∙ (ap (λ z. z.lines ++ heard_by tried.step_outcome e n text) r.heard ∙ ap (λ z. old.heard.lines ++ z) (heard_line c.args.step.now tried.step_outcome e n text r.step_outcome)) in
+    let lines = kept ∙ bytes ∙ ap (λ z. z.lines ++ heard_by tried.step_outcome e n line) r.heard in
     let ends : EndsDid shared tried.step_outcome line old new = record { queues = r.ends.queues; chains = r.ends.chains; seat = r.ends.seat } in
     let last : c.is_last-last.result ≡ is_last (is_done tried.step_outcome) n (length (program shared.plan e)) = search rules in
     let goes = subst (λ k. Goes k tried.step_outcome (is_last (is_done tried.step_outcome) n (length (program shared.plan e))) e sent.moved (view_of mid.hand) (view_of new.hand)) r.handle.hand.1
     (subst (λ b. Goes (call_of mid.hand) tried.step_outcome b e sent.moved (view_of mid.hand) (view_of new.hand)) last s.goes) in
-    let both = subst (λ (z : StepCounted). RanStep shared c.args.p e n (record { tried = z; moved = c.send_on.result.moved }) line old new
+    subst (λ (z : StepCounted). RanStep shared c.args.p e n (record { tried = z; moved = c.send_on.result.moved }) line old new
     × Went (FollowsStep shared.plan e n (record { tried = z; moved = c.send_on.result.moved }) line) (trying e n (record { tried = z; moved = c.send_on.result.moved }) line) (saw_shut z.step_outcome) old new)
     (sym s.tried) (
       record {
@@ -124,8 +123,7 @@ returns-clause-ran g c =
       },
       tried_went shared _ _ c.args.p e n c.args.step.now sent line old mid new c.requires.its r.step_outcome r.hand r.number c.requires.known c.requires.low goes
           r.adds s.adds ends lines r.signals,
-    ) in
-    (line, both.0, both.1)
+    )
 
 pub returns-clause-order : goal.returns-clause-order
 returns-clause-order g c =

@@ -1,14 +1,21 @@
-use Rattle.processor.proofs.Common.{LogEntry}
+use Rattle.processor.proofs.Common.{List, ℕ, LogEntry, sym, ap, ◌∙◌, subst}
+use Rattle.event_theory.specs.declared.alarm.Alarm.{Alarm}
+use Rattle.processor.specs.Entries.{entry_of}
 use Rattle.processor.proofs.Logging.{turn_ran}
 use Rattle.processor.proofs.turn.turn.Goals as goal
 
 pub returns-clause-turn : goal.returns-clause-turn
 returns-clause-turn g c =
-    let tended = c.tend.ensures.tended in
-    let came = c.dispatch.ensures.came in
-    let entry : LogEntry = record { tended = tended.0; outcome = c.dispatch.result; line = came.0 } in (
+    let tended = c.tend-advanced.ensures.tended in
+    let came = c.dispatch-outcome.ensures.came in
+    let fired = c.tend-advanced.new.fired.items in
+    let line = c.dispatch-outcome.new.room.line.items in
+    let entry : LogEntry = entry_of c.tend-advanced.result fired c.dispatch-outcome.result line in
+    let told = subst (λ (q : ℕ). g.G.TurnGate.learns c.dispatch-outcome.new.gate q entry c.turned.new.self) c.number.ensures.value
+    (subst (λ (z : List Alarm). g.G.TurnGate.learns c.dispatch-outcome.new.gate c.number.result (entry_of c.tend-advanced.result z c.dispatch-outcome.result line) c.turned.new.self) c.as_slice.ensures.value
+    (subst (λ (z : List ℕ). g.G.TurnGate.learns c.dispatch-outcome.new.gate c.number.result (entry_of c.tend-advanced.result c.as_slice.result.now c.dispatch-outcome.result z) c.turned.new.self) c.as_slice-2.ensures.value c.turned.ensures)) in (
       entry,
-      (c.tend.new.parts, tended.1, came.1),
-      turn_ran c.args.shared.now.plan entry c.args.parts.now c.tend.new.parts c.dispatch.new.parts tended.2 came.2,
-      c.dispatch.ensures.hook,
+      (c.tend-advanced.new.parts, tended.0, came.0),
+      turn_ran c.args.shared.now.plan entry c.args.parts.now c.tend-advanced.new.parts c.dispatch-outcome.new.parts tended.1 came.1,
+      (c.dispatch-outcome.new.gate, c.dispatch-outcome.ensures.hook, told),
     )

@@ -1,4 +1,4 @@
-use Rattle.synth_kernel.proofs.Common.{ℕ, drop, length, ap, subst, ◌∙◌, refl, arith, length-map, input_of, AreTyped}
+use Rattle.synth_kernel.proofs.Common.{ℕ, drop, length, ap, subst, ◌∙◌, refl, arith, length-map, input_of, AreTyped, calls}
 use Rattle.synth_kernel.proofs.Shut.{few_came, lines_came, parts_came}
 use Rattle.synth_kernel.proofs.running.run_threads.Goals as goal
 
@@ -16,11 +16,11 @@ gather-requires g c =
     let inputs = c.run_kernel-backs.result.1.items in
     let worked = c.run_kernel-backs.ensures.worked in
     let typed = subst (λ (z : ℕ). AreTyped o.shared.plan.ttys (drop z backs) o.inputs.items inputs) c.requires.ready.2 c.run_kernel-backs.ensures.typed in
-    let few = few_came g.R.Witness.ran g.R.Witness.refused shown g.G.Gate.observes o.shared.plan c.requires.ready.0 c.requires.ready.1 o r backs inputs worked typed in
+    let few = few_came g.R.Witness.ran g.R.Witness.refused shown (calls g.G.Gate.observes g.G.TurnGate.learns) o.shared.plan c.requires.ready.0 c.requires.ready.1 o r backs inputs worked typed in
     record {
       first = r.parts;
-      stations = λ all. parts_came g.R.Witness.ran g.R.Witness.refused shown g.G.Gate.observes o.shared.plan c.requires.ready.0 c.requires.ready.1 o r backs inputs worked typed all;
-      lines = λ all. lines_came g.R.Witness.ran g.R.Witness.refused shown g.G.Gate.observes o.shared.plan c.requires.ready.0 c.requires.ready.1 o r backs inputs worked typed all;
+      stations = λ all. parts_came g.R.Witness.ran g.R.Witness.refused shown (calls g.G.Gate.observes g.G.TurnGate.learns) o.shared.plan c.requires.ready.0 c.requires.ready.1 o r backs inputs worked typed all;
+      lines = λ all. lines_came g.R.Witness.ran g.R.Witness.refused shown (calls g.G.Gate.observes g.G.TurnGate.learns) o.shared.plan c.requires.ready.0 c.requires.ready.1 o r backs inputs worked typed all;
       room = record {
         processed = (r.room.processed.0, let n = r.room.processed.1 in let f = few.0 in omega arith);
         served = (r.room.served.0, let n = r.room.served.1 in let f = few.1 in omega arith);

@@ -1,0 +1,3 @@
+pub mod Fixed
+pub mod Growth
+pub mod Runs

@@ -1,0 +1,4 @@
+pub mod Fronts
+pub mod Growing
+pub mod Kept
+pub mod Values

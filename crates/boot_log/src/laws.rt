@@ -1,0 +1,28 @@
+//! A run that was recorded: its log is the front of all turns.
+ghost use Rattle.std.specs.Prelude.{◌≡◌, ◌<◌, ◌^◌, ℕ, List, length};
+ghost use Rattle.processor.specs.Entries.{LogEntry};
+ghost use Rattle.processor.specs.Logs.{RanTurns};
+ghost use Rattle.processor.specs.Points.{HookedTurns, calls};
+ghost use Rattle.processor.specs.declared.shared.Shared.{Shared};
+ghost use Rattle.processor.specs.declared.station.Parts.{Parts};
+ghost use Rattle.boot_log.specs.declared.recorder.Recorder.{Recorder};
+ghost use Rattle.boot_log.specs.Fronts.{IsRecordOf};
+ghost use Rattle.boot_log.specs.Kept.{Room, nothing_kept};
+
+use crate::clock::TurnClock;
+use crate::recorder::Recorder;
+use processor::{Gate, TurnGate};
+
+/// A recorder had kept nothing before a run of fewer than 2^64 turns. After the run its log has the entry of each turn
+/// up to the first for which there was no room, and the number of all others. The times are the clock's, and none is
+/// before an earlier one. It is the log that the contract of the run names.
+pub fn runs_are_kept<C: TurnClock>()
+    ensures turns { (shared : Shared) (p number : ℕ) (turns : List LogEntry) (old new : Parts) (room : Room)
+        (gate gate' : Recorder C) → HookedTurns (calls ⟦<Recorder<C> as Gate>⟧.observes
+        ⟦<Recorder<C> as TurnGate>⟧.learns) shared p number turns old new gate gate' → length turns < 2 ^ 64
+        → gate.log ≡ nothing_kept room → IsRecordOf (C.says gate.clock) gate.last turns gate'.log }
+    ensures run { (shared : Shared) (p turns : ℕ) (old new : Parts) (room : Room) (gate gate' : Recorder C)
+        (ran : RanTurns (calls ⟦<Recorder<C> as Gate>⟧.observes ⟦<Recorder<C> as TurnGate>⟧.learns) shared p turns
+        gate gate' old new) → turns < 2 ^ 64 → gate.log ≡ nothing_kept room
+        → IsRecordOf (C.says gate.clock) gate.last ran.log gate'.log }
+{}

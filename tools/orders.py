@@ -18,6 +18,7 @@ use crate::station::Parts;
 use crate::ticket::{Ticket, ticket_for};
 use crate::tries::{WakeDue, SayAnswer, Unsaid, WasShut, shut_at, try_hear, try_say};
 use crate::waking::{WakeDone, wake_for};
+use crate::watch::Watch;
 use boot_data::plan::{QueueIndex, Step};
 use claim_queue::QueueEnd;
 use turn_io::{Gate, shut_queue};
@@ -57,7 +58,7 @@ PRIVATE = [
     ("opened_paid", "fn {}(paid: WakeDone) -> WakeDue", "let WakeDone { woken: _, owed } = paid; owed"),
     ("opened_attempt", "fn {}(attempt: StepTry) -> StepRan", "attempt.was_tried"),
     ("tried_before_it_is_on", RUNS + " -> StepTry", f"""let _rt = rt; let step_outcome = StepOutcome::Tick {{ gauge, amount: 1, before: {TICK} }}; put_on(&shared.threads, &mut parts.hand, p, element); StepTry {{ step_outcome, was_tried: StepRan(()) }}"""),
-    ("seated_for_nothing", "fn {}<R: Wait, G: Gate>(rt: &R, shared: &Shared, parts: &mut Parts, step: &Step, room: &mut LineRoom, gate: &mut G) -> StepTry",
+    ("seated_for_nothing", "fn {}<R: Wait, G: Watch>(rt: &R, shared: &Shared, parts: &mut Parts, step: &Step, room: &mut LineRoom, gate: &mut G) -> StepTry",
         "do_step(rt, shared, parts, OnProcessor(()), step, room, 0, gate)"),
     ("counted_before_the_try", RUNS + " -> StepCounted", f"""let _rt = rt; let _seated = seat(&shared.threads, &mut parts.hand, p, element);
         let counted = count(&shared.threads, &mut parts.hand, element, true); let step_outcome = StepOutcome::Tick {{ gauge, amount: 1, before: {TICK} }}; StepCounted {{ step_outcome, counted, was_tried: StepRan(()) }}"""),
@@ -78,7 +79,7 @@ MOVED = [
         let writers = wake_for(rt, &shared.threads, hand, waits_of(&shared.plan, QueueIndex::Small(queue)).1, owed); WasShut { was_open, readers, writers }"""),
     ("one_attempt_twice", "fn {}(shared: &Shared, hand: &mut Hand, element: Element, attempt: StepTry) -> StepCounted",
         "let _first = count_step(&shared.threads, hand, element, attempt); count_step(&shared.threads, hand, element, attempt)"),
-    ("one_seat_twice", "fn {}<R: Wait, G: Gate>(rt: &R, shared: &Shared, parts: &mut Parts, seated: OnProcessor, step: &Step, room: &mut LineRoom, gate: &mut G) -> StepTry",
+    ("one_seat_twice", "fn {}<R: Wait, G: Watch>(rt: &R, shared: &Shared, parts: &mut Parts, seated: OnProcessor, step: &Step, room: &mut LineRoom, gate: &mut G) -> StepTry",
         "let _first = do_step(rt, shared, parts, seated, step, room, 0, gate); do_step(rt, shared, parts, seated, step, room, 0, gate)"),
     ("one_count_twice", "fn {}<R: Wait>(rt: &R, shared: &Shared, hand: &mut Hand, element: Element, tried: StepCounted) -> Rescheduled",
         "let _first = send_on(rt, &shared.threads, hand, element, tried, false); send_on(rt, &shared.threads, hand, element, tried, false)"),

@@ -1,2 +1,1 @@
 mod Histories
-mod Trees

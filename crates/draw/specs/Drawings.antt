@@ -9,9 +9,9 @@ use Rattle.boot_script.specs.declared.outcome.ReplayFault.{ReplayFault}
 use Rattle.boot_script.specs.Exits.{AnswersInput}
 use Rattle.boot_script.specs.Printed.{end_of_line}
 use Rattle.draw.specs.declared.history.History.{History}
-use Rattle.draw.specs.declared.shapes.Picture.{Picture}
+use Rattle.svg.specs.declared.shapes.Picture.{Picture}
 use Rattle.draw.specs.Histories.{IsHistory}
-use Rattle.draw.specs.Pictures.{picture_text}
+use Rattle.svg.specs.Pictures.{picture_text}
 
 -- the text has no fault, its events on a fresh core have this answer, and the page is the text of a picture
 abbrev pub IsDrawn : Result (ℕ × List (ℕ × Event)) ScriptFault → Replayed → List ℕ → Type 0

@@ -1,6 +1,5 @@
 //! The picture of a list of events: a row an event, with the state that it led to.
 
-use crate::canvas::Canvas;
 use crate::columns::{Columns, EVENT, MOST_LETTERS, columns_of};
 use crate::element_cells::add_elements;
 use crate::gates::add_chain;
@@ -9,11 +8,11 @@ use crate::legend;
 use crate::legend::add_legend;
 use crate::names::add_names;
 use crate::queue_boxes::add_queue;
-use crate::shapes::{Anchor, Colour, Picture};
-use crate::words::{first_comment, front_of, line_at, numbered, text_of};
 use boot_script::Replayed;
 use event_theory::{ChainStatus, Items, OutOfMemory, QueueStatus, Refusal};
 use std::alloc::Global;
+use svg::words::{first_comment, front_of, line_at, numbered, text_of};
+use svg::{Anchor, Canvas, Colour, Picture};
 
 /// The height of a row, and the place of its boxes in it.
 const ROW: u32 = 36;
@@ -42,9 +41,9 @@ fn add_event(
     y: u32,
 ) -> Result<(), OutOfMemory> {
     let base = y.saturating_add(BOXES + 13);
-    let number = numbered(canvas.alloc, "", u64::from(line))?;
+    let number = numbered(canvas.alloc(), "", u64::from(line))?;
     canvas.text(NUMBERS, base, Anchor::Start, Colour::Dim, number)?;
-    let text = front_of(canvas.alloc, line_at(script, line), MOST_LETTERS)?;
+    let text = front_of(canvas.alloc(), line_at(script, line), MOST_LETTERS)?;
     canvas.text(EVENT, base, Anchor::Start, ink, text)
 }
 
@@ -154,7 +153,7 @@ fn add_refused(
     };
     add_rule(canvas, columns.width, y)?;
     add_event(canvas, script, line, Colour::Red, y)?;
-    let text = refusal_text(canvas.alloc, refusal)?;
+    let text = refusal_text(canvas.alloc(), refusal)?;
     let base = y.saturating_add(ROW + 4);
     canvas.text(EVENT, base, Anchor::Start, Colour::Red, text)?;
     Ok(y.saturating_add(ROW + 16))
@@ -167,7 +166,7 @@ fn add_note(canvas: &mut Canvas, history: &History) -> Result<(), OutOfMemory> {
     if shown == allowed {
         return Ok(());
     }
-    let note = format!(in canvas.alloc; "the last {shown} of {allowed} events that are allowed")?;
+    let note = format!(in canvas.alloc(); "the last {shown} of {allowed} events that are allowed")?;
     let note = Items::new(note.into_bytes());
     canvas.text(NUMBERS, NOTE, Anchor::Start, Colour::Dim, note)
 }
@@ -221,7 +220,7 @@ fn add_head(
     height: u32,
 ) -> Result<(), OutOfMemory> {
     canvas.bar(0, 0, columns.width, height, Colour::White)?;
-    let shown = front_of(canvas.alloc, first_comment(script), TITLE_LETTERS)?;
+    let shown = front_of(canvas.alloc(), first_comment(script), TITLE_LETTERS)?;
     canvas.text(NUMBERS, TITLE, Anchor::Start, Colour::Ink, shown)?;
     add_note(canvas, history)?;
     add_names(canvas, columns)

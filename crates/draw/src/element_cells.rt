@@ -1,11 +1,10 @@
 //! The thread elements in a row: a cell each, with a letter and a colour for its place.
 
-use crate::canvas::{BOX, Canvas};
 use crate::columns::ELEMENT;
-use crate::shapes::{Anchor, Colour};
-use crate::words::{numbered, text_of};
 use event_theory::{ElementStatus, Items, OutOfMemory, Place};
 use std::alloc::Global;
+use svg::words::{numbered, text_of};
+use svg::{Anchor, BOX, Canvas, Colour};
 
 /// A place's colour.
 fn colour(place: Place) -> Colour {
@@ -38,7 +37,7 @@ pub(crate) fn add_place(
     x: u32,
     y: u32,
 ) -> Result<(), OutOfMemory> {
-    let text = letter(canvas.alloc, &place)?;
+    let text = letter(canvas.alloc(), &place)?;
     canvas.cell(x, y, ELEMENT, colour(place))?;
     canvas.label(x.saturating_add(ELEMENT / 2), y, Anchor::Middle, text)
 }

@@ -1,12 +1,11 @@
 //! The legend: the meaning of the boxes, the marks and the letters.
 
-use crate::canvas::{BOX, Canvas};
 use crate::columns::Columns;
 use crate::element_cells::{add_place, add_stop};
 use crate::gates::add_gate;
 use crate::queue_boxes::PlaceState;
-use crate::shapes::Colour;
 use event_theory::{Call, Gate, OutOfMemory, Place, Processor, WaitNumber};
+use svg::{BOX, Canvas, Colour};
 
 /// How far its lines are from each other.
 const LINE: u32 = 32;

@@ -1,7 +1,6 @@
 //! The program `draw`: prints a picture of a list of the core's events.
 #![tactic(auto)]
 
-mod canvas;
 mod columns;
 mod drawing;
 mod element_cells;
@@ -10,11 +9,8 @@ mod history;
 mod legend;
 mod names;
 mod places;
-mod printing;
 mod program;
 mod queue_boxes;
-mod shapes;
-mod words;
 
 use boot_script::exit::no_memory;
 use program::{run_main, usage};

@@ -1,10 +1,9 @@
 //! The names above the columns.
 
-use crate::canvas::Canvas;
 use crate::columns::{Columns, ELEMENT, QueueColumn};
-use crate::shapes::{Anchor, Colour};
-use crate::words::numbered;
 use event_theory::OutOfMemory;
+use svg::words::numbered;
+use svg::{Anchor, Canvas, Colour};
 
 /// How far below the picture's upper side the names are.
 const NAMES: u32 = 66;
@@ -17,7 +16,7 @@ fn add_name(
     x: u32,
     anchor: Anchor,
 ) -> Result<(), OutOfMemory> {
-    let name = numbered(canvas.alloc, letter, number as u64)?;
+    let name = numbered(canvas.alloc(), letter, number as u64)?;
     canvas.text(x, NAMES, anchor, Colour::Dim, name)
 }
 

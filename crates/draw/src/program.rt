@@ -11,11 +11,11 @@ ghost use Rattle.draw.specs.Drawings.{IsAnswer, IsDrawing, IsDrawn, IsDrawingOf,
 
 use crate::drawing::picture;
 use crate::history::replay_rows;
-use crate::printing::print_picture;
 use boot_script::exit::Exit;
 use boot_script::{ReplayFault, Replayed, ScriptRefusal, exit, parse_events, read_script};
 use std::alloc::Global;
 use std::io::{Read, Write};
+use svg::print_picture;
 
 /// One byte more than a script may have, so that a longer one is seen.
 const BUFFER: usize = 65_537;

@@ -1,11 +1,10 @@
 //! A queue's places in a row: a box each, with the marks of its head and its tail.
 
-use crate::canvas::{BOX, Canvas};
 use crate::columns::QueueColumn;
 use crate::places::Seat;
-use crate::shapes::{Anchor, Colour};
-use crate::words::numbered;
 use event_theory::{OutOfMemory, QueueStatus};
+use svg::words::numbered;
+use svg::{Anchor, BOX, Canvas, Colour};
 
 /// The smallest width of a box that has its call's number inside.
 const ROOM_FOR_NUMBER: u32 = 20;
@@ -57,7 +56,7 @@ fn state_of(seat: Option<&Seat>, queue: &QueueStatus, place: u16) -> PlaceState 
 
 /// The number of the call that claimed a place, inside its box.
 fn add_number(canvas: &mut Canvas, seat: &Seat, x: u32, y: u32) -> Result<(), OutOfMemory> {
-    let text = numbered(canvas.alloc, "", u64::from(seat.call.number()))?;
+    let text = numbered(canvas.alloc(), "", u64::from(seat.call.number()))?;
     canvas.label(
         x.saturating_add(ROOM_FOR_NUMBER / 2),
         y,

@@ -3,7 +3,7 @@ use Rattle.event_theory.specs.States.{first_state}
 use Rattle.boot_script.proofs.EventScripts.Faults.{memory_last}
 use Rattle.draw.specs.Drawings.{IsDrawn}
 use Rattle.draw.specs.Histories.{IsHistory}
-use Rattle.draw.specs.Pictures.{picture_text}
+use Rattle.svg.specs.Pictures.{picture_text}
 use Rattle.draw.proofs.program.draw_page.Goals as goal
 
 pub returns-in-Ok-print_picture-clause-ok : goal.returns-in-Ok-print_picture-clause-ok

@@ -1,0 +1,3 @@
+pub mod BlockTurns
+pub mod BoxLists
+pub mod Orders

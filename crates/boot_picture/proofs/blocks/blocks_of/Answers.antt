@@ -1,0 +1,25 @@
+use Rattle.std.proofs.Common.{◌≡◌, ◌≤◌, ◌+◌, ◌-◌, List, sym, subst, arith, length, take, drop, length-drop}
+use Rattle.std.specs.List.{All, flat_map}
+use Rattle.std.proofs.lemmas.List.Elements.{All-push}
+use Rattle.boot_log.specs.declared.entry.Entry.{Entry}
+use Rattle.boot_picture.specs.declared.blocks.Block.{Block}
+use Rattle.boot_picture.specs.Blocks.{AreBlock, IsBlock, turns_of}
+use Rattle.std.proofs.lemmas.List.{take_all}
+use Rattle.boot_picture.proofs.BlockTurns.{more_turns}
+use Rattle.boot_picture.proofs.blocks.blocks_of.Goals as goal
+
+pub loop-first-preserved : goal.loop-first-preserved
+loop-first-preserved c =
+    let entries = c.args.entries.now in
+    let blocks = c.loop-first.blocks.items in
+    let block : Block = record { first = c.loop-first.first; turns = c.first_block-turns.result } in
+    let pushed = c.in_ok-push.ensures.items in
+    let rest = drop block.first entries in
+    let whole : take (length entries - block.first) rest ≡ rest = take_all (length entries - block.first) rest (let l = length-drop block.first entries in omega arith) in
+    let front : AreBlock rest block.turns = subst (λ (es : List Entry). AreBlock es block.turns) whole c.first_block-turns.ensures in
+    let is : IsBlock entries block = record { begins = c.loop-first.invariant.within; block_of = front } in
+    record {
+      within = let w = front.within in let l = length-drop block.first entries in let h = c.loop-first-test.true in omega arith;
+      each_once = rw pushed (more_turns entries blocks block c.loop-first.invariant.each_once);
+      each = subst (λ (bs : List Block). All (IsBlock entries) bs) (sym pushed) (All-push (IsBlock entries) blocks block c.loop-first.invariant.each is);
+    }

@@ -1,0 +1,7 @@
+use Rattle.std.proofs.Common.{take}
+use Rattle.boot_picture.specs.Lanes.{AreBoxesDrawn}
+use Rattle.boot_picture.proofs.lanes.add_boxes.Given as goal
+
+-- the boxes of the blocks so far are drawn
+abbrev pub invariant-loop-number : goal.invariant-loop-number
+invariant-loop-number l = AreBoxesDrawn l.top (take l.number l.order) l.initial.canvas l.canvas

@@ -1,0 +1,26 @@
+use Rattle.std.proofs.Common.{◌≡◌, ◌≤◌, refl, subst, length, get_or, List, Some}
+use Rattle.std.specs.List.{slice_get}
+use Rattle.std.proofs.lemmas.Option.{slice_get_read}
+use Rattle.boot_picture.specs.declared.blocks.Block.{Block}
+use Rattle.boot_picture.proofs.Orders.{used_none}
+use Rattle.boot_picture.proofs.order.next_of.Goals as goal
+
+pub returns-in-Some-clause-found : goal.returns-in-Some-clause-found
+returns-in-Some-clause-found c =
+    let tracks = c.args.tracks.now in
+    let track = c.index-tracks-processor.result in
+    let items = c.deref.result.now in
+    let n = get_or c.args.nexts.now c.args.processor 0 in
+    let found = c.in-Some.ensures.lookup in
+    record {
+      track = track;
+      processor_of = slice_get_read tracks (length tracks) c.args.processor track refl c.requires.processor c.index-tracks-processor.is;
+      next = subst (λ (bs : List Block). slice_get bs n ≡ Some c.in-Some.block.now) c.deref.ensures.value (slice_get_read items (length items) n c.in-Some.block.now refl found.3.0 found.1);
+    }
+
+pub returns-in-None-clause-none : goal.returns-in-None-clause-none
+returns-in-None-clause-none c = λ none track at.
+    let tracks = c.args.tracks.now in
+    let n = get_or c.args.nexts.now c.args.processor 0 in
+    let own = slice_get_read tracks (length tracks) c.args.processor c.index-tracks-processor.result refl c.requires.processor c.index-tracks-processor.is in
+    used_none tracks c.args.processor n c.index-tracks-processor.result track own at (subst (λ (bs : List Block). length bs ≤ n) c.deref.ensures.value c.in-None.ensures.lookup.3)

@@ -1,0 +1,31 @@
+-- The boxes of blocks.
+use Rattle.std.specs.Prelude.{◌≡◌, ℕ, ◌+◌, ◌*◌, List, ◌++◌, codes, Some}
+use Rattle.std.specs.List.{AllZip, slice_get}
+use Rattle.std.specs.Fmt.{decimal}
+use Rattle.svg.specs.declared.shapes.Colour.{Colour}
+use Rattle.svg.specs.declared.shapes.Shape.{Shape}
+use Rattle.svg.specs.declared.shapes.Shape.TheVariants.{Titled}
+use Rattle.boot_picture.specs.declared.blocks.Block.{Block}
+use Rattle.boot_picture.specs.declared.order.Ordered.{Ordered}
+use Rattle.boot_picture.specs.declared.order.Track.{Track}
+
+-- the words for a block: the number of its first turn, and its processor
+abbrev pub turn_words : Ordered → List ℕ
+turn_words o = (codes "turn " ++ decimal o.block.first) ++ (codes " on p" ++ decimal o.processor)
+
+-- the title begins with these words
+abbrev pub IsTitleOf : Ordered → List ℕ → Type 0
+IsTitleOf o title = (details : List ℕ) × (title ≡ turn_words o ++ details)
+
+-- the shape is a box in the lane of the block's processor, whose title names the block; the first lane is at `top`
+pub record IsBoxOf (top : ℕ) (o : Ordered) (shape : Shape) : Type 0 where
+  pub x : ℕ
+  pub width : ℕ
+  pub fill : Colour
+  pub title : List ℕ
+  pub drawn : shape ≡ Titled x (top + o.processor * 60) width 48 fill title
+  pub titled : IsTitleOf o title
+
+-- the shapes are drawn upon all others: for each block, in their order, its box
+abbrev pub AreBoxesDrawn : ℕ → List Ordered → List Shape → List Shape → Type 0
+AreBoxesDrawn top order old new = (boxes : List Shape) × (new ≡ old ++ boxes) × AllZip (IsBoxOf top) order boxes

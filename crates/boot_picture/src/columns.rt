@@ -1,0 +1,231 @@
+//! The places of blocks: a column for each, in the order of the clock, or by the time itself.
+
+use crate::blocks::is_in_vain;
+use crate::order::{Ordered, Track};
+use crate::wording::{Wording, words_of};
+use boot_data::BootPlan;
+use boot_log::Entry;
+use event_theory::OutOfMemory;
+use std::alloc::Global;
+
+/// The left side of the first column. The names of lanes are to the left of it.
+pub(crate) const LEFT: u32 = 96;
+
+/// How wide a letter is.
+pub(crate) const LETTER: u32 = 8;
+
+/// The space between the sides of a box and its words, both together, and the space between columns.
+pub(crate) const MARGIN: u32 = 8;
+
+const GAP: u32 = 4;
+
+/// How many letters of a line of words are shown in a box.
+pub(crate) const MOST_LETTERS: usize = 16;
+
+/// How wide a block is on average, if the places are by the time, and how wide the picture is then.
+const AVERAGE: u64 = 32;
+
+const LEAST_WIDTH: u64 = 900;
+
+const MOST_WIDTH: u64 = 48_000;
+
+/// The left and the right side of a block.
+#[derive(Clone, Copy)]
+pub(crate) struct Bounds {
+    pub(crate) left: u32,
+    pub(crate) right: u32,
+}
+
+/// A block at its place.
+#[derive(Drop)]
+pub(crate) struct Placed {
+    pub(crate) ordered: Ordered,
+    pub(crate) bounds: Bounds,
+    pub(crate) wording: Wording,
+}
+
+/// The times that a picture shows: when its first turn began, and how long it is, in nanoseconds, and how wide.
+#[derive(Clone, Copy)]
+pub(crate) struct Scale {
+    pub(crate) from: u64,
+    pub(crate) span: u64,
+    pub(crate) width: u64,
+}
+
+impl Scale {
+    /// The place of a time.
+    pub(crate) fn place(&self, at: u64) -> u32 {
+        let passed = u128::from(at.saturating_sub(self.from));
+        let along = passed * u128::from(self.width) / u128::from(self.span.max(1));
+        let along = u32::try_from(along).unwrap_or(u32::MAX);
+        along.saturating_add(LEFT)
+    }
+}
+
+/// How wide a line of words is.
+fn wide(words: &[u8]) -> u32 {
+    let letters = words.len().min(MOST_LETTERS) as u32;
+    letters * LETTER + MARGIN
+}
+
+/// How wide a box with these words is.
+fn width_of(wording: &Wording) -> u32 {
+    let thread = wide(wording.thread.as_slice());
+    let step = wide(wording.step.as_slice());
+    let answer = wide(wording.answer.as_slice());
+    thread.max(step).max(answer).max(40)
+}
+
+/// The entry with which a block begins.
+pub(crate) fn entry_of<'a>(tracks: &[Track<'a>], ordered: &Ordered) -> Option<&'a Entry> {
+    let track = tracks.get(ordered.processor)?;
+    let entries: &'a [Entry] = track.recorded.entries;
+    entries.get(ordered.block.first)
+}
+
+/// The words in the box of a block.
+fn wording_of(
+    alloc: Global,
+    plan: &BootPlan,
+    track: &Track,
+    ordered: &Ordered,
+) -> Result<Wording, OutOfMemory> {
+    words_of(alloc, plan, &track.recorded, ordered.block)
+}
+
+/// Places each block in a column of its own, one after the other.
+fn place_in_turns(
+    alloc: Global,
+    plan: &BootPlan,
+    tracks: &[Track],
+    order: &[Ordered],
+) -> Result<Vec<Placed>, OutOfMemory> {
+    let mut all = Vec::new(alloc);
+    let mut left = LEFT;
+    for ordered in order {
+        if let Some(track) = tracks.get(ordered.processor) {
+            let wording = wording_of(alloc, plan, track, ordered)?;
+            let right = left.saturating_add(width_of(&wording));
+            all.push(Placed {
+                ordered: *ordered,
+                bounds: Bounds { left, right },
+                wording,
+            })?;
+            left = right.saturating_add(GAP);
+        }
+    }
+    Ok(all)
+}
+
+/// Whether a block's turns were idle.
+pub(crate) fn is_idle(tracks: &[Track], ordered: &Ordered) -> bool {
+    match entry_of(tracks, ordered) {
+        Some(entry) => is_in_vain(entry),
+        None => false,
+    }
+}
+
+/// Stretches the blocks of idle turns up to the next block of their processor.
+fn stretch(alloc: Global, tracks: &[Track], all: &mut [Placed]) -> Result<(), OutOfMemory> {
+    let mut nexts = vec![in alloc; right_of(all).saturating_add(GAP); tracks.len()]?;
+    for placed in all.iter_mut().rev() {
+        if let Some(next) = nexts.get_mut(placed.ordered.processor) {
+            if is_idle(tracks, &placed.ordered) {
+                placed.bounds.right = next.saturating_sub(GAP).max(placed.bounds.right);
+            }
+            *next = placed.bounds.left;
+        }
+    }
+    Ok(())
+}
+
+/// The right side of the last of these blocks.
+pub(crate) fn right_of(all: &[Placed]) -> u32 {
+    let mut right = LEFT;
+    for placed in all {
+        right = right.max(placed.bounds.right);
+    }
+    right
+}
+
+/// When a block began: when the turn before it had ended. The first of a processor begins with its end.
+fn start_of(track: &Track, ordered: &Ordered) -> u64 {
+    let before = ordered.block.first.saturating_sub(1);
+    match track.recorded.entries.get(before) {
+        Some(entry) => entry.at,
+        None => 0,
+    }
+}
+
+/// When the last turn of a block ended.
+fn end_of(track: &Track, ordered: &Ordered) -> u64 {
+    let last = ordered
+        .block
+        .first
+        .saturating_add(ordered.block.turns)
+        .saturating_sub(1);
+    match track.recorded.entries.get(last) {
+        Some(entry) => entry.at,
+        None => 0,
+    }
+}
+
+/// The times of these blocks.
+pub(crate) fn scale_of(tracks: &[Track], order: &[Ordered]) -> Scale {
+    let mut from = u64::MAX;
+    let mut to = 0;
+    for ordered in order {
+        if let Some(track) = tracks.get(ordered.processor) {
+            from = from.min(start_of(track, ordered));
+            to = to.max(end_of(track, ordered));
+        }
+    }
+    let width = (order.len() as u64).saturating_mul(AVERAGE);
+    Scale {
+        from,
+        span: to.saturating_sub(from),
+        width: width.max(LEAST_WIDTH).min(MOST_WIDTH),
+    }
+}
+
+/// Places each block by the time.
+fn place_in_time(
+    alloc: Global,
+    plan: &BootPlan,
+    tracks: &[Track],
+    order: &[Ordered],
+) -> Result<Vec<Placed>, OutOfMemory> {
+    let scale = scale_of(tracks, order);
+    let mut all = Vec::new(alloc);
+    for ordered in order {
+        if let Some(track) = tracks.get(ordered.processor) {
+            let left = scale.place(start_of(track, ordered));
+            let right = scale.place(end_of(track, ordered));
+            all.push(Placed {
+                ordered: *ordered,
+                bounds: Bounds {
+                    left,
+                    right: right.max(left.saturating_add(2)),
+                },
+                wording: wording_of(alloc, plan, track, ordered)?,
+            })?;
+        }
+    }
+    Ok(all)
+}
+
+/// The blocks at their places, in the order of the clock: by the time, or each in a column of its own.
+pub(crate) fn place_all(
+    alloc: Global,
+    plan: &BootPlan,
+    tracks: &[Track],
+    order: &[Ordered],
+    by_time: bool,
+) -> Result<Vec<Placed>, OutOfMemory> {
+    if by_time {
+        return place_in_time(alloc, plan, tracks, order);
+    }
+    let mut all = place_in_turns(alloc, plan, tracks, order)?;
+    stretch(alloc, tracks, &mut all)?;
+    Ok(all)
+}

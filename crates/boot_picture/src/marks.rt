@@ -1,0 +1,142 @@
+//! The marks above the lanes: the alarms that were fired, and the times.
+
+use crate::columns::{Bounds, LEFT, Placed, Scale, entry_of};
+use crate::frame::{Frame, NAMES};
+use crate::labels::letters_in;
+use crate::naming::thread_name;
+use crate::order::Track;
+use crate::phrase::Phrase;
+use boot_data::BootPlan;
+use event_theory::{Alarm, Items, OutOfMemory};
+use std::alloc::Global;
+use svg::{Anchor, Canvas, Colour};
+
+/// How wide and how high the mark of an alarm is.
+const MARK: u32 = 12;
+
+/// How far the marks of times are from each other.
+const STEP: u32 = 160;
+
+/// The thread and the signal of an alarm.
+fn add_target(phrase: &mut Phrase, plan: &BootPlan, alarm: &Alarm) -> Result<(), OutOfMemory> {
+    phrase.bytes(thread_name(plan, alarm.element))?;
+    phrase.numbered(" ", u64::from(alarm.signal.number()))
+}
+
+/// The title of the mark of alarms: each with its tick, its thread and its signal.
+fn alarms_title(
+    alloc: Global,
+    plan: &BootPlan,
+    alarms: &[Alarm],
+) -> Result<Items<u8>, OutOfMemory> {
+    let mut phrase = Phrase::new(alloc);
+    phrase.words("fired:")?;
+    for alarm in alarms {
+        phrase.numbered(" alarm ", u64::from(alarm.due))?;
+        phrase.words(" ")?;
+        add_target(&mut phrase, plan, alarm)?;
+        phrase.words(";")?;
+    }
+    Ok(phrase.end())
+}
+
+/// The words beside the mark of alarms: the thread and the signal of the first, and how many more there are.
+fn alarms_words(
+    alloc: Global,
+    plan: &BootPlan,
+    alarms: &[Alarm],
+) -> Result<Items<u8>, OutOfMemory> {
+    let mut phrase = Phrase::new(alloc);
+    if let Some(first) = alarms.first() {
+        add_target(&mut phrase, plan, first)?;
+        if alarms.len() > 1 {
+            phrase.numbered(" +", (alarms.len() as u64).saturating_sub(1))?;
+        }
+    }
+    Ok(phrase.end())
+}
+
+/// Draws the mark of the alarms that a turn fired, and their words if they fit.
+fn add_alarm(
+    canvas: &mut Canvas,
+    frame: &Frame,
+    plan: &BootPlan,
+    alarms: &[Alarm],
+    bounds: Bounds,
+) -> Result<(), OutOfMemory> {
+    let title = alarms_title(canvas.alloc(), plan, alarms)?;
+    let y = frame.alarms.saturating_add(3);
+    canvas.titled_box(bounds.left, y, MARK, MARK, Colour::Red, title)?;
+    let words = alarms_words(canvas.alloc(), plan, alarms)?;
+    let left = bounds.left.saturating_add(MARK);
+    let beside = Bounds {
+        left,
+        right: bounds.right,
+    };
+    if letters_in(beside) < words.as_slice().len() {
+        return Ok(());
+    }
+    canvas.label(left.saturating_add(4), frame.alarms, Anchor::Start, words)
+}
+
+/// Draws the marks of all alarms that were fired.
+pub(crate) fn add_alarms(
+    canvas: &mut Canvas,
+    frame: &Frame,
+    plan: &BootPlan,
+    tracks: &[Track],
+    all: &[Placed],
+) -> Result<(), OutOfMemory> {
+    if !plan.alarms.as_slice().is_empty() {
+        canvas.words(NAMES, frame.alarms, b"alarms")?;
+    }
+    for placed in all {
+        if let (Some(track), Some(entry)) = (
+            tracks.get(placed.ordered.processor),
+            entry_of(tracks, &placed.ordered),
+        ) {
+            let alarms = track.recorded.alarms(entry.fired);
+            if !alarms.is_empty() {
+                add_alarm(canvas, frame, plan, alarms, placed.bounds)?;
+            }
+        }
+    }
+    Ok(())
+}
+
+/// A time since the first turn, in a unit that fits the length of all.
+fn time_words(alloc: Global, scale: Scale, passed: u64) -> Result<Items<u8>, OutOfMemory> {
+    let mut phrase = Phrase::new(alloc);
+    if scale.span < 100_000 {
+        phrase.number(passed)?;
+        phrase.words(" ns")?;
+    } else if scale.span < 100_000_000 {
+        phrase.number(passed / 1000)?;
+        phrase.words(" us")?;
+    } else {
+        phrase.number(passed / 1_000_000)?;
+        phrase.words(" ms")?;
+    }
+    Ok(phrase.end())
+}
+
+/// Draws the times along the upper side.
+pub(crate) fn add_times(
+    canvas: &mut Canvas,
+    frame: &Frame,
+    scale: Scale,
+) -> Result<(), OutOfMemory> {
+    canvas.words(NAMES, frame.times, b"time")?;
+    let count = (scale.width / u64::from(STEP)).min(1000);
+    for number in 0..count {
+        let along = number * u64::from(STEP);
+        let passed = u128::from(scale.span) * u128::from(along) / u128::from(scale.width.max(1));
+        let passed = u64::try_from(passed).unwrap_or(u64::MAX);
+        let words = time_words(canvas.alloc(), scale, passed)?;
+        let x = LEFT.saturating_add(u32::try_from(along).unwrap_or(u32::MAX));
+        let height = frame.threads.saturating_sub(frame.times);
+        canvas.bar(x, frame.times, 1, height, Colour::Faint)?;
+        canvas.label(x.saturating_add(4), frame.times, Anchor::Start, words)?;
+    }
+    Ok(())
+}

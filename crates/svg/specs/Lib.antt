@@ -1,0 +1,5 @@
+pub mod Canvases
+pub mod Colours
+pub mod Forests
+pub mod Pictures
+pub mod Texts

@@ -1,0 +1,9 @@
+mod Documents
+mod Flat
+mod Growing
+mod Numbers
+mod Plans
+mod Printing
+mod Runs
+mod Turning
+mod Values

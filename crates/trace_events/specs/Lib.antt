@@ -1,0 +1,9 @@
+pub mod Documents
+pub mod Events
+pub mod Micros
+pub mod Names
+pub mod Objects
+pub mod Traces
+pub mod TurnArgs
+pub mod TurnNames
+pub mod Turns

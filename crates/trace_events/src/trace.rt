@@ -1,0 +1,158 @@
+//! A whole trace: the names of its tracks, and the turns of each processor.
+
+ghost use Rattle.std.specs.Prelude.{◌≡◌, ◌<◌, ◌≤◌, ◌++◌, IfOk, OnOk, Some, codes, length, string_bytes};
+ghost use Rattle.std.specs.Fmt.{decimal};
+ghost use Rattle.std.specs.Io.KnownBytes.{Appends};
+ghost use Rattle.json.specs.Json.{document};
+ghost use Rattle.trace_events.specs.Documents.{Prints, trace_json, trace_text};
+ghost use Rattle.trace_events.specs.Traces.{numbered_events, processor_events, thread_events, log_events};
+ghost use Rattle.trace_events.specs.Traces.{boot_events, trace_events};
+
+use crate::events::metadata_event;
+use crate::fault::TraceFault;
+use crate::texts::text_of;
+use crate::turns::{print_later, print_turns, processor_track};
+use boot_data::BootPlan;
+use boot_data::plan::PlannedThread;
+use boot_log::Entry;
+use event_theory::OutOfMemory;
+use std::alloc::Global;
+use std::io::Write;
+
+/// What is kept of the turns of a processor: their entries, and the bytes of their lines.
+#[derive(Clone, Copy)]
+pub struct ProcessorLog<'a> {
+    pub entries: &'a [Entry],
+    pub bytes: &'a [u8],
+}
+
+/// The name of a processor's track.
+fn processor_label(alloc: Global, processor: u8) -> Result<String, OutOfMemory>
+    ensures { IfOk result (λ label. string_bytes label ≡ codes "processor " ++ decimal processor) }
+{
+    Ok(format!(in alloc; "processor {processor}")?)
+}
+
+/// Prints the name of a processor's track.
+fn print_processor<W: Write>(alloc: Global, processor: u8, out: &mut W) -> Result<(), TraceFault>
+    ensures { OnOk result (Prints (W.contents out.old) (W.contents out.new) (processor_events processor)) }
+{
+    let label = processor_label(alloc, processor)?;
+    let track = processor_track(processor);
+    let text = metadata_event(alloc, "thread_name", track, label.as_str())?;
+    print_later(&text, out)
+}
+
+/// Prints the name of a thread's track.
+fn print_thread<W: Write>(
+    alloc: Global,
+    number: usize,
+    thread: &PlannedThread,
+    out: &mut W,
+) -> Result<(), TraceFault>
+    requires { number < 64 }
+    ensures { OnOk result (Prints (W.contents out.old) (W.contents out.new) (thread_events number thread.now)) }
+{
+    let label = text_of(alloc, thread.name.as_slice())?;
+    let text = metadata_event(alloc, "thread_name", number as u64 + 11, label.as_str())?;
+    print_later(&text, out)
+}
+
+/// Prints the names of all processors' tracks.
+fn print_processors<W: Write>(
+    alloc: Global,
+    logs: &[ProcessorLog],
+    out: &mut W,
+) -> Result<(), TraceFault>
+    requires { length logs.now ≤ 8 }
+    ensures { OnOk result (Prints (W.contents out.old) (W.contents out.new)
+        (numbered_events (λ processor log. processor_events processor) 0 logs.now)) }
+{
+    for (processor, _) in logs.iter().enumerate() {
+        print_processor(alloc, processor as u8, out)?;
+    }
+    Ok(())
+}
+
+/// Prints the names of all threads' tracks.
+fn print_threads<W: Write>(
+    alloc: Global,
+    threads: &[PlannedThread],
+    out: &mut W,
+) -> Result<(), TraceFault>
+    requires { length threads.now ≤ 64 }
+    ensures { OnOk result (Prints (W.contents out.old) (W.contents out.new)
+        (numbered_events thread_events 0 threads.now)) }
+{
+    for (number, thread) in threads.iter().enumerate() {
+        print_thread(alloc, number, thread, out)?;
+    }
+    Ok(())
+}
+
+/// Prints the turns of all processors.
+fn print_logs<W: Write>(
+    alloc: Global,
+    plan: &BootPlan,
+    from: u64,
+    logs: &[ProcessorLog],
+    out: &mut W,
+) -> Result<(), TraceFault>
+    requires { length logs.now ≤ 8 }
+    ensures { OnOk result (Prints (W.contents out.old) (W.contents out.new)
+        (numbered_events (log_events plan.now from) 0 logs.now)) }
+{
+    for (processor, log) in logs.iter().enumerate() {
+        print_turns(
+            alloc,
+            plan,
+            log.bytes,
+            processor as u8,
+            from,
+            log.entries,
+            out,
+        )?;
+    }
+    Ok(())
+}
+
+/// Prints the events of a boot after the name of its process.
+fn print_events<W: Write>(
+    alloc: Global,
+    plan: &BootPlan,
+    from: u64,
+    logs: &[ProcessorLog],
+    out: &mut W,
+) -> Result<(), TraceFault>
+    requires { length logs.now ≤ 8 }
+    ensures { OnOk result (Prints (W.contents out.old) (W.contents out.new) (boot_events plan.now from logs.now)) }
+{
+    print_processors(alloc, logs, out)?;
+    print_threads(alloc, plan.threads.as_slice(), out)?;
+    print_logs(alloc, plan, from, logs, out)
+}
+
+/// Prints the trace of a boot as one JSON value: the name of the process, those of the tracks, and the turns.
+///
+/// `logs` has what is kept of each processor, from 0 on, at most 8 of them. `from` is what the clock said when the first
+/// turns began, in nanoseconds. `Memory` is returned if an allocation was refused, and `Write` if the writer returned an
+/// error. What was printed is then no JSON value.
+pub fn print_trace<W: Write>(
+    alloc: Global,
+    plan: &BootPlan,
+    from: u64,
+    logs: &[ProcessorLog],
+    out: &mut W,
+) -> Result<(), TraceFault>
+    requires { length logs.now ≤ 8 }
+    ensures text { OnOk result (Appends (W.contents out.old) (W.contents out.new)
+        (trace_text (trace_events plan.now from logs.now))) }
+    ensures value { OnOk result (document (trace_text (trace_events plan.now from logs.now))
+        ≡ Some (trace_json (trace_events plan.now from logs.now))) }
+{
+    let text = metadata_event(alloc, "process_name", 0, "synthesis")?;
+    out.write_all(b"{\"traceEvents\":[")?;
+    out.write_all(&text)?;
+    print_events(alloc, plan, from, logs, out)?;
+    Ok(out.write_all(b"],\"displayTimeUnit\":\"ns\"}")?)
+}

@@ -1,0 +1,11 @@
+use Rattle.std.proofs.Common.{◌≡◌, ◌≤◌, vec_len, vec_capacity}
+use Rattle.std.specs.List.{All}
+use Rattle.boot_view.specs.Views.{IsEmpty}
+use Rattle.boot_view.proofs.booting.recorders.Given as goal
+
+abbrev pub invariant-loop-number : goal.invariant-loop-number
+invariant-loop-number g l = record {
+  room : l.number-end ≤ vec_capacity l.all;
+  many : vec_len l.all ≡ l.number;
+  empty : All IsEmpty l.all.items;
+}

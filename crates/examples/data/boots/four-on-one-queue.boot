@@ -1,7 +1,7 @@
 synthesis 1
 # Three threads say lines to one queue, and three hear them, on four processors. All lines are the same, so whoever
 # hears which, the report is the same.
-# boot 4 2000, status 0
+# boot 4 2000, status 0, at most 3 tries
 queue q
 thread a
 say q hi

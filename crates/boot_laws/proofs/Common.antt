@@ -45,10 +45,10 @@ pub use Rattle.processor.specs.Turns.{heard_lines}
 pub use Rattle.processor.specs.declared.step_outcome.StepOutcome.{StepOutcome}
 pub use Rattle.processor.specs.declared.outcome.TurnResult.{TurnResult}
 pub use Rattle.processor.specs.declared.outcome.TurnOutcome.{TurnOutcome}
-pub use Rattle.processor.specs.declared.sending.Moved.{Moved}
+pub use Rattle.processor.specs.declared.phases.Moved.{Moved}
 pub use Rattle.processor.specs.declared.station.Parts.{Parts}
-pub use Rattle.processor.specs.declared.tries.SayAnswer.{SayAnswer}
-pub use Rattle.processor.specs.declared.waking.WakeDone.{WakeDone}
+pub use Rattle.processor.specs.declared.phases.SayAnswer.{SayAnswer}
+pub use Rattle.turn_dispatch.specs.declared.waking.Woken.{Woken}
 pub use Rattle.quajects.specs.Settled.{runs_of, shuts_of, takings_of}
 pub use Rattle.quajects.specs.declared.any.AnyQuaject.{AnyQuaject}
 pub use Rattle.quajects.specs.declared.home.Home.{Home}

@@ -1,5 +1,5 @@
 -- What a turn did, by its step, if it tried one.
-use Rattle.boot_laws.proofs.Common.{Line, subst, ◌≡◌, inl, inr, ℕ, ◌+◌, Bool, true, false, List, [], ◌∷◌, ◌++◌, refl, sym, ap, ◌∙◌, Option, Some, None, if◌then◌else◌, BootPlan, QueueIndex, Step, AtQueue, idle_queue, queues_add, Tended, Begun, counted_step, retired, StepOutcome, TurnResult, TurnOutcome, SayAnswer, WakeDone, Account, ◌⊕◌, is_done, IsOutcomeOf, queues_by, heard_by, saw_shut, LogEntry, entry_account, tending, outcome_account, FollowsPlan, OutcomeFollows, turn_saw_shut, Key, step_of, said_line}
+use Rattle.boot_laws.proofs.Common.{Line, subst, ◌≡◌, inl, inr, ℕ, ◌+◌, Bool, true, false, List, [], ◌∷◌, ◌++◌, refl, sym, ap, ◌∙◌, Option, Some, None, if◌then◌else◌, BootPlan, QueueIndex, Step, AtQueue, idle_queue, queues_add, Tended, Begun, counted_step, retired, StepOutcome, TurnResult, TurnOutcome, SayAnswer, Woken, Account, ◌⊕◌, is_done, IsOutcomeOf, queues_by, heard_by, saw_shut, LogEntry, entry_account, tending, outcome_account, FollowsPlan, OutcomeFollows, turn_saw_shut, Key, step_of, said_line}
 use Rattle.std.proofs.Common.{◌⊎◌}
 use Rattle.boot_data.specs.declared.plan.Step.TheVariants as steps
 use Rattle.turn_io.specs.Accounts.{at_each, both_queue}
@@ -95,11 +95,11 @@ turn_is plan entry p = subst (λ (t : Tried). Rests t (λ q. turn_saw_shut q ent
 
 -- THE STEP OF A DEED
 
-pub say_is : (step : Step) (queue : QueueIndex) (answer : SayAnswer WakeDone) (line : List ℕ) → IsOutcomeOf step (step_outcomes.Say queue answer) line
+pub say_is : (step : Step) (queue : QueueIndex) (answer : SayAnswer) (line : List ℕ) → IsOutcomeOf step (step_outcomes.Say queue answer) line
     → (text : List ℕ) × (step ≡ steps.Say queue text) × (line ≡ said_line text)
 say_is (steps.Say at text) queue answer line d = (text, ap (λ z. steps.Say z text) (sym d.0), d.1)
 say_is step queue answer line d = absurd d
 
-pub close_is : (step : Step) (queue : ℕ) (was_open : Bool) (readers writers : WakeDone) (line : List ℕ) → IsOutcomeOf step (step_outcomes.Close queue was_open readers writers) line → step ≡ steps.Close queue
+pub close_is : (step : Step) (queue : ℕ) (was_open : Bool) (readers writers : Option Woken) (line : List ℕ) → IsOutcomeOf step (step_outcomes.Close queue was_open readers writers) line → step ≡ steps.Close queue
 close_is (steps.Close at) queue was_open readers writers line d = ap steps.Close (sym d.0)
 close_is step queue was_open readers writers line d = absurd d

@@ -12,7 +12,7 @@ use Rattle.proc_chain.specs.declared.chaining.ChainRefusal.{ChainRefusal}
 use Rattle.processor.specs.declared.step_outcome.StepOutcome.TheVariants as step_outcomes
 use Rattle.processor.specs.declared.outcome.TurnResult.TheVariants as hads
 use Rattle.processor.specs.declared.outcome.TurnOutcome.TheVariants as outcomes
-use Rattle.processor.specs.declared.sending.Moved.TheVariants as moveds
+use Rattle.processor.specs.declared.phases.Moved.TheVariants as moveds
 use Rattle.processor.specs.Accounts.{nothing}
 use Rattle.processor.specs.Doings.{chains_by, ticks_by}
 use Rattle.processor.specs.Entries.{beginning, having, IsOver}

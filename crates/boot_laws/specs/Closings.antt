@@ -75,8 +75,8 @@ chains_of (quaject ∷ quajects) (home ∷ homes) =
 -- the closed tables of this boot, by the results of closing, the quajects that came home, and the devices' results
 abbrev pub closed_of : BootPlan → Boot → TornDown → List AnyQuaject → List closed.Device → ClosedTables
 closed_of plan boot ended quajects devices = record {
-  small = queues_from (λ q. queue_of plan boot (Small q)) 0 ended.small_ends.value.items ended.small.items;
-  large = queues_from (λ q. queue_of plan boot (Large q)) 0 ended.large_ends.value.items ended.large.items;
+  small = queues_from (λ q. queue_of plan boot (Small q)) 0 ended.ends.value.small.items ended.small.items;
+  large = queues_from (λ q. queue_of plan boot (Large q)) 0 ended.ends.value.large.items ended.large.items;
   threads = map (thread_of ended.threads ended.signals) (range_with_len 0 (length plan.threads));
   movers = take (length plan.movers) (chains_of quajects (homes_in ended.counts.items));
   ttys = drop (length plan.movers) (chains_of quajects (homes_in ended.counts.items));

@@ -24,7 +24,7 @@ note_share ends k = chain_share_is ends k ∙ sym (at_map note_stake (λ (s : St
 took_shares : (raw chain : ℕ) (ttys : List RawTty) (old new : Parts) → TookRaws raw chain ttys old new → shares new ≡ both_shares (shares old) (raw_shares raw chain ttys)
 took_shares raw chain ttys old new t = λ i. record {
   queues = by_sizes (shares new).queues (both_shares (shares old) (raw_shares raw chain ttys)).queues (λ q. ap (λ (f : ℕ → Stake QueueOps). (f q).share) t.small.stakes_are)
-      (λ q. none_more _ _ (ap (λ (p : Parts). (stakes p.large.items q).share) t.rest)) i;
+      (λ q. none_more _ _ (ap (λ (p : Parts). (stakes p.queues.large.items q).share) t.rest)) i;
   chains = λ k. (note_share new.chains.items k ∙ (ap (λ (f : ℕ → Stake AtQueue). (f k).share) t.chains ∙ ap (λ (s : ℕ). s + (raw_notes chain ttys k).share) (sym (note_share old.chains.items k)))) i;
   hand = none_more _ _ (ap (λ (p : Parts). (shares p).hand) t.rest) i;
   meters = none_more _ _ (ap (λ (p : Parts). (shares p).meters) t.rest) i;

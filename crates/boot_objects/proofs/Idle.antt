@@ -1,5 +1,5 @@
 -- Ends that have done nothing, beside their objects.
-use Rattle.boot_objects.proofs.Common.{◌≡◌, ℕ, List, map, length, ap, ◌∙◌, ClaimQueue, QueueEnd, QueueOps, nothing_did, Ghosts, ProcChain, ChainEnd, AnyQuaject, Queues, AtChain, Stake, no_stake, idle_queue, idle_chain, stake, chain_stake, AreEndsOf, AreChainEndsOf, queue_table, end_table, chain_end_table, chain_table, IsIdle, by_sizes, Meters, ThreadTable, Parts, IsFirstHand, IsFirstSeat, IsIdleEnd, IsIdleChainEnd, IsStock, IsChainStock}
+use Rattle.boot_objects.proofs.Common.{◌≡◌, ℕ, List, length, ap, ◌∙◌, ClaimQueue, QueueEnd, QueueOps, nothing_did, Ghosts, ProcChain, ChainEnd, AnyQuaject, Queues, AtChain, Stake, no_stake, idle_queue, idle_chain, stake, chain_stake, AreEndsOf, AreChainEndsOf, queue_table, end_table, chain_end_table, chain_table, IsIdle, by_sizes, Meters, ThreadTable, Parts, IsFirstHand, IsFirstSeat, IsIdleEnd, IsIdleChainEnd, IsStock, IsChainStock}
 use Rattle.turn_io.specs.Accounts.{lines_of, queue_account, chain_account}
 use Rattle.turn_dispatch.specs.Tallies.{tally}
 use Rattle.processor.specs.Accounts.{account, nothing, shown_in}
@@ -27,10 +27,10 @@ module _ {g : Ghosts AnyQuaject Queues} where
       ∙ zip_each IsIdleChainEnd (λ end. (chain_stake end).did) idle_chain (λ chain end idle. λ i. record { notes = idle.puts i; ran = length (idle.takes i) }) chains ends h k
 
 -- a first station over new ends did nothing
-pub did_nothing : (queues : Queues) (list : List (ProcChain AnyQuaject Queues)) (table : ThreadTable) (meters : Meters) (parts : Parts) → IsStock queues.small.items parts.small.items → IsStock queues.large.items parts.large.items → IsChainStock list parts.chains.items
+pub did_nothing : (queues : Queues) (list : List (ProcChain AnyQuaject Queues)) (table : ThreadTable) (meters : Meters) (parts : Parts) → IsStock queues.small.items parts.queues.small.items → IsStock queues.large.items parts.queues.large.items → IsChainStock list parts.chains.items
     → IsFirstHand table parts.hand → IsFirstSeat meters parts.meters → IsUnused parts → account parts ≡ nothing
 did_nothing queues list table meters parts small large chains hand seat unused = λ i. record {
-  queues = by_sizes (account parts).queues (λ q. idle_queue) (idle_at queues.small.items parts.small.items small) (idle_at queues.large.items parts.large.items large) i;
+  queues = by_sizes (account parts).queues (λ q. idle_queue) (idle_at queues.small.items parts.queues.small.items small) (idle_at queues.large.items parts.queues.large.items large) i;
   chains = λ k. idle_chain_at list parts.chains.items chains k i;
   hand = tally (hand.knows i).own.made;
   meters = (seat.knows i).own;

@@ -46,15 +46,15 @@ chains_both chain xs x a b c h k = k ∙ (ap (λ z. at_each (both_stakes both_qu
 pub raws_more : (raw chain : ℕ) (xs : List RawTty) (x : RawTty) (a b c : Parts) → TookRaws raw chain xs a b → TookRaws (raw + length xs) (chain + length xs) (x ∷ []) b c
     → TookRaws raw chain (xs ++ x ∷ []) a c
 raws_more raw chain xs x a b c h k = record {
-  small = subst (λ (z : List (Option (Port 64))). Gained z a.small.items c.small.items) (sym (ports_on raw xs x))
-      (gained_both (raw_ports raw xs) (raw_ports (raw + length xs) (x ∷ [])) a.small.items b.small.items c.small.items h.small k.small);
+  small = subst (λ (z : List (Option (Port 64))). Gained z a.queues.small.items c.queues.small.items) (sym (ports_on raw xs x))
+      (gained_both (raw_ports raw xs) (raw_ports (raw + length xs) (x ∷ [])) a.queues.small.items b.queues.small.items c.queues.small.items h.small k.small);
   chains = chains_both chain xs x a.chains.items b.chains.items c.chains.items h.chains k.chains;
   before = λ q low. k.before q (omega arith) ∙ h.before q low;
-  rest = k.rest ∙ ap (λ (z : Parts). record z { small = c.small; chains = c.chains }) h.rest;
+  rest = k.rest ∙ ap (λ (z : Parts). record z { queues = record z.queues { small = c.queues.small }; chains = c.chains }) h.rest;
 }
 
 pub raws_none : (raw chain : ℕ) (a : Parts) → TookRaws raw chain [] a a
-raws_none raw chain a = record { small = gained_none a.small.items; chains = sym (adds.none_last (note_stakes a.chains.items)); before = λ q low. refl; rest = refl }
+raws_none raw chain a = record { small = gained_none a.queues.small.items; chains = sym (adds.none_last (note_stakes a.chains.items)); before = λ q low. refl; rest = refl }
 
 -- the next of a list is after those that were drawn
 pub next_at : {A : Type 0} (xs : List A) (x : A) (ys all : List A) → xs ++ x ∷ ys ≡ all → slice_get all (length xs) ≡ Some x

@@ -1,7 +1,7 @@
 -- The shares of many, summed.
 use Rattle.boot_objects.proofs.Common.{◌≡◌, ℕ, zero, suc, ◌+◌, ◌<◌, List, [], ◌∷◌, ◌++◌, map, length, get_or, refl, sym, ap, ◌∙◌, arith, QueueIndex, Small, Large, QueueEnd, QueueOps, nothing_did, Stake, AtChain, no_stake, idle_chain, stake, stakes, chain_stake, chain_stakes, share_at, chain_share_at, ChainEnd, ProcChain, Ghosts, IsOnlySeat, Shared, Parts, Shares, no_shares, both_shares, shares_add, AnyQuaject, Queues, IsWhole, IsOnlyHand, Device, quaject_shares, device_shares, all_shares, quajects_of, opening_shares, end_shares, AreAllEnds, AreWhole}
 use Rattle.processor.specs.Accounts.{shares}
-use Rattle.processor.specs.Queues.{IsThere}
+use Rattle.turn_io.specs.QueueEnds.{IsThere}
 
 module _ {A : Type 0} (of : A → Shares) where
   pub shares_append : (xs ys : List A) → all_shares of (xs ++ ys) ≡ both_shares (all_shares of xs) (all_shares of ys)
@@ -38,7 +38,7 @@ all_ends queues chains all small large ends = record { each_queue = each; each_c
 
 -- if the owner's ends and the rest are all ends, and the owner has the only hand and the only seat, both together have
 -- all
-pub owner_whole : (shared : Shared) (parts : Parts) (rest : Shares) → rest.hand ≡ 0 → rest.meters ≡ 0 → AreAllEnds shared.queues shared.chains.items (both_shares (end_shares parts.small.items parts.large.items parts.chains.items) rest)
+pub owner_whole : (shared : Shared) (parts : Parts) (rest : Shares) → rest.hand ≡ 0 → rest.meters ≡ 0 → AreAllEnds shared.queues shared.chains.items (both_shares (end_shares parts.queues.small.items parts.queues.large.items parts.chains.items) rest)
     → IsOnlyHand parts.hand → IsOnlySeat parts.meters → AreWhole shared (both_shares (shares parts) rest)
 owner_whole shared parts rest none none' ends hand seat = record {
   ends = record { each_queue = ends.each_queue; each_chain = ends.each_chain };

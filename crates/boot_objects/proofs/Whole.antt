@@ -97,12 +97,12 @@ module _ (shared : Shared) (parts : Parts) (h : HasWholes shared parts) where
   only_chains fit = only_each parts.chains.items (λ k l. let long = as_long chain_end_table chain_table parts.chains.items shared.chains.items fit in
       sym (chain_share_is parts.chains.items k) ∙ rest_whole (λ s. s.chains k) ((shares parts).chains k) refl (λ s t. refl) (λ x. refl) shared.chains.items (h.ends.each_chain k (omega (arith, long, l))))
 
-  pub small_whole : (homes : List Home) (old new : List (QueueEnd 64)) → HaveRetired shared.chains.items parts.chains.items homes → map end_table new ≡ map queue_table shared.queues.small.items → old ≡ parts.small.items
+  pub small_whole : (homes : List Home) (old new : List (QueueEnd 64)) → HaveRetired shared.chains.items parts.chains.items homes → map end_table new ≡ map queue_table shared.queues.small.items → old ≡ parts.queues.small.items
       → Gained (small_ports homes) old new → All IsOnlyEnd new
   small_whole homes old new r fit is gained = all_whole (λ home. home.small) Small (λ home q. refl) shared.chains.items parts.chains.items homes old new r
       (λ q l. let long = as_long end_table queue_table new shared.queues.small.items fit in subst (λ (z : List (QueueEnd 64)). IsWhole ((stakes z q).share + (opening_shares shared.chains.items).queues (Small q))) (sym is) (h.ends.each_queue (Small q) (omega (arith, long, l)))) gained
 
-  pub large_whole : (homes : List Home) (old new : List (QueueEnd 256)) → HaveRetired shared.chains.items parts.chains.items homes → map end_table new ≡ map queue_table shared.queues.large.items → old ≡ parts.large.items
+  pub large_whole : (homes : List Home) (old new : List (QueueEnd 256)) → HaveRetired shared.chains.items parts.chains.items homes → map end_table new ≡ map queue_table shared.queues.large.items → old ≡ parts.queues.large.items
       → Gained (large_ports homes) old new → All IsOnlyEnd new
   large_whole homes old new r fit is gained = all_whole (λ home. home.large) Large (λ home q. refl) shared.chains.items parts.chains.items homes old new r
       (λ q l. let long = as_long end_table queue_table new shared.queues.large.items fit in subst (λ (z : List (QueueEnd 256)). IsWhole ((stakes z q).share + (opening_shares shared.chains.items).queues (Large q))) (sym is) (h.ends.each_queue (Large q) (omega (arith, long, l)))) gained

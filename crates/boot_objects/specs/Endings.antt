@@ -25,10 +25,10 @@ pub record AllClosed (shared : Shared) (parts : Parts) (ended : TornDown) : Type
   pub homes : HaveRetired shared.chains.items parts.chains.items (homes_in ended.counts.items)
   pub few : All IsFew (homes_in ended.counts.items)
   pub counts : All HasHome ended.counts.items
-  pub small : HaveClosed (small_ports (homes_in ended.counts.items)) shared.queues.small.items parts.small.items
-      ended.small_ends.value.items ended.small.items
-  pub large : HaveClosed (large_ports (homes_in ended.counts.items)) shared.queues.large.items parts.large.items
-      ended.large_ends.value.items ended.large.items
+  pub small : HaveClosed (small_ports (homes_in ended.counts.items)) shared.queues.small.items parts.queues.small.items
+      ended.ends.value.small.items ended.small.items
+  pub large : HaveClosed (large_ports (homes_in ended.counts.items)) shared.queues.large.items parts.queues.large.items
+      ended.ends.value.large.items ended.large.items
   pub threads : ClosedNow (call_of parts.hand) (view_of parts.hand) ended.threads.places ended.threads.pcs
       ended.threads.pending ended.threads.stops
   pub put : ((e : ℕ) → e < 64 → has (view_of parts.hand) e ≡ false) → NoneHeld ended.threads.places

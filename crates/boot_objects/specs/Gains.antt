@@ -3,6 +3,7 @@ use Rattle.std.specs.Prelude.{◌≡◌, ℕ, true, List, [], ◌∷◌, map, sl
 use Rattle.claim_queue.specs.declared.ends.QueueEnd.{QueueEnd}
 use Rattle.claim_queue.specs.declared.rule.QueueOps.{QueueOps}
 use Rattle.claim_queue.specs.Own.{nothing_did, did_both}
+use Rattle.turn_io.specs.declared.queue_ends.QueueEnds.{QueueEnds}
 use Rattle.turn_io.specs.Accounts.{AtQueue, idle_queue, both_queue, Stake, no_stake, both_stakes, stake, stakes}
 use Rattle.turn_io.specs.Accounts.{at_each, at_one}
 use Rattle.turn_io.specs.EndLists.{knows_shut_at, chain_end_puts, chain_end_takes, chain_end_share}
@@ -26,6 +27,12 @@ module _ {n : ℕ} where
   pub record Gained (ports : List (Option (Port n))) (old new : List (QueueEnd n)) : Type 0 where
     pub stakes_are : stakes new ≡ at_each (both_stakes did_both) (stakes old) (port_stakes ports)
     pub known : (q : ℕ) → knows_shut_at old q ≡ true → knows_shut_at new q ≡ true
+
+-- the ends of small queues gained the ends at the first ports, and the ends of large ones the ends at the others
+pub record QueuesGained (small : List (Option (Port 64))) (large : List (Option (Port 256))) (old new : QueueEnds)
+    : Type 0 where
+  pub small_gained : Gained small old.small.items new.small.items
+  pub large_gained : Gained large old.large.items new.large.items
 
 module _ {Q W : Type 0} {g : Ghosts Q W} where
   -- the stake of an end in its chain: the notes that it put, the notes that it took, and its share

@@ -31,7 +31,7 @@ AreRawsOf shared ttys = (k : ℕ) (tty : RawTty) → slice_get ttys k ≡ Some t
 -- The ends of these raw ttys were joined to the ends of their queues and chains. The first tty's queue and chain have
 -- these indexes. The ends of the chains before those, and all other parts, are as they were
 pub record TookRaws (raw chain : ℕ) (ttys : List RawTty) (old new : Parts) : Type 0 where
-  pub small : Gained (raw_ports raw ttys) old.small.items new.small.items
+  pub small : Gained (raw_ports raw ttys) old.queues.small.items new.queues.small.items
   pub chains : ChainsGained (raw_notes chain ttys) old.chains.items new.chains.items
   pub before : (k : ℕ) → k < chain → slice_get new.chains.items k ≡ slice_get old.chains.items k
-  pub rest : new ≡ record old { small = new.small; chains = new.chains }
+  pub rest : new ≡ record old { queues = record old.queues { small = new.queues.small }; chains = new.chains }

@@ -43,8 +43,8 @@ pub fn make_objects(alloc: Global, plan: BootPlan) -> Result<Objects, OutOfMemor
         (quajects_of o.shared.chains.items)) }
     ensures devices { IfOk result (λ o. AreDevicesOf o.shared.plan o.shared.queues o.shared.chains.items
         o.devices.items) }
-    ensures splits { IfOk result (λ o. CanGive 1000 (shares o.station.parts.small.items)
-        × CanGive 1000 (shares o.station.parts.large.items)
+    ensures splits { IfOk result (λ o. CanGive 1000 (shares o.station.parts.queues.small.items)
+        × CanGive 1000 (shares o.station.parts.queues.large.items)
         × CanGive 1000 (chain_shares o.station.parts.chains.items)) }
     ensures whole { IfOk result (λ o. HaveAll o.shared o.station.parts o.devices.items) }
 {

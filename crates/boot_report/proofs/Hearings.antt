@@ -11,9 +11,8 @@ use Rattle.processor.specs.declared.outcome.TurnResult.{TurnResult}
 use Rattle.processor.specs.declared.outcome.TurnResult.TheVariants as hads
 use Rattle.processor.specs.declared.outcome.TurnOutcome.{TurnOutcome}
 use Rattle.processor.specs.declared.outcome.TurnOutcome.TheVariants as outcomes
-use Rattle.processor.specs.declared.tries.HearAnswer.{HearAnswer}
-use Rattle.processor.specs.declared.tries.HearAnswer.TheVariants as hears
-use Rattle.processor.specs.declared.waking.WakeDone.{WakeDone}
+use Rattle.processor.specs.declared.phases.HearAnswer.{HearAnswer}
+use Rattle.processor.specs.declared.phases.HearAnswer.TheVariants as hears
 use Rattle.processor.specs.Accounts.{Account, ◌⊕◌}
 use Rattle.processor.specs.Outcomes.{IsOutcomeOf}
 use Rattle.processor.specs.Doings.{heard_by}
@@ -55,12 +54,12 @@ AllHear plan lines = AllByRecursion (IsHear plan) (map key_of lines)
 both_hear : (plan : BootPlan) (a b : List Line) → AllHear plan a → AllHear plan b → AllHear plan (a ++ b)
 both_hear plan a b h k = subst (AllByRecursion (IsHear plan)) (sym (map-append key_of a b)) (both (IsHear plan) (map key_of a) (map key_of b) h k)
 
-hears_one : (step : Step) (queue : _) (answer : HearAnswer WakeDone) (line : List ℕ) → IsOutcomeOf step (step_outcomes.Hear queue answer) line → is_hear step ≡ true
+hears_one : (step : Step) (queue : _) (answer : HearAnswer) (line : List ℕ) → IsOutcomeOf step (step_outcomes.Hear queue answer) line → is_hear step ≡ true
 hears_one (steps.Hear at) queue answer line h = refl
 hears_one step queue answer line h = absurd h
 
 by_step_outcome : (plan : BootPlan) (element number : ℕ) (step : Step) (step_outcome : StepOutcome) (line : List ℕ) → step_of plan element number ≡ Some step → IsOutcomeOf step step_outcome line → AllHear plan (heard_by step_outcome element number line)
-by_step_outcome plan element number step (step_outcomes.Hear queue (hears.Taken paid)) line is its = (record { step = step; is = is; hears = hears_one step queue (hears.Taken paid) line its }, tt)
+by_step_outcome plan element number step (step_outcomes.Hear queue (hears.Taken woken)) line is its = (record { step = step; is = is; hears = hears_one step queue (hears.Taken woken) line its }, tt)
 by_step_outcome plan element number step step_outcome line is its = tt
 
 by_had : (plan : BootPlan) (element number : ℕ) (had : TurnResult) (line : List ℕ) → TurnResultFollows plan element number had line → AllHear plan (having element number had line).heard

@@ -120,12 +120,12 @@ module _ (shut : Shutdown) (is_shut : IsShutDown shut) where
   large_queue q = queue_of plan (boot_shut shut) (Large q)
 
   small_count : length tables.small ≡ length plan.queues + length plan.ttys
-  small_count = many_queues small_queue (λ q. counted plan (boot_shut shut) (Small q)) 0 shut.shared.queues.small.items shut.ended.small_ends.value.items shut.ended.small.items is_shut.closed.small.each
-      ∙ ((three_long IsClosed shut.shared.queues.small.items shut.ended.small_ends.value.items shut.ended.small.items is_shut.closed.small.each).1 ∙ shut.shared.objects.0)
+  small_count = many_queues small_queue (λ q. counted plan (boot_shut shut) (Small q)) 0 shut.shared.queues.small.items shut.ended.ends.value.small.items shut.ended.small.items is_shut.closed.small.each
+      ∙ ((three_long IsClosed shut.shared.queues.small.items shut.ended.ends.value.small.items shut.ended.small.items is_shut.closed.small.each).1 ∙ shut.shared.objects.0)
 
   large_count : length tables.large ≡ length plan.ttys * 2
-  large_count = many_queues large_queue (λ q. counted plan (boot_shut shut) (Large q)) 0 shut.shared.queues.large.items shut.ended.large_ends.value.items shut.ended.large.items is_shut.closed.large.each
-      ∙ ((three_long IsClosed shut.shared.queues.large.items shut.ended.large_ends.value.items shut.ended.large.items is_shut.closed.large.each).1 ∙ shut.shared.objects.1)
+  large_count = many_queues large_queue (λ q. counted plan (boot_shut shut) (Large q)) 0 shut.shared.queues.large.items shut.ended.ends.value.large.items shut.ended.large.items is_shut.closed.large.each
+      ∙ ((three_long IsClosed shut.shared.queues.large.items shut.ended.ends.value.large.items shut.ended.large.items is_shut.closed.large.each).1 ∙ shut.shared.objects.1)
 
   all_there : AreAll shut.ended tables
   all_there = record {
@@ -162,8 +162,8 @@ module _ (shut : Shutdown) (is_shut : IsShutDown shut) where
   pub shown : (typed : List Typed) → ShowsDevices shut.devices typed → Shows tables shut.ended typed
   shown typed did = record {
     all = all_there;
-    small = queues_show small_queue (λ q. counted plan (boot_shut shut) (Small q)) shut.shared.queues.small.items shut.ended.small_ends.value.items shut.ended.small.items is_shut.closed.small.each;
-    large = queues_show large_queue (λ q. counted plan (boot_shut shut) (Large q)) shut.shared.queues.large.items shut.ended.large_ends.value.items shut.ended.large.items is_shut.closed.large.each;
+    small = queues_show small_queue (λ q. counted plan (boot_shut shut) (Small q)) shut.shared.queues.small.items shut.ended.ends.value.small.items shut.ended.small.items is_shut.closed.small.each;
+    large = queues_show large_queue (λ q. counted plan (boot_shut shut) (Large q)) shut.shared.queues.large.items shut.ended.ends.value.large.items shut.ended.large.items is_shut.closed.large.each;
     chains = chains_shown;
     threads = threads_shown;
     devices = did;

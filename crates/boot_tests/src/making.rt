@@ -25,7 +25,11 @@ fn assert_shared<R: Abort>(rt: &R, shared: &Shared, devices: usize) {
 fn assert_counts<R: Abort>(rt: &R, made: Objects) {
     assert_shared(rt, &made.shared, made.devices.len());
     let parts = made.station.into_parts();
-    let counts = (parts.small.len(), parts.large.len(), parts.chains.len());
+    let counts = (
+        parts.queues.small.len(),
+        parts.queues.large.len(),
+        parts.chains.len(),
+    );
     assert!(rt; counts == (5, 4, 4));
 }
 

@@ -27,12 +27,12 @@ ample_at : {E D : Type 0} (of : E → Stake D) (none : D) (xs : List E) → CanG
 ample_at of none xs can q t many is long low = eight _ t (is ∙ share_is of none xs q) (can q (let l = length-map xs (λ x. (of x).share) in omega arith))
 
 pub can_split_eight : (plan : BootPlan) (table : ThreadTable) (meters : Meters) (old new : Parts) → IsFirstHand table old.hand → IsFirstSeat meters old.meters
-    → CanGive 1000 (stocks.shares old.small.items) → CanGive 1000 (stocks.shares old.large.items) → CanGive 1000 (stocks.chain_shares old.chains.items) → HasPrepared plan old new → CanSplit 8 new
+    → CanGive 1000 (stocks.shares old.queues.small.items) → CanGive 1000 (stocks.shares old.queues.large.items) → CanGive 1000 (stocks.chain_shares old.chains.items) → HasPrepared plan old new → CanSplit 8 new
 can_split_eight plan table meters old new hand seat small large chains p =
     let s = prepared_shares plan old new p in record {
       hand = eight_of_all _ _ (λ i. (s i).hand) hand.only;
-      small = λ q low. ample_at stake nothing_did old.small.items small q _ _ (λ i. (s i).queues (Small q)) (λ i. length (p.rest i).small.items) low;
-      large = λ q low. ample_at stake nothing_did old.large.items large q _ _ (λ i. (s i).queues (Large q)) (λ i. length (p.rest i).large.items) low;
+      small = λ q low. ample_at stake nothing_did old.queues.small.items small q _ _ (λ i. (s i).queues (Small q)) (λ i. length (p.rest i).queues.small.items) low;
+      large = λ q low. ample_at stake nothing_did old.queues.large.items large q _ _ (λ i. (s i).queues (Large q)) (λ i. length (p.rest i).queues.large.items) low;
       chains = λ q low. ample_at chain_stake idle_chain old.chains.items chains q _ _ (λ i. (s i).chains q) (λ i. length (p.rest i).chains.items) low;
       meters = eight_of_all _ _ (λ i. (s i).meters) seat.only;
     }

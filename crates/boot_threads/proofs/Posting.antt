@@ -78,8 +78,10 @@ all_at {E} {D} of none xs h k d below = let e = ap (λ (s : Stake D). s.share) (
 pub divisible : (parts : Parts) → CanSplit 1 parts → AreDivisible parts
 divisible parts c = record {
   hand = let h = c.hand in omega arith;
-  small = all_at stake nothing_did parts.small.items c.small;
-  large = all_at stake nothing_did parts.large.items c.large;
+  queues = record {
+    small = all_at stake nothing_did parts.queues.small.items c.small;
+    large = all_at stake nothing_did parts.queues.large.items c.large;
+  };
   chains = all_at chain_stake idle_chain parts.chains.items c.chains;
   meters = let h = c.meters in omega arith;
 }
@@ -106,8 +108,8 @@ as_many f xs ys e = sym (length-map ys f) ∙ ap (λ z. length z) e ∙ length-m
 pub can_split : (n : ℕ) (old new : Parts) → shares new ≡ each_share kept (shares old) → AreSameParts old new → CanSplit (n + 1) old → CanSplit n new
 can_split n old new s same c = record {
   hand = kept_ample n _ _ (λ i. (s i).hand) c.hand;
-  small = λ q low. kept_ample n _ _ (λ i. (s i).queues (Small q)) (c.small q (subst (λ k. q < k) (as_many end_table old.small.items new.small.items same.small.tables) low));
-  large = λ q low. kept_ample n _ _ (λ i. (s i).queues (Large q)) (c.large q (subst (λ k. q < k) (as_many end_table old.large.items new.large.items same.large.tables) low));
+  small = λ q low. kept_ample n _ _ (λ i. (s i).queues (Small q)) (c.small q (subst (λ k. q < k) (as_many end_table old.queues.small.items new.queues.small.items same.queues.small.tables) low));
+  large = λ q low. kept_ample n _ _ (λ i. (s i).queues (Large q)) (c.large q (subst (λ k. q < k) (as_many end_table old.queues.large.items new.queues.large.items same.queues.large.tables) low));
   chains = λ q low. kept_ample n _ _ (λ i. (s i).chains q) (c.chains q (subst (λ k. q < k) (as_many chain_end_table old.chains.items new.chains.items same.chains.tables) low));
   meters = kept_ample n _ _ (λ i. (s i).meters) c.meters;
 }

@@ -22,8 +22,8 @@ IsAmple splits share = splits * MOST_GIVEN + 2 ≤ share
 -- each end of the station can be split so many times
 pub record CanSplit (splits : ℕ) (parts : Parts) : Type 0 where
   pub hand : IsAmple splits (shares parts).hand
-  pub small : (q : ℕ) → q < length parts.small.items → IsAmple splits ((shares parts).queues (Small q))
-  pub large : (q : ℕ) → q < length parts.large.items → IsAmple splits ((shares parts).queues (Large q))
+  pub small : (q : ℕ) → q < length parts.queues.small.items → IsAmple splits ((shares parts).queues (Small q))
+  pub large : (q : ℕ) → q < length parts.queues.large.items → IsAmple splits ((shares parts).queues (Large q))
   pub chains : (q : ℕ) → q < length parts.chains.items → IsAmple splits ((shares parts).chains q)
   pub meters : IsAmple splits (shares parts).meters
 

@@ -62,8 +62,8 @@ pub fn first_is_prepared()
 /// shares that the first station had.
 pub fn first_is_ready()
     ensures splits { (plan : BootPlan) (table : ThreadTable) (meters : Meters) (old new : Parts)
-        → IsFirstHand table old.hand → IsFirstSeat meters old.meters → CanGive 1000 (stocks.shares old.small.items)
-        → CanGive 1000 (stocks.shares old.large.items) → CanGive 1000 (stocks.chain_shares old.chains.items)
+        → IsFirstHand table old.hand → IsFirstSeat meters old.meters → CanGive 1000 (stocks.shares old.queues.small.items)
+        → CanGive 1000 (stocks.shares old.queues.large.items) → CanGive 1000 (stocks.chain_shares old.chains.items)
         → HasPrepared plan old new → CanSplit 8 new }
     ensures free { (plan : BootPlan) (table : ThreadTable) (old new : Parts) → IsFirstHand table old.hand
         → HasPrepared plan old new → NoneOn new × ((k : ℕ) → k < 8 → IsFree k (view_of new.hand)) }

@@ -17,7 +17,6 @@ pub use Rattle.boot_data.specs.declared.plan.PlannedThread.{PlannedThread}
 pub use Rattle.boot_data.specs.declared.plan.QueueIndex.{QueueIndex}
 pub use Rattle.boot_data.specs.declared.plan.QueueIndex.TheVariants.{Large, Small}
 pub use Rattle.boot_data.specs.declared.plan.Step.{Step}
-pub use Rattle.claim_queue.specs.declared.ends.QueueEnd.{QueueEnd}
 pub use Rattle.event_theory.specs.declared.alarm.Alarm.{Alarm}
 pub use Rattle.meters.specs.Own.{did_both, nothing_did}
 pub use Rattle.thread_table.specs.Answers.{TakesOff, is_in}
@@ -32,9 +31,8 @@ pub use Rattle.turn_dispatch.specs.Tendings.{tick_to}
 pub use Rattle.turn_dispatch.specs.declared.counting.Counted.{Counted}
 pub use Rattle.turn_dispatch.specs.declared.dispatch.Begun.{Begun}
 pub use Rattle.turn_dispatch.specs.declared.dispatch.Idle.{Idle}
-pub use Rattle.turn_io.proofs.Adding.{by_sizes, queues_add}
-pub use Rattle.turn_io.specs.Accounts.{StaySound, at_each, both_chain, both_queue, by_index, chain_account, chain_shares, idle_chain, idle_queue, queue_account, queue_shares}
-pub use Rattle.turn_io.specs.EndLists.{OnEnd, knows_shut_at}
+pub use Rattle.turn_io.proofs.Adding.{queues_add}
+pub use Rattle.turn_io.specs.Accounts.{at_each, both_chain, both_queue, chain_account, chain_shares, idle_chain, idle_queue}
 pub use Rattle.turn_io.specs.declared.gate.Point.TheVariants.{Turn}
 pub use Rattle.processor.specs.Accounts.{account, nothing, seat_parted, shares, shown_in, ◌⊕◌}
 pub use Rattle.processor.specs.Outcomes.{IsOutcomeOf, is_done}
@@ -49,6 +47,6 @@ pub use Rattle.processor.specs.Rooms.{IsPast, key_of}
 pub use Rattle.processor.specs.Running.{Goes, Stepped}
 pub use Rattle.processor.specs.Turns.{AreAtRest, is_last}
 pub use Rattle.processor.specs.declared.step_outcome.StepOutcome.{StepOutcome}
-pub use Rattle.processor.specs.declared.sending.Rescheduled.{Rescheduled}
+pub use Rattle.processor.specs.declared.phases.Rescheduled.{Rescheduled}
 pub use Rattle.processor.specs.declared.shared.Shared.{Shared}
 pub use Rattle.processor.specs.declared.station.Parts.{Parts}

@@ -1,19 +1,22 @@
 -- A station that a processor can use stays one.
-use Rattle.processor.proofs.Common.{◌≡◌, ℕ, false, None, get_or, refl, sym, ap, subst, ◌∙◌, by_index, queue_shares, chain_shares, view_of, Keeps, View, Shared, Parts, shares, seat_parted, KeepsStation, AreAtRest}
-use Rattle.turn_io.specs.EndLists.{AreEndsOf, AreSameEnds, AreChainEndsOf, AreSameChainEnds}
+use Rattle.processor.proofs.Common.{◌≡◌, ℕ, false, None, get_or, refl, sym, ap, subst, ◌∙◌, chain_shares, view_of, Keeps, View, Shared, Parts, shares, seat_parted, KeepsStation, AreAtRest}
+use Rattle.turn_io.specs.Accounts.{shares_of}
+use Rattle.turn_io.specs.EndLists.{AreChainEndsOf, AreSameChainEnds, IsIdle}
+use Rattle.turn_io.specs.QueueEnds.{AreQueueEndsOf, AreSameQueueEnds}
+use Rattle.turn_io.proofs.Queues.{same_ends_on, same_ends_still}
 use Rattle.turn_dispatch.specs.Holdings.{IsFree}
 use Rattle.meters.specs.Handles as meters
 use Rattle.thread_table.specs.Handles.{IsSameHand}
 use Rattle.processor.specs.Manning.{IsRunnable}
-use Rattle.processor.specs.Stations.{AreSameParts}
+use Rattle.std.specs.List.{All}
+use Rattle.processor.specs.Stations.{ArePartsOf, AreSameParts}
 use Rattle.processor.proofs.Rising.{NeverFalls}
 use Rattle.processor.proofs.Rooming.{room_kept}
 
 pub same_on : (u v w : Parts) → AreSameParts u v → AreSameParts v w → AreSameParts u w
 same_on u v w a b = record {
   hand = (b.hand.0 ∙ a.hand.0, b.hand.1 ∙ a.hand.1);
-  small = record { tables = b.small.tables ∙ a.small.tables; calls = b.small.calls ∙ a.small.calls };
-  large = record { tables = b.large.tables ∙ a.large.tables; calls = b.large.calls ∙ a.large.calls };
+  queues = same_ends_on u.queues v.queues w.queues a.queues b.queues;
   chains = record { tables = b.chains.tables ∙ a.chains.tables; calls = b.chains.calls ∙ a.chains.calls };
   meters = (b.meters.0 ∙ a.meters.0, b.meters.1 ∙ a.meters.1);
 }
@@ -33,8 +36,7 @@ stays_still shared p parts h = record {
   manned = h;
   same = record {
     hand = (refl, refl);
-    small = record { tables = refl; calls = refl };
-    large = record { tables = refl; calls = refl };
+    queues = same_ends_still parts.queues;
     chains = record { tables = refl; calls = refl };
     meters = (refl, refl);
   };
@@ -55,8 +57,7 @@ rest_stays shared p old new h r hand keeps up meter share seat = record {
   manned = record {
     parts_are = record {
       hand = hand.0 ∙ h.parts_are.hand;
-      small = subst (λ z. AreEndsOf shared.queues.small.items z.items) (sym r.small) h.parts_are.small;
-      large = subst (λ z. AreEndsOf shared.queues.large.items z.items) (sym r.large) h.parts_are.large;
+      queues = subst (AreQueueEndsOf shared.queues) (sym r.queues) h.parts_are.queues;
       chains = subst (λ z. AreChainEndsOf shared.chains.items z.items) (sym r.chains) h.parts_are.chains;
       meters = meter.0 ∙ h.parts_are.meters;
     };
@@ -65,18 +66,26 @@ rest_stays shared p old new h r hand keeps up meter share seat = record {
   };
   same = record {
     hand = hand;
-    small = subst (λ z. AreSameEnds old.small.items z.items) (sym r.small) (record { tables = refl; calls = refl });
-    large = subst (λ z. AreSameEnds old.large.items z.items) (sym r.large) (record { tables = refl; calls = refl });
+    queues = subst (AreSameQueueEnds old.queues) (sym r.queues) (same_ends_still old.queues);
     chains = subst (λ z. AreSameChainEnds old.chains.items z.items) (sym r.chains) (record { tables = refl; calls = refl });
     meters = meter;
   };
   serves = keeps.serves;
   on = keeps.on;
   shares_are = λ i. record {
-    queues = by_index (queue_shares (r.small i).items) (queue_shares (r.large i).items);
+    queues = shares_of (r.queues i);
     chains = chain_shares (r.chains i).items;
     hand = keeps.share i;
     meters = share i;
   };
   seat = seat;
+}
+
+-- the same ends are those of the same objects
+pub parts_still : (shared : Shared) (old new : Parts) → ArePartsOf shared old → AreSameParts old new → All IsIdle new.chains.items → ArePartsOf shared new
+parts_still shared old new h same idle = record {
+  hand = same.hand.0 ∙ h.hand;
+  queues = record { small = same.queues.small.tables ∙ h.queues.small; large = same.queues.large.tables ∙ h.queues.large };
+  chains = record { tables = same.chains.tables ∙ h.chains.tables; idle = idle };
+  meters = same.meters.0 ∙ h.meters;
 }

@@ -1,32 +1,22 @@
 -- The account of several pieces of a processor's work, one after the other.
-use Rattle.processor.proofs.Common.{◌≡◌, ◌||◌, ◌+◌, ◌≤◌, ◌==◌, ℕ, zero, suc, Bool, true, false, List, [], ◌∷◌, ◌++◌, map, refl, sym, ap, subst, ◌∙◌, ⊎_elim, Result, Ok, Err, MatchResult, arith, append-nil, list_any-append, BootPlan, QueueIndex, Small, Large, QueueEnd, queue_account, chain_account, by_index, queue_shares, StaySound, knows_shut_at, Begun, Idle, Shows, Tally, AddsToTally, no_events, nothing_did, did_both, view_of, done_at, Parts, nothing, ◌⊕◌, account, shown_in, seat_parted, LogEntry, beginning, Climbs, HasDone, Ran, Went, numbers_of, Key, AreAtRest}
-use Rattle.std.specs.List.{All}
+use Rattle.processor.proofs.Common.{◌≡◌, ◌||◌, ◌+◌, ◌≤◌, ◌==◌, ℕ, Bool, true, false, List, [], ◌∷◌, ◌++◌, map, refl, sym, ap, subst, ◌∙◌, ⊎_elim, Result, Ok, Err, MatchResult, arith, append-nil, list_any-append, BootPlan, chain_account, Begun, Idle, Shows, Tally, AddsToTally, no_events, nothing_did, did_both, view_of, done_at, Parts, nothing, ◌⊕◌, account, shown_in, seat_parted, LogEntry, beginning, Climbs, HasDone, Ran, Went, numbers_of, Key, AreAtRest}
 use Rattle.std.proofs.Math.Bool.{or-false}
 use Rattle.std.proofs.lemmas.Bool.{or_cases}
 use Rattle.std.proofs.lemmas.List.{map-append}
 use Rattle.std.proofs.lemmas.List.Elements.{filter-append}
-use Rattle.claim_queue.specs.Handles as queues
-use Rattle.claim_queue.specs.Lines.{line_of}
-use Rattle.claim_queue.specs.Orders.{TakesInOrder}
-use Rattle.claim_queue.specs.Own.{View as EndView}
-use Rattle.turn_io.specs.EndLists.{HasRaised, ClaimedInOrder, TookInOrder}
-use Rattle.turn_io.proofs.Shares.{none_of}
+use Rattle.turn_io.specs.Accounts.{work_of}
+use Rattle.turn_io.proofs.Queues.{all_sound_on, all_sound_still, idle_in_order, in_order_on, still_know}
 use Rattle.event_theory.proofs.Lists.Placed.{all_append as all_on}
 use Rattle.turn_dispatch.specs.Sendings.{retired}
 use Rattle.turn_dispatch.specs.Dispatches.{mask_of}
 use Rattle.turn_dispatch.specs.Tallies.{one_delivery, delivery}
 use Rattle.meters.specs.declared.rule.MeterOps.{MeterOps}
 use Rattle.meters.specs.Handles as seats
-use Rattle.table_theory.specs.declared.queues.Batch.{Batch}
-use Rattle.table_theory.specs.Interleaving.{InOrder}
-use Rattle.table_theory.proofs.Ordering.{order_none}
 use Rattle.processor.specs.Accounts.{Account}
 use Rattle.processor.specs.Entries.{FollowsPlan, OutcomeFollows, entry_account, outcome_account, outcome_saw_shut, tending, turn_saw_shut}
-use Rattle.processor.specs.Logs.{IsFresh, Leaves, knows_shut, sum_of, was_shut}
+use Rattle.processor.specs.Logs.{IsFresh, Leaves, sum_of, was_shut}
 use Rattle.processor.proofs.Rising.{NeverFalls}
 use Rattle.processor.proofs.Summing.{accounts_add, dids_add, queue_sums, chain_sums, none_shows, more_shows}
-use mathlib.Core.Option.{some, some-ne-none}
-use lib.ListN.{get_elem?}
 
 -- numbers that climb from a bound also climb from a lower one
 climbs_from : (xs : List ℕ) (a b c : ℕ) → a ≤ b → Climbs xs b c → Climbs xs a c
@@ -44,32 +34,12 @@ numbers_on t xs ys = ap (map (λ (key : Key). key.1)) (filter-append (λ (key : 
 abbrev pub known_done : Parts → ℕ → ℕ
 known_done parts t = done_at (view_of parts.hand).seen.object t
 
-module _ {n : ℕ} where
-  sound_on : (xs ys zs : List (QueueEnd n)) → StaySound xs ys → StaySound ys zs → StaySound xs zs
-  sound_on xs ys zs a b = record {
-    shares = b.shares ∙ a.shares;
-    raised = λ h. b.raised (a.raised h);
-    claimed = λ h. b.claimed (a.claimed h);
-    took = λ h. b.took (a.took h);
-    known = λ q h. b.known q (a.known q h);
-  }
-
-  pub sound_still : (xs ys : List (QueueEnd n)) → ys ≡ xs → StaySound xs ys
-  sound_still xs ys e = record {
-    shares = ap queue_shares e;
-    raised = λ h. subst (All HasRaised) (sym e) h;
-    claimed = λ h. subst (All ClaimedInOrder) (sym e) h;
-    took = λ h. subst (All TookInOrder) (sym e) h;
-    known = λ q h. ap (λ z. knows_shut_at z q) e ∙ h;
-  }
-
 pub done_on : (a b : Account) (u v w : Parts) → HasDone a u v → HasDone b v w → HasDone (a ⊕ b) u w
 done_on a b u v w x y = record {
   did = y.did ∙ (ap (λ z. z ⊕ b) x.did ∙ accounts_add.regroups (account u) a b);
   order = λ t. subst (λ z. Climbs z (known_done u t) (known_done w t)) (sym (numbers_on t a.hand.done b.hand.done))
       (climbs_on (numbers_of t a.hand.done) (numbers_of t b.hand.done) (known_done u t) (known_done v t) (known_done w t) (x.order t) (y.order t));
-  small = sound_on u.small.items v.small.items w.small.items x.small y.small;
-  large = sound_on u.large.items v.large.items w.large.items x.large y.large;
+  queues = all_sound_on u.queues v.queues w.queues x.queues y.queues;
 }
 
 -- nothing was done
@@ -77,8 +47,7 @@ pub none_done : (parts : Parts) → HasDone nothing parts parts
 none_done parts = record {
   did = sym (accounts_add.none_last (account parts));
   order = λ t. omega arith;
-  small = sound_still _ _ refl;
-  large = sound_still _ _ refl;
+  queues = all_sound_still _ _ refl;
 }
 
 -- the account of a hand and a seat, with the signals that were shown
@@ -91,7 +60,7 @@ pub hand_done : (hand : Tally) (ticks : MeterOps) (shown : ℕ → ℕ → Bool)
     → ((t : ℕ) → Climbs (numbers_of t hand.done) (known_done old t) (known_done new t)) → HasDone (by_hand hand ticks shown) old new
 hand_done hand ticks shown old new r h m s o = record {
   did = λ i. record {
-    queues = ((λ k. by_index (queue_account (r.small k).items) (queue_account (r.large k).items)) ∙ sym (queue_sums.none_last (account old).queues)) i;
+    queues = (ap work_of r.queues ∙ sym (queue_sums.none_last (account old).queues)) i;
     chains = ((λ k. chain_account (r.chains k).items) ∙ sym (chain_sums.none_last (account old).chains)) i;
     hand = h i;
     meters = m i;
@@ -99,8 +68,7 @@ hand_done hand ticks shown old new r h m s o = record {
     shown = s i;
   };
   order = o;
-  small = sound_still _ _ (λ k. (r.small k).items);
-  large = sound_still _ _ (λ k. (r.large k).items);
+  queues = all_sound_still _ _ r.queues;
 }
 
 no_ticks : (old new : Parts) → new.meters ≡ old.meters → (account new).meters ≡ did_both (account old).meters nothing_did
@@ -134,16 +102,11 @@ pub sum_on : (xs ys : List LogEntry) → sum_of (xs ++ ys) ≡ sum_of xs ⊕ sum
 sum_on [] ys = sym (accounts_add.none_first (sum_of ys))
 sum_on (x ∷ xs) ys = ap (λ z. entry_account x ⊕ z) (sum_on xs ys) ∙ sym (accounts_add.regroups (entry_account x) (sum_of xs) (sum_of ys))
 
--- an end still knows of each queue that it is shut, if it knew before
-knows_still : (more : Account) (a b : Parts) → HasDone more a b → (q : QueueIndex) → knows_shut a q ≡ true → knows_shut b q ≡ true
-knows_still more a b d (Small q) h = d.small.known q h
-knows_still more a b d (Large q) h = d.large.known q h
-
 pub ran_on : (plan : BootPlan) (xs ys : List LogEntry) (a b c : Parts) → Ran plan xs a b → Ran plan ys b c → Ran plan (xs ++ ys) a c
 ran_on plan xs ys a b c f g = record {
   planned = all_on (FollowsPlan plan) xs ys f.planned g.planned;
   done = subst (λ z. HasDone z a c) (sym (sum_on xs ys)) (done_on (sum_of xs) (sum_of ys) a b c f.done g.done);
-  reported = λ q h. ⊎_elim (λ l. knows_still (sum_of ys) b c g.done q (f.reported q l)) (λ r. g.reported q r)
+  reported = λ q h. ⊎_elim (λ l. still_know b.queues c.queues g.done.queues q (f.reported q l)) (λ r. g.reported q r)
       (or_cases (was_shut xs q) (was_shut ys q) (sym (list_any-append (turn_saw_shut q) xs ys) ∙ h));
 }
 
@@ -162,25 +125,6 @@ turn_ran plan entry a b c t w = record {
 
 -- THE STATE AFTER IT
 
-no_claims : (runs : List Batch) → map line_of runs ≡ [] → InOrder runs
-no_claims runs e = subst InOrder (sym (none_of runs e)) order_none
-
-no_takings : (v : EndView) → map line_of v.own.takes ≡ [] → TakesInOrder v
-no_takings v e = let none = none_of v.own.takes e in
-    (subst InOrder (sym none) order_none, λ m b at. absurd (some-ne-none b (sym (subst (λ (z : List Batch). get_elem? z m ≡ some b) none at))))
-
--- ends that put no line
-none_claimed : {n : ℕ} (ends : List (QueueEnd n)) → ((q : ℕ) → (queue_account ends q).put ≡ []) → All ClaimedInOrder ends
-none_claimed [] h k d low = absurd (omega arith)
-none_claimed (x ∷ xs) h zero d low = no_claims _ (h 0)
-none_claimed (x ∷ xs) h (suc k) d low = none_claimed xs (λ q. h (suc q)) k d (omega arith)
-
--- ends that took no line
-none_taken : {n : ℕ} (ends : List (QueueEnd n)) → ((q : ℕ) → (queue_account ends q).taken ≡ []) → All TookInOrder ends
-none_taken [] h k d low = absurd (omega arith)
-none_taken (x ∷ xs) h zero d low = no_takings (queues.view_of x) (h 0)
-none_taken (x ∷ xs) h (suc k) d low = none_taken xs (λ q. h (suc q)) k d (omega arith)
-
 -- the work of a fresh station is the work that its log says
 pub leaves : (plan : BootPlan) (log : List LogEntry) (old new : Parts) → IsFresh old → seat_parted new ≡ seat_parted old → Ran plan log old new → Leaves plan log new
 leaves plan log old new f seat r = record {
@@ -189,6 +133,5 @@ leaves plan log old new f seat r = record {
   order = λ t. climbs_from (numbers_of t (sum_of log).hand.done) 0 (known_done old t) (known_done new t) (omega arith) (r.done.order t);
   reported = r.reported;
   seat = seat ∙ f.seat;
-  small = (r.done.small.claimed (none_claimed old.small.items (λ q k. ((f.did k).queues (Small q)).put)), r.done.small.took (none_taken old.small.items (λ q k. ((f.did k).queues (Small q)).taken)));
-  large = (r.done.large.claimed (none_claimed old.large.items (λ q k. ((f.did k).queues (Large q)).put)), r.done.large.took (none_taken old.large.items (λ q k. ((f.did k).queues (Large q)).taken)));
+  queues = in_order_on old.queues new.queues r.done.queues (idle_in_order old.queues (λ k. (f.did k).queues));
 }

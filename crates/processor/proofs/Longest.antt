@@ -1,12 +1,13 @@
 -- A line that was heard is no longer than the longest that a plan's steps can hear.
-use Rattle.processor.proofs.Common.{◌≡◌, ◌≤◌, ℕ, zero, suc, ◌||◌, Bool, true, false, if◌then◌else◌, List, [], ◌∷◌, length, Some, Ok, sym, ap, ◌∙◌, arith, BootPlan, PlannedThread, Small, Large, QueueEnd, Step, steps_at, step_of, StepOutcome, IsOutcomeOf, is_heard}
+use Rattle.processor.proofs.Common.{◌≡◌, ◌≤◌, ℕ, zero, suc, ◌||◌, Bool, true, false, if◌then◌else◌, List, [], ◌∷◌, length, Some, sym, ap, ◌∙◌, arith, BootPlan, PlannedThread, Small, Large, Step, steps_at, step_of, StepOutcome, IsOutcomeOf, is_heard}
 use Rattle.std.proofs.Math.Bool.{or-true as or_true}
 use Rattle.std.proofs.lemmas.Option.{same_Some}
 use Rattle.std.specs.List.{slice_get, list_any}
 use Rattle.boot_data.specs.declared.plan.Step.TheVariants as steps
-use Rattle.turn_io.proofs.Shares.{heard_long}
+use Rattle.turn_io.specs.declared.queue_ends.QueueEnds.{QueueEnds}
+use Rattle.turn_io.proofs.Queues.{heard_few}
 use Rattle.processor.specs.declared.step_outcome.StepOutcome.TheVariants as step_outcomes
-use Rattle.processor.specs.declared.tries.HearAnswer.TheVariants as answers
+use Rattle.processor.specs.declared.phases.HearAnswer.TheVariants as answers
 use Rattle.processor.specs.Programs.{hears_large, one_hears_large, longest_line}
 use Rattle.processor.specs.Steps.{QueuesDid}
 
@@ -28,19 +29,17 @@ as_large : (b : Bool) → b ≡ true → 256 ≤ (if b then 256 else 64)
 as_large true is = omega arith
 as_large false is = cc
 
-pub heard_within : (plan : BootPlan) (e n : ℕ) (step : Step) (step_outcome : StepOutcome) (text : List ℕ) (old new : List (QueueEnd 64)) (old' new' : List (QueueEnd 256)) → step_of plan e n ≡ Some step → IsOutcomeOf step step_outcome text
-    → QueuesDid step_outcome text old new old' new' → is_heard step_outcome ≡ true → length text ≤ longest_line plan
-heard_within plan e n (steps.Hear queue) (step_outcomes.Hear (Small at) (answers.Taken paid)) text old new old' new' is d did heard =
-    let on = did.1.0 in
-    let long = heard_long on.end on.after text (Ok tt) on.does in
+pub heard_within : (plan : BootPlan) (e n : ℕ) (step : Step) (step_outcome : StepOutcome) (text : List ℕ) (old new : QueueEnds) → step_of plan e n ≡ Some step → IsOutcomeOf step step_outcome text
+    → QueuesDid step_outcome text old new → is_heard step_outcome ≡ true → length text ≤ longest_line plan
+heard_within plan e n (steps.Hear queue) (step_outcomes.Hear (Small at) (answers.Taken woken)) text old new is d did heard =
+    let long = heard_few (Small at) text old new did in
     let most = at_least (list_any one_hears_large plan.threads) in
     omega (arith, long.1, most)
-heard_within plan e n (steps.Hear queue) (step_outcomes.Hear (Large at) (answers.Taken paid)) text old new old' new' is d did heard =
-    let on = did.1.0 in
-    let long = heard_long on.end on.after text (Ok tt) on.does in
+heard_within plan e n (steps.Hear queue) (step_outcomes.Hear (Large at) (answers.Taken woken)) text old new is d did heard =
+    let long = heard_few (Large at) text old new did in
     let large : hears_large (steps.Hear queue) ≡ true = ap (λ z. hears_large (steps.Hear z)) (sym d.0) in
     let most = as_large (list_any one_hears_large plan.threads) (in_threads plan.threads e n (steps.Hear queue) is large) in
     omega (arith, long.1, most)
-heard_within plan e n step (step_outcomes.Hear at (answers.Refused unheard)) text old new old' new' is d did heard = cc
-heard_within plan e n step (step_outcomes.Hear at (answers.Taken paid)) text old new old' new' is d did heard = absurd d
-heard_within plan e n step step_outcome text old new old' new' is d did heard = cc
+heard_within plan e n step (step_outcomes.Hear at (answers.Refused unheard)) text old new is d did heard = cc
+heard_within plan e n step (step_outcomes.Hear at (answers.Taken woken)) text old new is d did heard = absurd d
+heard_within plan e n step step_outcome text old new is d did heard = cc

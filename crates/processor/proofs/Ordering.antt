@@ -1,20 +1,26 @@
 -- The sights of the gate around a try, and turn by turn.
-use Rattle.processor.proofs.Common.{◌≡◌, ◌+◌, ℕ, suc, List, [], ◌∷◌, ◌++◌, Option, length, refl, ap, arith, subst, ◌∙◌, QueueEnd, QueueIndex, LogEntry, Parts, Shared, Calls, GateSawTurn, HookedTurns, view_of}
+use Rattle.processor.proofs.Common.{◌≡◌, ◌+◌, ℕ, suc, List, [], ◌∷◌, ◌++◌, Option, length, refl, ap, arith, subst, ◌∙◌, LogEntry, Parts, Shared, Calls, GateSawTurn, HookedTurns, StepOutcome, view_of}
 use Rattle.std.proofs.Math.Nat.{add-zero}
 use Rattle.std.proofs.lemmas.List.{length-append}
 use Rattle.thread_table.specs.declared.hand.Hand.{Hand}
 use Rattle.thread_table.specs.Answers.{PutsOn}
 use Rattle.thread_table.specs.Handles.{IsSameHand}
+use Rattle.meters.specs.Handles as seats
+use Rattle.std.specs.List.{All}
+use Rattle.turn_io.specs.declared.queue_ends.QueueEnds.{QueueEnds}
+use Rattle.turn_io.specs.EndLists.{IsIdle}
+use Rattle.turn_io.specs.QueueEnds.{AreSameQueueEnds}
 use Rattle.processor.specs.declared.outcome.TurnOutcome.{TurnOutcome}
 use Rattle.processor.specs.declared.outcome.TurnOutcome.TheVariants as outcomes
-use Rattle.processor.specs.Orders.{CameInOrder, Count, QueueShown, QueueStood, TurnInOrder, TurnsInOrder, after_ticket, count_of, one_more}
+use Rattle.processor.specs.Orders.{CameInOrder, ChainsInOrder, Count, QueuesInOrder, SeatInOrder, Stood, TriedAtEnds, TurnInOrder, TurnsInOrder, after_ticket, count_of, one_more}
 use Rattle.processor.specs.Sights.{Sights}
+use Rattle.processor.specs.Steps.{ChainsDid, QueuesDid, SeatDid}
 use Rattle.processor.specs.Turns.{CameOf}
 
--- a try between two looks at its queue, after the reading of a ticket of the wait queue
-pub tried_between : (S : Sights) (wait wait' : Option ℕ) (queue : QueueIndex) (old hand : Hand) (small small' : List (QueueEnd 64)) (large large' : List (QueueEnd 256)) → wait ≡ wait' → count_of hand ≡ after_ticket wait (count_of old)
-    → QueueShown S hand queue small large → QueueShown S hand queue small' large' → QueueStood S (after_ticket wait' (count_of old)) queue small small' large large'
-tried_between S wait wait' queue old hand small small' large large' is counted before after = record {
+-- a try between two looks at the queues, after the reading of a ticket of the wait queue
+pub tried_between : (shown : Hand → QueueEnds → Type 0) (wait wait' : Option ℕ) (old hand : Hand) (ends ends' : QueueEnds) → wait ≡ wait' → count_of hand ≡ after_ticket wait (count_of old)
+    → shown hand ends → shown hand ends' → Stood shown (after_ticket wait' (count_of old)) ends ends'
+tried_between shown wait wait' old hand ends ends' is counted before after = record {
   hand = hand;
   counted = counted ∙ ap (λ w. after_ticket w (count_of old)) is;
   before = before;
@@ -54,15 +60,22 @@ came_of : (S : Sights) (shared : Shared) (p : ℕ) (outcome : TurnOutcome) (line
 came_of S shared p (outcomes.Idle idle) line old new c = c
 came_of S shared p (outcomes.OfElement begun had) line old new c = (c.0, c.1, c.2)
 
-pub told_of : {G : Type 0} (S : Sights) (T : Calls G) (shared : Shared) (p number : ℕ) (log : List LogEntry) (old new : Parts) (g g' : G) → TurnsInOrder S T shared p number log old new g g' → HookedTurns T shared p number log old new g g'
-told_of S T shared p number [] old new g g' t = t
-told_of S T shared p number (entry ∷ log) old new g g' t =
-    (t.0, t.1, (t.2.0, t.2.1, came_of S shared p entry.outcome entry.line t.2.0 t.0 t.2.2), t.3, told_of S T shared p (suc number) log t.0 new t.1 g' t.4)
+pub hooked_of : {G : Type 0} (S : Sights) (T : Calls G) (shared : Shared) (p number : ℕ) (log : List LogEntry) (old new : Parts) (g g' : G) → TurnsInOrder S T shared p number log old new g g' → HookedTurns T shared p number log old new g g'
+hooked_of S T shared p number [] old new g g' t = t
+hooked_of S T shared p number (entry ∷ log) old new g g' t =
+    (t.0, t.1, (t.2.0, t.2.1, came_of S shared p entry.outcome entry.line t.2.0 t.0 t.2.2), t.3, hooked_of S T shared p (suc number) log t.0 new t.1 g' t.4)
 
--- the fact for equal lists
-pub stood_as : (S : Sights) {count : Count} (queue : QueueIndex) {a a' b b' : List (QueueEnd 64)} {c c' d d' : List (QueueEnd 256)} → a ≡ a' → b ≡ b' → c ≡ c' → d ≡ d' → QueueStood S count queue a b c d → QueueStood S count queue a' b' c' d'
-stood_as S {count = count} queue {a = a} {a' = a'} {b = b} {b' = b'} {c = c} {c' = c'} {d = d} {d' = d'} x y z w stood =
-    subst (λ (u : List (QueueEnd 256)). QueueStood S count queue a' b' c' u) w
-    (subst (λ (u : List (QueueEnd 256)). QueueStood S count queue a' b' u d) z
-    (subst (λ (u : List (QueueEnd 64)). QueueStood S count queue a' u c d) y
-    (subst (λ (u : List (QueueEnd 64)). QueueStood S count queue u b c d) x stood)))
+-- a step that used the hand and the ends of queues alone
+pub queues_tried : (S : Sights) (shared : Shared) (start : Count) (o : StepOutcome) (line : List ℕ) (old : Parts) (hand : Hand) (ends : QueueEnds)
+    → QueuesDid o line old.queues ends → ChainsDid shared.chains.items o old.chains.items old.chains.items → SeatDid o (seats.view_of old.meters) (seats.view_of old.meters)
+    → QueuesInOrder S shared.plan start o old.queues ends → ChainsInOrder S start o old.chains old.chains → SeatInOrder S start o old.meters old.meters
+    → IsSameHand old.hand hand → AreSameQueueEnds old.queues ends → All IsIdle old.chains.items
+    → TriedAtEnds S shared start o line old (record old { hand = hand; queues = ends })
+queues_tried S shared start o line old hand ends queues chains seat order order' order'' same same' idle = record {
+  did = record { queues = queues; chains = chains; seat = seat };
+  order = record { queues = order; chains = order'; seat = order'' };
+  same = record { hand = same; queues = same'; chains = record { tables = refl; calls = refl }; meters = (refl, refl) };
+  idle = idle;
+  heard = refl;
+  signals = refl;
+}

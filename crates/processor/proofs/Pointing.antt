@@ -4,7 +4,7 @@ use Rattle.turn_io.specs.declared.gate.Point.{Point}
 use Rattle.processor.specs.Points.{GateSaw, points_out}
 
 module _ {G A : Type 0} (T : Calls G) (f : G → A) (keeps : (old : G) (p : ℕ) (point : Point) (new : G) → T.observes old p point new → f new ≡ f old)
-    (told : (old : G) (p : ℕ) (entry : LogEntry) (new : G) → T.learns old p entry new → f new ≡ f old) where
+    (learns_keeps : (old : G) (p : ℕ) (entry : LogEntry) (new : G) → T.learns old p entry new → f new ≡ f old) where
   reported_keeps : (p : ℕ) (points : List Point) (old new : G) → GateSaw T.observes p points old new → f new ≡ f old
   reported_keeps p [] old new t = ap f t
   reported_keeps p (point ∷ points) old new t = reported_keeps p points t.0 new t.2 ∙ keeps old p point t.0 t.1
@@ -13,5 +13,5 @@ module _ {G A : Type 0} (T : Calls G) (f : G → A) (keeps : (old : G) (p : ℕ)
   turns_keep shared p number [] old new g g' t = ap f t.1
   turns_keep shared p number (entry ∷ log) old new g g' t =
       turns_keep shared p (suc number) log t.0 new t.1 g' t.4
-      ∙ (told t.3.2.0 p entry t.1 t.3.2.2
+      ∙ (learns_keeps t.3.2.0 p entry t.1 t.3.2.2
       ∙ (reported_keeps p (points_out entry.outcome) t.3.0 t.3.2.0 t.3.2.1 ∙ keeps g p (Turn number) t.3.0 t.3.1))

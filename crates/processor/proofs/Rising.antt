@@ -26,15 +26,14 @@ use Rattle.turn_dispatch.specs.Sendings.{LostTries, LastTry, Sent, LostWaits, La
 use Rattle.turn_dispatch.specs.Tendings.{RaisedAll}
 use Rattle.turn_dispatch.specs.Wakings.{AllReady, OneReady, Woke, ResumeAnswer}
 use Rattle.turn_dispatch.specs.declared.counting.Counted.TheVariants as counted
-use Rattle.processor.specs.declared.sending.Moved.{Moved}
-use Rattle.processor.specs.declared.sending.Moved.TheVariants as moveds
+use Rattle.processor.specs.declared.phases.Moved.{Moved}
+use Rattle.processor.specs.declared.phases.Moved.TheVariants as moveds
 use Rattle.processor.specs.declared.step_outcome.StepOutcome.TheVariants as step_outcomes
-use Rattle.processor.specs.declared.ticket.Ticket.{Ticket}
-use Rattle.processor.specs.declared.tries.HearAnswer.{HearAnswer}
-use Rattle.processor.specs.declared.tries.HearAnswer.TheVariants as hears
-use Rattle.processor.specs.declared.tries.SayAnswer.{SayAnswer}
-use Rattle.processor.specs.declared.tries.SayAnswer.TheVariants as says
-use Rattle.processor.specs.declared.waking.WakeDone.{WakeDone}
+use Rattle.processor.specs.declared.phases.Ticket.{Ticket}
+use Rattle.processor.specs.declared.phases.HearAnswer.{HearAnswer}
+use Rattle.processor.specs.declared.phases.HearAnswer.TheVariants as hears
+use Rattle.processor.specs.declared.phases.SayAnswer.{SayAnswer}
+use Rattle.processor.specs.declared.phases.SayAnswer.TheVariants as says
 use Rattle.processor.specs.Pipes.{TicketFor, WokeFor}
 use Rattle.processor.specs.Steps.{HandDid, WokeBySay, WokeByHear}
 
@@ -183,14 +182,14 @@ waking_for call None None v w a = later_same v w a
 waking_for call (Some wait) (Some woken) v w a = waking call wait woken v w a
 waking_for call wait woken v w a = absurd a
 
-saying : (call : ℕ) (wait : Option ℕ) (ticket : Option Ticket) (answer : SayAnswer WakeDone) (v w : View) → WokeBySay call wait ticket answer v w → Later v w
-saying call wait ticket (says.Put paid) v w a = waking_for call wait paid.woken v w a
+saying : (call : ℕ) (wait : Option ℕ) (ticket : Option Ticket) (answer : SayAnswer) (v w : View) → WokeBySay call wait ticket answer v w → Later v w
+saying call wait ticket (says.Put woken) v w a = waking_for call wait woken v w a
 saying call wait ticket says.Over v w a = later_same v w a
 saying call wait ticket (says.Refused unsaid) v w a = later_same v w a.1
 
-hearing : (call : ℕ) (wait : Option ℕ) (ticket : Option Ticket) (answer : HearAnswer WakeDone) (v w : View) → WokeByHear call wait ticket answer v w → Later v w
-hearing call wait ticket (hears.Taken paid) v w a = waking_for call wait paid.woken v w a
-hearing call wait ticket (hears.Over paid) v w a = waking_for call wait paid.woken v w a
+hearing : (call : ℕ) (wait : Option ℕ) (ticket : Option Ticket) (answer : HearAnswer) (v w : View) → WokeByHear call wait ticket answer v w → Later v w
+hearing call wait ticket (hears.Taken woken) v w a = waking_for call wait woken v w a
+hearing call wait ticket (hears.Over woken) v w a = waking_for call wait woken v w a
 hearing call wait ticket (hears.Refused unheard) v w a = later_same v w a.1
 
 doing : (call : ℕ) (plan : BootPlan) (step_outcome : StepOutcome) (v w : View) → HandDid call plan step_outcome v w → Later v w
@@ -200,7 +199,7 @@ doing call plan (step_outcomes.Wake wait woken) v w a = waking call wait woken v
 doing call plan (step_outcomes.Signal thread signal answer) v w a = signalling call thread signal v w answer a
 doing call plan (step_outcomes.Stop thread was_clear) v w a = stopping call thread v w was_clear a
 doing call plan (step_outcomes.Start thread answer) v w a = resuming call thread v w answer a
-doing call plan (step_outcomes.Close queue was_open readers writers) v w a = later_on v a.0 w (waking_for call _ readers.woken v a.0 a.1) (waking_for call _ writers.woken a.0 w a.2)
+doing call plan (step_outcomes.Close queue was_open readers writers) v w a = later_on v a.0 w (waking_for call _ readers v a.0 a.1) (waking_for call _ writers a.0 w a.2)
 doing call plan step_outcome v w a = later_same v w a
 
 pub stepping : (call : ℕ) (plan : BootPlan) (p element : ℕ) (step_outcome : StepOutcome) (answer : Counted) (v w : View) → Stepped call plan p element step_outcome answer v w → Later v w

@@ -7,18 +7,18 @@ use Rattle.std.specs.List.{IsDistinct}
 use Rattle.boot_data.specs.declared.plan.Step.TheVariants as steps
 use Rattle.turn_dispatch.specs.declared.counting.Counted.TheVariants as counted
 use Rattle.processor.specs.declared.step_outcome.StepOutcome.TheVariants as step_outcomes
-use Rattle.processor.specs.declared.tries.HearAnswer.TheVariants as answers
+use Rattle.processor.specs.declared.phases.HearAnswer.TheVariants as answers
 use Rattle.processor.specs.Programs.{longest_line}
 use Rattle.processor.specs.Rooms.{HasRoom}
 use Rattle.processor.proofs.Rising.{NeverFalls}
 use Rattle.processor.proofs.Rooms.{few}
 
 abbrev pub key_in : StepOutcome → ℕ → ℕ → List Key
-key_in (step_outcomes.Hear queue (answers.Taken paid)) e n = (e, n) ∷ []
+key_in (step_outcomes.Hear queue (answers.Taken woken)) e n = (e, n) ∷ []
 key_in step_outcome e n = []
 
 key_of_heard : (step_outcome : StepOutcome) (e n : ℕ) (text : List ℕ) → map key_of (heard_by step_outcome e n text) ≡ key_in step_outcome e n
-key_of_heard (step_outcomes.Hear queue (answers.Taken paid)) e n text = refl
+key_of_heard (step_outcomes.Hear queue (answers.Taken woken)) e n text = refl
 key_of_heard step_outcome e n text = refl
 
 -- whose lines there are, with what is kept of a step
@@ -72,8 +72,8 @@ counts_one call e counted.Undone did after v w a is low = absurd a
 -- with a line more that was heard
 pub hears_more : (e n : ℕ) (plan : BootPlan) (step : Step) (step_outcome : StepOutcome) (line : List ℕ) (v : View) (keys : List Key) → step_of plan e n ≡ Some step → IsOutcomeOf step step_outcome line → n ≡ done_at v.seen.object e
     → AreHears plan keys → AllByRecursion (IsPast v) keys → AreHears plan (keys ++ key_in step_outcome e n)
-hears_more e n plan step (step_outcomes.Hear queue (answers.Taken paid)) line v keys is d now hears past = (
-  all_push (IsHear plan) keys (e, n) hears.0 (record { step = step; is = is; hears = heard_hears step (step_outcomes.Hear queue (answers.Taken paid)) line d refl }),
+hears_more e n plan step (step_outcomes.Hear queue (answers.Taken woken)) line v keys is d now hears past = (
+  all_push (IsHear plan) keys (e, n) hears.0 (record { step = step; is = is; hears = heard_hears step (step_outcomes.Hear queue (answers.Taken woken)) line d refl }),
   distinct_push keys (e, n) hears.1 (all_apart v e n keys now past),
 )
 hears_more e n plan step step_outcome line v keys is d now hears past = subst (AreHears plan) (sym (append-nil keys)) hears
@@ -81,14 +81,14 @@ hears_more e n plan step step_outcome line v keys is d now hears past = subst (A
 pub past_more : (call p e n : ℕ) (plan : BootPlan) (step_outcome : StepOutcome) (answer : Counted) (v u w : View) (keys : List Key)
     → Stepped call plan p e step_outcome answer v u → IsNumber answer e v u → n ≡ done_at v.seen.object e → n < 64 → NeverFalls v u → NeverFalls u w
     → AllByRecursion (IsPast v) keys → AllByRecursion (IsPast w) (keys ++ key_in step_outcome e n)
-past_more call p e n plan (step_outcomes.Hear queue (answers.Taken paid)) answer v u w keys s is now low rises on past =
+past_more call p e n plan (step_outcomes.Hear queue (answers.Taken woken)) answer v u w keys s is now low rises on past =
     let counts = counts_one call e answer s.did s.after v u s.counts is (omega (arith, now, low)) in
     all_push (IsPast w) keys (e, n) (all_later u w keys on (all_later v u keys rises past)) (let q = on e in omega (arith, now, counts, q))
 past_more call p e n plan step_outcome answer v u w keys s is now low rises on past =
     subst (AllByRecursion (IsPast w)) (sym (append-nil keys)) (all_later u w keys on (all_later v u keys rises past))
 
 pub room_left : (plan : BootPlan) (keys : List Key) (step_outcome : StepOutcome) (e n : ℕ) → AreHears plan (keys ++ key_in step_outcome e n) → is_heard step_outcome ≡ true → length keys < hear_count plan
-room_left plan keys (step_outcomes.Hear queue (answers.Taken paid)) e n h is = let f = few plan (keys ++ (e, n) ∷ []) h in omega (arith, length-append keys ((e, n) ∷ []), f)
+room_left plan keys (step_outcomes.Hear queue (answers.Taken woken)) e n h is = let f = few plan (keys ++ (e, n) ∷ []) h in omega (arith, length-append keys ((e, n) ∷ []), f)
 room_left plan keys step_outcome e n h is = cc
 
 -- nothing more was heard, and no step is undone

@@ -1,5 +1,5 @@
 -- The accounts and the shares of stations add up.
-use Rattle.processor.proofs.Common.{◌≡◌, ◌||◌, ◌&&◌, ℕ, Bool, true, false, List, refl, sym, ap, ◌∙◌, append-nil, append_assoc, QueueIndex, QueueEnd, both_queue, both_chain, idle_queue, idle_chain, queue_account, at_each, by_index, queues_add, by_sizes, Shows, tally, no_events, followed_by, nothing_did, did_both, is_in, view_of, View, Parts, nothing, ◌⊕◌, shown_in, account, seat_parted, shares, HaveBoth}
+use Rattle.processor.proofs.Common.{◌≡◌, ◌||◌, ◌&&◌, ℕ, Bool, true, false, List, refl, sym, ap, ◌∙◌, append-nil, append_assoc, QueueIndex, both_queue, both_chain, idle_queue, idle_chain, at_each, queues_add, Shows, tally, no_events, followed_by, nothing_did, did_both, is_in, view_of, View, Parts, nothing, ◌⊕◌, shown_in, account, seat_parted, shares, HaveBoth}
 use Rattle.std.specs.Prelude.{nat_lt, slice_index_or}
 use Rattle.std.proofs.Math.Bool.{or_assoc, or-false}
 use Rattle.std.proofs.Math.Nat.{add_comm}
@@ -7,11 +7,10 @@ use Rattle.std.proofs.Math.Path.{fun_ext}
 use Rattle.std.proofs.lemmas.Bool.{ltb-true}
 use Rattle.table_theory.specs.Sharing.{given, kept}
 use Rattle.table_theory.proofs.Counting.{given_kept}
-use Rattle.claim_queue.specs.declared.rule.QueueOps as queues
-use Rattle.turn_io.specs.Accounts.{Stake, AddsUp, lines_of, stakes}
-use Rattle.turn_io.specs.Splits as splits
-use Rattle.turn_io.proofs.Accounting.{kept_at, given_at, joined_at, chain_kept_at, chain_given_at, chain_joined_at}
-use Rattle.turn_io.proofs.Adding.{numbers_add, chains_add, each_adds, lines_add}
+use Rattle.turn_io.specs.Accounts.{AddsUp}
+use Rattle.turn_io.proofs.Accounting.{chain_kept_at, chain_given_at, chain_joined_at}
+use Rattle.turn_io.proofs.Adding.{numbers_add, chains_add, each_adds}
+use Rattle.turn_io.proofs.Queues.{ends_given, ends_joined, ends_kept}
 use Rattle.turn_dispatch.specs.Tallies.{is_delivered}
 use Rattle.turn_dispatch.proofs.Delivered.{none_in}
 use Rattle.turn_dispatch.proofs.Tallies.{tally_more, behind_more, behind_none}
@@ -115,11 +114,6 @@ shares_parted a = λ i. record {
   meters = given_kept a.meters i;
 }
 
--- two lists of queues, by the index
-module _ {A : Type 0} {f g : ℕ → A} {f' g' : ℕ → A} where
-  pub both_sizes : ((q : ℕ) → f q ≡ f' q) → ((q : ℕ) → g q ≡ g' q) → by_index f g ≡ by_index f' g'
-  both_sizes small large = by_sizes (by_index f g) (by_index f' g') small large
-
 guarded : (x y z p q : Bool) → (p ≡ true → q ≡ true → z ≡ (x || y)) → (p && (q && z)) ≡ ((p && (q && x)) || (p && (q && y)))
 guarded x y z true true f = f refl refl
 guarded x y z true false f = refl
@@ -151,31 +145,23 @@ both_shown a b both h = fun_ext (λ e. fun_ext (λ s. guarded (is_in (slice_inde
 module _ (processors : ℕ) (old new born : Parts) (s : AreSplit processors old new born) where
   pub kept_account : account new ≡ account old
   kept_account = λ i. record {
-    queues = queues i;
+    queues = (ends_kept old.queues new.queues born.queues s.queues).0 i;
     chains = λ q. (chain_kept_at old.chains.items new.chains.items born.chains.items s.chains i q).did;
     hand = tally (s.hand.acts.has i).own.made;
     meters = s.meters.own i;
     heard = (s.heard i).lines;
     shown = shown_in (s.signals i);
   }
-    where
-      queues : by_index (queue_account new.small.items) (queue_account new.large.items) ≡ by_index (queue_account old.small.items) (queue_account old.large.items)
-      queues = both_sizes (λ q k. lines_of (kept_at old.small.items new.small.items born.small.items s.small.each k q).did)
-          (λ q k. lines_of (kept_at old.large.items new.large.items born.large.items s.large.each k q).did)
 
   pub born_account : IsUnused born → account born ≡ nothing
   born_account unused = λ i. record {
-    queues = queues i;
+    queues = (ends_given old.queues new.queues born.queues s.queues).0 i;
     chains = λ q. (chain_given_at old.chains.items new.chains.items born.chains.items s.chains i q).did;
     hand = tally (s.born_hand.same i).own.made;
     meters = (s.born_meters i).own;
     heard = unused.heard i;
     shown = (ap shown_in unused.signals ∙ none_shown) i;
   }
-    where
-      queues : by_index (queue_account born.small.items) (queue_account born.large.items) ≡ (λ q. idle_queue)
-      queues = by_sizes _ _ (λ q k. lines_of (given_at old.small.items new.small.items born.small.items s.small.each k q).did)
-          (λ q k. lines_of (given_at old.large.items new.large.items born.large.items s.large.each k q).did)
 
   -- its seat was not split, and took in no other
   pub born_seat : seat_parted born ≡ (0, 0)
@@ -183,8 +169,7 @@ module _ (processors : ℕ) (old new born : Parts) (s : AreSplit processors old 
 
   pub kept_shares : shares new ≡ each_share kept (shares old)
   kept_shares = λ i. record {
-    queues = by_sizes (shares new).queues (each_share kept (shares old)).queues (λ q k. (kept_at old.small.items new.small.items born.small.items s.small.each k q).share)
-        (λ q k. (kept_at old.large.items new.large.items born.large.items s.large.each k q).share) i;
+    queues = (ends_kept old.queues new.queues born.queues s.queues).1 i;
     chains = λ q. (chain_kept_at old.chains.items new.chains.items born.chains.items s.chains i q).share;
     hand = (s.hand.acts.has i).member.share;
     meters = (s.meters.member i).share;
@@ -192,8 +177,7 @@ module _ (processors : ℕ) (old new born : Parts) (s : AreSplit processors old 
 
   pub given_shares : shares born ≡ each_share given (shares old)
   given_shares = λ i. record {
-    queues = by_sizes (shares born).queues (each_share given (shares old)).queues (λ q k. (given_at old.small.items new.small.items born.small.items s.small.each k q).share)
-        (λ q k. (given_at old.large.items new.large.items born.large.items s.large.each k q).share) i;
+    queues = (ends_given old.queues new.queues born.queues s.queues).1 i;
     chains = λ q. (chain_given_at old.chains.items new.chains.items born.chains.items s.chains i q).share;
     hand = (s.born_hand.same i).member.share;
     meters = (s.born_meters i).member.share;
@@ -202,21 +186,17 @@ module _ (processors : ℕ) (old new born : Parts) (s : AreSplit processors old 
 module _ (old other new : Parts) (j : AreJoined old other new) where
   pub joined_account : account new ≡ account old ⊕ unheard (account other)
   joined_account = λ i. record {
-    queues = by_sizes (account new).queues (at_each both_queue (account old).queues (account other).queues) (lines old.small.items other.small.items new.small.items j.small) (lines old.large.items other.large.items new.large.items j.large) i;
+    queues = (ends_joined old.queues other.queues new.queues j.queues).0 i;
     chains = λ q. (chain_joined_at old.chains.items new.chains.items other.chains.items j.chains i q).did;
     hand = (ap (λ (v : View). tally v.own.made) j.hand.acts.has ∙ tally_more (view_of old.hand).own.made (view_of other.hand).own.made) i;
     meters = j.meters.0.own i;
     heard = (ap (λ z. z.lines) j.heard ∙ sym (append-nil old.heard.lines)) i;
     shown = both_shown old.signals other.signals new.signals j.signals i;
   }
-    where
-      lines : {n : ℕ} (xs ys zs : List (QueueEnd n)) → splits.AreJoined xs ys zs → (q : ℕ) → queue_account zs q ≡ both_queue (queue_account xs q) (queue_account ys q)
-      lines xs ys zs h q = ap (λ (f : ℕ → Stake queues.QueueOps). lines_of (f q).did) (joined_at xs zs ys h.each) ∙ lines_add (stakes xs q).did (stakes ys q).did
 
   pub joined_shares : shares new ≡ both_shares (shares old) (shares other)
   joined_shares = λ i. record {
-    queues = by_sizes (shares new).queues (both_shares (shares old) (shares other)).queues (λ q k. (joined_at old.small.items new.small.items other.small.items j.small.each k q).share)
-        (λ q k. (joined_at old.large.items new.large.items other.large.items j.large.each k q).share) i;
+    queues = (ends_joined old.queues other.queues new.queues j.queues).1 i;
     chains = λ q. (chain_joined_at old.chains.items new.chains.items other.chains.items j.chains i q).share;
     hand = (j.hand.acts.has i).member.share;
     meters = (j.meters.0.member i).share;

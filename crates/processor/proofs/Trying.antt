@@ -1,81 +1,32 @@
 -- The result of the try of a step: how it is counted, what its ends did, and what they know.
-use Rattle.processor.proofs.Common.{◌≡◌, ◌+◌, ◌==◌, ◌<◌, ⊎_elim, ℕ, zero, suc, Bool, true, false, cond, List, [], ◌∷◌, ◌++◌, map, length, get_or, set, Some, Result, Ok, Err, refl, sym, ap, subst, ◌∙◌, arith, if◌then◌else◌, eqb-true, eqb_tells, append-nil, QueueIndex, Small, Large, Step, QueueEnd, by_index, OnEnd, knows_shut_at, Counted, CountAnswer, IsNumber, counted_step, Tally, AddsToTally, followed_by, view_of, View, done_at, StepOutcome, Rescheduled, Shared, Parts, shown_in, IsOutcomeOf, is_done, heard_by, raised_by, saw_shut, FollowsStep, trying, Climbs, Went, numbers_of, Key, program, step_of, Stepped, Goes, is_last}
-use Rattle.std.proofs.Common.{slice_get}
-use Rattle.std.proofs.Math.Bool.{Bool-set}
+use Rattle.processor.proofs.Common.{◌≡◌, ◌+◌, ◌==◌, ◌<◌, ⊎_elim, ℕ, Bool, true, false, cond, List, [], ◌∷◌, ◌++◌, map, length, Some, refl, sym, ap, subst, ◌∙◌, arith, eqb_tells, append-nil, QueueIndex, Step, Counted, CountAnswer, IsNumber, counted_step, Tally, AddsToTally, followed_by, view_of, View, done_at, StepOutcome, Rescheduled, Shared, Parts, shown_in, IsOutcomeOf, is_done, heard_by, raised_by, saw_shut, FollowsStep, trying, Climbs, Went, numbers_of, Key, program, step_of, Stepped, Goes, is_last}
 use Rattle.std.proofs.lemmas.Bool.{leb-true, and_parts as split}
-use Rattle.boot_data.specs.declared.plan.Step.TheVariants as steps
-use Rattle.claim_queue.proofs.Certain.{by_both}
-use Rattle.claim_queue.proofs.Saying.{closed_says, done_says}
-use Rattle.claim_queue.specs.declared.claim.ClaimRefusal.TheVariants as claims
-use Rattle.claim_queue.specs.declared.take.TakeRefusal.{TakeRefusal}
-use Rattle.claim_queue.specs.declared.take.TakeRefusal.TheVariants as takes
-use Rattle.claim_queue.specs.Handles as queues
-use Rattle.claim_queue.specs.Takings.{IsBegun, IsLine}
-use Rattle.turn_io.specs.Accounts.{room_of}
-use Rattle.turn_io.specs.Outcomes.{Said, Heard}
-use Rattle.turn_io.specs.EndLists.{end_knows_shut}
+use Rattle.turn_io.specs.declared.queue_ends.QueueEnds.{QueueEnds}
+use Rattle.turn_io.specs.Accounts.{know_shut}
+use Rattle.turn_io.proofs.Queues.{EndsWorked, heard_shut, said_shut}
 use Rattle.turn_dispatch.specs.declared.counting.Counted.TheVariants as counted
 use Rattle.processor.specs.declared.step_outcome.StepOutcome.TheVariants as step_outcomes
-use Rattle.processor.specs.declared.sending.Moved.{Moved}
-use Rattle.processor.specs.declared.sending.Moved.TheVariants as moveds
-use Rattle.processor.specs.declared.tries.HearAnswer.TheVariants as hears
-use Rattle.processor.specs.declared.tries.SayAnswer.TheVariants as says
-use Rattle.processor.specs.Outcomes.{IsLineIf}
+use Rattle.processor.specs.declared.phases.Moved.{Moved}
+use Rattle.processor.specs.declared.phases.Moved.TheVariants as moveds
+use Rattle.processor.specs.declared.phases.HearAnswer.TheVariants as hears
+use Rattle.processor.specs.declared.phases.SayAnswer.TheVariants as says
 use Rattle.processor.specs.Doings.{queues_by}
 use Rattle.processor.specs.Entries.{IsOver, count_of, gone}
-use Rattle.processor.specs.Queues.{HeardAt}
 use Rattle.processor.specs.Running.{EndsDid}
 use Rattle.processor.specs.Steps.{QueuesDid}
 use Rattle.processor.specs.Turns.{heard_lines}
 use Rattle.meters.specs.Handles as seats
 use Rattle.turn_dispatch.proofs.Tallies.{adds_on}
 use Rattle.processor.proofs.Logging.{known_done}
-use Rattle.processor.proofs.Placing.{QueuesWorked, queues_worked, chains_worked, seat_worked}
+use Rattle.processor.proofs.Placing.{queues_worked, chains_worked, seat_worked}
 use Rattle.processor.proofs.Rising.{NeverFalls, fallen, going, rises_on, stepping}
 use Rattle.processor.proofs.Summing.{none_shows}
 
--- a hear has one line, or none
-pub line_heard_at : (queue : QueueIndex) (line : List ℕ) (answer : Result (Unit {0}) TakeRefusal) (old new : List (QueueEnd 64)) (old' new' : List (QueueEnd 256))
-    → HeardAt queue line answer old new old' new' → IsLineIf answer (room_of queue) line
-line_heard_at (Small k) line (Ok done) old new old' new' h = h.0.does.0
-line_heard_at (Small k) line (Err refusal) old new old' new' h = h.0.does.0
-line_heard_at (Large k) line (Ok done) old new old' new' h = h.0.does.0
-line_heard_at (Large k) line (Err refusal) old new old' new' h = h.0.does.0
-
--- a say with this answer found its queue shut
-found_so : {n : ℕ} (line : List ℕ) (old new : QueueEnd n) → Said {A = Unit {0}} line (Err claims.Closed) old new → end_knows_shut new ≡ true
-found_so {n} line old new s = by_both old new (Bool-set _ _) (λ x y. closed_says (queues.view_of old) (queues.view_of new) x y n _ s)
-
--- a hear with this answer found its queue shut
-heard_so : {n : ℕ} (line : List ℕ) (old new : QueueEnd n) → Heard {A = Unit {0}} line (Err takes.Closed) old new → end_knows_shut new ≡ true
-heard_so {n} line old new h = by_both old new (Bool-set _ _) (λ x y. (done_says (queues.view_of old) (queues.view_of new) x y (IsBegun n) (IsLine n) n h.1).0)
-
-set_there : {E : Type 0} (f : E → Bool) (xs : List E) (k : ℕ) (end after : E) → slice_get xs k ≡ Some end → f after ≡ true → get_or (map f (set xs k after)) k false ≡ true
-set_there f [] k end after at h = absurd (cc)
-set_there f (x ∷ xs) zero end after at h = h
-set_there f (x ∷ xs) (suc k) end after at h = set_there f xs k end after at h
-
-if_true : (b : Bool) → (if b then true else false) ≡ true → b ≡ true
-if_true true h = refl
-if_true false h = cc
-
-on_so : {n : ℕ} (R : QueueEnd n → QueueEnd n → Type 0) (k : ℕ) (old new : List (QueueEnd n)) → ((a b : QueueEnd n) → R a b → end_knows_shut b ≡ true) → OnEnd k R old new
-    → (q : ℕ) → (if q == k then true else false) ≡ true → knows_shut_at new q ≡ true
-on_so R k old new so o q at = let e = eqb-true q k (if_true (q == k) at) in
-    subst (λ (z : ℕ). knows_shut_at new z ≡ true) (sym e) (ap (λ z. knows_shut_at z k) o.now ∙ set_there end_knows_shut old k o.end o.after o.was (so o.end o.after o.does))
-
 -- the end of a queue knows that the queue is shut, if a step was answered so
-reported_so : (step_outcome : StepOutcome) (line : List ℕ) (old new : List (QueueEnd 64)) (old' new' : List (QueueEnd 256)) → QueuesDid step_outcome line old new old' new'
-    → (queue : QueueIndex) → saw_shut step_outcome queue ≡ true → by_index (knows_shut_at new) (knows_shut_at new') queue ≡ true
-reported_so (step_outcomes.Say (Small k) says.Over) line old new old' new' d (Small q) at = on_so (Said {A = Unit {0}} line (Err claims.Closed)) k old new (found_so line) d.1.0 q at
-reported_so (step_outcomes.Say (Small k) says.Over) line old new old' new' d (Large q) at = cc
-reported_so (step_outcomes.Say (Large k) says.Over) line old new old' new' d (Small q) at = cc
-reported_so (step_outcomes.Say (Large k) says.Over) line old new old' new' d (Large q) at = on_so (Said {A = Unit {0}} line (Err claims.Closed)) k old' new' (found_so line) d.1.0 q at
-reported_so (step_outcomes.Hear (Small k) (hears.Over paid)) line old new old' new' d (Small q) at = on_so (Heard {A = Unit {0}} line (Err takes.Closed)) k old new (heard_so line) d.1.0 q at
-reported_so (step_outcomes.Hear (Small k) (hears.Over paid)) line old new old' new' d (Large q) at = cc
-reported_so (step_outcomes.Hear (Large k) (hears.Over paid)) line old new old' new' d (Small q) at = cc
-reported_so (step_outcomes.Hear (Large k) (hears.Over paid)) line old new old' new' d (Large q) at = on_so (Heard {A = Unit {0}} line (Err takes.Closed)) k old' new' (heard_so line) d.1.0 q at
-reported_so step_outcome line old new old' new' d queue at = cc
+reported_so : (step_outcome : StepOutcome) (line : List ℕ) (old new : QueueEnds) → QueuesDid step_outcome line old new → (queue : QueueIndex) → saw_shut step_outcome queue ≡ true → know_shut new queue ≡ true
+reported_so (step_outcomes.Say queue says.Over) line old new d q at = said_shut queue line old new d q at
+reported_so (step_outcomes.Hear queue (hears.Over woken)) line old new d q at = heard_shut queue line old new d q at
+reported_so step_outcome line old new d q at = cc
 
 -- a step is counted by its number if it is done
 counted_so : (call element : ℕ) (done : Bool) (number : ℕ) (answer : Counted) (did after v w : View) → CountAnswer call element done did answer after → IsNumber answer element v w
@@ -155,14 +106,13 @@ module _ (shared : Shared) (call call' p e n : ℕ) (step : Step) (sent : Resche
       };
       order = λ t. subst (λ z. Climbs (numbers_of t z) (known_done old t) (known_done new t)) (sym one)
           (count_climbs sent.tried.counted e n t (view_of old.hand) (view_of mid.hand) (view_of new.hand) (rises_on (view_of old.hand) (view_of mid.hand) (view_of new.hand) up on) on now number);
-      small = worked.small;
-      large = worked.large;
+      queues = worked.sound;
     };
-    reported = reported_so sent.tried.step_outcome line old.small.items new.small.items old.large.items new.large.items ends.queues;
+    reported = reported_so sent.tried.step_outcome line old.queues new.queues ends.queues;
   }
     where
-      worked : QueuesWorked (queues_by sent.tried.step_outcome line) old.small.items new.small.items old.large.items new.large.items
-      worked = queues_worked old.small.items new.small.items old.large.items new.large.items sent.tried.step_outcome line ends.queues
+      worked : EndsWorked (queues_by sent.tried.step_outcome line) old.queues new.queues
+      worked = queues_worked sent.tried.step_outcome line old.queues new.queues ends.queues
 
       up : NeverFalls (view_of old.hand) (view_of mid.hand)
       up = fallen old.hand mid.hand (stepping call shared.plan p e sent.tried.step_outcome sent.tried.counted (view_of old.hand) (view_of mid.hand) ran)

@@ -3,7 +3,7 @@ use Rattle.std.specs.Prelude.{◌+◌, ◌&&◌, ◌||◌, ℕ, Bool, false, nat
 use Rattle.boot_data.specs.Hearing.{Line}
 use Rattle.boot_data.specs.declared.plan.QueueIndex.{QueueIndex}
 use Rattle.turn_io.specs.Accounts.{AtQueue, idle_queue, both_queue, AtChain, idle_chain, both_chain, at_each}
-use Rattle.turn_io.specs.Accounts.{by_index, queue_account, queue_shares, chain_account, chain_shares}
+use Rattle.turn_io.specs.Accounts.{work_of, shares_of, chain_account, chain_shares}
 use Rattle.turn_dispatch.specs.Tallies.{Tally, tally, no_events, followed_by}
 use Rattle.meters.specs.declared.rule.MeterOps.{MeterOps}
 use Rattle.meters.specs.Handles as seats
@@ -53,7 +53,7 @@ shown_in masks element signal =
 -- the account of the work of a station's ends
 abbrev pub account : Parts → Account
 account parts = record {
-  queues = by_index (queue_account parts.small.items) (queue_account parts.large.items);
+  queues = work_of parts.queues;
   chains = chain_account parts.chains.items;
   hand = tally (view_of parts.hand).own.made;
   meters = (seats.view_of parts.meters).own;
@@ -101,7 +101,7 @@ each_share part a = record {
 -- the shares that the ends of a station have
 abbrev pub shares : Parts → Shares
 shares parts = record {
-  queues = by_index (queue_shares parts.small.items) (queue_shares parts.large.items);
+  queues = shares_of parts.queues;
   chains = chain_shares parts.chains.items;
   hand = (view_of parts.hand).member.share;
   meters = (seats.view_of parts.meters).member.share;

@@ -20,9 +20,9 @@ use Rattle.processor.specs.declared.outcome.TurnResult.{TurnResult}
 use Rattle.processor.specs.declared.outcome.TurnResult.TheVariants as hads
 use Rattle.processor.specs.declared.outcome.TurnOutcome.{TurnOutcome}
 use Rattle.processor.specs.declared.outcome.TurnOutcome.TheVariants as outcomes
-use Rattle.processor.specs.declared.sending.Moved.{Moved}
-use Rattle.processor.specs.declared.sending.Moved.TheVariants as moveds
-use Rattle.processor.specs.declared.sending.Rescheduled.{Rescheduled}
+use Rattle.processor.specs.declared.phases.Moved.{Moved}
+use Rattle.processor.specs.declared.phases.Moved.TheVariants as moveds
+use Rattle.processor.specs.declared.phases.Rescheduled.{Rescheduled}
 use Rattle.processor.specs.Accounts.{Account, nothing, ◌⊕◌}
 use Rattle.processor.specs.Outcomes.{is_done, IsOutcomeOf}
 use Rattle.processor.specs.Doings.{queues_by, chains_by, ticks_by, raised_by, heard_by, saw_shut}
@@ -72,7 +72,7 @@ abbrev pub gone : Moved → ℕ → ℕ → Tally
 gone (moveds.Freed moved) element number = retired moved element number
 gone moved element number = no_events
 
--- the account of a tried step: its deed with this line, its count if it is done, and the element's retirement if it was
+-- the account of a tried step: its result with this line, its count if it is done, and the element's retirement if it was
 -- retired
 abbrev pub trying : ℕ → ℕ → Rescheduled → List ℕ → Account
 trying element number sent line = record nothing {
@@ -110,7 +110,7 @@ abbrev pub IsOver : Moved → ℕ → ℕ → Type 0
 IsOver (moveds.Freed moved) number steps = steps ≤ number
 IsOver moved number steps = Unit {0}
 
--- The tried step is the plan's step of this thread with this number, the deed and the line are its result, and it was
+-- The tried step is the plan's step of this thread with this number, the outcome and the line are its result, and it was
 -- counted if it is done. An element sent to the free elements has no step left
 pub record FollowsStep (plan : BootPlan) (element number : ℕ) (sent : Rescheduled) (line : List ℕ) : Type 0 where
   pub step : Step

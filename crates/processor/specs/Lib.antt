@@ -19,5 +19,6 @@ pub mod Running
 pub mod Sights
 pub mod Stations
 pub mod Steps
+pub mod Refusals
 pub mod Tries
 pub mod Turns

@@ -1,11 +1,10 @@
 -- The work of a processor, turn by turn, and the account of all its turns.
 use Rattle.std.specs.Prelude.{◌≡◌, ◌≤◌, ◌+◌, ◌==◌, ℕ, Bool, true, List, [], ◌∷◌, map, filter, length}
-use Rattle.std.specs.List.{All, AllByRecursion, list_any}
+use Rattle.std.specs.List.{AllByRecursion, list_any}
 use Rattle.boot_data.specs.Hearing.{Key}
 use Rattle.boot_data.specs.declared.boot_plan.BootPlan.{BootPlan}
 use Rattle.boot_data.specs.declared.plan.QueueIndex.{QueueIndex}
-use Rattle.turn_io.specs.Accounts.{by_index, StaySound}
-use Rattle.turn_io.specs.EndLists.{ClaimedInOrder, TookInOrder, knows_shut_at}
+use Rattle.turn_io.specs.Accounts.{AllStaySound, AreInOrder, know_shut}
 use Rattle.thread_table.specs.Handles.{view_of}
 use Rattle.thread_table.specs.Rules.{done_at}
 use Rattle.processor.specs.declared.shared.Shared.{Shared}
@@ -38,10 +37,6 @@ abbrev pub Climbs : List ℕ → ℕ → ℕ → Type 0
 Climbs [] low high = low ≤ high
 Climbs (number ∷ numbers) low high = (low ≤ number) × Climbs numbers (number + 1) high
 
--- whether the station's end of the queue knows that the queue is shut
-abbrev pub knows_shut : Parts → QueueIndex → Bool
-knows_shut parts = by_index (knows_shut_at parts.small.items) (knows_shut_at parts.large.items)
-
 -- A part of a processor's work: the ends did this, in order, and nothing else. The numbers of a thread's steps done
 -- climb from the number that the hand had seen to the number that it sees now. Ends of queues keep what they knew, and
 -- still have claimed and taken in order
@@ -49,8 +44,7 @@ pub record HasDone (more : Account) (old new : Parts) : Type 0 where
   pub did : account new ≡ account old ⊕ more
   pub order : (thread : ℕ) → Climbs (numbers_of thread more.hand.done) (done_at (view_of old.hand).seen.object thread)
       (done_at (view_of new.hand).seen.object thread)
-  pub small : StaySound old.small.items new.small.items
-  pub large : StaySound old.large.items new.large.items
+  pub queues : AllStaySound old.queues new.queues
 
 -- The result of a part of a processor's work: it follows the plan, and the ends did this. If an answer was that a queue
 -- is shut, the queue's end knows that
@@ -58,7 +52,7 @@ pub record Went (IsPlanned : Type 0) (more : Account) (was_reported : QueueIndex
     : Type 0 where
   pub planned : IsPlanned
   pub done : HasDone more old new
-  pub reported : (queue : QueueIndex) → was_reported queue ≡ true → knows_shut new queue ≡ true
+  pub reported : (queue : QueueIndex) → was_reported queue ≡ true → know_shut new.queues queue ≡ true
 
 -- The result of a processor's turns: each follows the plan, and the ends did the log's sum. If the log has an answer
 -- that a queue is shut, the queue's end knows that
@@ -79,10 +73,9 @@ pub record Leaves (plan : BootPlan) (log : List LogEntry) (parts : Parts) : Type
   pub planned : AllByRecursion (FollowsPlan plan) log
   pub did : account parts ≡ sum_of log
   pub order : (thread : ℕ) → Climbs (numbers_done log thread) 0 (done_at (view_of parts.hand).seen.object thread)
-  pub reported : (queue : QueueIndex) → was_shut log queue ≡ true → knows_shut parts queue ≡ true
+  pub reported : (queue : QueueIndex) → was_shut log queue ≡ true → know_shut parts.queues queue ≡ true
   pub seat : seat_parted parts ≡ (0, 0)
-  pub small : All ClaimedInOrder parts.small.items × All TookInOrder parts.small.items
-  pub large : All ClaimedInOrder parts.large.items × All TookInOrder parts.large.items
+  pub queues : AreInOrder parts.queues
 
 -- Processor p had this many turns. The log has the result of each, in order, and each was reported to the gate. The
 -- ends did the log's sum. On a fresh station the turns leave what the log says

@@ -1,16 +1,17 @@
--- The order of a step's actions at different tables, by what the gate was shown: a hand and an end at one moment.
+-- The order of a step's actions at different tables, by what the gate was shown: a hand and other ends at one moment.
 use Rattle.std.specs.Prelude.{◌≡◌, ◌+◌, ℕ, suc, List, [], ◌∷◌, length, Option, Some, None}
+use Rattle.std.specs.Global.{Vec}
+use Rattle.std.specs.List.{All}
 use Rattle.atomic_table.specs.Seated.{TableId}
 use Rattle.boot_data.specs.declared.boot_plan.BootPlan.{BootPlan}
-use Rattle.boot_data.specs.declared.plan.QueueIndex.{QueueIndex}
-use Rattle.boot_data.specs.declared.plan.QueueIndex.TheVariants.{Small, Large}
-use Rattle.claim_queue.specs.declared.ends.QueueEnd.{QueueEnd}
 use Rattle.meters.specs.declared.ends.MeterSeat.{MeterSeat}
 use Rattle.proc_chain.specs.declared.ends.ChainEnd.{ChainEnd}
 use Rattle.quajects.specs.contracts.any.AnyQuajectQuaject.TheImpl.{ghosts}
 use Rattle.quajects.specs.declared.any.AnyQuaject.{AnyQuaject}
 use Rattle.quajects.specs.declared.world.Queues.{Queues}
 use Rattle.thread_table.specs.declared.hand.Hand.{Hand}
+use Rattle.turn_io.specs.declared.queue_ends.QueueEnds.{QueueEnds}
+use Rattle.turn_io.specs.EndLists.{IsIdle}
 use Rattle.processor.specs.declared.step_outcome.StepOutcome.{StepOutcome}
 use Rattle.processor.specs.declared.step_outcome.StepOutcome.TheVariants as step_outcomes
 use Rattle.processor.specs.declared.outcome.TurnResult.{TurnResult}
@@ -24,7 +25,9 @@ use Rattle.processor.specs.Logs.{RanTurns}
 use Rattle.processor.specs.Pipes.{readers_of, writers_of}
 use Rattle.processor.specs.Points.{Calls, GateSawTurn}
 use Rattle.processor.specs.Queues.{waits_at}
-use Rattle.processor.specs.Sights.{ChainShown, LargeShown, Sights, SmallShown}
+use Rattle.processor.specs.Running.{EndsDid}
+use Rattle.processor.specs.Sights.{Sights}
+use Rattle.processor.specs.Stations.{AreSameParts}
 use Rattle.processor.specs.Turns.{BegunAt, CameOf, HadTurn, TendedBy}
 
 -- the number of steps that a hand had made, with the hand's table and its number there
@@ -46,69 +49,52 @@ abbrev pub after_ticket : Option ℕ → Count → Count
 after_ticket None count = count
 after_ticket (Some wait) count = one_more count
 
--- the gate was shown the hand and, at the same moment, the queue's end in the list for its size
-abbrev pub QueueShown : Sights → Hand → QueueIndex → List (QueueEnd 64) → List (QueueEnd 256) → Type 0
-QueueShown S hand (Small queue) small large = SmallShown S hand small queue
-QueueShown S hand (Large queue) small large = LargeShown S hand large queue
-
--- One hand with this count of steps was shown twice: beside an end in its old state, and beside it in its new state.
--- All that the end did in between came after those steps of the hand, and before all other steps of the hand
-pub record Stood (count : Count) (was is : Hand → Type 0) : Type 0 where
+-- One hand with this count of steps was shown twice: beside ends in their old state, and beside them in their new
+-- state. All that these ends did in between came after those steps of the hand, and before all other steps of the hand
+pub record Stood {E : Type 0} (shown : Hand → E → Type 0) (count : Count) (old new : E) : Type 0 where
   pub hand : Hand
   pub counted : count_of hand ≡ count
-  pub before : was hand
-  pub after : is hand
-
--- a hand with this count was shown beside the end of a queue of 64 places, before and after
-abbrev pub SmallStood : Sights → Count → List (QueueEnd 64) → List (QueueEnd 64) → ℕ → Type 0
-SmallStood S count old new index =
-    Stood count (λ hand. SmallShown S hand old index) (λ hand. SmallShown S hand new index)
-
--- a hand with this count was shown beside the end of a chain, before and after
-abbrev pub ChainStood : Sights → Count → List (ChainEnd AnyQuaject Queues ghosts)
-    → List (ChainEnd AnyQuaject Queues ghosts) → ℕ → Type 0
-ChainStood S count old new index =
-    Stood count (λ hand. ChainShown S hand old index) (λ hand. ChainShown S hand new index)
-
--- a hand with this count was shown beside the seat of the meters, before and after
-abbrev pub SeatStood : Sights → Count → MeterSeat → MeterSeat → Type 0
-SeatStood S count old new = Stood count (λ hand. S.seat hand old) (λ hand. S.seat hand new)
-
--- a hand with this count was shown beside the end of a queue of either size, before and after
-abbrev pub QueueStood : Sights → Count → QueueIndex → List (QueueEnd 64) → List (QueueEnd 64) → List (QueueEnd 256)
-    → List (QueueEnd 256) → Type 0
-QueueStood S count queue small small' large large' =
-    Stood count (λ hand. QueueShown S hand queue small large) (λ hand. QueueShown S hand queue small' large')
+  pub before : shown hand old
+  pub after : shown hand new
 
 -- For a step that began at this count of the hand: the try at a queue came after the reading of the ticket, if the
 -- queue is a pipe, and before the wakes. A queue was shut before the wakes
-abbrev pub QueuesInOrder : Sights → BootPlan → Count → StepOutcome → List (QueueEnd 64) → List (QueueEnd 64)
-    → List (QueueEnd 256) → List (QueueEnd 256) → Type 0
-QueuesInOrder S plan start (step_outcomes.Say queue answer) small small' large large' =
-    QueueStood S (after_ticket (writers_of (waits_at plan queue)) start) queue small small' large large'
-QueuesInOrder S plan start (step_outcomes.Hear queue answer) small small' large large' =
-    QueueStood S (after_ticket (readers_of (waits_at plan queue)) start) queue small small' large large'
-QueuesInOrder S plan start (step_outcomes.Close queue was_open readers writers) small small' large large' =
-    SmallStood S start small small' queue
-QueuesInOrder S plan start step_outcome small small' large large' = Unit {0}
+abbrev pub QueuesInOrder : Sights → BootPlan → Count → StepOutcome → QueueEnds → QueueEnds → Type 0
+QueuesInOrder S plan start (step_outcomes.Say queue answer) old new =
+    Stood S.queues (after_ticket (writers_of (waits_at plan queue)) start) old new
+QueuesInOrder S plan start (step_outcomes.Hear queue answer) old new =
+    Stood S.queues (after_ticket (readers_of (waits_at plan queue)) start) old new
+QueuesInOrder S plan start (step_outcomes.Close queue was_open readers writers) old new = Stood S.queues start old new
+QueuesInOrder S plan start step_outcome old new = Unit {0}
 
 -- for a step that began at this count of the hand: a poke, with its Turn, came before all other steps of the hand
-abbrev pub ChainsInOrder : Sights → Count → StepOutcome → List (ChainEnd AnyQuaject Queues ghosts)
-    → List (ChainEnd AnyQuaject Queues ghosts) → Type 0
-ChainsInOrder S start (step_outcomes.Poke mover answer) old new = ChainStood S start old new mover
+abbrev pub ChainsInOrder : Sights → Count → StepOutcome → Vec (ChainEnd AnyQuaject Queues ghosts)
+    → Vec (ChainEnd AnyQuaject Queues ghosts) → Type 0
+ChainsInOrder S start (step_outcomes.Poke mover answer) old new = Stood S.chains start old new
 ChainsInOrder S start step_outcome old new = Unit {0}
 
 -- for a step that began at this count of the hand: a tick came before all other steps of the hand
 abbrev pub SeatInOrder : Sights → Count → StepOutcome → MeterSeat → MeterSeat → Type 0
-SeatInOrder S start (step_outcomes.Tick gauge amount before) old new = SeatStood S start old new
+SeatInOrder S start (step_outcomes.Tick gauge amount before) old new = Stood S.seat start old new
 SeatInOrder S start step_outcome old new = Unit {0}
 
 -- a step that began at this count of the hand did its parts in order
 pub record InOrder (S : Sights) (plan : BootPlan) (start : Count) (step_outcome : StepOutcome) (old new : Parts)
     : Type 0 where
-  pub queues : QueuesInOrder S plan start step_outcome old.small.items new.small.items old.large.items new.large.items
-  pub chains : ChainsInOrder S start step_outcome old.chains.items new.chains.items
+  pub queues : QueuesInOrder S plan start step_outcome old.queues new.queues
+  pub chains : ChainsInOrder S start step_outcome old.chains new.chains
   pub seat : SeatInOrder S start step_outcome old.meters new.meters
+
+-- The one try of a step that began at this count of the hand, at all ends except the hand: it had this effect, in order.
+-- The ends are the same ones, none of a chain has a Turn, and the lines heard and the signals are unchanged
+pub record TriedAtEnds (S : Sights) (shared : Shared) (start : Count) (step_outcome : StepOutcome) (line : List ℕ)
+    (old new : Parts) : Type 0 where
+  pub did : EndsDid shared step_outcome line old new
+  pub order : InOrder S shared.plan start step_outcome old new
+  pub same : AreSameParts old new
+  pub idle : All IsIdle new.chains.items
+  pub heard : new.heard ≡ old.heard
+  pub signals : new.signals ≡ old.signals
 
 -- The step of an element's turn did its parts in order. It began after the element was put on the processor, which is
 -- one step of the hand

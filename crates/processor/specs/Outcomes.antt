@@ -10,9 +10,9 @@ use Rattle.claim_queue.specs.Takings.{IsLine}
 use Rattle.turn_io.specs.Accounts.{room_of}
 use Rattle.processor.specs.declared.step_outcome.StepOutcome.{StepOutcome}
 use Rattle.processor.specs.declared.step_outcome.StepOutcome.TheVariants as step_outcomes
-use Rattle.processor.specs.declared.ticket.Ticket.{Ticket}
-use Rattle.processor.specs.declared.tries.HearAnswer.TheVariants as hears
-use Rattle.processor.specs.declared.tries.SayAnswer.TheVariants as says
+use Rattle.processor.specs.declared.phases.Ticket.{Ticket}
+use Rattle.processor.specs.declared.phases.HearAnswer.TheVariants as hears
+use Rattle.processor.specs.declared.phases.SayAnswer.TheVariants as says
 use Rattle.processor.specs.Queues.{said_line}
 use Rattle.processor.specs.Tries.{heard}
 
@@ -50,7 +50,7 @@ abbrev pub IsLineIf : {A E : Type 0} → Result A E → ℕ → List ℕ → Typ
 IsLineIf (Ok done) places line = IsLine places line
 IsLineIf (Err refusal) places line = line ≡ []
 
--- The deed is a result of this step, with the same operands. The line is the one to be said or the one heard, and
+-- The second is a result of this step, with the same operands. The line is the one to be said or the one heard, and
 -- otherwise empty
 abbrev pub IsOutcomeOf : Step → StepOutcome → List ℕ → Type 0
 IsOutcomeOf (steps.Say queue text) (step_outcomes.Say at answer) line = (at ≡ queue) × (line ≡ said_line text)

@@ -1,7 +1,8 @@
 -- The results of splitting a station and of joining two.
 use Rattle.std.specs.Prelude.{◌≡◌, ◌<◌, ◌||◌, ℕ, List, [], ◌∷◌, length, slice_index_or, vec_capacity}
 use Rattle.std.specs.List.{All}
-use Rattle.turn_io.specs.EndLists.{IsDivisible, IsChainDivisible}
+use Rattle.turn_io.specs.EndLists.{IsChainDivisible}
+use Rattle.turn_io.specs.QueueEnds.{AreQueuesDivisible, AreQueuesJoined, AreQueuesSplit}
 use Rattle.turn_io.specs.Splits as splits
 use Rattle.meters.specs.Handles as seats
 use Rattle.meters.specs.Endings as seat_ends
@@ -17,16 +18,15 @@ use Rattle.processor.specs.Programs.{hear_count, longest_line}
 -- each end has two parts or more of its object
 pub record AreDivisible (parts : Parts) : Type 0 where
   pub hand : threads.IsDivisible parts.hand
-  pub small : All IsDivisible parts.small.items
-  pub large : All IsDivisible parts.large.items
+  pub queues : AreQueuesDivisible parts.queues
   pub chains : All IsChainDivisible parts.chains.items
   pub meters : seats.IsDivisible parts.meters
 
 -- the lists are empty, with room for exactly an end of each object and each line that can be heard, at its greatest
 -- length
 pub record HaveRoom (shared : Shared) (lists : Lists) : Type 0 where
-  pub small : (lists.small.items ≡ []) × (vec_capacity lists.small ≡ length shared.queues.small.items)
-  pub large : (lists.large.items ≡ []) × (vec_capacity lists.large ≡ length shared.queues.large.items)
+  pub small : (lists.queues.small.items ≡ []) × (vec_capacity lists.queues.small ≡ length shared.queues.small.items)
+  pub large : (lists.queues.large.items ≡ []) × (vec_capacity lists.queues.large ≡ length shared.queues.large.items)
   pub chains : (lists.chains.items ≡ []) × (vec_capacity lists.chains ≡ length shared.chains.items)
   pub heard : (lists.heard.lines ≡ []) × (lists.heard.room ≡ hear_count shared.plan)
       × (lists.heard.longest ≡ longest_line shared.plan)
@@ -37,8 +37,7 @@ pub record AreSplit (processors : ℕ) (old new born : Parts) : Type 0 where
   pub hand : hands.SplitBy processors (threads.view_of old.hand) (threads.view_of new.hand)
   pub born_hand : hands.IsNewEnd processors (threads.view_of old.hand) (threads.view_of new.hand)
       (threads.view_of born.hand)
-  pub small : splits.AreSplit old.small.items new.small.items born.small.items
-  pub large : splits.AreSplit old.large.items new.large.items born.large.items
+  pub queues : AreQueuesSplit old.queues new.queues born.queues
   pub chains : splits.AreChainsSplit old.chains.items new.chains.items born.chains.items
   pub meters : seat_ends.SplitBy (seats.view_of old.meters) (seats.view_of new.meters)
   pub born_meters : seat_ends.IsNewEnd (seats.view_of old.meters) (seats.view_of new.meters)
@@ -57,8 +56,7 @@ HaveBoth a b both = (element signal : ℕ) → element < 64 → signal < 16
 -- lines heard are unchanged
 pub record AreJoined (old other new : Parts) : Type 0 where
   pub hand : hands.JoinedBy (threads.view_of old.hand) (threads.view_of other.hand) (threads.view_of new.hand)
-  pub small : splits.AreJoined old.small.items other.small.items new.small.items
-  pub large : splits.AreJoined old.large.items other.large.items new.large.items
+  pub queues : AreQueuesJoined old.queues other.queues new.queues
   pub chains : splits.AreChainsJoined old.chains.items other.chains.items new.chains.items
   pub meters : seat_ends.JoinedBy (seats.view_of old.meters) (seats.view_of other.meters) (seats.view_of new.meters)
   pub own : DidBoth (seats.view_of old.meters) (seats.view_of other.meters) (seats.view_of new.meters)

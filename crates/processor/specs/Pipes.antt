@@ -5,7 +5,7 @@ use Rattle.turn_dispatch.specs.declared.waking.Woken.{Woken}
 use Rattle.turn_dispatch.specs.Wakings.{Woke}
 use Rattle.thread_table.specs.Own.{View}
 use Rattle.thread_table.specs.Answers.{IsTicket}
-use Rattle.processor.specs.declared.ticket.Ticket.{Ticket}
+use Rattle.processor.specs.declared.phases.Ticket.{Ticket}
 
 -- the wait queue for a line to hear, if the queue is a pipe
 abbrev pub readers_of : Option PipeWaits → Option ℕ

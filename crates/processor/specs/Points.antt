@@ -9,7 +9,7 @@ use Rattle.processor.specs.declared.outcome.TurnOutcome.{TurnOutcome}
 use Rattle.processor.specs.declared.outcome.TurnOutcome.TheVariants as outcomes
 use Rattle.processor.specs.declared.shared.Shared.{Shared}
 use Rattle.processor.specs.declared.station.Parts.{Parts}
-use Rattle.processor.specs.declared.tries.SayAnswer.TheVariants as says
+use Rattle.processor.specs.declared.phases.SayAnswer.TheVariants as says
 use Rattle.processor.specs.Entries.{LogEntry}
 use Rattle.processor.specs.Turns.{TurnOf}
 
@@ -30,7 +30,7 @@ GateSaw {G} T p (point ∷ points) old new = (between : G) × T old p point betw
 -- the points of a step, by its result: `Claimed` and `Raised` of a say whose line was put, `TakeAnswered` of a hear,
 -- and `Chained` of a poke
 abbrev pub points_of : StepOutcome → List Point
-points_of (step_outcomes.Say queue (says.Put paid)) = Claimed ∷ Raised ∷ []
+points_of (step_outcomes.Say queue (says.Put woken)) = Claimed ∷ Raised ∷ []
 points_of (step_outcomes.Hear queue answer) = TakeAnswered ∷ []
 points_of (step_outcomes.Poke mover answer) = Chained ∷ []
 points_of step_outcome = []

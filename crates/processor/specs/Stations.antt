@@ -1,7 +1,8 @@
 -- The parts of a station.
 use Rattle.std.specs.Prelude.{◌≡◌, ℕ, List, [], ◌∷◌}
 use Rattle.std.specs.List.{repeat}
-use Rattle.turn_io.specs.EndLists.{AreEndsOf, AreSameEnds, AreChainEndsOf, AreSameChainEnds}
+use Rattle.turn_io.specs.EndLists.{AreChainEndsOf, AreSameChainEnds}
+use Rattle.turn_io.specs.QueueEnds.{AreQueueEndsOf, AreSameQueueEnds}
 use Rattle.meters.specs.Handles as meters
 use Rattle.thread_table.specs.Handles as threads
 use Rattle.processor.specs.declared.shared.Shared.{Shared}
@@ -19,15 +20,13 @@ pub record IsUnused (parts : Parts) : Type 0 where
 -- each end is an end of the shared object at its place, and no end of a chain has a Turn
 pub record ArePartsOf (shared : Shared) (parts : Parts) : Type 0 where
   pub hand : threads.IsHandOf shared.threads parts.hand
-  pub small : AreEndsOf shared.queues.small.items parts.small.items
-  pub large : AreEndsOf shared.queues.large.items parts.large.items
+  pub queues : AreQueueEndsOf shared.queues parts.queues
   pub chains : AreChainEndsOf shared.chains.items parts.chains.items
   pub meters : meters.IsSeatOf shared.meters parts.meters
 
 -- both have the same ends of the same objects
 pub record AreSameParts (old new : Parts) : Type 0 where
   pub hand : threads.IsSameHand old.hand new.hand
-  pub small : AreSameEnds old.small.items new.small.items
-  pub large : AreSameEnds old.large.items new.large.items
+  pub queues : AreSameQueueEnds old.queues new.queues
   pub chains : AreSameChainEnds old.chains.items new.chains.items
   pub meters : meters.IsSameSeat old.meters new.meters

@@ -16,7 +16,7 @@ use Rattle.processor.specs.declared.outcome.TurnResult.{TurnResult}
 use Rattle.processor.specs.declared.outcome.TurnResult.TheVariants as hads
 use Rattle.processor.specs.declared.outcome.TurnOutcome.{TurnOutcome}
 use Rattle.processor.specs.declared.outcome.TurnOutcome.TheVariants as outcomes
-use Rattle.processor.specs.declared.sending.Rescheduled.{Rescheduled}
+use Rattle.processor.specs.declared.phases.Rescheduled.{Rescheduled}
 use Rattle.processor.specs.declared.shared.Shared.{Shared}
 use Rattle.processor.specs.declared.station.Parts.{Parts}
 use Rattle.processor.specs.Outcomes.{is_done, IsOutcomeOf}
@@ -35,8 +35,7 @@ is_last done number steps = done && nat_le steps (number + 1)
 
 -- all ends of queues and chains are unchanged, and nothing was heard
 pub record AreAtRest (old new : Parts) : Type 0 where
-  pub small : new.small ≡ old.small
-  pub large : new.large ≡ old.large
+  pub queues : new.queues ≡ old.queues
   pub chains : new.chains ≡ old.chains
   pub heard : new.heard ≡ old.heard
 

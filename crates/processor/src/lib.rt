@@ -5,41 +5,34 @@
 //! the lists of its ends, and in what it heard and was signalled.
 #![tactic(auto)]
 
-mod attempt;
-mod counting;
 mod laws;
 mod lines;
 mod outcome;
+mod phases;
 mod pipes;
 mod programs;
 mod queue_steps;
 mod running;
 mod sending;
 mod shared;
-mod showing;
 mod splitting;
 mod station;
 mod step_outcome;
 mod steps;
 mod ticket;
-mod tries;
 mod turn;
 mod turn_gate;
 mod waking;
 mod watch;
 
-pub use counting::StepCounted;
 pub use laws::{accounts_add, hears_are_few, steps_fit};
 pub use outcome::{TurnOutcome, TurnResult};
+pub use phases::{HearAnswer, Moved, Rescheduled, SayAnswer, StepCounted, Ticket, Unheard, Unsaid};
 pub use programs::hears_of;
-pub use sending::{Moved, Rescheduled};
 pub use shared::Shared;
 pub use station::{Parts, Station};
 pub use step_outcome::StepOutcome;
-pub use ticket::Ticket;
-pub use tries::{HearAnswer, SayAnswer, Unheard, Unsaid};
 pub use turn::run;
 pub use turn_gate::TurnGate;
 pub use turn_io::{Gate, Point};
-pub use waking::WakeDone;
 pub use watch::Watch;

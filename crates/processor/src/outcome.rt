@@ -1,6 +1,6 @@
 //! The result of an element's turn.
 
-use crate::sending::Rescheduled;
+use crate::phases::Rescheduled;
 use turn_dispatch::{Begun, Idle};
 
 /// The result of the turn of an element at hand.

@@ -1,8 +1,4 @@
 //! The queue to which an element goes after its step.
-//!
-//! The type keeps an order: an element goes on after the try and the count of its step. A `Rescheduled`, the result of
-//! the element's turn, contains the `StepCounted` that only the count makes; so no `Rescheduled` exists before the
-//! count.
 ghost use Rattle.std.specs.Prelude.{◌≡◌, true, option_copied};
 ghost use Rattle.turn_dispatch.specs.Tallies.{AddsToTally};
 ghost use Rattle.thread_table.specs.Handles.{view_of, call_of, IsHandOf, IsSameHand};
@@ -12,53 +8,15 @@ ghost use Rattle.processor.specs.Outcomes.{sleeps_on};
 ghost use Rattle.processor.specs.Entries.{gone};
 ghost use Rattle.processor.specs.Running.{Goes};
 
-use crate::counting::StepCounted;
+use crate::phases::{HearAnswer, Moved, Rescheduled, SayAnswer, StepCounted, Ticket};
 use crate::step_outcome::StepOutcome;
-use crate::ticket::{Ticket, wait_with};
-use crate::tries::{HearAnswer, SayAnswer};
+use crate::ticket::wait_with;
 use event_theory::Element;
 use std::sync::Wait;
 use thread_table::{Hand, ThreadTable};
-use turn_dispatch::{Waited, make_ready, retire, wait_in};
+use turn_dispatch::{make_ready, retire, wait_in};
 
-/// The queue to which an element went after its turn. On false the queue has no position left, and the hand holds the
-/// element.
-#[derive(Clone, Copy, Debug, PartialEq, Eq)]
-pub enum Moved {
-    /// To the ready ring.
-    Ready(bool),
-    /// To the free elements: all steps are done.
-    Freed(bool),
-    /// To the wait queue of its step.
-    Waits(bool),
-    /// With its ticket to a wait queue of a pipe.
-    Ticketed(Waited),
-}
-
-/// The result of a step, and the queue to which its element went after it.
-#[derive(Drop)]
-pub struct Rescheduled {
-    tried: StepCounted,
-    moved: Moved,
-}
-
-impl Rescheduled {
-    /// The result of the step, and whether it is counted.
-    pub fn tried(&self) -> &StepCounted
-        ensures { result.now ≡ self.now.tried }
-    {
-        &self.tried
-    }
-
-    /// The queue to which the element went.
-    pub fn moved(&self) -> Moved
-        ensures { result ≡ self.now.moved }
-    {
-        self.moved
-    }
-}
-
-// Moves an element on after its step, by its deed and by the ticket with which it is to wait, if there is one.
+// Moves an element on after its step, by its result and by the ticket with which it is to wait, if there is one.
 #[inline(always)]
 fn go_on<R: Wait>(
     rt: &R,
@@ -91,7 +49,7 @@ fn go_on<R: Wait>(
     }
 }
 
-// Moves an element on after a step that was tried. A refused step has a call of its own, so that no deed need be
+// Moves an element on after a step that was tried. A refused step has a call of its own, so that no result need be
 // written to memory for the ticket in it.
 fn move_on<R: Wait>(
     rt: &R,

@@ -1,7 +1,6 @@
 //! A second station, for another processor: split off, and joined again.
 ghost use Rattle.std.specs.List.{All};
 ghost use Rattle.std.specs.Prelude.{◌≡◌, ◌<◌, ◌≤◌, ℕ, [], length, vec_capacity, true, IfOk, IfErr};
-ghost use Rattle.turn_io.specs.EndLists.{AreEndsOf, AreSameEnds, IsDivisible};
 ghost use Rattle.turn_io.specs.EndLists.{AreChainEndsOf, AreSameChainEnds, IsChainDivisible};
 ghost use Rattle.turn_io.specs.Splits as splits;
 ghost use Rattle.turn_dispatch.specs.Holdings.{IsFree};
@@ -18,17 +17,15 @@ use crate::programs::{hears_of, longest_line};
 use crate::shared::Shared;
 use crate::station::{Parts, Station};
 use boot_data::HeardLines;
-use claim_queue::{ClaimQueue, QueueEnd};
 use event_theory::OutOfMemory;
 use proc_chain::{ChainEnd, ProcChain};
 use quajects::AnyQuaject;
 use std::alloc::Global;
-use turn_io::{join_chain_ends, join_ends, split_chain_ends_into, split_ends_into};
+use turn_io::{QueueEnds, join_chain_ends, split_chain_ends_into};
 
 // The lists of a station, with room for all that goes in.
 struct Lists {
-    small: Vec<QueueEnd<64>>,
-    large: Vec<QueueEnd<256>>,
+    queues: QueueEnds,
     chains: Vec<ChainEnd<AnyQuaject>>,
     heard: HeardLines,
 }
@@ -42,28 +39,10 @@ fn lists_for(alloc: Global, shared: &Shared) -> Result<Lists, OutOfMemory>
     let chains = Vec::with_capacity(alloc, shared.chains.len())?;
     let heard = HeardLines::with_room(alloc, hears_of(&shared.plan), longest_line(&shared.plan))?;
     Ok(Lists {
-        small,
-        large,
+        queues: QueueEnds { small, large },
         chains,
         heard,
     })
-}
-
-// A part of each end of a list of queue ends, into one with room for them.
-fn split_list<const N: usize>(
-    queues: &[ClaimQueue<N>],
-    ends: &mut Vec<QueueEnd<N>>,
-    born: Vec<QueueEnd<N>>,
-) -> Vec<QueueEnd<N>>
-    requires ends { AreEndsOf queues.now ends.old.items }
-    requires parts { All IsDivisible ends.old.items }
-    requires room { (born.items ≡ []) × (length queues.now ≤ vec_capacity born) }
-    ensures handle { AreSameEnds ends.old.items ends.new.items }
-    ensures ends { AreEndsOf queues.now ends.new.items }
-    ensures born { AreEndsOf queues.now result.items }
-    ensures split { splits.AreSplit ends.old.items ends.new.items result.items }
-{
-    split_ends_into(queues, ends.as_mut_slice(), born)
 }
 
 // A part of each end of a list of chain ends, into one with room for them.
@@ -98,15 +77,13 @@ fn split_parts(shared: &Shared, parts: &mut Parts, processors: u8, lists: Lists)
     ensures unused { IsUnused result }
 {
     let Lists {
-        small,
-        large,
+        queues,
         chains,
         heard,
     } = lists;
     Parts {
         hand: shared.threads.split(&mut parts.hand, processors),
-        small: split_list(shared.queues.small.as_slice(), &mut parts.small, small),
-        large: split_list(shared.queues.large.as_slice(), &mut parts.large, large),
+        queues: parts.queues.split_into(&shared.queues, queues),
         chains: split_chain_list(shared.chains.as_slice(), &mut parts.chains, chains),
         meters: shared.meters.split(&mut parts.meters),
         heard,
@@ -177,8 +154,7 @@ impl Station {
     {
         let Parts {
             hand,
-            small,
-            large,
+            queues,
             chains,
             meters,
             heard,
@@ -186,16 +162,7 @@ impl Station {
         } = other.into_parts();
         let parts = &mut self.parts;
         shared.threads.join(&mut parts.hand, hand);
-        join_ends(
-            shared.queues.small.as_slice(),
-            parts.small.as_mut_slice(),
-            small,
-        );
-        join_ends(
-            shared.queues.large.as_slice(),
-            parts.large.as_mut_slice(),
-            large,
-        );
+        parts.queues.join(&shared.queues, queues);
         join_chain_ends(
             shared.chains.as_slice(),
             parts.chains.as_mut_slice(),

@@ -13,14 +13,14 @@ use proc_chain::ChainEnd;
 use quajects::AnyQuaject;
 use std::alloc::Global;
 use thread_table::Hand;
+use turn_io::QueueEnds;
 
 /// The parts of a station: its ends, the lines that its processor heard, as bytes, and the signals that it delivered:
 /// bit s of the number e is set for signal s of element e.
 #[derive(Drop)]
 pub struct Parts {
     pub hand: Hand,
-    pub small: Vec<QueueEnd<64>>,
-    pub large: Vec<QueueEnd<256>>,
+    pub queues: QueueEnds,
     pub chains: Vec<ChainEnd<AnyQuaject>>,
     pub meters: MeterSeat,
     pub heard: HeardLines,
@@ -47,21 +47,23 @@ impl Station {
         chains: Vec<ChainEnd<AnyQuaject>>,
         meters: MeterSeat,
     ) -> Result<Station, (Parts, OutOfMemory)>
-        ensures ends { IfOk result (λ s. (s.parts.hand ≡ hand) × (s.parts.small ≡ small) × (s.parts.large ≡ large)
+        ensures ends { IfOk result (λ s. (s.parts.hand ≡ hand) × (s.parts.queues.small ≡ small)
+            × (s.parts.queues.large ≡ large)
             × (s.parts.chains ≡ chains) × (s.parts.meters ≡ meters)) }
         ensures unused { IfOk result (λ s. IsUnused s.parts) }
         ensures room { IfOk result (λ s. HasRoom shared.now.plan s.parts) }
         ensures result { IfOk result (λ s. HasNoMoreRoom shared.now.plan s.parts) }
-        ensures back { IfErr result (λ e. (e.0.hand ≡ hand) × (e.0.small ≡ small) × (e.0.large ≡ large)
+        ensures back { IfErr result (λ e. (e.0.hand ≡ hand) × (e.0.queues.small ≡ small)
+            × (e.0.queues.large ≡ large)
             × (e.0.chains ≡ chains) × (e.0.meters ≡ meters) × IsUnused e.0) }
     {
         let signals = [0; 64];
+        let queues = QueueEnds { small, large };
         match HeardLines::with_room(alloc, hears_of(&shared.plan), longest_line(&shared.plan)) {
             Ok(heard) => Ok(Station {
                 parts: Parts {
                     hand,
-                    small,
-                    large,
+                    queues,
                     chains,
                     meters,
                     heard,
@@ -71,8 +73,7 @@ impl Station {
             Err(refused) => {
                 let parts = Parts {
                     hand,
-                    small,
-                    large,
+                    queues,
                     chains,
                     meters,
                     heard: HeardLines::new(alloc),

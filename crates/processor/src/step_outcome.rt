@@ -1,9 +1,7 @@
 //! The result of the one try of a step.
 ghost use Rattle.std.specs.Prelude.{◌≡◌, option_copied};
 
-use crate::ticket::Ticket;
-use crate::tries::{HearAnswer, SayAnswer};
-use crate::waking::WakeDone;
+use crate::phases::{HearAnswer, SayAnswer, Ticket};
 use boot_data::plan::QueueIndex;
 use event_theory::{Element, Gauge, Signal, WaitNumber};
 use proc_chain::ChainRefusal;
@@ -17,12 +15,12 @@ pub enum StepOutcome {
     /// A line was to be put in the queue.
     Say {
         queue: QueueIndex,
-        answer: SayAnswer<WakeDone>,
+        answer: SayAnswer,
     },
     /// A line was to be taken from the queue.
     Hear {
         queue: QueueIndex,
-        answer: HearAnswer<WakeDone>,
+        answer: HearAnswer,
     },
     /// The element is to wait.
     Wait {
@@ -66,8 +64,8 @@ pub enum StepOutcome {
     Close {
         queue: usize,
         was_open: bool,
-        readers: WakeDone,
-        writers: WakeDone,
+        readers: Option<Woken>,
+        writers: Option<Woken>,
     },
 }
 

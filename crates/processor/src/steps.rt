@@ -1,27 +1,21 @@
 //! The one try of a step.
 ghost use Rattle.std.specs.Prelude.{◌≡◌, [], length};
 ghost use Rattle.thread_table.specs.Handles.{view_of, call_of};
-ghost use Rattle.processor.specs.Acts.{AddsOnly};
+ghost use Rattle.processor.specs.Orders.{TriedAtEnds, count_of};
 ghost use Rattle.processor.specs.Outcomes.{IsOutcomeOf};
-ghost use Rattle.processor.specs.Doings.{raised_by};
-ghost use Rattle.processor.specs.Orders.{InOrder, count_of};
 ghost use Rattle.processor.specs.Points.{GateSaw, points_of};
-ghost use Rattle.processor.specs.Running.{EndsDid};
-ghost use Rattle.processor.specs.Stations.{ArePartsOf, AreSameParts};
-ghost use Rattle.processor.specs.Steps.{Fits, HandDid};
+ghost use Rattle.processor.specs.Stations.{ArePartsOf};
+ghost use Rattle.processor.specs.Steps.{Fits, TriedAtHand};
 
-use crate::lines::LineRoom;
 use crate::queue_steps::{close_step, hear_step, say_step};
 use crate::shared::Shared;
-use crate::showing::show_chain_end;
 use crate::station::Parts;
 use crate::step_outcome::StepOutcome;
-use crate::tries::WasShut;
 use crate::watch::Watch;
 use boot_data::plan::Step;
 use std::sync::Wait;
 use turn_dispatch::{calls_only_add, start, wake};
-use turn_io::poke;
+use turn_io::{LineRoom, poke};
 
 // Tries a step of a thread once. The line that it says or hears goes into `room.line`.
 pub(crate) fn try_step<R: Wait, G: Watch>(
@@ -37,48 +31,21 @@ pub(crate) fn try_step<R: Wait, G: Watch>(
     requires fits { Fits shared.now.queues (length shared.now.chains.items) step.now }
     requires empty { room.old.line.items ≡ [] }
     ensures step_outcome { IsOutcomeOf step.now result room.new.line.items }
-    ensures parts { ArePartsOf shared.now parts.new }
-    ensures handle { AreSameParts parts.old parts.new }
-    ensures hand { HandDid (call_of parts.old.hand) shared.now.plan result (view_of parts.old.hand)
+    ensures hand { TriedAtHand (call_of parts.old.hand) shared.now.plan result (view_of parts.old.hand)
         (view_of parts.new.hand) }
-    ensures ends { EndsDid shared.now result room.new.line.items parts.old parts.new }
-    ensures acts { AddsOnly (raised_by result) (view_of parts.old.hand) (view_of parts.new.hand) }
-    ensures heard { parts.new.heard ≡ parts.old.heard }
-    ensures signals { parts.new.signals ≡ parts.old.signals }
+    ensures ends { TriedAtEnds G.shown shared.now (count_of parts.old.hand) result room.new.line.items parts.old parts.new }
     ensures hook { GateSaw G.observes p (points_of result) gate.old gate.new }
-    ensures order { InOrder G.shown shared.now.plan (count_of parts.old.hand) result parts.old parts.new }
 {
     calls_only_add();
     let threads = &shared.threads;
     match step {
         Step::Say { queue, text } => StepOutcome::Say {
             queue: *queue,
-            answer: say_step(
-                rt,
-                shared,
-                &mut parts.hand,
-                parts.small.as_mut_slice(),
-                parts.large.as_mut_slice(),
-                *queue,
-                text,
-                &mut room.line,
-                p,
-                gate,
-            ),
+            answer: say_step(rt, shared, parts, *queue, text, room, p, gate),
         },
         Step::Hear { queue } => StepOutcome::Hear {
             queue: *queue,
-            answer: hear_step(
-                rt,
-                shared,
-                &mut parts.hand,
-                parts.small.as_mut_slice(),
-                parts.large.as_mut_slice(),
-                *queue,
-                room,
-                p,
-                gate,
-            ),
+            answer: hear_step(rt, shared, parts, *queue, room, p, gate),
         },
         Step::Wait { wait } => StepOutcome::Wait { wait: *wait },
         Step::Wake { wait } => StepOutcome::Wake {
@@ -111,10 +78,10 @@ pub(crate) fn try_step<R: Wait, G: Watch>(
         }
         Step::Poke { mover } => {
             let chains = shared.chains.as_slice();
-            show_chain_end(gate, &parts.hand, chains, parts.chains.as_slice(), *mover);
+            gate.show_chains(&parts.hand, &parts.chains);
             let ends = parts.chains.as_mut_slice();
             let answer = poke(rt, &shared.queues, chains, ends, *mover, p, gate);
-            show_chain_end(gate, &parts.hand, chains, parts.chains.as_slice(), *mover);
+            gate.show_chains(&parts.hand, &parts.chains);
             StepOutcome::Poke {
                 mover: *mover,
                 answer,
@@ -122,12 +89,7 @@ pub(crate) fn try_step<R: Wait, G: Watch>(
         }
         Step::Pass => StepOutcome::Pass,
         Step::Close { queue } => {
-            let small = parts.small.as_mut_slice();
-            let WasShut {
-                was_open,
-                readers,
-                writers,
-            } = close_step(rt, shared, &mut parts.hand, small, *queue, gate);
+            let (was_open, readers, writers) = close_step(rt, shared, parts, *queue, gate);
             StepOutcome::Close {
                 queue: *queue,
                 was_open,

@@ -1,8 +1,4 @@
-//! A ticket: the number of notifies of a wait queue at a pipe, as it was before the try of a step there.
-//!
-//! The type keeps an order: the ticket is read, then the pipe is tried, and then the element waits with that ticket. An
-//! element that waits with a ticket read after the try isn't woken by a notify that came in between. `ticket_for` alone
-//! makes tickets. A try takes one by value, has no hand to read another with, and returns the ticket if it was refused.
+//! Tickets of the wait queues at pipes: read before a try, and waited with after it.
 ghost use Rattle.std.specs.Prelude.{◌≡◌, true};
 ghost use Rattle.turn_dispatch.specs.Sendings.{WaitedAt};
 ghost use Rattle.turn_dispatch.specs.Tallies.{AddsToTally, no_events};
@@ -13,17 +9,11 @@ ghost use Rattle.processor.specs.Acts.{AddsOnly};
 ghost use Rattle.processor.specs.Orders.{after_ticket, count_of};
 ghost use Rattle.processor.specs.Pipes.{TicketFor, IsTicketOf};
 
+use crate::phases::Ticket;
 use event_theory::{Element, WaitNumber};
 use std::sync::Wait;
 use thread_table::{Hand, ThreadTable};
 use turn_dispatch::{Waited, wait_at};
-
-/// The number of notifies of a wait queue, as it was before the try of a step that may have to wait there.
-#[derive(Drop)]
-pub struct Ticket {
-    wait: WaitNumber,
-    number: u32,
-}
 
 // The ticket of a wait queue, if there is one.
 pub(crate) fn ticket_for(

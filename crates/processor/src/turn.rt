@@ -1,5 +1,5 @@
 //! The turns of a processor.
-ghost use Rattle.std.specs.Prelude.{◌≡◌, ◌<◌, ◌≤◌, [], ◌∷◌, true, length, Some, IfOk, MatchResult};
+ghost use Rattle.std.specs.Prelude.{◌≡◌, ◌<◌, ◌≤◌, [], ◌∷◌, true, length, IfOk, MatchResult};
 ghost use Rattle.turn_dispatch.specs.Sendings.{Sent};
 ghost use Rattle.thread_table.specs.Handles.{view_of, call_of};
 ghost use Rattle.thread_table.specs.Rules.{has, done_at};
@@ -12,15 +12,16 @@ ghost use Rattle.processor.specs.Logs.{HasDone, Ran, Went};
 ghost use Rattle.processor.specs.Manning.{IsRunnable, KeepsStation};
 ghost use Rattle.processor.specs.Orders.{CameInOrder, RanTurnsInOrder, InOrder, TurnInOrder, count_of, one_more};
 ghost use Rattle.processor.specs.Points.{GateSaw, TurnEnded, calls, points_of, points_out};
-ghost use Rattle.processor.specs.Programs.{program, step_of};
+ghost use Rattle.processor.specs.Programs.{program};
+ghost use Rattle.processor.specs.Running.{IsAtHand};
 ghost use Rattle.processor.specs.Turns.{AreAtRest, BegunAt, IdleAt, TendedBy, RanStep, is_last};
 
 use crate::laws::steps_fit;
-use crate::lines::LineRoom;
 use crate::outcome::{TurnOutcome, TurnResult};
+use crate::phases::Rescheduled;
 use crate::programs::program_of;
 use crate::running::{keep, run_step};
-use crate::sending::{Rescheduled, send_on};
+use crate::sending::send_on;
 use crate::shared::Shared;
 use crate::station::{Parts, Station};
 use crate::watch::Watch;
@@ -30,7 +31,7 @@ use event_theory::{Alarm, Element, Processor};
 use meters::AdvanceRefusal;
 use std::sync::Wait;
 use turn_dispatch::{Begun, Idle, begin, retire, tend_alarms};
-use turn_io::Point;
+use turn_io::{LineRoom, Point};
 
 // Whether a step that was tried is done, and was the last of this many steps.
 fn is_last(done: bool, number: u64, steps: usize) -> bool
@@ -53,25 +54,20 @@ fn run_element<R: Wait, G: Watch>(
     gate: &mut G,
 ) -> Rescheduled
     requires station { IsRunnable shared.now p parts.old }
-    requires held { has (view_of parts.old.hand) begun.now.element ≡ true }
-    requires known { begun.now.number ≡ done_at (view_of parts.old.hand).seen.object begun.now.element }
-    requires low { begun.now.number < 64 }
-    requires its { step_of shared.now.plan begun.now.element begun.now.number ≡ Some step.now }
+    requires at_hand { IsAtHand shared.now begun.now step.now parts.old }
     requires all { steps ≡ length (program shared.now.plan begun.now.element) }
     requires empty { room.old.line.items ≡ [] }
     ensures station { KeepsStation shared.now p parts.old parts.new }
     ensures ran { RanStep shared.now p begun.now.element begun.now.number result room.new.line.items parts.old parts.new
+        × InOrder G.shown shared.now.plan (one_more (count_of parts.old.hand)) result.tried.step_outcome parts.old parts.new
         × Went (FollowsStep shared.now.plan begun.now.element begun.now.number result room.new.line.items)
         (trying begun.now.element begun.now.number result room.new.line.items) (saw_shut result.tried.step_outcome)
         parts.old parts.new }
     ensures hook { GateSaw G.observes p (points_of result.tried.step_outcome) gate.old gate.new }
-    ensures order { InOrder G.shown shared.now.plan (one_more (count_of parts.old.hand)) result.tried.step_outcome parts.old
-        parts.new }
 {
-    steps_fit();
     let element = begun.element;
     let number = begun.number;
-    let tried = run_step(rt, shared, parts, p, element, step, room, gate);
+    let tried = run_step(rt, shared, parts, p, begun, step, room, gate);
     keep(
         &mut parts.heard,
         tried.step_outcome(),
@@ -136,7 +132,6 @@ fn dispatch<R: Wait, G: Watch>(
     gate: &mut G,
 ) -> TurnOutcome
     requires station { IsRunnable shared.now p parts.old }
-    requires empty { room.old.line.items ≡ [] }
     ensures station { KeepsStation shared.now p parts.old parts.new }
     ensures came { CameInOrder G.shown shared.now p result room.new.line.items parts.old parts.new
         × Went (OutcomeFollows shared.now.plan result room.new.line.items)
@@ -144,6 +139,7 @@ fn dispatch<R: Wait, G: Watch>(
     ensures hook { GateSaw G.observes p (points_out result) gate.old gate.new }
 {
     steps_fit();
+    room.line.clear();
     match begin_turn(rt, shared, parts, p) {
         Ok(begun) => {
             let element = begun.element;
@@ -204,7 +200,6 @@ fn turn<R: Wait, G: Watch>(
         × TurnEnded (calls G.observes G.learns) p entry gate.old gate.new }
 {
     let advanced = tend(shared, parts, p, fired);
-    room.line.clear();
     let outcome = dispatch(rt, shared, parts, p, room, gate);
     gate.turned(
         p.number(),

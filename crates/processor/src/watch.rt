@@ -1,34 +1,34 @@
-//! A gate that is shown a hand and an end together.
+//! A gate that is shown a hand and other ends together.
+//!
+//! The hand's list of steps is the clock of a processor's turn. A fact that a gate was shown holds of any gate, and so of
+//! one that nobody here knows. So the fact that it was shown a hand and other ends together says when, in the hand's
+//! list, these were in that state.
 //!
 //! The code does nothing there at run time: the shown values are for the proofs alone. The types of both values are
 //! fixed, so that no proof can put another value in the place of one that was shown.
 ghost use Rattle.processor.specs.Sights.{Sights};
 
 use crate::turn_gate::TurnGate;
-use claim_queue::QueueEnd;
 use meters::MeterSeat;
 use proc_chain::ChainEnd;
 use quajects::AnyQuaject;
 use thread_table::Hand;
+use turn_io::QueueEnds;
 
-/// A gate that is shown a hand and an end together. Every gate is one. Code that is generic over a gate knows of
-/// `shown` only what a call of its methods ensured. So a contract that says of a hand and an end that they were shown
+/// A gate that is shown a hand and other ends together. Every gate is one. Code that is generic over a gate knows of
+/// `shown` only what a call of its methods ensured. So a contract that says of a hand and of ends that they were shown
 /// says that they were there at one moment.
 pub trait Watch: TurnGate {
-    // The gate was shown this hand and this end, as they were at one moment.
+    // The gate was shown this hand and these ends, as they were at one moment.
     ghost shown: { Sights };
 
-    /// Shows the gate a hand and an end of a queue of 64 places, and changes nothing.
-    fn show_small(&self, hand: &Hand, end: &QueueEnd<64>)
-        ensures { shown.small hand.now end.now };
+    /// Shows the gate a hand and the ends of all queues, and changes nothing.
+    fn show_queues(&self, hand: &Hand, ends: &QueueEnds)
+        ensures { shown.queues hand.now ends.now };
 
-    /// Shows the gate a hand and an end of a queue of 256 places, and changes nothing.
-    fn show_large(&self, hand: &Hand, end: &QueueEnd<256>)
-        ensures { shown.large hand.now end.now };
-
-    /// Shows the gate a hand and an end of a chain, and changes nothing.
-    fn show_chain(&self, hand: &Hand, end: &ChainEnd<AnyQuaject>)
-        ensures { shown.chain hand.now end.now };
+    /// Shows the gate a hand and the ends of all chains, and changes nothing.
+    fn show_chains(&self, hand: &Hand, ends: &Vec<ChainEnd<AnyQuaject>>)
+        ensures { shown.chains hand.now ends.now };
 
     /// Shows the gate a hand and a seat of the meters, and changes nothing.
     fn show_seat(&self, hand: &Hand, seat: &MeterSeat)
@@ -37,17 +37,14 @@ pub trait Watch: TurnGate {
 
 impl<G: TurnGate> Watch for G {
     ghost shown = { record {
-      small = λ hand end. Unit {0};
-      large = λ hand end. Unit {0};
-      chain = λ hand end. Unit {0};
+      queues = λ hand ends. Unit {0};
+      chains = λ hand ends. Unit {0};
       seat = λ hand seat. Unit {0};
     } };
 
-    fn show_small(&self, _hand: &Hand, _end: &QueueEnd<64>) {}
+    fn show_queues(&self, _hand: &Hand, _ends: &QueueEnds) {}
 
-    fn show_large(&self, _hand: &Hand, _end: &QueueEnd<256>) {}
-
-    fn show_chain(&self, _hand: &Hand, _end: &ChainEnd<AnyQuaject>) {}
+    fn show_chains(&self, _hand: &Hand, _ends: &Vec<ChainEnd<AnyQuaject>>) {}
 
     fn show_seat(&self, _hand: &Hand, _seat: &MeterSeat) {}
 }

@@ -47,7 +47,7 @@ did_all plan ttys last parts took heard = record {
   hand = ap (λ (z : Parts). tally (view_of z.hand).own.made) took.rest;
   meters = ap (λ (z : Parts). (seats.view_of z.meters).own) took.rest;
   shown = ap (λ (z : Parts). shown_in z.signals) took.rest;
-  small = λ q low. as_before (length plan.queues) ttys last.small.items parts.small.items q took.small low;
-  large = λ q. ap (λ (z : Parts). queue_account z.large.items q) took.rest;
+  small = λ q low. as_before (length plan.queues) ttys last.queues.small.items parts.queues.small.items q took.small low;
+  large = λ q. ap (λ (z : Parts). queue_account z.queues.large.items q) took.rest;
   chains = λ k low. ap (λ z. z.did) (same_at chain_stake (no_stake idle_chain) parts.chains.items last.chains.items k (took.before k low));
 }

@@ -9,3 +9,4 @@ pub mod Walking
 pub mod Parting
 pub mod ChainParting
 pub mod Accounting
+pub mod Queues

@@ -1,5 +1,7 @@
 -- One end of a list of queue ends is used.
-use Rattle.turn_io.proofs.Common.{◌≡◌, ℕ, ◌<◌, List, length, get_or, set, ◌∙◌, arith, QueueEnd, queue_table, end_table, end_call, AreSameEnds, OnEnd}
+use Rattle.turn_io.proofs.Common.{◌≡◌, ℕ, ◌<◌, List, length, get_or, set, sym, subst, ◌∙◌, arith, QueueEnd, queue_table, end_table, end_call, AreSameEnds, OnEnd}
+use Rattle.std.specs.Global.{Vec}
+use Rattle.std.specs.Vec.{with_items}
 use Rattle.claim_queue.specs.Plain.{ClaimQueue}
 use Rattle.claim_queue.specs.Handles.{IsEndOf, IsSameEnd}
 use Rattle.turn_io.specs.EndLists.{AreEndsOf}
@@ -21,3 +23,18 @@ module _ {n : ℕ} where
 
     pub used_at : (Does : QueueEnd n → QueueEnd n → Type 0) → q < length queues → Does end after → OnEnd q Does ends (set ends q after)
     used_at Does below does = on_end ends q end after is Does (in_ends queues ends q fit below) does
+
+  -- the same in a vector, of which `list` are the items
+  module _ (queues : List (ClaimQueue n)) (ends : Vec (QueueEnd n)) (list : List (QueueEnd n)) (q : ℕ) (end : QueueEnd n) (are : list ≡ ends.items) (fit : AreEndsOf queues ends.items) (is : end ≡ get_or list q end) where
+    fits : AreEndsOf queues list
+    fits = subst (AreEndsOf queues) (sym are) fit
+
+    pub vec_end : (queue : ClaimQueue n) → q < length queues → queue ≡ get_or queues q queue → IsEndOf queue end
+    vec_end queue below is' = its_end queues list q queue end fits below is is'
+
+    module _ (after : QueueEnd n) (now : (with_items ends (set list q after)).items ≡ set list q after) where
+      pub vec_same : IsSameEnd end after → AreSameEnds ends.items (with_items ends (set list q after)).items
+      vec_same same = subst (λ z. AreSameEnds z (with_items ends (set list q after)).items) are (subst (AreSameEnds list) (sym now) (ends_same queues list q end after fits is same))
+
+      pub vec_used : (Does : QueueEnd n → QueueEnd n → Type 0) → q < length queues → Does end after → OnEnd q Does ends.items (with_items ends (set list q after)).items
+      vec_used Does below does = subst (λ z. OnEnd q Does z (with_items ends (set list q after)).items) are (subst (OnEnd q Does list) (sym now) (used_at queues list q end after fits is Does below does))

@@ -19,6 +19,7 @@ use Rattle.proc_chain.specs.Notes.{alone, notes_put, notes_taken}
 use Rattle.proc_chain.specs.Own.{View}
 use Rattle.turn_io.specs.declared.poking.Poked.{Poked}
 use Rattle.turn_io.specs.declared.poking.Poked.TheVariants.{Ran, Left}
+use Rattle.turn_io.specs.declared.queue_ends.QueueEnds.{QueueEnds}
 use Rattle.turn_io.specs.EndLists.{HasRaised, ClaimedInOrder, TookInOrder, knows_shut_at}
 
 -- the work at one queue: the lines put, the lines taken, and how often it was shut
@@ -122,6 +123,18 @@ abbrev pub by_index : {A : Type 0} → (ℕ → A) → (ℕ → A) → QueueInde
 by_index small large (Small q) = small q
 by_index small large (Large q) = large q
 
+-- the work of the end of each queue
+abbrev pub work_of : QueueEnds → QueueIndex → AtQueue
+work_of ends = by_index (queue_account ends.small.items) (queue_account ends.large.items)
+
+-- the share that the end of each queue has
+abbrev pub shares_of : QueueEnds → QueueIndex → ℕ
+shares_of ends = by_index (queue_shares ends.small.items) (queue_shares ends.large.items)
+
+-- whether the end of each queue knows that the queue is shut
+abbrev pub know_shut : QueueEnds → QueueIndex → Bool
+know_shut ends = by_index (knows_shut_at ends.small.items) (knows_shut_at ends.large.items)
+
 -- x at the queue with this index, and the rest at any other queue
 abbrev pub only : {A : Type 0} → A → QueueIndex → A → QueueIndex → A
 only rest (Small index) x = by_index (at_one rest index x) (λ q. rest)
@@ -168,3 +181,13 @@ pub record StaySound {n : ℕ} (old new : List (QueueEnd n)) : Type 0 where
   pub claimed : All ClaimedInOrder old → All ClaimedInOrder new
   pub took : All TookInOrder old → All TookInOrder new
   pub known : (q : ℕ) → knows_shut_at old q ≡ true → knows_shut_at new q ≡ true
+
+-- the ends of all queues stay sound
+pub record AllStaySound (old new : QueueEnds) : Type 0 where
+  pub small : StaySound old.small.items new.small.items
+  pub large : StaySound old.large.items new.large.items
+
+-- each end of a queue claimed its runs one after the other, and took its lines one after the other
+pub record AreInOrder (ends : QueueEnds) : Type 0 where
+  pub small : All ClaimedInOrder ends.small.items × All TookInOrder ends.small.items
+  pub large : All ClaimedInOrder ends.large.items × All TookInOrder ends.large.items

@@ -3,3 +3,4 @@ pub mod Outcomes
 pub mod Accounts
 pub mod Splits
 pub mod Gates
+pub mod QueueEnds

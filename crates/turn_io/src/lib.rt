@@ -9,14 +9,16 @@ mod hearing;
 mod items;
 mod laws;
 mod poking;
+mod queue_ends;
 mod saying;
 mod splitting;
 
 pub use chain_splitting::{join_chain_ends, split_chain_ends, split_chain_ends_into};
 pub use gate::{Gate, NoGate, Point};
-pub use hearing::{hear, shut_queue};
+pub use hearing::hear;
 pub use items::item_at;
 pub use laws::accounts_add;
 pub use poking::{Poked, poke};
+pub use queue_ends::{LineRoom, QueueEnds};
 pub use saying::say;
 pub use splitting::{join_ends, split_ends, split_ends_into};

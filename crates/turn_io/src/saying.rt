@@ -1,14 +1,12 @@
 //! Saying a line: it is put in a queue by one claim, and raised.
-ghost use Rattle.std.specs.Prelude.{◌≡◌, ◌<◌, length};
+ghost use Rattle.std.specs.Prelude.{◌≡◌, length};
 ghost use Rattle.claim_queue.specs.Claims.{Owns};
 ghost use Rattle.claim_queue.specs.Handles.{view_of, IsEndOf, IsSameEnd};
 ghost use Rattle.claim_queue.specs.Puts.{RaisedFrom};
 ghost use Rattle.turn_io.specs.Outcomes.{Said};
-ghost use Rattle.turn_io.specs.EndLists.{AreEndsOf, AreSameEnds, OnEnd};
 ghost use Rattle.turn_io.specs.Gates.{HookSawSay};
 
 use crate::gate::{Gate, Point};
-use crate::items::item_at;
 use claim_queue::{Claim, ClaimQueue, ClaimRefusal, QueueEnd};
 
 // Raises all items of a run that was just claimed.
@@ -25,8 +23,12 @@ fn raise_all<const N: usize>(queue: &ClaimQueue<N>, end: &mut QueueEnd<N>, claim
     }
 }
 
-// One claim of the line at this end, and all its raises.
-fn say_line<const N: usize, G: Gate>(
+/// One try to put a line in a queue: one claim, and if it wins all its raises. The gate is called with `Claimed` after
+/// the claim and with `Raised` after the last raise, and not at all if the claim was refused. Any refusal of
+/// `ClaimQueue::try_claim` is possible; nothing is put then.
+///
+/// Condition: the end is one of the queue.
+pub fn say<const N: usize, G: Gate>(
     queue: &ClaimQueue<N>,
     end: &mut QueueEnd<N>,
     line: &[u64],
@@ -38,7 +40,7 @@ fn say_line<const N: usize, G: Gate>(
     ensures said { Said line.now result end.old end.new }
     ensures hook { HookSawSay G.observes p result gate.old gate.new }
 {
-    match queue.try_claim(end, line) {
+    match queue.try_claim_as(end, line) {
         Ok(mut claim) => {
             gate.between(p, Point::Claimed);
             raise_all(queue, end, &mut claim);
@@ -47,27 +49,4 @@ fn say_line<const N: usize, G: Gate>(
         }
         Err(refusal) => Err(refusal),
     }
-}
-
-/// One try to put a line in the queue with this index: one claim, and if it wins all its raises. The gate is called
-/// with `Claimed` after the claim and with `Raised` after the last raise, and not at all if the claim was refused. Any
-/// refusal of `ClaimQueue::try_claim` is possible; nothing is put then.
-///
-/// Conditions: the ends are those of the queues, in their order, and the index is one of theirs.
-pub fn say<const N: usize, G: Gate>(
-    queues: &[ClaimQueue<N>],
-    ends: &mut [QueueEnd<N>],
-    index: usize,
-    line: &[u64],
-    p: u8,
-    gate: &mut G,
-) -> Result<(), ClaimRefusal>
-    requires ends { AreEndsOf queues.now ends.old }
-    requires known { index < length queues.now }
-    ensures hook { HookSawSay G.observes p result gate.old gate.new }
-    ensures said { OnEnd index (Said line.now result) ends.old ends.new }
-    ensures ends { AreEndsOf queues.now ends.new }
-    ensures handle { AreSameEnds ends.old ends.new }
-{
-    say_line(&queues[index], item_at(ends, index), line, p, gate)
 }

@@ -1,13 +1,14 @@
 //! Ends that are joined at the close, and what each table closes with.
 ghost use Rattle.std.specs.Prelude.{◌≡◌, ◌+◌, length};
 ghost use Rattle.std.specs.List.{All};
-ghost use Rattle.turn_io.specs.EndLists.{AreEndsOf, AreChainEndsOf, AreChainsOver, end_share, share_at};
+ghost use Rattle.turn_io.specs.EndLists.{AreChainEndsOf, AreChainsOver, end_share, share_at};
+ghost use Rattle.turn_io.specs.QueueEnds.{AreQueueEndsOf};
 ghost use Rattle.proc_chain.specs.Handles.{IsOnlyEnd};
 ghost use Rattle.quajects.specs.Ports.{IsEndAt};
 ghost use Rattle.table_theory.specs.Sharing.{IsWhole};
 
 use crate::pumps::{Pumped, make_pump};
-use arrayvec::ArrayVec;
+use boot_data::plan::QueueIndex;
 use boot_objects::*;
 use claim_queue::{ClaimQueue, QueueEnd};
 use event_theory::OutOfMemory;
@@ -18,43 +19,46 @@ use std::alloc::Global;
 use std::process::Abort;
 use std::test::*;
 use thread_table::{Place, Places, ThreadTable};
-use turn_io::{NoGate, hear, poke, say, shut_queue};
+use turn_io::{LineRoom, NoGate, QueueEnds, poke};
 
-/// A queue in a list with an end of it, and its only other end.
+/// A small queue with an end of it, and its only other end.
 #[derive(Drop)]
 struct Shared {
-    queues: Vec<ClaimQueue<64>>,
-    ends: Vec<QueueEnd<64>>,
+    world: Queues,
+    ends: QueueEnds,
     other: QueueEnd<64>,
-    ghost fit: { AreEndsOf queues.items ends.items },
-    ghost at: { IsEndAt queues.items 0 other },
-    ghost one: { length queues.items ≡ 1 },
-    ghost whole: { IsWhole (share_at ends.items 0 + end_share other) },
+    ghost fit: { AreQueueEndsOf world ends },
+    ghost at: { IsEndAt world.small.items 0 other },
+    ghost one: { length world.small.items ≡ 1 },
+    ghost whole: { IsWhole (share_at ends.small.items 0 + end_share other) },
 }
 
 fn shared_queue(alloc: Global) -> Result<Shared, OutOfMemory> {
     let (queue, mut end) = ClaimQueue::new(alloc, 0)?;
     let other = queue.split(&mut end);
-    let mut queues = Vec::new(alloc);
-    queues.push(queue)?;
-    let mut ends = Vec::new(alloc);
-    ends.push(end)?;
-    Ok(Shared {
-        queues,
-        ends,
-        other,
-    })
+    let mut small = Vec::new(alloc);
+    small.push(queue)?;
+    let world = Queues {
+        small,
+        large: Vec::new(alloc),
+    };
+    let mut small = Vec::new(alloc);
+    small.push(end)?;
+    let ends = QueueEnds {
+        small,
+        large: Vec::new(alloc),
+    };
+    Ok(Shared { world, ends, other })
 }
 
 /// A pump with an end of each of its two queues and the only end of its chain, in lists.
 #[derive(Drop)]
 struct Whole {
     world: Queues,
-    ends: Vec<QueueEnd<64>>,
-    none: Vec<QueueEnd<256>>,
+    ends: QueueEnds,
     chains: Vec<ProcChain<AnyQuaject>>,
     chain_ends: Vec<ChainEnd<AnyQuaject>>,
-    ghost fit: { AreEndsOf world.small.items ends.items × AreEndsOf world.large.items none.items },
+    ghost fit: { AreQueueEndsOf world ends },
     ghost two: { length world.small.items ≡ 2 },
     ghost chains_fit: { AreChainEndsOf chains.items chain_ends.items },
     ghost one: { length chains.items ≡ 1 },
@@ -65,10 +69,14 @@ struct Whole {
 fn whole_pump<R: Abort>(rt: &R, alloc: Global) -> Result<Whole, OutOfMemory> {
     let Pumped {
         queues: world,
-        small: ends,
+        small,
         chain,
         end,
     } = make_pump(rt, alloc, 0);
+    let ends = QueueEnds {
+        small,
+        large: Vec::new(alloc),
+    };
     let mut chains = Vec::new(alloc);
     chains.push(chain)?;
     let mut chain_ends = Vec::new(alloc);
@@ -76,7 +84,6 @@ fn whole_pump<R: Abort>(rt: &R, alloc: Global) -> Result<Whole, OutOfMemory> {
     Ok(Whole {
         world,
         ends,
-        none: Vec::new(alloc),
         chains,
         chain_ends,
     })
@@ -85,22 +92,18 @@ fn whole_pump<R: Abort>(rt: &R, alloc: Global) -> Result<Whole, OutOfMemory> {
 /// A line that was said at the one end is heard at the other, and the two are one end at the close.
 #[test]
 fn closes_queues(rt: HostRuntime) -> Result<(), Fail> {
-    let Shared {
-        queues,
-        ends,
-        other,
-    } = shared_queue(rt.alloc())?;
+    let Shared { world, ends, other } = shared_queue(rt.alloc())?;
     let mut ends = ends;
-    let list = queues.as_slice();
-    let mine = ends.as_mut_slice();
-    assert!(rt; say(list, mine, 0, &[104, 105, 10], 0, &mut NoGate) == Ok(()));
-    assert!(rt; say(list, mine, 0, &[33, 10], 0, &mut NoGate) == Ok(()));
-    let mut line = ArrayVec::new();
-    assert!(rt; hear(list, mine, 0, &mut line, 0, &mut NoGate) == Ok(()));
-    assert!(rt; shut_queue(list, mine, 0));
-    join_at(list, mine, 0, other);
+    let queue = QueueIndex::Small(0);
+    assert!(rt; ends.say(&world, queue, &[104, 105, 10], 0, &mut NoGate) == Ok(()));
+    assert!(rt; ends.say(&world, queue, &[33, 10], 0, &mut NoGate) == Ok(()));
+    let mut room = LineRoom::new();
+    assert!(rt; ends.hear(&world, queue, &mut room, 0, &mut NoGate) == Ok(()));
+    assert!(rt; room.line.as_slice() == [104, 105, 10].as_slice());
+    assert!(rt; ends.shut(&world, queue));
+    join_at(world.small.as_slice(), ends.small.as_mut_slice(), 0, other);
     let room = Vec::with_capacity(rt.alloc(), 1)?;
-    let closed = close_queues(queues, ends, room);
+    let closed = close_queues(world.small, ends.small, room);
     assert!(rt; closed.len() == 1);
     let [queue] = closed.as_slice() else {
         panic!(rt; "one")
@@ -116,13 +119,12 @@ fn retires_a_pump(rt: HostRuntime) -> Result<(), Fail> {
     let Whole {
         world,
         ends,
-        none,
         chains,
         chain_ends,
     } = whole_pump(&rt, rt.alloc())?;
-    let (mut ends, mut none, mut chain_ends) = (ends, none, chain_ends);
-    let list = world.small.as_slice();
-    assert!(rt; say(list, &mut ends, 0, &[104, 10], 0, &mut NoGate) == Ok(()));
+    let (mut ends, mut chain_ends) = (ends, chain_ends);
+    let queue = QueueIndex::Small(0);
+    assert!(rt; ends.say(&world, queue, &[104, 10], 0, &mut NoGate) == Ok(()));
     let poked = poke(
         &rt,
         &world,
@@ -137,8 +139,7 @@ fn retires_a_pump(rt: HostRuntime) -> Result<(), Fail> {
     let homes = retire_all(chains, chain_ends, room);
     assert!(rt; homes.len() == 1);
     let room = Vec::with_capacity(rt.alloc(), homes.len())?;
-    let (small, large) = (ends.as_mut_slice(), none.as_mut_slice());
-    let counts = bring_all_home(&world, small, large, homes, room);
+    let counts = bring_all_home(&world, &mut ends, homes, room);
     let [came] = counts.as_slice() else {
         panic!(rt; "one")
     };

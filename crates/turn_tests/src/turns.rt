@@ -152,7 +152,7 @@ fn close_all<R: Abort>(rt: &R, shared: Shared, parts: Parts) -> AtEnd
         heard: parts.heard,
         signals,
         queues: shared.queues.small,
-        ends: parts.small,
+        ends: parts.queues.small,
     }
 }
 

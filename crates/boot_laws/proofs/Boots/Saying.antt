@@ -1,5 +1,5 @@
 -- If all steps were done, the lines said are those of the plan.
-use Rattle.boot_laws.proofs.Common.{◌≡◌, ◌≢◌, ⊎_elim, ℕ, zero, suc, ◌+◌, ◌<◌, Bool, true, false, eqb, eq-eqb, ne_eqb, List, [], ◌∷◌, ◌++◌, map, length, refl, sym, ap, ◌∙◌, subst, arith, Option, Some, None, append_assoc, append-nil, flat_map, count_by, IsPermutation, if◌then◌else◌, ◌&&◌, ◌||◌, ◌==◌, nat_lt, not, range_with_len, AllByRecursion, list_any-append, leb_tells, flat_map-append, dite, dec_lt, BootPlan, PlannedThread, QueueIndex, Small, Step, Report, Place, AtQueue, idle_queue, only, put_if, shut_if, taken_if, StepOutcome, SayAnswer, WakeDone, is_done, IsOutcomeOf, queues_by, saw_shut, LogEntry, FollowsPlan, entry_account, turn_saw_shut, sum_of, was_shut, Key, same_key, program, step_of, said_line, Line, said, heard, PlaceAgrees, ClosedTables, IsReport, IsNeverShut, total_of, by_bool, plus, many_cons, many_more}
+use Rattle.boot_laws.proofs.Common.{◌≡◌, ◌≢◌, ⊎_elim, ℕ, zero, suc, ◌+◌, ◌<◌, Bool, true, false, eqb, eq-eqb, ne_eqb, List, [], ◌∷◌, ◌++◌, map, length, refl, sym, ap, ◌∙◌, subst, arith, Option, Some, None, append_assoc, append-nil, flat_map, count_by, IsPermutation, if◌then◌else◌, ◌&&◌, ◌||◌, ◌==◌, nat_lt, not, range_with_len, AllByRecursion, list_any-append, leb_tells, flat_map-append, dite, dec_lt, BootPlan, PlannedThread, QueueIndex, Small, Step, Report, Place, AtQueue, idle_queue, only, put_if, shut_if, taken_if, StepOutcome, SayAnswer, is_done, IsOutcomeOf, queues_by, saw_shut, LogEntry, FollowsPlan, entry_account, turn_saw_shut, sum_of, was_shut, Key, same_key, program, step_of, said_line, Line, said, heard, PlaceAgrees, ClosedTables, IsReport, IsNeverShut, total_of, by_bool, plus, many_cons, many_more}
 use Rattle.std.proofs.Common.{slice_get}
 use Rattle.std.proofs.lemmas.List.Sorted.{IsPermutation-refl, IsPermutation-trans, IsPermutation-append_comm, IsPermutation-append_left, IsPermutation-append_right}
 use Rattle.std.proofs.lemmas.Bool.{eqb-true as eqb_is, and_parts as both, or_parts as or_false}
@@ -10,7 +10,7 @@ use Rattle.boot_data.specs.declared.report.ThreadState.TheVariants as states
 use Rattle.boot_data.specs.Plans.{steps_in}
 use Rattle.thread_table.specs.declared.places.Place.TheVariants as places
 use Rattle.processor.specs.declared.step_outcome.StepOutcome.TheVariants as step_outcomes
-use Rattle.processor.specs.declared.tries.SayAnswer.TheVariants as says
+use Rattle.processor.specs.declared.phases.SayAnswer.TheVariants as says
 use Rattle.processor.proofs.Rooms.{same_refl as key_itself}
 use Rattle.event_theory.proofs.Lists.Placed.{there as there_is}
 use Rattle.boot_laws.specs.Lines.{state_for}
@@ -159,11 +159,11 @@ module _ (plan : BootPlan) (index : QueueIndex) where
   none_said : (step : Step) (step_outcome : StepOutcome) (line : List ℕ) → IsOutcomeOf step step_outcome line → is_say step_outcome ≡ false → [] ≡ (if is_done step_outcome then says_to index step else [])
   none_said step step_outcome line d e = nothing_if (is_done step_outcome) ∙ ap (λ z. if is_done step_outcome then z else []) (sym (says_none step step_outcome line d e))
 
-  by_answer : (queue : QueueIndex) (answer : SayAnswer WakeDone) (text line : List ℕ) → line ≡ said_line text → saw_shut (step_outcomes.Say queue answer) index ≡ false
+  by_answer : (queue : QueueIndex) (answer : SayAnswer) (text line : List ℕ) → line ≡ said_line text → saw_shut (step_outcomes.Say queue answer) index ≡ false
       → (queues_by (step_outcomes.Say queue answer) line index).put ≡ (if is_done (step_outcomes.Say queue answer) then says_to index (steps.Say queue text) else [])
-  by_answer queue (says.Put paid) text line l t = only_map (λ (a : AtQueue). a.put) idle_queue (put_if (said (says.Put paid)) line) queue index ∙ ap (λ z. only [] queue (z ∷ []) index) l
-  by_answer queue says.Over text line l t = only_all PutsNone idle_queue (put_if (said {W = WakeDone} says.Over) line) refl refl queue index ∙ sym (only_off [] (said_line text ∷ []) queue index t)
-  by_answer queue (says.Refused unsaid) text line l t = only_all PutsNone idle_queue (put_if (said {W = WakeDone} (says.Refused unsaid)) line) refl refl queue index
+  by_answer queue (says.Put woken) text line l t = only_map (λ (a : AtQueue). a.put) idle_queue (put_if (said (says.Put woken)) line) queue index ∙ ap (λ z. only [] queue (z ∷ []) index) l
+  by_answer queue says.Over text line l t = only_all PutsNone idle_queue (put_if (said says.Over) line) refl refl queue index ∙ sym (only_off [] (said_line text ∷ []) queue index t)
+  by_answer queue (says.Refused unsaid) text line l t = only_all PutsNone idle_queue (put_if (said (says.Refused unsaid)) line) refl refl queue index
 
   by_step : (step : Step) (step_outcome : StepOutcome) (line : List ℕ) → IsOutcomeOf step step_outcome line → saw_shut step_outcome index ≡ false → (queues_by step_outcome line index).put ≡ (if is_done step_outcome then says_to index step else [])
   by_step step (step_outcomes.Say queue answer) line d t = let s = say_is step queue answer line d in

@@ -208,11 +208,11 @@ module _ (shut : Shutdown) (s : IsShutDown shut) where
   abbrev small_others : List (Option (Port 64))
   small_others = raw_ports (length plan.queues) shut.ttys ++ small_ports homes
 
-  small_gained : Gained small_others shut.last.small.items shut.ended.small_ends.value.items
-  small_gained = gained_both (raw_ports (length plan.queues) shut.ttys) (small_ports homes) shut.last.small.items shut.parts.small.items shut.ended.small_ends.value.items s.took.small s.closed.small.gained
+  small_gained : Gained small_others shut.last.queues.small.items shut.ended.ends.value.small.items
+  small_gained = gained_both (raw_ports (length plan.queues) shut.ttys) (small_ports homes) shut.last.queues.small.items shut.parts.queues.small.items shut.ended.ends.value.small.items s.took.small s.closed.small.gained
 
-  large_gained : Gained (large_ports homes) shut.last.large.items shut.ended.large_ends.value.items
-  large_gained = subst (λ (z : Parts). Gained (large_ports homes) z.large.items shut.ended.large_ends.value.items) s.took.rest s.closed.large.gained
+  large_gained : Gained (large_ports homes) shut.last.queues.large.items shut.ended.ends.value.large.items
+  large_gained = subst (λ (z : Parts). Gained (large_ports homes) z.queues.large.items shut.ended.ends.value.large.items) s.took.rest s.closed.large.gained
 
   tty_shut_none : (k : ℕ) (tty : RawTty) → slice_get shut.ttys k ≡ Some tty → shuts_of (view_of (end_of tty)) ≡ 0
   tty_shut_none k tty at = let l = within shut.ttys k tty at in let a = s.all_ttys in let b = s.all_devices in
@@ -230,15 +230,15 @@ module _ (shut : Shutdown) (s : IsShutDown shut) where
 
   known : (index : QueueIndex) (q : closed.Queue) → queue_at c index ≡ Some q → Known index q
   known (Small number) q at =
-      let x = shut_at (λ q. queue_of plan boot (Small q)) small_others shut.shared.queues.small.items shut.last.small.items shut.ended.small_ends.value.items shut.ended.small.items number q
-      (as_long end_table queue_table shut.last.small.items shut.shared.queues.small.items s.its.small ∙ sym (three_long IsClosed shut.shared.queues.small.items shut.ended.small_ends.value.items shut.ended.small.items s.closed.small.each).0)
+      let x = shut_at (λ q. queue_of plan boot (Small q)) small_others shut.shared.queues.small.items shut.last.queues.small.items shut.ended.ends.value.small.items shut.ended.small.items number q
+      (as_long end_table queue_table shut.last.queues.small.items shut.shared.queues.small.items s.its.queues.small ∙ sym (three_long IsClosed shut.shared.queues.small.items shut.ended.ends.value.small.items shut.ended.small.items s.closed.small.each).0)
       small_gained s.closed.small.each at in
       subst (Known (Small number)) (sym x.is)
       (queue_ended plan shut.logs shut.first shut.stations shut.last s.worked homes (map end_of shut.ttys) (Small number) x.queue x.was x.end x.shut x.its x.closes small_others number x.has
       (ends_more number (raw_ports (length plan.queues) shut.ttys) (small_ports homes) ∙ (λ k. raws_at number (length plan.queues) shut.ttys k ++ homes_at (λ (home : Home). home.small) number homes k)) x.known (small_unshut number))
   known (Large number) q at =
-      let x = shut_at (λ q. queue_of plan boot (Large q)) (large_ports homes) shut.shared.queues.large.items shut.last.large.items shut.ended.large_ends.value.items shut.ended.large.items number q
-      (as_long end_table queue_table shut.last.large.items shut.shared.queues.large.items s.its.large ∙ sym (three_long IsClosed shut.shared.queues.large.items shut.ended.large_ends.value.items shut.ended.large.items s.closed.large.each).0)
+      let x = shut_at (λ q. queue_of plan boot (Large q)) (large_ports homes) shut.shared.queues.large.items shut.last.queues.large.items shut.ended.ends.value.large.items shut.ended.large.items number q
+      (as_long end_table queue_table shut.last.queues.large.items shut.shared.queues.large.items s.its.queues.large ∙ sym (three_long IsClosed shut.shared.queues.large.items shut.ended.ends.value.large.items shut.ended.large.items s.closed.large.each).0)
       large_gained s.closed.large.each at in
       subst (Known (Large number)) (sym x.is)
       (queue_ended plan shut.logs shut.first shut.stations shut.last s.worked homes (map end_of shut.ttys) (Large number) x.queue x.was x.end x.shut x.its x.closes (large_ports homes) number x.has

@@ -2,7 +2,7 @@
 use Rattle.boot_laws.proofs.Common.{Done, ◌≡◌, ⊎_elim, inl, inr, ℕ, zero, suc, ◌<◌, ◌≤◌, Bool, true, false, eq-eqb, List, [], ◌∷◌, length, refl, ap, ◌∙◌, arith, Some, count_by, IsPermutation, if◌then◌else◌, ◌&&◌, nat_lt, slice_index_or, AllByRecursion, le_prop, ∥∥₁_elim, dite, dec_lt, BootPlan, Step, plan_of, IsPlan, StepOutcome, is_done, heard_by, LogEntry, FollowsPlan, entry_account, sum_of, Key, same_key, Line, ClosedTables, WorkedTogether, ThreadsEnded, Ascend, total_of, plus, many_cons, many_more}
 use Rattle.std.proofs.Common.{slice_get}
 use Rattle.processor.specs.declared.step_outcome.StepOutcome.TheVariants as step_outcomes
-use Rattle.processor.specs.declared.tries.HearAnswer.TheVariants as hears
+use Rattle.processor.specs.declared.phases.HearAnswer.TheVariants as hears
 use Rattle.boot_laws.specs.Reports.{AreSorted}
 use Rattle.thread_table.proofs.Lists.Counts.{many_shuffled}
 use Rattle.boot_laws.proofs.Entries.{turn_is}
@@ -29,7 +29,7 @@ module _ (k : Key) where
   is_of line = same_key k line.0
 
   by_step_outcome : (step_outcome : StepOutcome) (element number : ℕ) (line : List ℕ) → count_by is_of (heard_by step_outcome element number line) ≤ count_by (same_key k) (if is_done step_outcome then (element, number) ∷ [] else [])
-  by_step_outcome (step_outcomes.Hear queue (hears.Taken paid)) element number line =
+  by_step_outcome (step_outcomes.Hear queue (hears.Taken woken)) element number line =
       let a = many_cons is_of ((element, number), line) [] in let b = many_cons (same_key k) (element, number) [] in omega arith
   by_step_outcome (step_outcomes.Hear queue answer) element number line = omega arith
   by_step_outcome step_outcome element number line = omega arith

@@ -126,14 +126,14 @@ module _ (plan : BootPlan) (logs : List (List LogEntry)) (first : Parts) (statio
         claims = record {
           own = of_each index (λ d. d.runs) stations;
           lines = lines_all index (λ d. d.runs) (λ a. a.put) (λ d. refl) stations;
-          ascend = all_in_order index (λ d. d.runs) plan (λ log s l. runs_up index s l.small.0 l.large.0) logs stations w.left;
+          ascend = all_in_order index (λ d. d.runs) plan (λ log s l. runs_up index s l.queues) logs stations w.left;
           order = c.listed.runs;
           listed = subst (λ (z : List Batch). IsListed v.seen.object.first v.seen.object.places c.listed.runs (z ∷ [])) runs c.listed.runs_are;
         };
         takings = record {
           own = of_each index (λ d. d.takes) stations;
           lines = lines_all index (λ d. d.takes) (λ a. a.taken) (λ d. refl) stations;
-          ascend = all_in_order index (λ d. d.takes) plan (λ log s l. takes_up index s l.small.1 l.large.1) logs stations w.left;
+          ascend = all_in_order index (λ d. d.takes) plan (λ log s l. takes_up index s l.queues) logs stations w.left;
           order = c.listed.takes;
           listed = subst (λ (n : ℕ). IsListed v.seen.object.first (take n v.seen.object.places) c.listed.takes ((joined (of_each index (λ d. d.takes) stations) ++ flat_map takings_of (map view_of others)) ∷ [])) (sym c.taken_is)
               (subst (λ (z : List Batch). IsListed v.seen.object.first (take v.seen.object.taken v.seen.object.places) c.listed.takes (z ∷ [])) takes c.listed.takes_are);

@@ -3,7 +3,7 @@ use Rattle.boot_laws.proofs.Common.{◌≡◌, ℕ, true, false, List, [], ◌�
 use Rattle.claim_queue.specs.declared.rule.QueueOps.{QueueOps}
 use Rattle.claim_queue.specs.Handles.{view_of}
 use Rattle.claim_queue.specs.Lines.{line_of}
-use Rattle.processor.specs.Logs.{knows_shut}
+use Rattle.turn_io.specs.Accounts.{know_shut}
 use Rattle.table_theory.specs.Interleaving.{joined}
 use Rattle.boot_laws.proofs.Joined.{at_its, stays}
 use Rattle.boot_laws.proofs.Queues.Dids.{end_at, did_at, lines_are, its_did}
@@ -37,15 +37,15 @@ module _ (index : QueueIndex) (f : QueueOps → List Batch) where
 -- WHAT ENDS KNOW
 
 abbrev KnowsShut : QueueIndex → Parts → Type 0
-KnowsShut index parts = knows_shut parts index ≡ true
+KnowsShut index parts = know_shut parts.queues index ≡ true
 
 knows_still : (index : QueueIndex) (a b c : Parts) → AreJoined a b c → KnowsShut index a → KnowsShut index c
-knows_still (Small q) a b c j h = j.small.known q h
-knows_still (Large q) a b c j h = j.large.known q h
+knows_still (Small q) a b c j h = j.queues.small.known q h
+knows_still (Large q) a b c j h = j.queues.large.known q h
 
 knows_too : (index : QueueIndex) (a b c : Parts) → AreJoined a b c → KnowsShut index b → KnowsShut index c
-knows_too (Small q) a b c j h = j.small.others_known q h
-knows_too (Large q) a b c j h = j.large.others_known q h
+knows_too (Small q) a b c j h = j.queues.small.others_known q h
+knows_too (Large q) a b c j h = j.queues.large.others_known q h
 
 module _ (index : QueueIndex) where
   -- the last station knows that a queue is shut if a log reports so
@@ -56,6 +56,6 @@ module _ (index : QueueIndex) where
   all_told plan P (l ∷ ls) first (s ∷ ss) last z j h =
       (λ is. h (stays (KnowsShut index) (knows_still index) j.0 ss last j.2 (knows_too index first s j.0 j.1 (z.0.reported index is))), all_told plan P ls j.0 ss last z.1 j.2 h)
 
-pub its_knowing : (index : QueueIndex) (parts : Parts) (end : QueueEnd (room_of index)) → end_at index parts ≡ Some end → knows_shut parts index ≡ end_knows_shut end
-its_knowing (Small q) parts end e = at_its end_knows_shut parts.small.items q end false e
-its_knowing (Large q) parts end e = at_its end_knows_shut parts.large.items q end false e
+pub its_knowing : (index : QueueIndex) (parts : Parts) (end : QueueEnd (room_of index)) → end_at index parts ≡ Some end → know_shut parts.queues index ≡ end_knows_shut end
+its_knowing (Small q) parts end e = at_its end_knows_shut parts.queues.small.items q end false e
+its_knowing (Large q) parts end e = at_its end_knows_shut parts.queues.large.items q end false e

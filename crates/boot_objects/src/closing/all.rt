@@ -10,7 +10,7 @@ use crate::closing::homing::close_chains;
 use crate::closing::queues::close_queues;
 use crate::closing::tables::{close_meters, close_threads};
 use boot_data::{BootPlan, HeardLines};
-use claim_queue::{Closed, QueueEnd};
+use claim_queue::Closed;
 use event_theory::OutOfMemory;
 use meters::Metered;
 use processor::{Parts, Shared};
@@ -18,6 +18,7 @@ use quajects::{Came, Home, Queues};
 use std::alloc::Global;
 use std::snapshot::Snapshot;
 use thread_table::{Place, Places};
+use turn_io::QueueEnds;
 
 /// Empty lists with room for the answers of closing all.
 #[derive(Drop)]
@@ -48,7 +49,7 @@ impl Answers {
 }
 
 /// The final state of all objects: the numbers of each quaject, in the order of the chains; the items put, taken and
-/// left of each queue; the thread elements; the meters; and the lines heard and the signals shown. The last three
+/// left of each queue; the thread elements; the meters; and the lines heard and the signals shown. The last two
 /// fields are for the contract alone: the ends that closed all, as they came, and the last end of each queue. Only
 /// `close_all` makes one, and nobody changes it: a report is made from what was closed.
 #[derive(Drop)]
@@ -62,8 +63,7 @@ pub struct TornDown {
     signals: [u16; 64],
     plan: BootPlan,
     last: Snapshot<Parts>,
-    small_ends: Snapshot<Vec<QueueEnd<64>>>,
-    large_ends: Snapshot<Vec<QueueEnd<256>>>,
+    ends: Snapshot<QueueEnds>,
 }
 
 impl TornDown {
@@ -152,9 +152,8 @@ pub fn close_all(shared: Shared, parts: Parts, answers: Answers) -> TornDown
     } = shared;
     let Parts {
         hand,
-        small: mut small_list,
-        large: mut large_list,
-        chains: chain_list,
+        queues: mut ends,
+        chains: chain_ends,
         meters: seat,
         heard,
         signals,
@@ -162,26 +161,23 @@ pub fn close_all(shared: Shared, parts: Parts, answers: Answers) -> TornDown
     let counts = close_chains(
         &queues,
         chains,
-        chain_list,
-        small_list.as_mut_slice(),
-        large_list.as_mut_slice(),
+        chain_ends,
+        &mut ends,
         answers.homes,
         answers.counts,
     );
-    let small_ends = Snapshot::of(&small_list);
-    let large_ends = Snapshot::of(&large_list);
+    let last_ends = Snapshot::of(&ends);
     let Queues { small, large } = queues;
     TornDown {
         counts,
-        small: close_queues(small, small_list, answers.small),
-        large: close_queues(large, large_list, answers.large),
+        small: close_queues(small, ends.small, answers.small),
+        large: close_queues(large, ends.large, answers.large),
         threads: close_threads(threads, hand),
         meters: close_meters(meters, seat),
         heard,
         signals,
         plan,
         last,
-        small_ends,
-        large_ends,
+        ends: last_ends,
     }
 }

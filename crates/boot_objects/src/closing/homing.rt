@@ -2,9 +2,10 @@
 ghost use Rattle.std.specs.Prelude.{◌≡◌, ◌≤◌, [], ◌∷◌, length, vec_capacity};
 ghost use Rattle.std.specs.List.{All};
 ghost use Rattle.boot_objects.specs.Comings.{FitsHome, small_ports, large_ports};
-ghost use Rattle.boot_objects.specs.Gains.{Gained};
+ghost use Rattle.boot_objects.specs.Gains.{Gained, QueuesGained};
 ghost use Rattle.boot_objects.specs.Retirals.{HaveRetired, IsFew};
 ghost use Rattle.turn_io.specs.EndLists.{AreChainEndsOf, AreChainsOver, AreEndsOf, AreSameEnds};
+ghost use Rattle.turn_io.specs.QueueEnds.{AreQueueEndsOf, AreSameQueueEnds};
 ghost use Rattle.proc_chain.specs.Handles.{IsOnlyEnd};
 ghost use Rattle.quajects.specs.Homes.{home_in, homes_in};
 ghost use Rattle.quajects.specs.Ports.{AllFit};
@@ -14,6 +15,7 @@ use crate::closing::joining::join_port_at;
 use claim_queue::{ClaimQueue, QueueEnd};
 use proc_chain::{ChainEnd, ProcChain};
 use quajects::{AnyQuaject, Came, Home, Port, Queues};
+use turn_io::QueueEnds;
 
 // Joins the end of a port, if there is one, to the end of its queue.
 fn join_port<const N: usize>(
@@ -49,30 +51,22 @@ fn join_ports<const N: usize, const K: usize>(
     }
 }
 
-/// Joins the ends of a quaject that came home, each to the end of its queue in the lists. The ends in the lists then
-/// have what the quaject's ends had too. Returns the quaject's numbers. It takes no memory.
+/// Joins the ends of a quaject that came home, each to the end of its queue. The ends here then have what the quaject's
+/// ends had too. Returns the quaject's numbers. It takes no memory.
 ///
-/// Conditions: the ends in the lists are those of the queues, in their order. Each end of the quaject is an end of the
-/// queue that it names.
-pub fn bring_home(
-    queues: &Queues,
-    small: &mut [QueueEnd<64>],
-    large: &mut [QueueEnd<256>],
-    home: Home,
-) -> Came
-    requires small { AreEndsOf queues.now.small.items small.old }
-    requires large { AreEndsOf queues.now.large.items large.old }
+/// Conditions: the ends here are those of the queues, in their order. Each end of the quaject is an end of the queue that
+/// it names.
+pub fn bring_home(queues: &Queues, ends: &mut QueueEnds, home: Home) -> Came
+    requires ends { AreQueueEndsOf queues.now ends.old }
     requires fits { FitsHome queues.now home }
-    ensures handle { AreSameEnds small.old small.new × AreSameEnds large.old large.new }
-    ensures small { AreEndsOf queues.now.small.items small.new }
-    ensures large { AreEndsOf queues.now.large.items large.new }
-    ensures small_gained { Gained home.small small.old small.new }
-    ensures large_gained { Gained home.large large.old large.new }
+    ensures handle { AreSameQueueEnds ends.old ends.new }
+    ensures ends { AreQueueEndsOf queues.now ends.new }
+    ensures gained { QueuesGained home.small home.large ends.old ends.new }
     ensures came { home_in result ≡ home }
 {
-    let ((mine, others), came) = home.take_apart();
-    join_ports(queues.small.as_slice(), small, mine);
-    join_ports(queues.large.as_slice(), large, others);
+    let ((small, large), came) = home.take_apart();
+    join_ports(queues.small.as_slice(), ends.small.as_mut_slice(), small);
+    join_ports(queues.large.as_slice(), ends.large.as_mut_slice(), large);
     came
 }
 
@@ -82,25 +76,21 @@ pub fn bring_home(
 /// Conditions: those of `bring_home`, for each.
 pub fn bring_all_home(
     queues: &Queues,
-    small: &mut [QueueEnd<64>],
-    large: &mut [QueueEnd<256>],
+    ends: &mut QueueEnds,
     homes: Vec<Home>,
     counts: Vec<Came>,
 ) -> Vec<Came>
-    requires small { AreEndsOf queues.now.small.items small.old }
-    requires large { AreEndsOf queues.now.large.items large.old }
+    requires ends { AreQueueEndsOf queues.now ends.old }
     requires fits { All (FitsHome queues.now) homes.items }
     requires room { (counts.items ≡ []) × (length homes.items ≤ vec_capacity counts) }
-    ensures handle { AreSameEnds small.old small.new × AreSameEnds large.old large.new }
-    ensures small { AreEndsOf queues.now.small.items small.new }
-    ensures large { AreEndsOf queues.now.large.items large.new }
-    ensures small_gained { Gained (small_ports homes.items) small.old small.new }
-    ensures large_gained { Gained (large_ports homes.items) large.old large.new }
+    ensures handle { AreSameQueueEnds ends.old ends.new }
+    ensures ends { AreQueueEndsOf queues.now ends.new }
+    ensures gained { QueuesGained (small_ports homes.items) (large_ports homes.items) ends.old ends.new }
     ensures came { homes_in result.items ≡ homes.items }
 {
     let mut counts = counts;
     for home in homes {
-        counts.push_reserved(bring_home(queues, small, large, home));
+        counts.push_reserved(bring_home(queues, ends, home));
     }
     counts
 }
@@ -108,33 +98,29 @@ pub fn bring_all_home(
 /// Closes each chain by its only end, and brings all quajects home. Their numbers go into `counts`, in the order of the
 /// chains. `homes` and `counts` are empty and have room for all, so it takes no memory.
 ///
-/// Conditions: the queues are the world of the chains. The ends of queues in the lists are those of the queues, in
-/// their order. The ends of chains are those of the chains, in their order and without a Turn, and each has the whole
-/// of its chain.
+/// Conditions: the queues are the world of the chains. The ends of queues are those of the queues, in their order. The
+/// ends of chains are those of the chains, in their order and without a Turn, and each has the whole of its chain.
 pub fn close_chains(
     queues: &Queues,
     chains: Vec<ProcChain<AnyQuaject>>,
-    ends: Vec<ChainEnd<AnyQuaject>>,
-    small: &mut [QueueEnd<64>],
-    large: &mut [QueueEnd<256>],
+    chain_ends: Vec<ChainEnd<AnyQuaject>>,
+    ends: &mut QueueEnds,
     homes: Vec<Home>,
     counts: Vec<Came>,
 ) -> Vec<Came>
     requires world { AreChainsOver queues.now chains.items }
-    requires ends { AreChainEndsOf chains.items ends.items }
-    requires whole { All IsOnlyEnd ends.items }
-    requires small { AreEndsOf queues.now.small.items small.old }
-    requires large { AreEndsOf queues.now.large.items large.old }
+    requires chain_ends { AreChainEndsOf chains.items chain_ends.items }
+    requires whole { All IsOnlyEnd chain_ends.items }
+    requires ends { AreQueueEndsOf queues.now ends.old }
     requires homes_room { (homes.items ≡ []) × (length chains.items ≤ vec_capacity homes) }
     requires counts_room { (counts.items ≡ []) × (length chains.items ≤ vec_capacity counts) }
-    ensures homes { HaveRetired chains.items ends.items (homes_in result.items) }
+    ensures homes { HaveRetired chains.items chain_ends.items (homes_in result.items) }
     ensures few { All IsFew (homes_in result.items) }
-    ensures handle { AreSameEnds small.old small.new × AreSameEnds large.old large.new }
-    ensures small { AreEndsOf queues.now.small.items small.new }
-    ensures large { AreEndsOf queues.now.large.items large.new }
-    ensures small_gained { Gained (small_ports (homes_in result.items)) small.old small.new }
-    ensures large_gained { Gained (large_ports (homes_in result.items)) large.old large.new }
+    ensures handle { AreSameQueueEnds ends.old ends.new }
+    ensures ends { AreQueueEndsOf queues.now ends.new }
+    ensures gained { QueuesGained (small_ports (homes_in result.items)) (large_ports (homes_in result.items)) ends.old
+        ends.new }
 {
-    let homes = retire_all(chains, ends, homes);
-    bring_all_home(queues, small, large, homes, counts)
+    let homes = retire_all(chains, chain_ends, homes);
+    bring_all_home(queues, ends, homes, counts)
 }

@@ -17,7 +17,7 @@ fn join_raw(shared: &Shared, parts: &mut Parts, raw: usize, chain: usize, tty: R
 {
     let (end, chain_end) = tty.into_parts();
     let queues = shared.queues.small.as_slice();
-    join_at(queues, parts.small.as_mut_slice(), raw, end);
+    join_at(queues, parts.queues.small.as_mut_slice(), raw, end);
     let chains = shared.chains.as_slice();
     join_chain_at(chains, parts.chains.as_mut_slice(), chain, chain_end);
 }

@@ -1,12 +1,13 @@
 //! Queues with an end of each, a pump over two of them, and a gate that keeps the points at which it is called.
-ghost use Rattle.std.specs.Prelude.{◌≡◌, ◌≤◌, ◌<◌, length, IfOk};
+ghost use Rattle.std.specs.Prelude.{◌≡◌, ◌≤◌, length, IfOk};
 ghost use Rattle.std.specs.List.{All};
 ghost use Rattle.claim_queue.specs.Handles.{view_of};
 ghost use Rattle.quajects.specs.Ports.{IsEndAt, IsUnused};
 ghost use Rattle.turn_io.specs.EndLists.{IsIdle, chain_table, chain_end_table};
 ghost use Rattle.turn_io.specs.EndLists.{AreEndsOf, AreChainEndsOf, AreChainsOver, IsDivisible, IsChainDivisible};
+ghost use Rattle.turn_io.specs.QueueEnds.{AreQueueEndsOf, AreQueuesDivisible, HaveRoomFor, IsThere};
 
-use arrayvec::ArrayVec;
+use boot_data::plan::QueueIndex;
 use claim_queue::{ClaimQueue, ClaimRefusal, QueueEnd, TakeRefusal};
 use event_theory::OutOfMemory;
 use proc_chain::{ChainEnd, ChainRefusal, ProcChain};
@@ -15,23 +16,23 @@ use std::alloc::Global;
 use std::panic::Expect;
 use std::process::Abort;
 use std::sync::Wait;
-use turn_io::{Gate, NoGate, Point, Poked, hear, poke, say};
+use turn_io::{Gate, LineRoom, NoGate, Point, Poked, QueueEnds, poke};
 
 pub(crate) type Chain = ProcChain<AnyQuaject>;
 
 pub(crate) type End = ChainEnd<AnyQuaject>;
 
-/// Two queues with an end of each, and other ends.
+/// Two queues of one size, with an end of each.
 #[derive(Drop)]
-pub(crate) struct TwoQueues<const N: usize> {
-    pub(crate) queues: Vec<ClaimQueue<N>>,
-    pub(crate) ends: Vec<QueueEnd<N>>,
+struct TwoOfASize<const N: usize> {
+    queues: Vec<ClaimQueue<N>>,
+    ends: Vec<QueueEnd<N>>,
     ghost fit: { AreEndsOf queues.items ends.items },
     ghost two: { length queues.items ≡ 2 },
     ghost parts: { All IsDivisible ends.items },
 }
 
-pub(crate) fn two_queues<R: Abort, const N: usize>(rt: &R, alloc: Global) -> TwoQueues<N>
+fn two_of_a_size<R: Abort, const N: usize>(rt: &R, alloc: Global) -> TwoOfASize<N>
     requires { (1 ≤ N) × (N ≤ 256) }
 {
     let (first, a) = ClaimQueue::new(alloc, 0).expect(rt, "memory");
@@ -42,20 +43,55 @@ pub(crate) fn two_queues<R: Abort, const N: usize>(rt: &R, alloc: Global) -> Two
     let mut ends = Vec::new(alloc);
     ends.push(a).expect(rt, "memory");
     ends.push(b).expect(rt, "memory");
-    TwoQueues { queues, ends }
+    TwoOfASize { queues, ends }
+}
+
+/// Two small queues and two large ones, with an end of each.
+#[derive(Drop)]
+pub(crate) struct TwoQueues {
+    pub(crate) world: Queues,
+    pub(crate) ends: QueueEnds,
+    ghost fit: { AreQueueEndsOf world ends },
+    ghost two: { (length world.small.items ≡ 2) × (length world.large.items ≡ 2) },
+    ghost parts: { AreQueuesDivisible ends },
+}
+
+pub(crate) fn two_queues<R: Abort>(rt: &R, alloc: Global) -> TwoQueues {
+    let small = two_of_a_size::<_, 64>(rt, alloc);
+    let large = two_of_a_size::<_, 256>(rt, alloc);
+    TwoQueues {
+        world: Queues {
+            small: small.queues,
+            large: large.queues,
+        },
+        ends: QueueEnds {
+            small: small.ends,
+            large: large.ends,
+        },
+    }
+}
+
+/// Empty lists, with room for an end of each queue.
+pub(crate) fn room_for<R: Abort>(rt: &R, alloc: Global, world: &Queues) -> QueueEnds
+    ensures { HaveRoomFor world.now result }
+{
+    QueueEnds {
+        small: Vec::with_capacity(alloc, world.small.len()).expect(rt, "memory"),
+        large: Vec::with_capacity(alloc, world.large.len()).expect(rt, "memory"),
+    }
 }
 
 /// A pump from the first of two small queues to the second, with an end of each queue and two of its chain.
 #[derive(Drop)]
 pub(crate) struct Pumped {
     pub(crate) world: Queues,
-    pub(crate) ends: Vec<QueueEnd<64>>,
+    pub(crate) ends: QueueEnds,
     pub(crate) chains: Vec<Chain>,
     pub(crate) chain_ends: Vec<End>,
     pub(crate) other: End,
-    ghost fit: { AreEndsOf world.small.items ends.items },
+    ghost fit: { AreQueueEndsOf world ends },
     ghost two: { length world.small.items ≡ 2 },
-    ghost ends_divide: { All IsDivisible ends.items },
+    ghost ends_divide: { All IsDivisible ends.small.items },
     ghost chains_fit: { AreChainEndsOf chains.items chain_ends.items },
     ghost one: { length chains.items ≡ 1 },
     ghost over: { AreChainsOver world chains.items },
@@ -131,10 +167,13 @@ pub(crate) fn make_pump(alloc: Global) -> Result<Pumped, OutOfMemory> {
         source,
         target,
     } = make_pipe(alloc)?;
-    let large = Vec::new(alloc);
     let world = Queues {
         small: queues,
-        large,
+        large: Vec::new(alloc),
+    };
+    let ends = QueueEnds {
+        small: ends,
+        large: Vec::new(alloc),
     };
     let (chains, chain_ends, other) = chain_pump(alloc, &world, source, target)?;
     Ok(Pumped {
@@ -169,62 +208,65 @@ impl Gate for Recorder {
 }
 
 /// Puts the items in the queue with this index, on this processor with this gate.
-pub(crate) fn puts_by<G: Gate, const N: usize>(
-    queues: &[ClaimQueue<N>],
-    ends: &mut Vec<QueueEnd<N>>,
-    index: usize,
+pub(crate) fn puts_by<G: Gate>(
+    world: &Queues,
+    ends: &mut QueueEnds,
+    queue: QueueIndex,
     items: &[u64],
     p: u8,
     gate: &mut G,
 ) -> Result<(), ClaimRefusal>
-    requires { AreEndsOf queues.now ends.old.items × (index < length queues.now) }
-    ensures { AreEndsOf queues.now ends.new.items }
+    requires { AreQueueEndsOf world.now ends.old × IsThere world.now queue }
+    ensures { AreQueueEndsOf world.now ends.new }
 {
-    say(queues, ends, index, items, p, gate)
+    ends.say(world, queue, items, p, gate)
 }
 
 /// Puts the items in the queue with this index.
-pub(crate) fn puts<const N: usize>(
-    queues: &[ClaimQueue<N>],
-    ends: &mut Vec<QueueEnd<N>>,
-    index: usize,
+pub(crate) fn puts(
+    world: &Queues,
+    ends: &mut QueueEnds,
+    queue: QueueIndex,
     items: &[u64],
 ) -> Result<(), ClaimRefusal>
-    requires { AreEndsOf queues.now ends.old.items × (index < length queues.now) }
-    ensures { AreEndsOf queues.now ends.new.items }
+    requires { AreQueueEndsOf world.now ends.old × IsThere world.now queue }
+    ensures { AreQueueEndsOf world.now ends.new }
 {
-    say(queues, ends, index, items, 0, &mut NoGate)
+    puts_by(world, ends, queue, items, 0, &mut NoGate)
 }
 
 /// Takes a line from the queue with this index, on this processor with this gate: the answer, and whether it has these
 /// items.
 pub(crate) fn takes_by<G: Gate>(
-    queues: &[ClaimQueue<64>],
-    ends: &mut Vec<QueueEnd<64>>,
-    index: usize,
+    world: &Queues,
+    ends: &mut QueueEnds,
+    queue: QueueIndex,
     items: &[u64],
     p: u8,
     gate: &mut G,
 ) -> (Result<(), TakeRefusal>, bool)
-    requires { AreEndsOf queues.now ends.old.items × (index < length queues.now) }
-    ensures { AreEndsOf queues.now ends.new.items }
+    requires { AreQueueEndsOf world.now ends.old × IsThere world.now queue }
+    ensures { AreQueueEndsOf world.now ends.new }
 {
-    let mut line = ArrayVec::new();
-    let taken = hear(queues, ends, index, &mut line, p, gate);
-    (taken, line.as_slice() == items)
+    let mut room = LineRoom::new();
+    let taken = ends.hear(world, queue, &mut room, p, gate);
+    (taken, room.line.as_slice() == items)
 }
 
 /// Whether a line of these items is taken from the queue with this index.
-pub(crate) fn takes(
-    queues: &[ClaimQueue<64>],
-    ends: &mut Vec<QueueEnd<64>>,
-    index: usize,
-    items: &[u64],
-) -> bool
-    requires { AreEndsOf queues.now ends.old.items × (index < length queues.now) }
-    ensures { AreEndsOf queues.now ends.new.items }
+pub(crate) fn takes(world: &Queues, ends: &mut QueueEnds, queue: QueueIndex, items: &[u64]) -> bool
+    requires { AreQueueEndsOf world.now ends.old × IsThere world.now queue }
+    ensures { AreQueueEndsOf world.now ends.new }
 {
-    takes_by(queues, ends, index, items, 0, &mut NoGate) == (Ok(()), true)
+    takes_by(world, ends, queue, items, 0, &mut NoGate) == (Ok(()), true)
+}
+
+/// Shuts the queue with this index, and returns whether it was open.
+pub(crate) fn shuts_it(world: &Queues, ends: &mut QueueEnds, queue: QueueIndex) -> bool
+    requires { AreQueueEndsOf world.now ends.old × IsThere world.now queue }
+    ensures { AreQueueEndsOf world.now ends.new }
+{
+    ends.shut(world, queue)
 }
 
 /// Pokes the only chain, on this processor with this gate.
@@ -268,33 +310,29 @@ pub(crate) type Seen = (
 /// As many items as a small queue has places.
 pub(crate) const SIXTY_FOUR: &[u64] = &[7; 64];
 
-/// A gate that tries at each point, at other ends, to put as many items as a queue has places and then to take a line.
+/// A gate that tries at each point, at other ends of a small queue, to put as many items as it has places and then to take
+/// a line.
 /// It keeps the answers, which show how far a step is when the gate is called.
 #[derive(Drop)]
 pub(crate) struct Watcher<'a> {
-    pub(crate) queues: &'a [ClaimQueue<64>],
-    pub(crate) ends: Vec<QueueEnd<64>>,
-    pub(crate) index: usize,
+    pub(crate) world: &'a Queues,
+    pub(crate) ends: QueueEnds,
+    pub(crate) small: usize,
     pub(crate) seen: Vec<Seen>,
-    ghost fit: { AreEndsOf queues.now ends.items },
-    ghost known: { index < length queues.now },
+    ghost fit: { AreQueueEndsOf world.now ends },
+    ghost known: { small < length world.now.small.items },
 }
 
 impl<'a> Gate for Watcher<'a> {
     ghost observes = { λ old p point new. Unit {0} };
 
     fn between(&mut self, _p: u8, point: Point) {
-        let put = puts(self.queues, &mut self.ends, self.index, SIXTY_FOUR);
-        let mut line = ArrayVec::new();
-        let taken = hear(
-            self.queues,
-            &mut self.ends,
-            self.index,
-            &mut line,
-            0,
-            &mut NoGate,
-        );
-        let _short = self.seen.push((point, put, taken, line.len()));
+        let queue = QueueIndex::Small(self.small);
+        let put = puts(self.world, &mut self.ends, queue, SIXTY_FOUR);
+        let mut room = LineRoom::new();
+        let ends = &mut self.ends;
+        let taken = ends.hear(self.world, queue, &mut room, 0, &mut NoGate);
+        let _short = self.seen.push((point, put, taken, room.line.len()));
     }
 }
 

@@ -4,10 +4,11 @@ ghost use Rattle.turn_io.specs.EndLists.{AreEndsOf, AreChainEndsOf, AreChainsOve
 
 use crate::at_ends::fixtures::{
     Chain, End, Poker, Pumped, Recorder, SIXTY_FOUR, TwoQueues, Watcher, make_pump, pokes_by,
-    pokes_it, puts, puts_by, takes, takes_by, two_queues,
+    pokes_it, puts, puts_by, room_for, shuts_it, takes, takes_by, two_queues,
 };
 use crate::fixtures::{close_queue, turn_for};
 use arrayvec::ArrayVec;
+use boot_data::plan::QueueIndex;
 use claim_queue::{ClaimQueue, ClaimRefusal, QueueEnd, TakeRefusal};
 use event_theory::OutOfMemory;
 use proc_chain::ChainRefusal;
@@ -19,16 +20,39 @@ use std::sync::Wait;
 use std::test::*;
 use turn_io::*;
 
+/// The first and the second small queue, and the first large one.
+const FIRST: QueueIndex = QueueIndex::Small(0);
+
+const SECOND: QueueIndex = QueueIndex::Small(1);
+
+const LARGE: QueueIndex = QueueIndex::Large(0);
+
+/// A line goes through one queue, by one end.
+#[test]
+fn says_and_hears_at_one_end(rt: HostRuntime) {
+    let (queue, mut end) = ClaimQueue::<64>::new(rt.alloc(), 0).expect(&rt, "memory");
+    let mut gate = Recorder::new(rt.alloc());
+    assert!(rt; say(&queue, &mut end, &[104, 10], 3, &mut gate) == Ok(()));
+    let mut line = ArrayVec::new();
+    assert!(rt; hear(&queue, &mut end, &mut line, 4, &mut gate) == Ok(()));
+    assert!(rt; line.as_slice() == [104, 10].as_slice());
+    let points = [
+        (3, Point::Claimed),
+        (3, Point::Raised),
+        (4, Point::TakeAnswered),
+    ];
+    assert!(rt; gate.points.as_slice() == points.as_slice());
+}
+
 #[test]
 fn says_and_hears(rt: HostRuntime) {
-    let TwoQueues { queues, ends } = two_queues::<_, 64>(&rt, rt.alloc());
+    let TwoQueues { world, ends } = two_queues(&rt, rt.alloc());
     let mut ends = ends;
-    let list = queues.as_slice();
     let mut gate = Recorder::new(rt.alloc());
-    assert!(rt; puts_by(list, &mut ends, 1, &[104, 105, 10], 3, &mut gate) == Ok(()));
-    let none = takes_by(list, &mut ends, 0, &[], 4, &mut gate);
+    assert!(rt; puts_by(&world, &mut ends, SECOND, &[104, 105, 10], 3, &mut gate) == Ok(()));
+    let none = takes_by(&world, &mut ends, FIRST, &[], 4, &mut gate);
     assert!(rt; none == (Err(TakeRefusal::Empty { at: 0 }), true));
-    let heard = takes_by(list, &mut ends, 1, &[104, 105, 10], 3, &mut gate);
+    let heard = takes_by(&world, &mut ends, SECOND, &[104, 105, 10], 3, &mut gate);
     assert!(rt; heard == (Ok(()), true));
     let points = [
         (3, Point::Claimed),
@@ -42,26 +66,26 @@ fn says_and_hears(rt: HostRuntime) {
 /// Other ends find the line claimed and not raised, then raised; and then a line taken.
 #[test]
 fn gate_between_the_parts(rt: HostRuntime) {
-    let TwoQueues { queues, ends } = two_queues::<_, 64>(&rt, rt.alloc());
+    let TwoQueues { world, ends } = two_queues(&rt, rt.alloc());
     let mut ends = ends;
-    let list = queues.as_slice();
-    let others = split_ends(rt.alloc(), list, &mut ends).expect(&rt, "memory");
+    let room = room_for(&rt, rt.alloc(), &world);
+    let others = ends.split_into(&world, room);
     let mut gate = Watcher {
-        queues: list,
+        world: &world,
         ends: others,
-        index: 1,
+        small: 1,
         seen: Vec::new(rt.alloc()),
     };
     let full = Err(ClaimRefusal::Full { head: 3, tail: 0 });
-    assert!(rt; puts_by(list, &mut ends, 1, &[104, 105, 10], 0, &mut gate) == Ok(()));
+    assert!(rt; puts_by(&world, &mut ends, SECOND, &[104, 105, 10], 0, &mut gate) == Ok(()));
     let between = [
         (Point::Claimed, full, Err(TakeRefusal::Empty { at: 0 }), 0),
         (Point::Raised, full, Ok(()), 3),
     ];
     assert!(rt; gate.seen.as_slice() == between.as_slice());
-    assert!(rt; puts(list, &mut ends, 1, &[10]) == Ok(()));
+    assert!(rt; puts(&world, &mut ends, SECOND, &[10]) == Ok(()));
     gate.seen.clear();
-    assert!(rt; takes_by(list, &mut ends, 1, &[10], 0, &mut gate) == (Ok(()), true));
+    assert!(rt; takes_by(&world, &mut ends, SECOND, &[10], 0, &mut gate) == (Ok(()), true));
     let following = [(Point::TakeAnswered, Ok(()), Ok(()), 64)];
     assert!(rt; gate.seen.as_slice() == following.as_slice());
 }
@@ -71,13 +95,11 @@ const FULL: &[u64] = &[7; 256];
 
 #[test]
 fn large_queues(rt: HostRuntime) {
-    let TwoQueues { queues, ends } = two_queues::<_, 256>(&rt, rt.alloc());
+    let TwoQueues { world, ends } = two_queues(&rt, rt.alloc());
     let mut ends = ends;
-    let list = queues.as_slice();
-    assert!(rt; puts(list, &mut ends, 0, FULL) == Ok(()));
-    let mut line = ArrayVec::new();
-    assert!(rt; hear(list, &mut ends, 0, &mut line, 0, &mut NoGate) == Ok(()));
-    assert!(rt; line.as_slice() == FULL);
+    assert!(rt; puts(&world, &mut ends, LARGE, FULL) == Ok(()));
+    assert!(rt; puts(&world, &mut ends, FIRST, FULL) == Err(ClaimRefusal::TooLong));
+    assert!(rt; takes(&world, &mut ends, LARGE, FULL));
 }
 
 /// One item more than a small queue has places.
@@ -85,30 +107,31 @@ const TOO_LONG: &[u64] = &[7; 65];
 
 #[test]
 fn refused_lines(rt: HostRuntime) {
-    let TwoQueues { queues, ends } = two_queues::<_, 64>(&rt, rt.alloc());
+    let TwoQueues { world, ends } = two_queues(&rt, rt.alloc());
     let mut ends = ends;
-    let list = queues.as_slice();
     let mut gate = Recorder::new(rt.alloc());
-    assert!(rt; puts_by(list, &mut ends, 0, SIXTY_FOUR, 0, &mut gate) == Ok(()));
-    let full = puts_by(list, &mut ends, 0, &[10], 0, &mut gate);
+    assert!(rt; puts_by(&world, &mut ends, FIRST, SIXTY_FOUR, 0, &mut gate) == Ok(()));
+    let full = puts_by(&world, &mut ends, FIRST, &[10], 0, &mut gate);
     assert!(rt; full == Err(ClaimRefusal::Full { head: 64, tail: 0 }));
-    let long = puts_by(list, &mut ends, 1, TOO_LONG, 0, &mut gate);
+    let long = puts_by(&world, &mut ends, SECOND, TOO_LONG, 0, &mut gate);
     assert!(rt; long == Err(ClaimRefusal::TooLong));
-    let empty = puts_by(list, &mut ends, 1, &[], 0, &mut gate);
+    let empty = puts_by(&world, &mut ends, SECOND, &[], 0, &mut gate);
     assert!(rt; empty == Err(ClaimRefusal::NoItems));
     assert!(rt; gate.points.len() == 2);
 }
 
 #[test]
 fn shuts(rt: HostRuntime) {
-    let TwoQueues { queues, ends } = two_queues::<_, 64>(&rt, rt.alloc());
+    let TwoQueues { world, ends } = two_queues(&rt, rt.alloc());
     let mut ends = ends;
-    assert!(rt; shut_queue(queues.as_slice(), &mut ends, 1));
-    assert!(rt; !shut_queue(queues.as_slice(), &mut ends, 1));
-    assert!(rt; puts(queues.as_slice(), &mut ends, 1, &[10]) == Err(ClaimRefusal::Closed));
-    let heard = takes_by(queues.as_slice(), &mut ends, 1, &[], 0, &mut NoGate);
+    assert!(rt; shuts_it(&world, &mut ends, SECOND));
+    assert!(rt; !shuts_it(&world, &mut ends, SECOND));
+    assert!(rt; puts(&world, &mut ends, SECOND, &[10]) == Err(ClaimRefusal::Closed));
+    let heard = takes_by(&world, &mut ends, SECOND, &[], 0, &mut NoGate);
     assert!(rt; heard == (Err(TakeRefusal::Closed), true));
-    assert!(rt; puts(queues.as_slice(), &mut ends, 0, &[10]) == Ok(()));
+    assert!(rt; puts(&world, &mut ends, FIRST, &[10]) == Ok(()));
+    assert!(rt; shuts_it(&world, &mut ends, LARGE));
+    assert!(rt; puts(&world, &mut ends, LARGE, &[10]) == Err(ClaimRefusal::Closed));
 }
 
 /// A pump moves the line that was said; without a line it runs its note all the same.
@@ -123,11 +146,11 @@ fn pokes(rt: HostRuntime) {
     } = make_pump(rt.alloc()).expect(&rt, "memory");
     let (mut ends, mut chain_ends) = (ends, chain_ends);
     let mut gate = Recorder::new(rt.alloc());
-    let (small, list) = (world.small.as_slice(), chains.as_slice());
-    assert!(rt; puts(small, &mut ends, 0, &[104, 10]) == Ok(()));
+    let list = chains.as_slice();
+    assert!(rt; puts(&world, &mut ends, FIRST, &[104, 10]) == Ok(()));
     let poked = pokes_by(&rt, &world, list, &mut chain_ends, 5, &mut gate);
     assert!(rt; poked == Ok(Poked::Ran { notes: 1 }));
-    assert!(rt; takes(small, &mut ends, 1, &[104, 10]));
+    assert!(rt; takes(&world, &mut ends, SECOND, &[104, 10]));
     let poked = pokes_by(&rt, &world, list, &mut chain_ends, 5, &mut gate);
     assert!(rt; poked == Ok(Poked::Ran { notes: 1 }));
     let points = [(5, Point::Chained), (5, Point::Chained)];
@@ -208,15 +231,15 @@ fn gate_before_the_turn(rt: HostRuntime) {
 /// A line that is said at the other ends is heard at these, and all ends are joined again.
 #[test]
 fn splits_and_joins(rt: HostRuntime) {
-    let TwoQueues { queues, ends } = two_queues::<_, 64>(&rt, rt.alloc());
+    let TwoQueues { world, ends } = two_queues(&rt, rt.alloc());
     let mut ends = ends;
-    let list = queues.as_slice();
-    let mut others = split_ends(rt.alloc(), list, &mut ends).expect(&rt, "memory");
-    assert!(rt; others.len() == 2);
-    assert!(rt; puts(list, &mut others, 1, &[104, 10]) == Ok(()));
-    assert!(rt; takes(list, &mut ends, 1, &[104, 10]));
-    join_ends(list, &mut ends, others);
-    let mut queues = queues;
+    let room = room_for(&rt, rt.alloc(), &world);
+    let mut others = ends.split_into(&world, room);
+    assert!(rt; (others.small.len(), others.large.len()) == (2, 2));
+    assert!(rt; puts(&world, &mut others, SECOND, &[104, 10]) == Ok(()));
+    assert!(rt; takes(&world, &mut ends, SECOND, &[104, 10]));
+    ends.join(&world, others);
+    let (mut queues, mut ends) = (world.small, ends.small);
     let (Some(queue), Some(end)) = (queues.pop(), ends.pop()) else {
         panic!(rt; "two")
     };
@@ -285,9 +308,9 @@ fn split_and_poke<R: Abort + Wait>(rt: &R, alloc: Global, pumped: Pumped) {
         other: _,
     } = pumped;
     let (mut ends, mut chain_ends) = (ends, chain_ends);
-    let (small, list) = (world.small.as_slice(), chains.as_slice());
-    ends_split_or_not(rt, alloc, small, &mut ends);
-    assert!(rt; puts(small, &mut ends, 0, &[10]) == Ok(()));
+    let list = chains.as_slice();
+    ends_split_or_not(rt, alloc, world.small.as_slice(), &mut ends.small);
+    assert!(rt; puts(&world, &mut ends, FIRST, &[10]) == Ok(()));
     chain_ends_split_or_not(rt, alloc, list, &mut chain_ends);
     assert!(rt; pokes_it(rt, &world, list, &mut chain_ends) == Ok(Poked::Ran { notes: 1 }));
 }

@@ -1,18 +1,20 @@
 //! The acts of another processor at a point of this one's turn.
-ghost use Rattle.std.specs.Prelude.{◌≡◌, ◌<◌, length};
+ghost use Rattle.std.specs.Prelude.{◌≡◌};
+ghost use Rattle.boot_data.specs.declared.plan.QueueIndex.TheVariants.{Small};
 ghost use Rattle.thread_table.specs.Handles.{IsHandOf};
-ghost use Rattle.turn_io.specs.EndLists.{AreEndsOf};
+ghost use Rattle.turn_io.specs.QueueEnds.{AreQueueEndsOf, IsThere};
 ghost use Rattle.processor.specs.Manning.{IsRunnable};
 ghost use Rattle.processor.specs.Stations.{ArePartsOf};
 
 use super::partings::stand_two;
 use super::*;
+use boot_data::plan::QueueIndex;
 use event_theory::{Alarm, WaitNumber};
 use meters::AdvanceRefusal;
 use processor::{TurnGate, TurnOutcome};
 use std::test::*;
 use turn_dispatch::wake;
-use turn_io::{Gate, Point, say, shut_queue};
+use turn_io::{Gate, Point, QueueEnds};
 
 /// A gate that acts after each try of a hear: it says a line in the first queue, or shuts it, and wakes those who wait
 /// to hear.
@@ -20,12 +22,12 @@ use turn_io::{Gate, Point, say, shut_queue};
 struct Sayer<'r, 's, R: Wait> {
     rt: &'r R,
     shared: &'s Shared,
-    ends: Vec<QueueEnd<64>>,
+    ends: QueueEnds,
     hand: Hand,
     wait: WaitNumber,
     shuts: bool,
-    ghost fit: { AreEndsOf shared.now.queues.small.items ends.items },
-    ghost known: { 0 < length shared.now.queues.small.items },
+    ghost fit: { AreQueueEndsOf shared.now.queues ends },
+    ghost known: { IsThere shared.now.queues (Small 0) },
     ghost hand_fits: { IsHandOf shared.now.threads hand },
 }
 
@@ -33,15 +35,17 @@ struct Sayer<'r, 's, R: Wait> {
 const LINE: &[u64] = &[0x17A, 0x0A];
 
 /// Says the line in the first queue, or shuts it.
-fn say_or_shut(queues: &[ClaimQueue<64>], ends: &mut Vec<QueueEnd<64>>, shuts: bool)
-    requires ends { AreEndsOf queues.now ends.old.items }
-    requires known { 0 < length queues.now }
-    ensures { AreEndsOf queues.now ends.new.items }
+#[tactic(auto, using(crate::proofs::Ends::still_ends))]
+fn say_or_shut(queues: &Queues, ends: &mut QueueEnds, shuts: bool)
+    requires ends { AreQueueEndsOf queues.now ends.old }
+    requires known { IsThere queues.now (Small 0) }
+    ensures { AreQueueEndsOf queues.now ends.new }
 {
+    let first = QueueIndex::Small(0);
     if shuts {
-        let _open = shut_queue(queues, ends.as_mut_slice(), 0);
+        let _open = ends.shut(queues, first);
     } else {
-        let _said = say(queues, ends.as_mut_slice(), 0, LINE, 0, &mut NoGate);
+        let _said = ends.say(queues, first, LINE, 0, &mut NoGate);
     }
 }
 
@@ -52,8 +56,7 @@ impl<'r, 's, R: Wait> Gate for Sayer<'r, 's, R> {
         if point != Point::TakeAnswered {
             return;
         }
-        let queues = self.shared.queues.small.as_slice();
-        say_or_shut(queues, &mut self.ends, self.shuts);
+        say_or_shut(&self.shared.queues, &mut self.ends, self.shuts);
         let _woken = wake(self.rt, &self.shared.threads, &mut self.hand, self.wait);
     }
 }
@@ -71,7 +74,7 @@ impl<'r, 's, R: Wait> TurnGate for Sayer<'r, 's, R> {
 
 /// Makes sure that a queue exists.
 fn must_have_a_queue<R: Abort>(rt: &R, shared: &Shared)
-    ensures { 0 < length shared.now.queues.small.items }
+    ensures { IsThere shared.now.queues (Small 0) }
 {
     if shared.queues.small.as_slice().is_empty() {
         panic!(rt; "no queue");
@@ -97,8 +100,7 @@ fn run_beside<R: Abort + Wait>(
     };
     let Parts {
         hand,
-        small,
-        large,
+        queues: ends,
         chains,
         meters,
         heard,
@@ -107,7 +109,7 @@ fn run_beside<R: Abort + Wait>(
     let mut gate = Sayer {
         rt,
         shared,
-        ends: small,
+        ends,
         hand,
         wait,
         shuts,
@@ -123,8 +125,7 @@ fn run_beside<R: Abort + Wait>(
     } = gate;
     let parts = Parts {
         hand,
-        small: ends,
-        large,
+        queues: ends,
         chains,
         meters,
         heard,

@@ -16,6 +16,7 @@ use meters::Alarm;
 use proc_chain::{ChainEnd, ProcChain};
 use quajects::AnyQuaject;
 use turn_dispatch::make_ready;
+use turn_io::QueueEnds;
 
 /// Takes this many free elements, and makes each ready.
 fn ready_first<R: Wait>(rt: &R, threads: &ThreadTable, hand: &mut Hand, count: usize)
@@ -126,8 +127,8 @@ struct Ends {
 /// retried once.
 fn station_of(alloc: Global, shared: &Shared, ends: Ends) -> Result<Station, OutOfMemory>
     ensures hand { IfOk result (λ s. s.parts.hand ≡ ends.hand) }
-    ensures small { IfOk result (λ s. s.parts.small ≡ ends.small) }
-    ensures large { IfOk result (λ s. s.parts.large ≡ ends.large) }
+    ensures small { IfOk result (λ s. s.parts.queues.small ≡ ends.small) }
+    ensures large { IfOk result (λ s. s.parts.queues.large ≡ ends.large) }
     ensures chains { IfOk result (λ s. s.parts.chains ≡ ends.chains) }
     ensures seat { IfOk result (λ s. s.parts.meters ≡ ends.seat) }
     ensures heard { IfOk result (λ s. s.parts.heard.lines ≡ []) }
@@ -147,8 +148,7 @@ fn station_of(alloc: Global, shared: &Shared, ends: Ends) -> Result<Station, Out
     };
     let Parts {
         hand,
-        small,
-        large,
+        queues: QueueEnds { small, large },
         chains,
         meters: seat,
         heard: _,
@@ -172,8 +172,8 @@ pub(super) fn first_station<R: Abort>(
     requires low { begin.0 ≤ 4294967231 }
     ensures parts { IfOk result (λ r. ArePartsOf r.0 r.1.parts) }
     ensures chains { IfOk result (λ r. r.0.chains ≡ ways.chains) }
-    ensures small { IfOk result (λ r. r.1.parts.small ≡ ways.small) }
-    ensures large { IfOk result (λ r. r.1.parts.large ≡ ways.large) }
+    ensures small { IfOk result (λ r. r.1.parts.queues.small ≡ ways.small) }
+    ensures large { IfOk result (λ r. r.1.parts.queues.large ≡ ways.large) }
     ensures chain_ends { IfOk result (λ r. r.1.parts.chains ≡ ways.ends) }
     ensures hand { IfOk result (λ r. threads.IsDivisible r.1.parts.hand) }
     ensures seat { IfOk result (λ r. seats.IsDivisible r.1.parts.meters) }

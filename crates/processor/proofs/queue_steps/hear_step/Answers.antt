@@ -1,14 +1,33 @@
-use Rattle.processor.proofs.Ordering.{tried_between}
+use Rattle.processor.proofs.Common.{rules, ◌≡◌, true, false, Err, refl, subst}
+use Rattle.claim_queue.specs.declared.take.TakeRefusal.{TakeRefusal}
+use Rattle.claim_queue.specs.declared.take.TakeRefusal.TheVariants as takes
+use Rattle.turn_io.specs.QueueEnds.{HeardAt}
+use Rattle.processor.specs.declared.phases.HearAnswer.TheVariants as hears
+use Rattle.processor.specs.declared.step_outcome.StepOutcome.TheVariants as step_outcomes
+use Rattle.processor.specs.Orders.{count_of}
+use Rattle.processor.specs.Refusals.{is_over}
+use Rattle.processor.proofs.Ordering.{queues_tried, tried_between}
 use Rattle.processor.proofs.queue_steps.hear_step.Goals as goal
 
-pub returns-in-Taken-clause-order : goal.returns-in-Taken-clause-order
-returns-in-Taken-clause-order g c = tried_between g.G.Watch.shown _ _ c.args.queue c.args.hand.now c.ticket_for-ticket.new.hand c.args.small.now c.try_hear-answer.new.small c.args.large.now c.try_hear-answer.new.large
-    c.waits_of-readers.ensures.readers c.ticket_for-ticket.ensures.count c.show_queue.ensures c.show_queue-2.ensures
+over_so : (r : TakeRefusal) → is_over r ≡ true → r ≡ takes.Closed
+over_so takes.Closed is = refl
+over_so r is = absurd cc
 
-pub returns-in-Over-clause-order : goal.returns-in-Over-clause-order
-returns-in-Over-clause-order g c = tried_between g.G.Watch.shown _ _ c.args.queue c.args.hand.now c.ticket_for-ticket.new.hand c.args.small.now c.try_hear-answer.new.small c.args.large.now c.try_hear-answer.new.large
-    c.waits_of-readers.ensures.readers c.ticket_for-ticket.ensures.count c.show_queue.ensures c.show_queue-2.ensures
+pub returns-in-Ok-clause-ends : goal.returns-in-Ok-clause-ends
+returns-in-Ok-clause-ends g c = queues_tried g.G.Watch.shown c.args.shared.now (count_of c.args.parts.now.hand) (step_outcomes.Hear c.args.queue (hears.Taken c.wake_for.result)) c.hear-answer.new.room.line.items c.args.parts.now c.wake_for.new.hand c.hear-answer.new.self
+    (c.in-Ok.ensures.heard) refl refl
+    (tried_between g.G.Watch.shown.queues _ _ c.args.parts.now.hand c.ticket_for-ticket.new.hand c.args.parts.now.queues c.hear-answer.new.self c.waits_of-readers.ensures.readers c.ticket_for-ticket.ensures.count c.show_queues.ensures c.show_queues-2.ensures) tt tt
+    (search rules) c.hear-answer.ensures.handle c.requires.parts.chains.idle
 
-pub returns-in-Refused-clause-order : goal.returns-in-Refused-clause-order
-returns-in-Refused-clause-order g c = tried_between g.G.Watch.shown _ _ c.args.queue c.args.hand.now c.ticket_for-ticket.new.hand c.args.small.now c.try_hear-answer.new.small c.args.large.now c.try_hear-answer.new.large
-    c.waits_of-readers.ensures.readers c.ticket_for-ticket.ensures.count c.show_queue.ensures c.show_queue-2.ensures
+pub returns-then-is_over-clause-ends : goal.returns-then-is_over-clause-ends
+returns-then-is_over-clause-ends g c =
+    let over : is_over c.in-Err.refusal ≡ true = search rules in queues_tried g.G.Watch.shown c.args.shared.now (count_of c.args.parts.now.hand) (step_outcomes.Hear c.args.queue (hears.Over c.wake_for-then-is_over.result)) c.hear-answer.new.room.line.items c.args.parts.now c.wake_for-then-is_over.new.hand c.hear-answer.new.self (subst (λ (r : TakeRefusal). HeardAt {A = Unit {0}} c.args.queue c.hear-answer.new.room.line.items (Err r) c.args.parts.now.queues c.hear-answer.new.self) (over_so c.in-Err.refusal over) c.in-Err.ensures.heard) refl refl
+    (tried_between g.G.Watch.shown.queues _ _ c.args.parts.now.hand c.ticket_for-ticket.new.hand c.args.parts.now.queues c.hear-answer.new.self c.waits_of-readers.ensures.readers c.ticket_for-ticket.ensures.count c.show_queues.ensures c.show_queues-2.ensures) tt tt
+    (search rules) c.hear-answer.ensures.handle c.requires.parts.chains.idle
+
+pub returns-else-is_over-clause-ends : goal.returns-else-is_over-clause-ends
+returns-else-is_over-clause-ends g c =
+    let opened : is_over c.in-Err.refusal ≡ false = search rules in queues_tried g.G.Watch.shown c.args.shared.now (count_of c.args.parts.now.hand) (step_outcomes.Hear c.args.queue (hears.Refused (record { refusal = c.in-Err.refusal; ticket = c.ticket_for-ticket.result; opened = opened }))) c.hear-answer.new.room.line.items c.args.parts.now c.ticket_for-ticket.new.hand c.hear-answer.new.self
+    (c.in-Err.ensures.heard) refl refl
+    (tried_between g.G.Watch.shown.queues _ _ c.args.parts.now.hand c.ticket_for-ticket.new.hand c.args.parts.now.queues c.hear-answer.new.self c.waits_of-readers.ensures.readers c.ticket_for-ticket.ensures.count c.show_queues.ensures c.show_queues-2.ensures) tt tt
+    (search rules) c.hear-answer.ensures.handle c.requires.parts.chains.idle

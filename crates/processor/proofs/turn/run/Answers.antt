@@ -4,7 +4,7 @@ use Rattle.std.proofs.lemmas.List.{length-append}
 use Rattle.processor.specs.Points.{calls}
 use Rattle.processor.proofs.Keeping.{stays_on, stays_still}
 use Rattle.processor.proofs.Logging.{ran_on, none_ran, leaves}
-use Rattle.processor.proofs.Ordering.{told_of, turns_more}
+use Rattle.processor.proofs.Ordering.{hooked_of, turns_more}
 use Rattle.processor.proofs.turn.run.Goals as goal
 
 pub loop-number-preserved : goal.loop-number-preserved
@@ -34,7 +34,7 @@ returns-clause-turned g c =
       turned = record {
         log = i.1;
         many = i.2 ∙ search rules;
-        reported = told_of g.G.Watch.shown (calls g.G.Gate.observes g.G.TurnGate.learns) c.args.shared.now c.args.p 0 i.1 old new c.args.gate.now c.loop-number.gate i.3;
+        reported = hooked_of g.G.Watch.shown (calls g.G.Gate.observes g.G.TurnGate.learns) c.args.shared.now c.args.p 0 i.1 old new c.args.gate.now c.loop-number.gate i.3;
         ran = i.4;
         leaves = λ fresh. leaves c.args.shared.now.plan i.1 old new fresh i.0.seat i.4;
       };

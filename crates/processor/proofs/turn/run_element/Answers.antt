@@ -1,12 +1,14 @@
-use Rattle.processor.proofs.Common.{◌≡◌, ◌<◌, ◌≤◌, ℕ, true, List, length, ◌++◌, map, rules, sym, ap, ◌∙◌, subst, arith, AllByRecursion, by_index, view_of, call_of, StepOutcome, Rescheduled, Parts, is_done, heard_by, is_heard, saw_shut, FollowsStep, trying, Went, Key, AreHears, hear_count, program, key_of, IsPast, Goes, is_last}
+use Rattle.processor.proofs.Common.{◌≡◌, ◌<◌, ◌≤◌, ℕ, true, List, length, ◌++◌, map, rules, sym, ap, ◌∙◌, subst, arith, AllByRecursion, view_of, call_of, StepOutcome, Rescheduled, Parts, is_done, heard_by, is_heard, saw_shut, FollowsStep, trying, Went, Key, AreHears, hear_count, program, key_of, IsPast, Goes, is_last}
 use Rattle.std.proofs.lemmas.List.{length-map}
 use Rattle.boot_data.specs.Hearing.{Heard}
-use Rattle.processor.specs.declared.counting.StepCounted.{StepCounted}
+use Rattle.turn_io.proofs.Queues.{shares_still}
+use Rattle.processor.specs.declared.phases.StepCounted.{StepCounted}
 use Rattle.processor.specs.Programs.{longest_line}
 use Rattle.processor.specs.Orders.{InOrder, count_of, one_more}
 use Rattle.processor.specs.Running.{EndsDid}
+use Rattle.processor.specs.Stations.{AreSameParts}
 use Rattle.processor.specs.Turns.{RanStep}
-use Rattle.processor.proofs.Keeping.{free_still}
+use Rattle.processor.proofs.Keeping.{free_still, parts_still}
 use Rattle.processor.proofs.Longest.{heard_within}
 use Rattle.processor.proofs.Placing.{queues_worked, chains_worked, seat_worked}
 use Rattle.processor.proofs.Rising.{fallen, going, stepping}
@@ -21,12 +23,12 @@ keep-requires-clause-room g c is =
     let r = c.run_step-tried.ensures in
     let had = c.requires.station.room in
     let keys : List Key = map key_of heard.lines in
-    let more = hears_more c.args.begun.now.element c.args.begun.now.number plan c.args.step.now c.run_step-tried.result.step_outcome _ (view_of c.args.parts.now.hand) keys c.requires.its r.step_outcome c.requires.known had.hears had.past in
+    let more = hears_more c.args.begun.now.element c.args.begun.now.number plan c.args.step.now c.run_step-tried.result.step_outcome _ (view_of c.args.parts.now.hand) keys c.requires.at_hand.its r.step_outcome c.requires.at_hand.known had.hears had.past in
     let it = subst (λ (z : StepOutcome). is_heard z ≡ true) c.step_outcome.ensures is in
     let left = room_left plan keys c.run_step-tried.result.step_outcome c.args.begun.now.element c.args.begun.now.number more it in
     let long = length-map heard.lines key_of in
     let room = had.room in
-    subst (λ (z : Heard). length z.lines < z.room) (sym r.heard) (omega arith)
+    subst (λ (z : Heard). length z.lines < z.room) (sym r.ends.heard) (omega arith)
 
 pub keep-requires-clause-few : goal.keep-requires-clause-few
 keep-requires-clause-few g c is =
@@ -35,9 +37,9 @@ keep-requires-clause-few g c is =
     let had = c.requires.station.room in
     let text = c.run_step-tried.new.room.line.items in
     let it = subst (λ (z : StepOutcome). is_heard z ≡ true) c.step_outcome.ensures is in
-    let short : length text ≤ longest_line plan = heard_within plan c.args.begun.now.element c.args.begun.now.number c.args.step.now c.run_step-tried.result.step_outcome text _ _ _ _ c.requires.its r.step_outcome r.ends.queues it in
+    let short : length text ≤ longest_line plan = heard_within plan c.args.begun.now.element c.args.begun.now.number c.args.step.now c.run_step-tried.result.step_outcome text _ _ c.requires.at_hand.its r.step_outcome r.ends.did.queues it in
     let long : length text ≤ c.args.parts.now.heard.longest = let most = had.longest in omega arith in
-    subst (λ (z : Heard). length c.as_slice.result.now ≤ z.longest) (sym r.heard) (subst (λ (z : List ℕ). length z ≤ c.args.parts.now.heard.longest) (sym c.as_slice.ensures.value) long)
+    subst (λ (z : Heard). length c.as_slice.result.now ≤ z.longest) (sym r.ends.heard) (subst (λ (z : List ℕ). length z ≤ c.args.parts.now.heard.longest) (sym c.as_slice.ensures.value) long)
 
 pub returns-clause-station : goal.returns-clause-station
 returns-clause-station g c =
@@ -53,35 +55,36 @@ returns-clause-station g c =
     let u = view_of c.run_step-tried.new.parts.hand in
     let w = view_of c.send_on.new.hand in
     let keys : List Key = map key_of heard.lines in
-    let more = hears_more e n plan c.args.step.now step_outcome _ v keys c.requires.its r.step_outcome c.requires.known had.hears had.past in
-    let past = past_more _ _ e n plan step_outcome c.run_step-tried.result.counted v u w keys r.hand r.number c.requires.known c.requires.low
-    (fallen c.args.parts.now.hand c.run_step-tried.new.parts.hand (stepping _ _ _ _ _ _ _ _ r.hand)) (fallen c.run_step-tried.new.parts.hand c.send_on.new.hand (going (call_of c.run_step-tried.new.parts.hand) step_outcome c.is_last-last.result e c.send_on.result.moved u w s.goes)) had.past in
+    let more = hears_more e n plan c.args.step.now step_outcome _ v keys c.requires.at_hand.its r.step_outcome c.requires.at_hand.known had.hears had.past in
+    let past = past_more _ _ e n plan step_outcome c.run_step-tried.result.counted v u w keys r.hand.stepped r.hand.number c.requires.at_hand.known c.requires.at_hand.low
+    (fallen c.args.parts.now.hand c.run_step-tried.new.parts.hand (stepping _ _ _ _ _ _ _ _ r.hand.stepped)) (fallen c.run_step-tried.new.parts.hand c.send_on.new.hand (going (call_of c.run_step-tried.new.parts.hand) step_outcome c.is_last-last.result e c.send_on.result.moved u w s.goes)) had.past in
     let are : map key_of c.keep.new.lines.lines ≡ keys ++ key_in step_outcome e n =
     keys_more c.run_step-tried.new.parts.heard.lines c.keep.new.lines.lines step_outcome e n _
-    (subst (λ (z : StepOutcome). c.keep.new.lines.lines ≡ c.run_step-tried.new.parts.heard.lines ++ heard_by z e n c.as_slice.result.now) c.step_outcome.ensures c.keep.ensures.effect) ∙ ap (λ z. map key_of z.lines ++ key_in step_outcome e n) r.heard in
-    let sized : c.keep.new.lines.room ≡ heard.room = c.keep.ensures.room ∙ ap (λ z. z.room) r.heard in
-    let on = s.frame.on ∙ r.on in
-    let serves = s.frame.serves ∙ r.serves in
-    let queues = queues_worked _ _ _ _ step_outcome _ r.ends.queues in
-    let seat = (seat_worked step_outcome _ _ r.ends.seat).1 in
+    (subst (λ (z : StepOutcome). c.keep.new.lines.lines ≡ c.run_step-tried.new.parts.heard.lines ++ heard_by z e n c.as_slice.result.now) c.step_outcome.ensures c.keep.ensures.effect) ∙ ap (λ z. map key_of z.lines ++ key_in step_outcome e n) r.ends.heard in
+    let sized : c.keep.new.lines.room ≡ heard.room = c.keep.ensures.room ∙ ap (λ z. z.room) r.ends.heard in
+    let on = s.frame.on ∙ r.hand.keeps.on in
+    let serves = s.frame.serves ∙ r.hand.keeps.serves in
+    let same : AreSameParts c.args.parts.now (record c.run_step-tried.new.parts { hand = c.send_on.new.hand; heard = c.keep.new.lines }) = record { hand = search rules; queues = r.ends.same.queues; chains = r.ends.same.chains; meters = r.ends.same.meters } in
+    let queues = queues_worked step_outcome _ _ _ r.ends.did.queues in
+    let seat = (seat_worked step_outcome _ _ r.ends.did.seat).1 in
     record {
       manned = record {
-        parts_are = search rules;
+        parts_are = parts_still c.args.shared.now c.args.parts.now _ c.requires.station.parts_are same r.ends.idle;
         free = free_still c.args.p v w serves on c.requires.station.free;
         room = record {
           room = subst (λ (z : ℕ). hear_count plan ≤ z) (sym sized) had.room;
-          longest = subst (λ (z : ℕ). longest_line plan ≤ z) (sym (c.keep.ensures.longest ∙ ap (λ z. z.longest) r.heard)) had.longest;
+          longest = subst (λ (z : ℕ). longest_line plan ≤ z) (sym (c.keep.ensures.longest ∙ ap (λ z. z.longest) r.ends.heard)) had.longest;
           hears = subst (AreHears plan) (sym are) more;
           past = subst (AllByRecursion (IsPast w)) (sym are) past;
         };
       };
-      same = search rules;
+      same = same;
       serves = serves;
       on = on;
       shares_are = λ i. record {
-        queues = by_index (queues.small.shares i) (queues.large.shares i);
-        chains = (chains_worked _ step_outcome _ _ r.ends.chains).1 i;
-        hand = (s.frame.share ∙ r.share) i;
+        queues = shares_still _ _ queues.sound i;
+        chains = (chains_worked _ step_outcome _ _ r.ends.did.chains).1 i;
+        hand = (s.frame.share ∙ r.hand.keeps.share) i;
         meters = seat.share i;
       };
       seat = seat.parted;
@@ -102,33 +105,27 @@ returns-clause-ran g c =
     let line = c.run_step-tried.new.room.line.items in
     let kept = subst (λ (z : StepOutcome). c.keep.new.lines.lines ≡ mid.heard.lines ++ heard_by z e n c.as_slice.result.now) c.step_outcome.ensures c.keep.ensures.effect in
     let bytes = ap (λ (z : List ℕ). mid.heard.lines ++ heard_by tried.step_outcome e n z) c.as_slice.ensures.value in
-    let lines = kept ∙ bytes ∙ ap (λ z. z.lines ++ heard_by tried.step_outcome e n line) r.heard in
-    let ends : EndsDid shared tried.step_outcome line old new = record { queues = r.ends.queues; chains = r.ends.chains; seat = r.ends.seat } in
+    let lines = kept ∙ bytes ∙ ap (λ z. z.lines ++ heard_by tried.step_outcome e n line) r.ends.heard in
+    let ends : EndsDid shared tried.step_outcome line old new = record { queues = r.ends.did.queues; chains = r.ends.did.chains; seat = r.ends.did.seat } in
     let last : c.is_last-last.result ≡ is_last (is_done tried.step_outcome) n (length (program shared.plan e)) = search rules in
-    let goes = subst (λ k. Goes k tried.step_outcome (is_last (is_done tried.step_outcome) n (length (program shared.plan e))) e sent.moved (view_of mid.hand) (view_of new.hand)) r.handle.hand.1
+    let goes = subst (λ k. Goes k tried.step_outcome (is_last (is_done tried.step_outcome) n (length (program shared.plan e))) e sent.moved (view_of mid.hand) (view_of new.hand)) r.ends.same.hand.1
     (subst (λ b. Goes (call_of mid.hand) tried.step_outcome b e sent.moved (view_of mid.hand) (view_of new.hand)) last s.goes) in
     subst (λ (z : StepCounted). RanStep shared c.args.p e n (record { tried = z; moved = c.send_on.result.moved }) line old new
+    × InOrder g.G.Watch.shown shared.plan (one_more (count_of old.hand)) z.step_outcome old new
     × Went (FollowsStep shared.plan e n (record { tried = z; moved = c.send_on.result.moved }) line) (trying e n (record { tried = z; moved = c.send_on.result.moved }) line) (saw_shut z.step_outcome) old new)
     (sym s.tried) (
       record {
         step = c.args.step.now;
-        is = c.requires.its;
+        is = c.requires.at_hand.its;
         step_outcome = r.step_outcome;
         stepped = view_of mid.hand;
-        ran = r.hand;
+        ran = r.hand.stepped;
         goes = goes;
         ends = ends;
         lines = lines;
-        signals = r.signals;
+        signals = r.ends.signals;
       },
-      tried_went shared _ _ c.args.p e n c.args.step.now sent line old mid new c.requires.its r.step_outcome r.hand r.number c.requires.known c.requires.low goes
-          r.adds s.adds ends lines r.signals,
+      record { queues = r.ends.order.queues; chains = r.ends.order.chains; seat = r.ends.order.seat },
+      tried_went shared _ _ c.args.p e n c.args.step.now sent line old mid new c.requires.at_hand.its r.step_outcome r.hand.stepped r.hand.number c.requires.at_hand.known c.requires.at_hand.low goes
+          r.hand.adds s.adds ends lines r.ends.signals,
     )
-
-pub returns-clause-order : goal.returns-clause-order
-returns-clause-order g c =
-    let old = c.args.parts.now in
-    let new : Parts = record c.run_step-tried.new.parts { hand = c.send_on.new.hand; heard = c.keep.new.lines } in
-    let o = c.run_step-tried.ensures.order in
-    subst (λ (z : StepCounted). InOrder g.G.Watch.shown c.args.shared.now.plan (one_more (count_of old.hand)) z.step_outcome old new) (sym c.send_on.ensures.tried)
-    (record { queues = o.queues; chains = o.chains; seat = o.seat })

@@ -1,4 +1,4 @@
-use Rattle.processor.proofs.Common.{List, ℕ, LogEntry, sym, ap, ◌∙◌, subst}
+use Rattle.processor.proofs.Common.{List, ℕ, LogEntry, subst}
 use Rattle.event_theory.specs.declared.alarm.Alarm.{Alarm}
 use Rattle.processor.specs.Entries.{entry_of}
 use Rattle.processor.proofs.Logging.{turn_ran}
@@ -11,11 +11,11 @@ returns-clause-turn g c =
     let fired = c.tend-advanced.new.fired.items in
     let line = c.dispatch-outcome.new.room.line.items in
     let entry : LogEntry = entry_of c.tend-advanced.result fired c.dispatch-outcome.result line in
-    let told = subst (λ (q : ℕ). g.G.TurnGate.learns c.dispatch-outcome.new.gate q entry c.turned.new.self) c.number.ensures.value
+    let learned = subst (λ (q : ℕ). g.G.TurnGate.learns c.dispatch-outcome.new.gate q entry c.turned.new.self) c.number.ensures.value
     (subst (λ (z : List Alarm). g.G.TurnGate.learns c.dispatch-outcome.new.gate c.number.result (entry_of c.tend-advanced.result z c.dispatch-outcome.result line) c.turned.new.self) c.as_slice.ensures.value
     (subst (λ (z : List ℕ). g.G.TurnGate.learns c.dispatch-outcome.new.gate c.number.result (entry_of c.tend-advanced.result c.as_slice.result.now c.dispatch-outcome.result z) c.turned.new.self) c.as_slice-2.ensures.value c.turned.ensures)) in (
       entry,
       (c.tend-advanced.new.parts, tended.0, came.0),
       turn_ran c.args.shared.now.plan entry c.args.parts.now c.tend-advanced.new.parts c.dispatch-outcome.new.parts tended.1 came.1,
-      (c.dispatch-outcome.new.gate, c.dispatch-outcome.ensures.hook, told),
+      (c.dispatch-outcome.new.gate, c.dispatch-outcome.ensures.hook, learned),
     )

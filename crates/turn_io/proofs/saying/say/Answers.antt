@@ -1,16 +1,10 @@
-use Rattle.turn_io.proofs.Common.{arith}
-use Rattle.turn_io.specs.Outcomes.{Said}
-use Rattle.turn_io.proofs.Using.{its_end, ends_same, ends_fit, used_at}
+use Rattle.claim_queue.specs.Handles.{view_of}
+use Rattle.claim_queue.proofs.Certain.{distinct_end}
+use Rattle.turn_io.proofs.Shares.{said_put}
 use Rattle.turn_io.proofs.saying.say.Goals as goal
 
-pub say_line-requires : goal.say_line-requires
-say_line-requires g c = (omega arith, (omega arith, its_end c.args.queues.now c.args.ends.now c.args.index _ _ c.requires.ends c.requires.known c.item_at.ensures.value c.index-queues-index.is))
-
-pub returns-clause-handle : goal.returns-clause-handle
-returns-clause-handle g c = ends_same c.args.queues.now c.args.ends.now c.args.index _ _ c.requires.ends c.item_at.ensures.value c.say_line.ensures.handle
-
-pub returns-clause-ends : goal.returns-clause-ends
-returns-clause-ends g c = ends_fit c.args.queues.now c.args.ends.now c.args.index _ _ c.requires.ends c.item_at.ensures.value c.say_line.ensures.handle
-
-pub returns-clause-said : goal.returns-clause-said
-returns-clause-said g c = used_at c.args.queues.now c.args.ends.now c.args.index _ _ c.requires.ends c.item_at.ensures.value (Said c.args.line.now c.say_line.result) c.requires.known c.say_line.ensures.said
+pub returns-in-Ok-clause-said : goal.returns-in-Ok-clause-said
+returns-in-Ok-clause-said g c = let own = c.in-Ok.ensures.owns in (
+  c.in-Ok.claim.start,
+  said_put g.row.N (view_of c.args.end.now) (view_of c.try_claim_as.new.end) (view_of c.raise_all.new.end) _ _ _ _ own.0 own.1 (distinct_end c.try_claim_as.new.end) own.2 c.in-Ok.ensures.trace c.raise_all.ensures.raised,
+)

@@ -10,6 +10,7 @@ use Rattle.proc_chain.specs.declared.quaject.Quaject.{Ghosts}
 use Rattle.proc_chain.specs.Handles.{IsOnlyEnd}
 use Rattle.boot_objects.proofs.Lent.{came_back}
 use Rattle.boot_objects.proofs.Whole.{homes_fit}
+use Rattle.turn_tests.proofs.Ends.{still_ends}
 use Rattle.turn_tests.proofs.closes.retires_a_pump.Goals as goal
 
 -- an end that was the only one is still the only one
@@ -20,10 +21,13 @@ only_still (x ∷ xs) (y ∷ ys) e s h zero d l = s 0 ∙ h zero x (omega arith)
 only_still (x ∷ xs) (y ∷ ys) e s h (suc k) d l = only_still xs ys (omega arith) (λ q. s (suc q)) (λ k d l. h (suc k) d (omega arith)) k d (omega arith)
 
 pub retire_all-homes-requires-clause-whole : goal.retire_all-homes-requires-clause-whole
-retire_all-homes-requires-clause-whole g c = let made = c.in_ok-world.field-0 in let lent = c.deref_mut-2 in let poked = c.poke-poked in
+retire_all-homes-requires-clause-whole g c = let made = c.in_ok-world.field-0 in let lent = c.deref_mut in let poked = c.poke-poked in
     let back = came_back chain_end_table made.chain_ends lent.result.now poked.new.ends poked.ensures.handle.tables lent.ensures.len in
     subst (λ z. All IsOnlyEnd z) (sym back) (only_still made.chain_ends.items poked.new.ends (as_long chain_end_table chain_end_table poked.new.ends made.chain_ends.items (poked.ensures.handle.tables ∙ ap (map chain_end_table) lent.ensures.value))
     (λ q. ap (λ (f : ℕ → ℕ). f q) ((poked_at _ _ _ _ _ _ poked.ensures.poked).1 ∙ ap chain_shares lent.ensures.value)) made.whole)
+
+pub bring_all_home-counts-requires-clause-ends : goal.bring_all_home-counts-requires-clause-ends
+bring_all_home-counts-requires-clause-ends g c = let made = c.in_ok-world.field-0 in still_ends made.world made.ends c.say.new.self made.fit c.say.ensures.handle
 
 pub bring_all_home-counts-requires-clause-fits : goal.bring_all_home-counts-requires-clause-fits
 bring_all_home-counts-requires-clause-fits g c = let made = c.in_ok-world.field-0 in

@@ -1,5 +1,5 @@
 use Rattle.std.proofs.Common.{◌≡◌, ap, sym, subst}
-use Rattle.turn_io.specs.EndLists.{AreEndsOf}
+use Rattle.turn_io.specs.QueueEnds.{AreQueueEndsOf}
 use Rattle.thread_table.specs.Handles.{IsHandOf}
 use Rattle.processor.specs.declared.shared.Shared.{Shared}
 use Rattle.processor.specs.Points.{Calls}
@@ -18,8 +18,7 @@ returns g c =
       c.run-station.ensures.station.manned.parts_are,
       subst (ArePartsOf c.args.shared.now) (sym c.from_parts.ensures) (record {
         hand = subst (λ (s : Shared). IsHandOf s.threads after.hand) same after.hand_fits;
-        small = subst (λ (s : Shared). AreEndsOf s.queues.small.items after.ends.items) same after.fit;
-        large = were.large;
+        queues = subst (λ (s : Shared). AreQueueEndsOf s.queues after.ends) same after.fit;
         chains = were.chains;
         meters = were.meters;
       }),

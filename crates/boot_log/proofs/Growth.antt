@@ -1,5 +1,5 @@
 -- A log that has the front of some turns has the front of these and one more after it has grown by this one.
-use Rattle.std.proofs.Common.{◌≡◌, ◌<◌, ◌≤◌, ◌+◌, ◌^◌, ℕ, zero, suc, Bool, true, false, List, [], ◌∷◌, ◌++◌, length, take, slice_get, Some, None, IfSome, ◌⊎◌, inl, inr, nat_eq, ◌&&◌, refl, sym, arith, append_assoc}
+use Rattle.std.proofs.Common.{◌≡◌, ◌<◌, ◌≤◌, ◌+◌, ◌^◌, ℕ, zero, suc, Bool, true, false, List, [], ◌∷◌, ◌++◌, ◌∙◌, length, take, slice_get, Some, None, IfSome, ◌⊎◌, inl, inr, nat_eq, ◌&&◌, refl, sym, ap, arith, append_assoc}
 use Rattle.std.proofs.lemmas.List.{append-nil, length-append, take-append-le, take_all}
 use Rattle.std.proofs.lemmas.Bool.{eqb-true}
 use Rattle.std.proofs.lemmas.Option.{slice_get_past}
@@ -174,3 +174,12 @@ record_of says first time turns room old new none grew few =
       };
       times = all.times.times;
     }
+
+same_room : (says : ℕ → ℕ → Type 0) (turn : LogEntry) (last time : ℕ) (old new : Kept) → Grew says turn last time old new → new.room ≡ old.room
+same_room says turn last time old new (inl kept) = ap (λ (log : Kept). log.room) kept.3
+same_room says turn last time old new (inr missed) = ap (λ (log : Kept). log.room) missed.2
+
+-- the room stays
+pub room_stays : (says : ℕ → ℕ → Type 0) (turns : List LogEntry) (last time : ℕ) (old new : Kept) → GrewBy says turns last time old new → new.room ≡ old.room
+room_stays says [] last time old new grew = ap (λ (log : Kept). log.room) grew.1
+room_stays says (turn ∷ turns) last time old new grew = room_stays says turns grew.0 time grew.1 new grew.3 ∙ same_room says turn last grew.0 old grew.1 grew.2

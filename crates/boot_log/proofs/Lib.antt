@@ -1,3 +1,5 @@
+pub mod Ascending
 pub mod Fixed
 pub mod Growth
+pub mod Passed
 pub mod Runs

@@ -9,7 +9,7 @@ use Rattle.boot_log.specs.declared.recorder.Recorder.{Recorder}
 use Rattle.boot_log.specs.Fronts.{IsRecordOf}
 use Rattle.boot_log.specs.Growing.{Grows, is_kept}
 use Rattle.boot_log.specs.Kept.{Kept, Room, nothing_kept}
-use Rattle.boot_log.proofs.Growth.{Grew, GrewBy, grew_if, record_of}
+use Rattle.boot_log.proofs.Growth.{Grew, GrewBy, grew_if, record_of, room_stays}
 
 -- A gate that stays at each point, and whose log grows at the end of each turn. It has a clock, and the number that the
 -- clock said last
@@ -66,3 +66,9 @@ recorded {C} says shared p number turns old new room gate gate' ran few none =
     let grew : GrewBy (says gate.clock) turns gate.last gate'.last gate.log gate'.log =
     grew_hooked {G = Recorder C} {K = C} (recorder_calls says) says (λ r. r.clock) (λ r. r.last) (λ r. r.log) (recorder_is says) shared p number turns old new gate gate' ran in
     record_of (says gate.clock) gate.last gate'.last turns room gate.log gate'.log none grew few
+
+-- the room of a recorder's log stays
+pub keeps_room : {C : Type 0} (says : C → ℕ → ℕ → Type 0) (shared : Shared) (p number : ℕ) (turns : List LogEntry) (old new : Parts) (gate gate' : Recorder C) → HookedTurns (recorder_calls says) shared p number turns old new gate gate' → gate'.log.room ≡ gate.log.room
+keeps_room {C} says shared p number turns old new gate gate' ran =
+    room_stays (says gate.clock) turns gate.last gate'.last gate.log gate'.log
+    (grew_hooked {G = Recorder C} {K = C} (recorder_calls says) says (λ r. r.clock) (λ r. r.last) (λ r. r.log) (recorder_is says) shared p number turns old new gate gate' ran)

@@ -1,5 +1,6 @@
 -- What is kept of a processor's turns, and how an entry names its line and its alarms.
-use Rattle.std.specs.Prelude.{ℕ, List, [], length, take, drop}
+use Rattle.std.specs.Borrow.{Bor}
+use Rattle.std.specs.Prelude.{ℕ, List, [], length, take, drop, map}
 use Rattle.event_theory.specs.declared.alarm.Alarm.{Alarm}
 use Rattle.boot_log.specs.declared.entry.Entry.{Entry}
 use Rattle.boot_log.specs.declared.entry.Part.{Part}
@@ -30,3 +31,7 @@ part_of items part = take part.len (drop part.start items)
 -- the part that a list is when it is appended to another
 abbrev pub part_after : {A B : Type 0} → List A → List B → Part
 part_after items more = record { start = length items; len = length more }
+
+-- what these logs have kept
+abbrev pub kept_in : List (Bor Kept) → List Kept
+kept_in logs = map (λ log. log.now) logs

@@ -1,4 +1,6 @@
 pub mod Fronts
 pub mod Growing
+pub mod Idling
 pub mod Kept
+pub mod Lines
 pub mod Values

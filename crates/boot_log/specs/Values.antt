@@ -7,11 +7,10 @@ use Rattle.processor.specs.declared.outcome.TurnOutcome.TheVariants as outcomes
 use Rattle.processor.specs.declared.outcome.TurnResult.TheVariants as results
 use Rattle.processor.specs.declared.step_outcome.StepOutcome.{StepOutcome}
 use Rattle.processor.specs.declared.step_outcome.StepOutcome.TheVariants as steps
-use Rattle.processor.specs.declared.tries.HearAnswer.{HearAnswer}
-use Rattle.processor.specs.declared.tries.HearAnswer.TheVariants as hears
-use Rattle.processor.specs.declared.tries.SayAnswer.{SayAnswer}
-use Rattle.processor.specs.declared.tries.SayAnswer.TheVariants as says
-use Rattle.processor.specs.declared.waking.WakeDone.{WakeDone}
+use Rattle.processor.specs.declared.phases.HearAnswer.{HearAnswer}
+use Rattle.processor.specs.declared.phases.HearAnswer.TheVariants as hears
+use Rattle.processor.specs.declared.phases.SayAnswer.{SayAnswer}
+use Rattle.processor.specs.declared.phases.SayAnswer.TheVariants as says
 use Rattle.processor.specs.Entries.{Tended}
 use Rattle.boot_log.specs.declared.entry.Did.{Did}
 use Rattle.boot_log.specs.declared.entry.Did.TheVariants as did
@@ -34,15 +33,15 @@ fired_of None = []
 fired_of (Some tended) = tended.fired
 
 -- the answer to a say
-abbrev pub said_of : SayAnswer WakeDone → SaidAnswer
-said_of (says.Put done) = said.Put done.woken
+abbrev pub said_of : SayAnswer → SaidAnswer
+said_of (says.Put woken) = said.Put woken
 said_of says.Over = said.Over
 said_of (says.Refused unsaid) = said.Refused unsaid.refusal
 
 -- the answer to a hear
-abbrev pub heard_of : HearAnswer WakeDone → HeardAnswer
-heard_of (hears.Taken done) = heard.Taken done.woken
-heard_of (hears.Over done) = heard.Over done.woken
+abbrev pub heard_of : HearAnswer → HeardAnswer
+heard_of (hears.Taken woken) = heard.Taken woken
+heard_of (hears.Over woken) = heard.Over woken
 heard_of (hears.Refused unheard) = heard.Refused unheard.refusal
 
 -- the result of the one try of a step
@@ -57,7 +56,7 @@ tried_of (steps.Start thread answer) = tried.Start thread answer
 tried_of (steps.Tick gauge amount before) = tried.Tick gauge amount before
 tried_of (steps.Poke mover answer) = tried.Poke mover answer
 tried_of steps.Pass = tried.Pass
-tried_of (steps.Close queue was_open readers writers) = tried.Close queue was_open readers.woken writers.woken
+tried_of (steps.Close queue was_open readers writers) = tried.Close queue was_open readers writers
 
 -- the result of an element's turn, if one was at hand, with the place of the line of its step
 abbrev pub did_of : TurnOutcome → Part → Did

@@ -1,5 +1,9 @@
 //! What came of one turn of a processor, as plain values.
 
+ghost use Rattle.std.specs.Prelude.{◌≡◌};
+ghost use Rattle.boot_log.specs.Idling.{is_idle};
+ghost use Rattle.boot_log.specs.Values.{line_part};
+
 use boot_data::plan::QueueIndex;
 use claim_queue::{ClaimRefusal, TakeRefusal};
 use event_theory::{Element, Gauge, Signal, WaitNumber};
@@ -103,6 +107,18 @@ pub enum Did {
     },
 }
 
+impl Did {
+    /// The part of the log's bytes that is the line said or heard. It is empty if no step was tried.
+    pub fn line(self) -> Part
+        ensures { result ≡ line_part self }
+    {
+        match self {
+            Did::Stepped { line, .. } => line,
+            _ => Part { start: 0, len: 0 },
+        }
+    }
+}
+
 /// One turn. The time is in nanoseconds.
 #[derive(Clone, Copy, Debug)]
 pub struct Entry {
@@ -113,4 +129,13 @@ pub struct Entry {
     /// The alarms that were fired.
     pub fired: Part,
     pub did: Did,
+}
+
+impl Entry {
+    /// Whether the turn was idle: nothing was at hand, and no alarm was fired.
+    pub fn is_idle(&self) -> bool
+        ensures { result ≡ is_idle self.now }
+    {
+        matches!(self.did, Did::Idle(Idle::NothingReady(_))) && self.fired.len == 0
+    }
 }

@@ -1,5 +1,6 @@
-//! A run that was recorded: its log is the front of all turns.
-ghost use Rattle.std.specs.Prelude.{◌≡◌, ◌<◌, ◌^◌, ℕ, List, length};
+//! A run that was recorded: its log is the front of all turns. Lines that passed: each with its text.
+ghost use Rattle.std.specs.Prelude.{◌≡◌, ◌<◌, ◌^◌, ℕ, List, length, true};
+ghost use Rattle.std.specs.List.{AllByRecursion};
 ghost use Rattle.processor.specs.Entries.{LogEntry};
 ghost use Rattle.processor.specs.Logs.{RanTurns};
 ghost use Rattle.processor.specs.Points.{HookedTurns, calls};
@@ -7,7 +8,8 @@ ghost use Rattle.processor.specs.declared.shared.Shared.{Shared};
 ghost use Rattle.processor.specs.declared.station.Parts.{Parts};
 ghost use Rattle.boot_log.specs.declared.recorder.Recorder.{Recorder};
 ghost use Rattle.boot_log.specs.Fronts.{IsRecordOf};
-ghost use Rattle.boot_log.specs.Kept.{Room, nothing_kept};
+ghost use Rattle.boot_log.specs.Kept.{Kept, Room, nothing_kept};
+ghost use Rattle.boot_log.specs.Lines.{PassOnce, are_same, passings};
 
 use crate::clock::TurnClock;
 use crate::recorder::Recorder;
@@ -15,7 +17,7 @@ use processor::{Gate, TurnGate};
 
 /// A recorder had kept nothing before a run of fewer than 2^64 turns. After the run its log has the entry of each turn
 /// up to the first for which there was no room, and the number of all others. The times are the clock's, and none is
-/// before an earlier one. It is the log that the contract of the run names.
+/// before an earlier one. It is the log that the contract of the run names. The log's room stays.
 pub fn runs_are_kept<C: TurnClock>()
     ensures turns { (shared : Shared) (p number : ℕ) (turns : List LogEntry) (old new : Parts) (room : Room)
         (gate gate' : Recorder C) → HookedTurns (calls ⟦<Recorder<C> as Gate>⟧.observes
@@ -25,4 +27,19 @@ pub fn runs_are_kept<C: TurnClock>()
         (ran : RanTurns (calls ⟦<Recorder<C> as Gate>⟧.observes ⟦<Recorder<C> as TurnGate>⟧.learns) shared p turns
         gate gate' old new) → turns < 2 ^ 64 → gate.log ≡ nothing_kept room
         → IsRecordOf (C.says gate.clock) gate.last ran.log gate'.log }
+    ensures room { (shared : Shared) (p number : ℕ) (turns : List LogEntry) (old new : Parts)
+        (gate gate' : Recorder C) → HookedTurns (calls ⟦<Recorder<C> as Gate>⟧.observes
+        ⟦<Recorder<C> as TurnGate>⟧.learns) shared p number turns old new gate gate'
+        → gate'.log.room ≡ gate.log.room }
+{}
+
+/// Each line that passed was put into the queue from which it was taken, with the text with which it was taken.
+pub fn lines_keep_their_text()
+    ensures { (from : ℕ) (logs : List Kept) → AllByRecursion (λ passing. are_same logs passing.said passing.heard
+        ≡ true) (passings from logs) }
+{}
+
+/// No two lines that passed were said by one turn, or heard by one.
+pub fn lines_pass_once()
+    ensures { (from : ℕ) (logs : List Kept) → PassOnce (passings from logs) }
 {}

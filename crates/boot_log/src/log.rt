@@ -1,6 +1,6 @@
 //! What is kept of a processor's turns, in memory that is allocated before the first turn.
 
-ghost use Rattle.std.specs.Prelude.{◌≡◌, ◌&&◌, length, true, nat_eq, IfOk};
+ghost use Rattle.std.specs.Prelude.{◌≡◌, ◌&&◌, length, true, nat_eq, vec_capacity, IfOk};
 ghost use Rattle.processor.specs.Entries.{entry_of, tended_of};
 ghost use Rattle.boot_log.specs.Growing.{has_room, with_miss, with_turn};
 ghost use Rattle.boot_log.specs.Kept.{nothing_kept, part_of};
@@ -63,6 +63,29 @@ impl Log {
             fired: Vec::with_capacity(alloc, ALARMS)?,
             missed: 0,
         })
+    }
+
+    /// A log of these entries, with the bytes of their lines and the alarms that they fired, and with this number of
+    /// missed turns. Its room is that of the lists.
+    pub fn new(entries: Vec<Entry>, bytes: Vec<u8>, fired: Vec<Alarm>, missed: u64) -> Self
+        ensures { result ≡ (record {
+          entries = entries.items;
+          bytes = bytes.items;
+          fired = fired.items;
+          missed = missed;
+          room = record {
+            turns = vec_capacity entries;
+            bytes = vec_capacity bytes;
+            alarms = vec_capacity fired;
+          };
+        }) }
+    {
+        Log {
+            entries,
+            bytes,
+            fired,
+            missed,
+        }
     }
 
     /// The entries of the turns, in their order.

@@ -22,11 +22,12 @@ pub struct Recorder<C> {
 
 impl<C: TurnClock> Recorder<C> {
     /// A recorder that has kept nothing, with room for so many turns, and bytes of their lines, and for `ALARMS`
-    /// alarms.
+    /// alarms. The clock has said `from` last, and no turn's time is before it.
     /// `OutOfMemory` is returned only if an allocation was refused.
     pub fn with_room(
         alloc: Global,
         clock: C,
+        from: u64,
         turns: usize,
         bytes: usize,
     ) -> Result<Self, OutOfMemory>
@@ -34,12 +35,12 @@ impl<C: TurnClock> Recorder<C> {
         C: Drop,
         ensures log { IfOk result (λ recorder. recorder.log
             ≡ nothing_kept (record { turns = turns; bytes = bytes; alarms = ALARMS })) }
-        ensures clock { IfOk result (λ recorder. (recorder.clock ≡ clock) × (recorder.last ≡ 0)) }
+        ensures clock { IfOk result (λ recorder. (recorder.clock ≡ clock) × (recorder.last ≡ from)) }
     {
         let log = Log::with_room(alloc, turns, bytes)?;
         Ok(Recorder {
             clock,
-            last: 0,
+            last: from,
             log,
         })
     }

@@ -74,7 +74,7 @@ fn retired_after(entry: &Entry) -> Option<u64> {
 #[test]
 fn a_turn_is_kept_with_its_line_and_alarms(rt: HostRuntime) -> Result<(), Fail> {
     let alarms = [alarm_at(7), alarm_at(7)];
-    let mut recorder = Recorder::with_room(rt.alloc(), Stopped(1234), 3, 4)?;
+    let mut recorder = Recorder::with_room(rt.alloc(), Stopped(1234), 0, 3, 4)?;
     recorder.turned(0, None, &alarms, nothing_ready(), &[]);
     recorder.turned(0, Some(Ok(7)), &alarms, retired(), &[104, 256 + 105]);
     let log = recorder.log();
@@ -99,8 +99,8 @@ fn kept_and_missed(log: &Log) -> (usize, u64) {
 
 #[test]
 fn turns_without_room_are_counted(rt: HostRuntime) -> Result<(), Fail> {
-    let mut by_turns = Recorder::with_room(rt.alloc(), Stopped(1), 1, 4)?;
-    let mut by_bytes = Recorder::with_room(rt.alloc(), Stopped(1), 4, 1)?;
+    let mut by_turns = Recorder::with_room(rt.alloc(), Stopped(1), 0, 1, 4)?;
+    let mut by_bytes = Recorder::with_room(rt.alloc(), Stopped(1), 0, 4, 1)?;
     for _ in 0..2 {
         by_turns.turned(0, None, &[], nothing_ready(), &[]);
     }
@@ -114,9 +114,9 @@ fn turns_without_room_are_counted(rt: HostRuntime) -> Result<(), Fail> {
 
 #[test]
 fn a_clock_that_cannot_be_read_stays(rt: HostRuntime) -> Result<(), Fail> {
-    let mut recorder = Recorder::with_room(rt.alloc(), Unreadable, 2, 0)?;
+    let mut recorder = Recorder::with_room(rt.alloc(), Unreadable, 7, 2, 0)?;
     recorder.turned(0, None, &[], nothing_ready(), &[]);
     assert_eq!(rt; recorder.log().entries().len(), 1);
-    assert_eq!(rt; recorder.log().entries()[0].at, 0);
+    assert_eq!(rt; recorder.log().entries()[0].at, 7);
     Ok(())
 }

@@ -3,26 +3,26 @@ ghost use Rattle.std.specs.Prelude.{◌≡◌};
 ghost use Rattle.boot_log.specs.Values.{did_of, heard_of, said_of, tried_of};
 
 use crate::entry::{Did, HeardAnswer, Part, SaidAnswer, Tried};
-use processor::{HearAnswer, SayAnswer, StepOutcome, TurnOutcome, TurnResult, WakeDone};
+use processor::{HearAnswer, SayAnswer, StepOutcome, TurnOutcome, TurnResult};
 
 // The answer to a say.
-fn said_of(answer: &SayAnswer<WakeDone>) -> SaidAnswer
+fn said_of(answer: &SayAnswer) -> SaidAnswer
     ensures { result ≡ said_of answer.now }
 {
     match answer {
-        SayAnswer::Put(done) => SaidAnswer::Put(done.woken()),
+        SayAnswer::Put(woken) => SaidAnswer::Put(*woken),
         SayAnswer::Over => SaidAnswer::Over,
         SayAnswer::Refused(unsaid) => SaidAnswer::Refused(unsaid.refusal()),
     }
 }
 
 // The answer to a hear.
-fn heard_of(answer: &HearAnswer<WakeDone>) -> HeardAnswer
+fn heard_of(answer: &HearAnswer) -> HeardAnswer
     ensures { result ≡ heard_of answer.now }
 {
     match answer {
-        HearAnswer::Taken(done) => HeardAnswer::Taken(done.woken()),
-        HearAnswer::Over(done) => HeardAnswer::Over(done.woken()),
+        HearAnswer::Taken(woken) => HeardAnswer::Taken(*woken),
+        HearAnswer::Over(woken) => HeardAnswer::Over(*woken),
         HearAnswer::Refused(unheard) => HeardAnswer::Refused(unheard.refusal()),
     }
 }
@@ -84,8 +84,8 @@ fn tried_of(outcome: &StepOutcome) -> Tried
         } => Tried::Close {
             queue: *queue,
             was_open: *was_open,
-            readers: readers.woken(),
-            writers: writers.woken(),
+            readers: *readers,
+            writers: *writers,
         },
     }
 }

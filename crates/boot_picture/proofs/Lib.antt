@@ -1,3 +1,4 @@
 pub mod BlockTurns
 pub mod BoxLists
+pub mod Clocks
 pub mod Orders

@@ -1,14 +1,14 @@
 -- The order of blocks, block by block.
-use Rattle.std.proofs.Common.{◌≡◌, ◌<◌, ◌≤◌, ◌+◌, ◌∙◌, ℕ, suc, Bool, List, [], ◌∷◌, ◌++◌, ⊎_elim, ◌⊎◌, inl, inr, Option, IfSome, refl, sym, ap, subst, length, take, map, set, cond, get_or, replicate, true≢false, add-one, append-nil, arith, Some, ◌==◌}
+use Rattle.std.proofs.Common.{◌≡◌, ◌<◌, ◌≤◌, ◌+◌, ◌∙◌, ℕ, Bool, List, [], ◌∷◌, ◌++◌, ⊎_elim, ◌⊎◌, inl, inr, Option, IfSome, refl, sym, ap, subst, length, take, map, set, cond, get_or, replicate, true≢false, add-one, append-nil, arith, Some, ◌==◌, Bor}
 use Rattle.std.proofs.Math.Seq.{take-suc}
-use Rattle.std.proofs.lemmas.Bool.{cases_Bool, cases_lt, eqb-true, eq-eqb, ne_eqb, false_from_ne_true}
+use Rattle.std.proofs.lemmas.Bool.{cases_Bool, cases_lt, eqb-true, eq-eqb, ne_eqb}
 use Rattle.std.proofs.lemmas.List.{map-append, get_or-set_other, get_or-replicate, take_all}
 use Rattle.std.proofs.lemmas.List.Elements.{filter-append}
 use Rattle.std.proofs.lemmas.Grind.{get_or-set_at}
 use Rattle.std.proofs.lemmas.Option.{slice_get_within, slice_get_read, get_or_from_slice_get}
 use Rattle.std.proofs.lemmas.Slice.Zip.{all_zipped_more}
 use Rattle.std.specs.List.{slice_get, filter, AllZip}
-use Rattle.boot_picture.specs.declared.recorded.Recorded.{Recorded}
+use Rattle.boot_log.specs.Kept.{Kept, kept_in}
 use Rattle.boot_picture.specs.declared.blocks.Block.{Block}
 use Rattle.boot_picture.specs.declared.order.Ordered.{Ordered}
 use Rattle.boot_picture.specs.declared.order.Track.{Track}
@@ -65,7 +65,7 @@ first_taken tracks nexts order taken = λ p track at. (get_or nexts p 0, taken p
 pub all_taken : (tracks : List Track) (nexts : List ℕ) (order : List Ordered) → HasTaken tracks nexts order → AreUsed tracks nexts (length tracks) → HasAll tracks order
 all_taken tracks nexts order taken used = λ p track at. taken p track at ∙ take_all (get_or nexts p 0) track.blocks.items (used p (slice_get_within tracks p track at) track at)
 
-lt_or_same : (p end : ℕ) → p < end + 1 → (p < end) ⊎ (p ≡ end)
+pub lt_or_same : (p end : ℕ) → p < end + 1 → (p < end) ⊎ (p ≡ end)
 lt_or_same p end below = ⊎_elim (λ (h : p < end). inl h) (λ (h : end ≤ p). inr (omega arith)) (cases_lt p end)
 
 -- a block that is one of two is a next block if both are
@@ -93,10 +93,11 @@ next_fits tracks nexts o next =
     omega (arith, ok.0, ok.1)
 
 -- the track of one more processor
-pub tracks_more : (all : List Recorded) (i : ℕ) (recorded : Recorded) (tracks new : List Track) (track : Track) → i < length all → recorded ≡ get_or all i recorded → AllZip IsTrackOf (take i all) tracks → IsTrackOf recorded track → new ≡ tracks ++ track ∷ [] → AllZip IsTrackOf (take (i + 1) all) new
-tracks_more all i recorded tracks new track within is before next pushed =
-    let longer : take (i + 1) all ≡ take i all ++ recorded ∷ [] = ap (λ k. take k all) (add-one i) ∙ (take-suc all i recorded within ∙ ap (λ (x : Recorded). take i all ++ x ∷ []) (sym is)) in
-    subst (λ (ts : List Track). AllZip IsTrackOf (take (i + 1) all) ts) (sym pushed) (subst (λ (rs : List Recorded). AllZip IsTrackOf rs (tracks ++ track ∷ [])) (sym longer) (all_zipped_more IsTrackOf (take i all) tracks recorded track before next))
+pub tracks_more : (logs : List (Bor Kept)) (i : ℕ) (log : Bor Kept) (tracks new : List Track) (track : Track) → i < length logs → log ≡ get_or logs i log → AllZip IsTrackOf (kept_in (take i logs)) tracks → IsTrackOf log.now track → new ≡ tracks ++ track ∷ [] → AllZip IsTrackOf (kept_in (take (i + 1) logs)) new
+tracks_more logs i log tracks new track within is before next pushed =
+    let longer : take (i + 1) logs ≡ take i logs ++ log ∷ [] = ap (λ k. take k logs) (add-one i) ∙ (take-suc logs i log within ∙ ap (λ (x : Bor Kept). take i logs ++ x ∷ []) (sym is)) in
+    let kept : kept_in (take (i + 1) logs) ≡ kept_in (take i logs) ++ log.now ∷ [] = ap kept_in longer ∙ map-append (λ (l : Bor Kept). l.now) (take i logs) (log ∷ []) in
+    subst (λ (ts : List Track). AllZip IsTrackOf (kept_in (take (i + 1) logs)) ts) (sym pushed) (subst (λ (ls : List Kept). AllZip IsTrackOf ls (tracks ++ track ∷ [])) (sym kept) (all_zipped_more IsTrackOf (kept_in (take i logs)) tracks log.now track before next))
 
 -- an item that was read is the item at its place
 pub read_at : (ns : List ℕ) (p v : ℕ) → p < length ns → v ≡ get_or ns p v → get_or ns p 0 ≡ v

@@ -1,13 +1,11 @@
 -- The boxes of blocks.
-use Rattle.std.specs.Prelude.{◌≡◌, ℕ, ◌+◌, ◌*◌, List, ◌++◌, codes, Some}
-use Rattle.std.specs.List.{AllZip, slice_get}
+use Rattle.std.specs.Prelude.{◌≡◌, ℕ, ◌+◌, ◌*◌, List, ◌++◌, codes}
+use Rattle.std.specs.List.{AllZip}
 use Rattle.std.specs.Fmt.{decimal}
 use Rattle.svg.specs.declared.shapes.Colour.{Colour}
 use Rattle.svg.specs.declared.shapes.Shape.{Shape}
 use Rattle.svg.specs.declared.shapes.Shape.TheVariants.{Titled}
-use Rattle.boot_picture.specs.declared.blocks.Block.{Block}
 use Rattle.boot_picture.specs.declared.order.Ordered.{Ordered}
-use Rattle.boot_picture.specs.declared.order.Track.{Track}
 
 -- the words for a block: the number of its first turn, and its processor
 abbrev pub turn_words : Ordered → List ℕ

@@ -1,16 +1,18 @@
 -- The order of all processors' blocks by the clock.
-use Rattle.std.specs.Prelude.{◌≡◌, ℕ, ◌<◌, ◌≤◌, ◌==◌, ◌⊎◌, List, length, take, map, get_or, Some}
-use Rattle.std.specs.List.{All, AllZip, filter, slice_get}
+use Rattle.std.specs.Prelude.{◌≡◌, ℕ, ◌<◌, ◌≤◌, ◌==◌, ◌⊎◌, List, length, take, map, get_or, Option, Some, None, IfSome}
+use Rattle.std.specs.List.{All, filter, slice_get}
 use Rattle.boot_picture.specs.declared.blocks.Block.{Block}
-use Rattle.boot_picture.specs.declared.recorded.Recorded.{Recorded}
+use Rattle.std.specs.List.Sorted.{IsNonDecreasingBy}
+use Rattle.boot_log.specs.declared.entry.Entry.{Entry}
+use Rattle.boot_log.specs.Kept.{Kept}
 use Rattle.boot_picture.specs.declared.order.Ordered.{Ordered}
 use Rattle.boot_picture.specs.declared.order.Track.{Track}
 use Rattle.boot_picture.specs.Blocks.{AreBlocksOf}
 
--- the track has the turns that were recorded, and their blocks
-pub record IsTrackOf (recorded : Recorded) (track : Track) : Type 0 where
-  pub same : track.recorded ≡ recorded
-  pub blocks : AreBlocksOf recorded.entries.now track.blocks.items
+-- the track has the log of a processor, and the blocks of its turns
+pub record IsTrackOf (log : Kept) (track : Track) : Type 0 where
+  pub same : track.log.now ≡ log
+  pub blocks : AreBlocksOf log.entries track.blocks.items
 
 -- the blocks of one processor among these, in their order
 abbrev pub blocks_in : ℕ → List Ordered → List Block
@@ -26,11 +28,35 @@ abbrev pub HasFirst : List Track → List Ordered → Type 0
 HasFirst tracks order = (processor : ℕ) (track : Track) → slice_get tracks processor ≡ Some track
     → (n : ℕ) × (blocks_in processor order ≡ take n track.blocks.items)
 
--- blocks of these processors: the first of each in their order, and all of them unless there are 2,000
+-- when a turn ended; 0 if there is none
+abbrev pub end_of : Option Entry → ℕ
+end_of None = 0
+end_of (Some entry) = entry.at
+
+-- when the first turn of a block ended
+abbrev pub time_in : Option Track → Block → ℕ
+time_in None block = 0
+time_in (Some track) block = end_of (slice_get track.log.now.entries block.first)
+
+abbrev pub time_of : List Track → Ordered → ℕ
+time_of tracks o = time_in (slice_get tracks o.processor) o.block
+
+-- the turns are in the order of the clock
+abbrev pub AreInTime : List Entry → Type 0
+AreInTime entries = IsNonDecreasingBy (λ entry. entry.at) entries
+
+-- the track has the blocks of its turns, and these are in the order of the clock
+pub record IsTimed (track : Track) : Type 0 where
+  pub blocks : AreBlocksOf track.log.now.entries track.blocks.items
+  pub times : AreInTime track.log.now.entries
+
+-- Blocks of these processors: the first of each in their order, and all of them unless there are 2,000. They are in the
+-- order of the clock if the turns of each processor are
 pub record IsOrderOf (tracks : List Track) (order : List Ordered) : Type 0 where
   pub of_tracks : All (λ o. o.processor < length tracks) order
   pub first : HasFirst tracks order
   pub all_or_most : (length order ≡ 2000) ⊎ HasAll tracks order
+  pub by_clock : All IsTimed tracks → IsNonDecreasingBy (time_of tracks) order
 
 -- the block is the next one of its processor; `nexts` has the number of each processor's next block
 pub record IsNextIn (tracks : List Track) (nexts : List ℕ) (o : Ordered) : Type 0 where
@@ -46,3 +72,12 @@ IsUsed tracks nexts processor = (track : Track) → slice_get tracks processor �
 -- no processor below this one has a next block
 abbrev pub AreUsed : List Track → List ℕ → ℕ → Type 0
 AreUsed tracks nexts end = (processor : ℕ) → processor < end → IsUsed tracks nexts processor
+
+-- the block doesn't come after this one, if there is one
+abbrev pub IsNotAfter : List Track → Ordered → Option Ordered → Type 0
+IsNotAfter tracks o other = IfSome other (λ next. time_of tracks o ≤ time_of tracks next)
+
+-- the block doesn't come after the next one of any processor below this one
+abbrev pub IsLeast : List Track → List ℕ → ℕ → Ordered → Type 0
+IsLeast tracks nexts end o = (next : Ordered) → IsNextIn tracks nexts next → next.processor < end
+    → time_of tracks o ≤ time_of tracks next

@@ -1,12 +1,11 @@
 //! A processor's turns, in the blocks that its lane shows: each turn alone, except for idle turns in a row.
 
 ghost use Rattle.std.specs.Prelude.{◌≡◌, ◌<◌, length, IfOk};
-ghost use Rattle.boot_picture.specs.Blocks.{was_in_vain, AreBlock, AreBlocksOf};
+ghost use Rattle.boot_picture.specs.Blocks.{AreBlock, AreBlocksOf};
 
-use boot_log::{Did, Entry};
+use boot_log::Entry;
 use event_theory::OutOfMemory;
 use std::alloc::Global;
-use turn_dispatch::Idle;
 
 /// One turn, or several idle turns in a row, of one processor.
 #[derive(Clone, Copy, Debug, PartialEq, Eq)]
@@ -17,16 +16,6 @@ pub struct Block {
     pub turns: usize,
 }
 
-/// Whether a turn was idle: no element was ready, and no alarm was fired.
-pub fn is_in_vain(entry: &Entry) -> bool
-    ensures { result ≡ was_in_vain entry.now }
-{
-    match entry.did {
-        Did::Idle(Idle::NothingReady(_)) => entry.fired.len == 0,
-        _ => false,
-    }
-}
-
 /// How many turns the first block of these has.
 ///
 /// Condition: there is a turn.
@@ -34,11 +23,11 @@ fn first_block(entries: &[Entry]) -> usize
     requires { 0 < length entries.now }
     ensures { AreBlock entries.now result }
 {
-    if !is_in_vain(&entries[0]) {
+    if !entries[0].is_idle() {
         return 1;
     }
     let mut turns = 1;
-    while turns < entries.len() && is_in_vain(&entries[turns]) {
+    while turns < entries.len() && entries[turns].is_idle() {
         turns += 1;
     }
     turns

@@ -1,10 +1,9 @@
 //! The places of blocks: a column for each, in the order of the clock, or by the time itself.
 
-use crate::blocks::is_in_vain;
 use crate::order::{Ordered, Track};
 use crate::wording::{Wording, words_of};
 use boot_data::BootPlan;
-use boot_log::Entry;
+use boot_log::{Entry, Log};
 use event_theory::OutOfMemory;
 use std::alloc::Global;
 
@@ -29,6 +28,9 @@ const LEAST_WIDTH: u64 = 900;
 
 const MOST_WIDTH: u64 = 48_000;
 
+/// How wide the space is in which the first turns begin, if the places are by the time.
+const LEAD: u32 = 64;
+
 /// The left and the right side of a block.
 #[derive(Clone, Copy)]
 pub(crate) struct Bounds {
@@ -44,7 +46,8 @@ pub(crate) struct Placed {
     pub(crate) wording: Wording,
 }
 
-/// The times that a picture shows: when its first turn began, and how long it is, in nanoseconds, and how wide.
+/// The times that a picture shows: when its first turn ended, and how long it is from there on, in nanoseconds, and how
+/// wide.
 #[derive(Clone, Copy)]
 pub(crate) struct Scale {
     pub(crate) from: u64,
@@ -58,7 +61,7 @@ impl Scale {
         let passed = u128::from(at.saturating_sub(self.from));
         let along = passed * u128::from(self.width) / u128::from(self.span.max(1));
         let along = u32::try_from(along).unwrap_or(u32::MAX);
-        along.saturating_add(LEFT)
+        along.saturating_add(LEFT + LEAD)
     }
 }
 
@@ -79,8 +82,8 @@ fn width_of(wording: &Wording) -> u32 {
 /// The entry with which a block begins.
 pub(crate) fn entry_of<'a>(tracks: &[Track<'a>], ordered: &Ordered) -> Option<&'a Entry> {
     let track = tracks.get(ordered.processor)?;
-    let entries: &'a [Entry] = track.recorded.entries;
-    entries.get(ordered.block.first)
+    let log: &'a Log = track.log;
+    log.entries().get(ordered.block.first)
 }
 
 /// The words in the box of a block.
@@ -90,7 +93,7 @@ fn wording_of(
     track: &Track,
     ordered: &Ordered,
 ) -> Result<Wording, OutOfMemory> {
-    words_of(alloc, plan, &track.recorded, ordered.block)
+    words_of(alloc, plan, track.log, ordered.block)
 }
 
 /// Places each block in a column of its own, one after the other.
@@ -120,7 +123,7 @@ fn place_in_turns(
 /// Whether a block's turns were idle.
 pub(crate) fn is_idle(tracks: &[Track], ordered: &Ordered) -> bool {
     match entry_of(tracks, ordered) {
-        Some(entry) => is_in_vain(entry),
+        Some(entry) => entry.is_idle(),
         None => false,
     }
 }
@@ -148,12 +151,25 @@ pub(crate) fn right_of(all: &[Placed]) -> u32 {
     right
 }
 
-/// When a block began: when the turn before it had ended. The first of a processor begins with its end.
-fn start_of(track: &Track, ordered: &Ordered) -> u64 {
-    let before = ordered.block.first.saturating_sub(1);
-    match track.recorded.entries.get(before) {
+/// The left side of a block: when the turn before it had ended. No log has the start of a first turn, so the first block
+/// of a processor begins as far before its end as there is space before the first end of all.
+fn left_of(scale: &Scale, track: &Track, ordered: &Ordered) -> u32 {
+    if ordered.block.first == 0 {
+        return scale
+            .place(first_end_of(track, ordered))
+            .saturating_sub(LEAD);
+    }
+    match track.log.entries().get(ordered.block.first - 1) {
+        Some(entry) => scale.place(entry.at),
+        None => LEFT,
+    }
+}
+
+/// When the first turn of a block ended.
+fn first_end_of(track: &Track, ordered: &Ordered) -> u64 {
+    match track.log.entries().get(ordered.block.first) {
         Some(entry) => entry.at,
-        None => 0,
+        None => u64::MAX,
     }
 }
 
@@ -164,19 +180,19 @@ fn end_of(track: &Track, ordered: &Ordered) -> u64 {
         .first
         .saturating_add(ordered.block.turns)
         .saturating_sub(1);
-    match track.recorded.entries.get(last) {
+    match track.log.entries().get(last) {
         Some(entry) => entry.at,
         None => 0,
     }
 }
 
-/// The times of these blocks.
+/// The times of these blocks, from the first end of a turn on.
 pub(crate) fn scale_of(tracks: &[Track], order: &[Ordered]) -> Scale {
     let mut from = u64::MAX;
     let mut to = 0;
     for ordered in order {
         if let Some(track) = tracks.get(ordered.processor) {
-            from = from.min(start_of(track, ordered));
+            from = from.min(first_end_of(track, ordered));
             to = to.max(end_of(track, ordered));
         }
     }
@@ -199,7 +215,7 @@ fn place_in_time(
     let mut all = Vec::new(alloc);
     for ordered in order {
         if let Some(track) = tracks.get(ordered.processor) {
-            let left = scale.place(start_of(track, ordered));
+            let left = left_of(&scale, track, ordered);
             let right = scale.place(end_of(track, ordered));
             all.push(Placed {
                 ordered: *ordered,

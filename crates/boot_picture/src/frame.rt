@@ -2,7 +2,7 @@
 
 ghost use Rattle.std.specs.Prelude.{◌<◌};
 
-use crate::columns::{Placed, right_of};
+use crate::columns::{LETTER, Placed, right_of};
 use boot_data::BootPlan;
 
 /// The side at which the names of lanes begin.
@@ -65,6 +65,16 @@ pub(crate) fn lines_in(text: &[u8]) -> usize {
     lines
 }
 
+/// How wide the longest line of a text is.
+fn wide(text: &[u8]) -> u32 {
+    let mut letters = 0usize;
+    for line in text.split(|byte| *byte == b'\n') {
+        letters = letters.max(line.len());
+    }
+    let letters = u32::try_from(letters).unwrap_or(u32::MAX);
+    letters.saturating_mul(LETTER)
+}
+
 /// The places of the rows of a picture with this plan, these blocks and this report, on so many processors.
 pub(crate) fn frame_of(
     plan: &BootPlan,
@@ -82,6 +92,7 @@ pub(crate) fn frame_of(
     let below = after(threads, plan.threads.as_slice().len(), THREAD).saturating_add(SPACE);
     let legend = after(below, lines_in(report), LINE).saturating_add(SPACE);
     let right = right_of(all);
+    let words = wide(report).saturating_add(NAMES);
     Frame {
         times: FIRST,
         alarms,
@@ -91,6 +102,6 @@ pub(crate) fn frame_of(
         legend,
         height: legend.saturating_add(LEGEND),
         right,
-        width: right.saturating_add(SPACE).max(LEAST),
+        width: right.max(words).saturating_add(SPACE).max(LEAST),
     }
 }

@@ -32,14 +32,14 @@ pub(crate) fn colour_of(thread: Element) -> Colour {
     }
 }
 
-/// The colour of the box of a block: the colour of its thread.
+/// The colour of the box of a block: the colour of its thread; a faint one if it is idle.
 fn fill_of(track: &Track, ordered: &Ordered) -> Colour {
-    match track.recorded.entries.get(ordered.block.first) {
+    match track.log.entries().get(ordered.block.first) {
         Some(entry) => match thread_of(entry) {
             Some(thread) => colour_of(thread),
-            None => Colour::Grey,
+            None => Colour::Faint,
         },
-        None => Colour::Grey,
+        None => Colour::Faint,
     }
 }
 
@@ -67,7 +67,7 @@ fn add_box(
     requires processor { ordered.now.processor < 1000 }
     ensures { OnOk result ((shape : Shape) × (canvas.new ≡ canvas.old ++ shape ∷ []) × IsBoxOf top ordered.now shape) }
 {
-    let title = title_of(canvas.alloc(), plan, &track.recorded, *ordered)?;
+    let title = title_of(canvas.alloc(), plan, track.log, *ordered)?;
     let fill = fill_of(track, ordered);
     let width = bounds.right.saturating_sub(bounds.left);
     let y = lane_side(top, ordered.processor);

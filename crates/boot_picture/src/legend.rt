@@ -19,7 +19,7 @@ enum Sample {
     Words(&'static [u8]),
     /// The box of a turn of a thread, and the box of idle turns.
     Turn,
-    Vain,
+    Idle,
     /// The mark of an alarm.
     Alarm,
     /// A line that passed.
@@ -37,7 +37,7 @@ enum Sample {
 static PROCESSORS: [(u32, Sample); 7] = [
     (12, Sample::Words(b"processor")),
     (96, Sample::Turn), (136, Sample::Words(b"turn, in its thread's colour")),
-    (376, Sample::Vain), (416, Sample::Words(b"idle turns in a row, and how many")),
+    (376, Sample::Idle), (416, Sample::Words(b"idle turns in a row, and how many")),
     (696, Sample::Alarm), (716, Sample::Words(b"alarm fired")),
 ];
 
@@ -55,7 +55,8 @@ static THREADS: [(u32, Sample); 13] = [
 #[rattlefmt::skip]
 static PASSINGS: [(u32, Sample); 3] = [
     (12, Sample::Words(b"line")),
-    (96, Sample::Passing), (136, Sample::Words(b"from the say that put it to the hear that took it")),
+    (96, Sample::Passing),
+    (140, Sample::Words(b"from the say that put it to the hear that took it, without a pump or switch")),
 ];
 
 /// The place of a thread that a sample shows.
@@ -77,7 +78,7 @@ fn add_sample(canvas: &mut Canvas, sample: Sample, x: u32, y: u32) -> Result<(),
     match sample {
         Sample::Words(words) => canvas.words(x, y, words),
         Sample::Turn => canvas.cell(x, y, SAMPLE, Colour::Orange),
-        Sample::Vain => canvas.cell(x, y, SAMPLE, Colour::Grey),
+        Sample::Idle => canvas.cell(x, y, SAMPLE, Colour::Faint),
         Sample::Alarm => canvas.bar(x, y.saturating_add(3), 12, 12, Colour::Red),
         Sample::Passing => {
             let below = y.saturating_add(BOX - 4);

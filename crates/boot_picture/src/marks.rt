@@ -1,6 +1,6 @@
 //! The marks above the lanes: the alarms that were fired, and the times.
 
-use crate::columns::{Bounds, LEFT, Placed, Scale, entry_of};
+use crate::columns::{Bounds, LETTER, Placed, Scale, entry_of};
 use crate::frame::{Frame, NAMES};
 use crate::labels::letters_in;
 use crate::naming::thread_name;
@@ -14,8 +14,8 @@ use svg::{Anchor, Canvas, Colour};
 /// How wide and how high the mark of an alarm is.
 const MARK: u32 = 12;
 
-/// How far the marks of times are from each other.
-const STEP: u32 = 160;
+/// How far the marks of times are from each other at least.
+const STEP: u64 = 120;
 
 /// The thread and the signal of an alarm.
 fn add_target(phrase: &mut Phrase, plan: &BootPlan, alarm: &Alarm) -> Result<(), OutOfMemory> {
@@ -95,7 +95,7 @@ pub(crate) fn add_alarms(
             tracks.get(placed.ordered.processor),
             entry_of(tracks, &placed.ordered),
         ) {
-            let alarms = track.recorded.alarms(entry.fired);
+            let alarms = track.log.alarms(entry.fired);
             if !alarms.is_empty() {
                 add_alarm(canvas, frame, plan, alarms, placed.bounds)?;
             }
@@ -104,13 +104,33 @@ pub(crate) fn add_alarms(
     Ok(())
 }
 
-/// A time since the first turn, in a unit that fits the length of all.
-fn time_words(alloc: Global, scale: Scale, passed: u64) -> Result<Items<u8>, OutOfMemory> {
+/// The least of 1, 2, 5, 10, 20, 50 and so on that is no less than this number, or 10^19 if it is more.
+fn round_up(least: u64) -> u64 {
+    let mut power = 1u64;
+    for _ in 0..19 {
+        for step in [power, power.saturating_mul(2), power.saturating_mul(5)] {
+            if step >= least {
+                return step;
+            }
+        }
+        power = power.saturating_mul(10);
+    }
+    power
+}
+
+/// How many nanoseconds are between two marks.
+fn step_of(scale: Scale) -> u64 {
+    let least = u128::from(scale.span) * u128::from(STEP) / u128::from(scale.width.max(1));
+    round_up(u64::try_from(least).unwrap_or(u64::MAX))
+}
+
+/// A time since the first end of a turn, in a unit that fits the step from mark to mark.
+fn time_words(alloc: Global, step: u64, passed: u64) -> Result<Items<u8>, OutOfMemory> {
     let mut phrase = Phrase::new(alloc);
-    if scale.span < 100_000 {
+    if step < 1000 {
         phrase.number(passed)?;
         phrase.words(" ns")?;
-    } else if scale.span < 100_000_000 {
+    } else if step < 1_000_000 {
         phrase.number(passed / 1000)?;
         phrase.words(" us")?;
     } else {
@@ -127,16 +147,18 @@ pub(crate) fn add_times(
     scale: Scale,
 ) -> Result<(), OutOfMemory> {
     canvas.words(NAMES, frame.times, b"time")?;
-    let count = (scale.width / u64::from(STEP)).min(1000);
-    for number in 0..count {
-        let along = number * u64::from(STEP);
-        let passed = u128::from(scale.span) * u128::from(along) / u128::from(scale.width.max(1));
-        let passed = u64::try_from(passed).unwrap_or(u64::MAX);
-        let words = time_words(canvas.alloc(), scale, passed)?;
-        let x = LEFT.saturating_add(u32::try_from(along).unwrap_or(u32::MAX));
+    let step = step_of(scale);
+    let count = (scale.span / step.max(1)).min(1000);
+    for number in 0..count + 1 {
+        let passed = number.saturating_mul(step);
+        let words = time_words(canvas.alloc(), step, passed)?;
+        let x = scale.place(scale.from.saturating_add(passed));
         let height = frame.threads.saturating_sub(frame.times);
         canvas.bar(x, frame.times, 1, height, Colour::Faint)?;
-        canvas.label(x.saturating_add(4), frame.times, Anchor::Start, words)?;
+        let wide = u32::try_from(words.as_slice().len()).unwrap_or(u32::MAX);
+        if x.saturating_add(wide.saturating_mul(LETTER)) < frame.width {
+            canvas.label(x.saturating_add(4), frame.times, Anchor::Start, words)?;
+        }
     }
     Ok(())
 }

@@ -31,6 +31,14 @@ pub(crate) fn queue_name(plan: &BootPlan, queue: QueueIndex) -> &[u8] {
     }
 }
 
+/// Which of the queues of its tty a queue is; nothing for another queue.
+pub(crate) fn queue_side(queue: QueueIndex) -> &'static str {
+    match queue {
+        QueueIndex::Small(_) => "",
+        QueueIndex::Large(number) => { if number % 2 == 0 { ".line" } else { ".screen" } }
+    }
+}
+
 /// The name of a pump or a switch.
 pub(crate) fn mover_name(plan: &BootPlan, mover: usize) -> &[u8] {
     match plan.movers.as_slice().get(mover) {

@@ -1,11 +1,14 @@
 //! The order of all processors' blocks by the clock.
 
-ghost use Rattle.std.specs.Prelude.{◌≡◌, ◌<◌, ◌⊎◌, length, None, IfOk, IfSome};
+ghost use Rattle.std.specs.Prelude.{◌≡◌, ◌<◌, ◌⊎◌, length, Some, None, IfOk, IfSome};
 ghost use Rattle.std.specs.List.{AllZip};
-ghost use Rattle.boot_picture.specs.Orders.{IsTrackOf, IsOrderOf, IsNextIn, IsUsed, AreUsed};
+ghost use Rattle.boot_log.specs.Kept.{kept_in};
+ghost use Rattle.boot_picture.specs.declared.order.Ordered.{Ordered};
+ghost use Rattle.boot_picture.specs.Orders.{AreUsed, IsLeast, IsNextIn, IsNotAfter, IsOrderOf, IsTrackOf, IsUsed};
+ghost use Rattle.boot_picture.specs.Orders.{time_of};
 
 use crate::blocks::{Block, blocks_of};
-use crate::recorded::Recorded;
+use boot_log::Log;
 use event_theory::OutOfMemory;
 use std::alloc::Global;
 
@@ -15,7 +18,7 @@ pub(crate) const MOST_BLOCKS: usize = 2000;
 /// The turns of one processor, and their blocks.
 #[derive(Drop)]
 pub(crate) struct Track<'a> {
-    pub(crate) recorded: Recorded<'a>,
+    pub(crate) log: &'a Log,
     pub(crate) blocks: Vec<Block>,
 }
 
@@ -27,29 +30,25 @@ pub(crate) struct Ordered {
 }
 
 /// The processors' turns, with their blocks.
-pub(crate) fn tracks_of<'a>(
-    alloc: Global,
-    all: &[Recorded<'a>],
-) -> Result<Vec<Track<'a>>, OutOfMemory>
-    ensures { IfOk result (λ tracks. AllZip IsTrackOf all.now tracks.items) }
+pub(crate) fn tracks_of<'a>(alloc: Global, logs: &[&'a Log]) -> Result<Vec<Track<'a>>, OutOfMemory>
+    ensures { IfOk result (λ tracks. AllZip IsTrackOf (kept_in logs.now) tracks.items) }
 {
     let mut tracks = Vec::new(alloc);
-    for recorded in all {
-        let blocks = blocks_of(alloc, recorded.entries)?;
-        tracks.push(Track {
-            recorded: *recorded,
-            blocks,
-        })?;
+    for log in logs {
+        let blocks = blocks_of(alloc, log.entries())?;
+        tracks.push(Track { log: *log, blocks })?;
     }
     Ok(tracks)
 }
 
 /// When the first turn of a block ended. If there is no such turn, the time is 0.
-fn time_of(tracks: &[Track], ordered: &Ordered) -> u64 {
+fn time_of(tracks: &[Track], ordered: &Ordered) -> u64
+    ensures { result ≡ time_of tracks.now ordered.now }
+{
     let Some(track) = tracks.get(ordered.processor) else {
         return 0;
     };
-    match track.recorded.entries.get(ordered.block.first) {
+    match track.log.entries().get(ordered.block.first) {
         Some(entry) => entry.at,
         None => 0,
     }
@@ -61,6 +60,7 @@ fn next_of(tracks: &[Track], nexts: &[usize], processor: usize) -> Option<Ordere
     requires nexts { length nexts.now ≡ length tracks.now }
     ensures found { IfSome result (IsNextIn tracks.now nexts.now) }
     ensures none { result ≡ None → IsUsed tracks.now nexts.now processor }
+    ensures next { (o : Ordered) → IsNextIn tracks.now nexts.now o → o.processor ≡ processor → result ≡ Some o }
 {
     let track = &tracks[processor];
     match track.blocks.get(nexts[processor]) {
@@ -76,6 +76,7 @@ fn next_of(tracks: &[Track], nexts: &[usize], processor: usize) -> Option<Ordere
 fn earlier(tracks: &[Track], one: Option<Ordered>, other: Option<Ordered>) -> Option<Ordered>
     ensures either { (result ≡ one) ⊎ (result ≡ other) }
     ensures none { result ≡ None → (one ≡ None) × (other ≡ None) }
+    ensures least { IfSome result (λ o. IsNotAfter tracks.now o one × IsNotAfter tracks.now o other) }
 {
     match (one, other) {
         (Some(first), Some(second)) => {
@@ -96,6 +97,7 @@ fn earliest(tracks: &[Track], nexts: &[usize]) -> Option<Ordered>
     requires { length nexts.now ≡ length tracks.now }
     ensures found { IfSome result (IsNextIn tracks.now nexts.now) }
     ensures none { result ≡ None → AreUsed tracks.now nexts.now (length tracks.now) }
+    ensures least { IfSome result (IsLeast tracks.now nexts.now (length tracks.now)) }
 {
     let mut found = None;
     for processor in 0..tracks.len() {

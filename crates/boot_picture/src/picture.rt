@@ -1,8 +1,10 @@
 //! The picture of a boot: a lane for each processor, a lane for each thread, and the report below them.
 
 ghost use Rattle.std.specs.Prelude.{◌≡◌, ◌≤◌, ◌++◌, length, IfOk};
+ghost use Rattle.boot_log.specs.Kept.{kept_in};
 ghost use Rattle.boot_picture.specs.Pictures.{ShowsTurns};
 
+use crate::arrows::arrows_of;
 use crate::columns::{LEFT, Placed, place_all, scale_of};
 use crate::frame::{Frame, LINE, NAMES, NOTE, PROCESSOR, THREAD, TITLE, after, frame_of};
 use crate::labels::add_labels;
@@ -10,12 +12,11 @@ use crate::lanes::add_boxes;
 use crate::legend::add_legend;
 use crate::marks::{add_alarms, add_times};
 use crate::order::{Ordered, Track, order_of, tracks_of};
-use crate::passings::passings_of;
 use crate::phrase::Phrase;
-use crate::recorded::Recorded;
 use crate::spans::spans_of;
-use crate::thread_lanes::{add_passings, add_spans, add_thread_names};
+use crate::thread_lanes::{add_arrows, add_spans, add_thread_names};
 use boot_data::BootPlan;
+use boot_log::Log;
 use event_theory::{Items, OutOfMemory};
 use std::alloc::Global;
 use svg::words::{first_comment, front_of, numbered, text_of};
@@ -48,8 +49,8 @@ fn shown_in(order: &[Ordered]) -> u64 {
 fn all_in(tracks: &[Track]) -> u64 {
     let mut all = 0u64;
     for track in tracks {
-        all = all.saturating_add(track.recorded.entries.len() as u64);
-        all = all.saturating_add(track.recorded.missed);
+        all = all.saturating_add(track.log.entries().len() as u64);
+        all = all.saturating_add(track.log.missed());
     }
     all
 }
@@ -107,7 +108,7 @@ fn add_rules(
     each: u32,
     right: u32,
 ) -> Result<(), OutOfMemory> {
-    let width = right.saturating_sub(LEFT);
+    let width = right.saturating_sub(LEFT).max(1);
     for number in 0..count {
         let y = after(from, number, each)
             .saturating_add(each)
@@ -157,6 +158,7 @@ fn add_rest(
     canvas: &mut Canvas,
     frame: &Frame,
     boot: &Boot,
+    logs: &[&Log],
     tracks: &[Track],
     all: &[Placed],
 ) -> Result<(), OutOfMemory> {
@@ -164,10 +166,10 @@ fn add_rest(
     add_labels(canvas, frame, all)?;
     add_alarms(canvas, frame, boot.plan, tracks, all)?;
     add_thread_names(canvas, frame, boot.plan)?;
-    let passings = passings_of(alloc, tracks, all)?;
-    add_passings(canvas, frame, &passings)?;
     let spans = spans_of(alloc, boot.plan, tracks, all, frame.right)?;
     add_spans(canvas, frame, &spans)?;
+    let arrows = arrows_of(alloc, logs, all)?;
+    add_arrows(canvas, frame, &arrows)?;
     add_report(canvas, frame, boot.report)?;
     add_legend(canvas, frame)
 }
@@ -182,15 +184,15 @@ fn joined(below: Items<Shape>, above: Items<Shape>) -> Result<Items<Shape>, OutO
     Ok(Items::new(all))
 }
 
-/// The picture of a boot on these processors, whose turns were recorded. Each turn has a box, except if there are more
-/// than 2,000 boxes: the picture then has the first 2,000, and its head says how many turns are shown.
+/// The picture of a boot, by the log of each processor, from 0 on. Each turn has a box, except if there are more than
+/// 2,000 boxes: the picture then has the first 2,000, and its head says how many turns are shown.
 ///
 /// Condition: there are at most eight processors.
-pub fn picture_of(alloc: Global, boot: &Boot, all: &[Recorded]) -> Result<Picture, OutOfMemory>
-    requires { length all.now ≤ 8 }
-    ensures { IfOk result (ShowsTurns all.now) }
+pub fn picture_of(alloc: Global, boot: &Boot, logs: &[&Log]) -> Result<Picture, OutOfMemory>
+    requires { length logs.now ≤ 8 }
+    ensures { IfOk result (ShowsTurns (kept_in logs.now)) }
 {
-    let tracks = tracks_of(alloc, all)?;
+    let tracks = tracks_of(alloc, logs)?;
     let order = order_of(alloc, &tracks)?;
     let placed = place_all(alloc, boot.plan, &tracks, &order, boot.by_time)?;
     let frame = frame_of(boot.plan, &placed, boot.report, tracks.len(), boot.by_time);
@@ -205,7 +207,7 @@ pub fn picture_of(alloc: Global, boot: &Boot, all: &[Recorded]) -> Result<Pictur
         frame.processors,
     )?;
     let mut above = Canvas::new(alloc);
-    add_rest(&mut above, &frame, boot, &tracks, &placed)?;
+    add_rest(&mut above, &frame, boot, logs, &tracks, &placed)?;
     Ok(Picture {
         width: frame.width,
         height: frame.height,

@@ -118,15 +118,18 @@ impl Spans {
         })
     }
 
-    /// The thread has been at its place up to here, and then goes to another.
+    /// The thread has been at its place up to here, and then goes to another. A place where it was for no time is left
+    /// out, except for the end.
     fn goes(&mut self, thread: usize, place: Place, at: u32) -> Result<(), OutOfMemory> {
         let Some(now) = self.nows.get_mut(thread) else {
             return Ok(());
         };
         let (old, left) = (now.place, now.since);
+        // by the clock the thread may have had a turn before an earlier one had ended
+        let at = at.max(left);
         now.place = place;
         now.since = at;
-        if left < at {
+        if left < at || old == Place::Ended {
             self.spans.push(Span {
                 thread,
                 place: old,

@@ -1,8 +1,9 @@
 //! The words of a step and of its answer.
 
-use crate::naming::{gauge_name, mover_name, pipe_name, queue_name, thread_name};
+use crate::naming::{gauge_name, mover_name, pipe_name, queue_name, queue_side, thread_name};
 use crate::phrase::Phrase;
 use boot_data::BootPlan;
+use boot_data::plan::QueueIndex;
 use boot_log::{HeardAnswer, SaidAnswer, Tried};
 use claim_queue::{ClaimRefusal, TakeRefusal};
 use event_theory::OutOfMemory;
@@ -18,6 +19,17 @@ fn add_named(phrase: &mut Phrase, word: &str, name: &[u8]) -> Result<(), OutOfMe
     phrase.bytes(name)
 }
 
+/// A word, and the name of a queue after it.
+fn add_queue(
+    phrase: &mut Phrase,
+    plan: &BootPlan,
+    word: &str,
+    queue: QueueIndex,
+) -> Result<(), OutOfMemory> {
+    add_named(phrase, word, queue_name(plan, queue))?;
+    phrase.words(queue_side(queue))
+}
+
 /// A step as the script has it, without the text of a say.
 pub(crate) fn add_step(
     phrase: &mut Phrase,
@@ -25,8 +37,8 @@ pub(crate) fn add_step(
     tried: &Tried,
 ) -> Result<(), OutOfMemory> {
     match tried {
-        Tried::Say { queue, .. } => add_named(phrase, "say", queue_name(plan, *queue)),
-        Tried::Hear { queue, .. } => add_named(phrase, "hear", queue_name(plan, *queue)),
+        Tried::Say { queue, .. } => add_queue(phrase, plan, "say", *queue),
+        Tried::Hear { queue, .. } => add_queue(phrase, plan, "hear", *queue),
         Tried::Wait { wait } => phrase.numbered("wait ", u64::from(wait.number())),
         Tried::Wake { wait, .. } => phrase.numbered("wake ", u64::from(wait.number())),
         Tried::Signal { thread, signal, .. } => {

@@ -1,10 +1,10 @@
 //! The lanes of the threads: where each was, and the lines that passed between them.
 
+use crate::arrows::Arrow;
 use crate::columns::Bounds;
 use crate::frame::{Frame, NAMES, THREAD, after};
 use crate::labels::letters_in;
 use crate::lanes::colour_of;
-use crate::passings::Passing;
 use crate::spans::{Place, Span};
 use boot_data::BootPlan;
 use event_theory::{Element, Items, OutOfMemory};
@@ -96,12 +96,12 @@ pub(crate) fn add_spans(
 
 /// The heights at which a line leaves the lane of its say, and comes to the lane of its hear: at the sides of these
 /// lanes that face each other, or above the lane if both are one.
-fn ends_of(frame: &Frame, passing: &Passing) -> (u32, u32) {
-    let said = after(frame.threads, passing.said_by, THREAD);
-    let heard = after(frame.threads, passing.heard_by, THREAD);
-    if passing.said_by < passing.heard_by {
+fn ends_of(frame: &Frame, arrow: &Arrow) -> (u32, u32) {
+    let said = after(frame.threads, arrow.said_by, THREAD);
+    let heard = after(frame.threads, arrow.heard_by, THREAD);
+    if arrow.said_by < arrow.heard_by {
         (said.saturating_add(BOX), heard.saturating_sub(5))
-    } else if passing.said_by > passing.heard_by {
+    } else if arrow.said_by > arrow.heard_by {
         (said, heard.saturating_add(BOX + 5))
     } else {
         (said.saturating_sub(5), heard.saturating_sub(5))
@@ -109,16 +109,16 @@ fn ends_of(frame: &Frame, passing: &Passing) -> (u32, u32) {
 }
 
 /// Draws the lines that passed, from lane to lane, each with a mark at its end.
-pub(crate) fn add_passings(
+pub(crate) fn add_arrows(
     canvas: &mut Canvas,
     frame: &Frame,
-    passings: &[Passing],
+    arrows: &[Arrow],
 ) -> Result<(), OutOfMemory> {
-    for passing in passings {
-        let (from, to) = ends_of(frame, passing);
-        canvas.line(passing.said_at, from, passing.heard_at, to, Colour::Ink)?;
-        let x = passing.heard_at.saturating_sub(4);
-        if passing.said_by > passing.heard_by {
+    for arrow in arrows {
+        let (from, to) = ends_of(frame, arrow);
+        canvas.line(arrow.said_at, from, arrow.heard_at, to, Colour::Ink)?;
+        let x = arrow.heard_at.saturating_sub(4);
+        if arrow.said_by > arrow.heard_by {
             canvas.up(x, to)?;
         } else {
             canvas.down(x, to)?;

@@ -3,13 +3,11 @@
 ghost use Rattle.std.specs.Prelude.{IfOk};
 ghost use Rattle.boot_picture.specs.Lanes.{IsTitleOf};
 
-use crate::blocks::is_in_vain;
 use crate::order::Ordered;
 use crate::phrase::Phrase;
-use crate::recorded::Recorded;
 use crate::wording::words_of;
 use boot_data::BootPlan;
-use boot_log::{Did, Entry};
+use boot_log::{Did, Entry, Log};
 use event_theory::{Items, OutOfMemory};
 use processor::Moved;
 use std::alloc::Global;
@@ -69,10 +67,10 @@ fn add_words(
     phrase: &mut Phrase,
     alloc: Global,
     plan: &BootPlan,
-    recorded: &Recorded,
+    log: &Log,
     ordered: Ordered,
 ) -> Result<(), OutOfMemory> {
-    let words = words_of(alloc, plan, recorded, ordered.block)?;
+    let words = words_of(alloc, plan, log, ordered.block)?;
     if !words.thread.as_slice().is_empty() {
         phrase.words(": ")?;
         phrase.bytes(words.thread.as_slice())?;
@@ -90,20 +88,20 @@ fn add_words(
 fn details_of(
     alloc: Global,
     plan: &BootPlan,
-    recorded: &Recorded,
+    log: &Log,
     ordered: Ordered,
 ) -> Result<Items<u8>, OutOfMemory> {
     let mut phrase = Phrase::new(alloc);
-    let Some(entry) = recorded.entries.get(ordered.block.first) else {
+    let Some(entry) = log.entries().get(ordered.block.first) else {
         return Ok(phrase.end());
     };
     phrase.numbered(", at ", entry.at)?;
     phrase.words(" ns")?;
-    if is_in_vain(entry) {
+    if entry.is_idle() {
         phrase.numbered(": idle, turns in a row ", ordered.block.turns as u64)?;
         return Ok(phrase.end());
     }
-    add_words(&mut phrase, alloc, plan, recorded, ordered)?;
+    add_words(&mut phrase, alloc, plan, log, ordered)?;
     add_more(&mut phrase, entry)?;
     Ok(phrase.end())
 }
@@ -112,12 +110,12 @@ fn details_of(
 pub(crate) fn title_of(
     alloc: Global,
     plan: &BootPlan,
-    recorded: &Recorded,
+    log: &Log,
     ordered: Ordered,
 ) -> Result<Items<u8>, OutOfMemory>
     ensures { IfOk result (IsTitleOf ordered) }
 {
-    let details = details_of(alloc, plan, recorded, ordered)?;
+    let details = details_of(alloc, plan, log, ordered)?;
     let processor = numbered(alloc, " on p", ordered.processor as u64)?;
     let mut title = numbered(alloc, "turn ", ordered.block.first as u64)?.into_vec();
     title.extend_from_slice(processor.as_slice())?;

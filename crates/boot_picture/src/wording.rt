@@ -1,12 +1,11 @@
 //! The words of a block: those in its box, and its title.
 
-use crate::blocks::{Block, is_in_vain};
+use crate::blocks::Block;
 use crate::naming::thread_name;
 use crate::phrase::Phrase;
-use crate::recorded::Recorded;
 use crate::steps::{add_answer, add_step};
 use boot_data::BootPlan;
-use boot_log::{Did, Entry};
+use boot_log::{Did, Entry, Log};
 use event_theory::{Element, Items, OutOfMemory};
 use std::alloc::Global;
 use turn_dispatch::Idle;
@@ -40,9 +39,9 @@ fn add_deed(phrase: &mut Phrase, plan: &BootPlan, entry: &Entry) -> Result<(), O
 }
 
 /// What came of the step of a turn.
-fn add_result(phrase: &mut Phrase, recorded: &Recorded, entry: &Entry) -> Result<(), OutOfMemory> {
+fn add_result(phrase: &mut Phrase, log: &Log, entry: &Entry) -> Result<(), OutOfMemory> {
     match &entry.did {
-        Did::Stepped { tried, line, .. } => add_answer(phrase, tried, recorded.line(*line)),
+        Did::Stepped { tried, line, .. } => add_answer(phrase, tried, log.line(*line)),
         _ => Ok(()),
     }
 }
@@ -72,13 +71,13 @@ fn idle_words(alloc: Global, turns: usize) -> Result<Wording, OutOfMemory> {
 pub(crate) fn words_of(
     alloc: Global,
     plan: &BootPlan,
-    recorded: &Recorded,
+    log: &Log,
     block: Block,
 ) -> Result<Wording, OutOfMemory> {
-    let Some(entry) = recorded.entries.get(block.first) else {
+    let Some(entry) = log.entries().get(block.first) else {
         return idle_words(alloc, block.turns);
     };
-    if is_in_vain(entry) {
+    if entry.is_idle() {
         return idle_words(alloc, block.turns);
     }
     let mut thread = Phrase::new(alloc);
@@ -86,7 +85,7 @@ pub(crate) fn words_of(
     let mut step = Phrase::new(alloc);
     add_deed(&mut step, plan, entry)?;
     let mut answer = Phrase::new(alloc);
-    add_result(&mut answer, recorded, entry)?;
+    add_result(&mut answer, log, entry)?;
     Ok(Wording {
         thread: thread.end(),
         step: step.end(),

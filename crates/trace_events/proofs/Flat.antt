@@ -1,7 +1,6 @@
 -- No argument of a turn is an array or an object.
-use Rattle.std.proofs.Common.{◌≡◌, ℕ, ◌==◌, List, [], ◌∷◌, ◌++◌, Bool, true, false, cond, Option, Some, None, Result, Ok, Err, refl, codes}
-use Rattle.std.specs.Prelude.{if◌then◌else◌, max, suc}
-use Rattle.std.specs.List.{AllByRecursion}
+use Rattle.std.proofs.Common.{◌≡◌, ℕ, ◌==◌, List, [], ◌∷◌, ◌++◌, Bool, true, false, Option, Some, None, Result, Ok, Err, refl, codes}
+use Rattle.std.specs.Prelude.{if◌then◌else◌}
 use Rattle.boot_data.specs.declared.boot_plan.BootPlan.{BootPlan}
 use Rattle.boot_log.specs.declared.entry.Did.{Did}
 use Rattle.boot_log.specs.declared.entry.Did.TheVariants as did
@@ -30,7 +29,7 @@ use Rattle.turn_io.specs.declared.poking.Poked.TheVariants.{Ran, Left}
 use Rattle.json.specs.Tree.{depth, members_depth}
 use Rattle.trace_events.specs.Events.{turn_json}
 use Rattle.trace_events.specs.Objects.{Named, members_of}
-use Rattle.trace_events.specs.TurnArgs.{woken_args, line_args, claim_args, say_args, take_args, hear_args, poke_args, step_args, delivered_args, begun_args, counted_args, idle_args, did_args, tick_args, fired_args, turn_args, went_args, retired_name, thread_args, queue_args, close_args}
+use Rattle.trace_events.specs.TurnArgs.{woken_args, claim_args, say_args, take_args, hear_args, poke_args, step_args, delivered_args, counted_args, idle_args, did_args, tick_args, fired_args, turn_args, went_args, retired_name}
 use Rattle.trace_events.specs.TurnNames.{way_name}
 
 abbrev pub IsFlat : List Named → Type 0

@@ -1,5 +1,5 @@
 -- Tokens that are appended in several steps, and the text of an event.
-use Rattle.std.proofs.Common.{◌≡◌, ◌≤◌, ℕ, ◌-◌, append_assoc, List, [], ◌∷◌, ◌++◌, ◌∙◌, sym, ap, subst, refl, arith, Result}
+use Rattle.std.proofs.Common.{◌≡◌, ◌≤◌, ℕ, ◌-◌, append_assoc, List, [], ◌∷◌, ◌++◌, ◌∙◌, sym, ap, subst, Result}
 use Rattle.std.proofs.lemmas.Grind.{flat_map-append}
 use Rattle.std.proofs.lemmas.Result.{on_ok_weaker, IfOk-weaker}
 use Rattle.std.specs.Prelude.{IfOk, Vec, codes}
@@ -12,8 +12,8 @@ use Rattle.json.specs.Tree.{json_tokens, items_tokens, members_tokens, HasNumber
 use Rattle.json.specs.Print.{print, IsPrintable}
 use Rattle.json.specs.Written.{Written}
 use Rattle.event_theory.specs.declared.refusal.OutOfMemory.{OutOfMemory}
-use Rattle.trace_events.specs.Objects.{Grown, Writes, IsAlone, Named, list_tokens, member_tokens, numbered, timed}
-use Rattle.trace_events.specs.Documents.{json_text, IsEvent}
+use Rattle.trace_events.specs.Objects.{Grown, Writes, IsAlone, Named, list_tokens, member_tokens, timed}
+use Rattle.trace_events.specs.Documents.{IsEvent}
 use Rattle.trace_events.specs.Events.{head, turn_json, turn_opening}
 use Rattle.trace_events.proofs.Documents.{tokens_listed}
 

@@ -1,6 +1,7 @@
 mod Documents
 mod Flat
 mod Growing
+mod Joined
 mod Numbers
 mod Plans
 mod Printing

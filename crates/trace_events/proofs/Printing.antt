@@ -1,5 +1,5 @@
 -- Events that are printed in several steps.
-use Rattle.std.proofs.Common.{◌≡◌, ◌<◌, ◌≤◌, ◌+◌, ℕ, zero, suc, length, arith, refl, drop, get_or, add-one, List, [], ◌∷◌, ◌++◌, ◌∙◌, sym, ap, subst, append-nil, Option, Result}
+use Rattle.std.proofs.Common.{◌≡◌, ◌<◌, ◌≤◌, ◌+◌, ℕ, zero, suc, length, arith, refl, drop, get_or, add-one, List, [], ◌∷◌, ◌++◌, ◌∙◌, sym, ap, subst, append-nil, map, Option, Result}
 use Rattle.std.proofs.Math.Seq.{drop-cons}
 use Rattle.std.proofs.KnownBytes.{Appends-trans, Appends-nil}
 use Rattle.std.proofs.lemmas.Grind.{flat_map-append}
@@ -7,7 +7,6 @@ use Rattle.std.proofs.lemmas.List.{drop_all}
 use Rattle.std.proofs.lemmas.Result.{on_ok_weaker}
 use Rattle.std.specs.Prelude.{OnOk}
 use Rattle.std.specs.Io.KnownBytes.{Appends}
-use Rattle.std.specs.List.{AllByRecursion}
 use Rattle.json.specs.Json.{Json}
 use Rattle.json.specs.Tree.{HasNumbers, depth}
 use Rattle.trace_events.specs.Documents.{json_text, later_texts, IsEvent, Prints}
@@ -51,16 +50,26 @@ events_more events a b c i things x within is h k =
     let e : drop i things ≡ x ∷ drop (i + 1) things = drop-cons things i x within ∙ (ap (λ y. y ∷ drop (suc i) things) (sym is) ∙ ap (λ n. x ∷ drop n things) (sym (add-one i))) in
     rw e (prints_join a b c (events i x) (numbered_events events (i + 1) (drop (i + 1) things)) h k)
 
+-- the events of what is had of a thing, and of those after it
+pub mapped_more : {A B : Type 0} (of : A → B) (events : ℕ → B → List Json) (a b c : Option (List ℕ)) (i : ℕ) (things : List A) (x : A) → i < length things → x ≡ get_or things i x
+    → Prints a b (events i (of x)) → Prints b c (numbered_events events (i + 1) (map of (drop (i + 1) things))) → Prints a c (numbered_events events i (map of (drop i things)))
+mapped_more of events a b c i things x within is h k =
+    let e : drop i things ≡ x ∷ drop (i + 1) things = drop-cons things i x within ∙ (ap (λ y. y ∷ drop (suc i) things) (sym is) ∙ ap (λ n. x ∷ drop n things) (sym (add-one i))) in
+    rw e (prints_join a b c (events i (of x)) (numbered_events events (i + 1) (map of (drop (i + 1) things))) h k)
+
 -- the same, of events that are those of any thing with this number
-pub events_each : {A : Type 0} (events : ℕ → A → List Json) (a b c : Option (List ℕ)) (i : ℕ) (things : List A) → i < length things → ((x : A) → Prints a b (events i x))
-    → Prints b c (numbered_events events (i + 1) (drop (i + 1) things)) → Prints a c (numbered_events events i (drop i things))
-events_each events a b c i things within h k =
+pub mapped_each : {A B : Type 0} (of : A → B) (events : ℕ → B → List Json) (a b c : Option (List ℕ)) (i : ℕ) (things : List A) → i < length things → ((x : B) → Prints a b (events i x))
+    → Prints b c (numbered_events events (i + 1) (map of (drop (i + 1) things))) → Prints a c (numbered_events events i (map of (drop i things)))
+mapped_each of events a b c i things within h k =
     let some = some_item things i within in
-    events_more events a b c i things some.0 within some.1 (h some.0) k
+    mapped_more of events a b c i things some.0 within some.1 (h (of some.0)) k
 
 -- nothing is left to be printed
 pub events_done : {A : Type 0} (events : ℕ → A → List Json) (a : Option (List ℕ)) (i : ℕ) (things : List A) → length things ≤ i → Prints a a (numbered_events events i (drop i things))
 events_done events a i things h = rw (drop_all i things h) (prints_nothing a)
+
+pub mapped_done : {A B : Type 0} (of : A → B) (events : ℕ → B → List Json) (a : Option (List ℕ)) (i : ℕ) (things : List A) → length things ≤ i → Prints a a (numbered_events events i (map of (drop i things)))
+mapped_done of events a i things h = rw (drop_all i things h) (prints_nothing a)
 
 -- the text that was appended before, and the text that a call appends if it returns Ok
 pub then_appends : {A E : Type 0} (result : Result A E) (a b c : Option (List ℕ)) (x y z : List ℕ) → Appends a b x → OnOk result (Appends b c y) → x ++ y ≡ z → OnOk result (Appends a c z)

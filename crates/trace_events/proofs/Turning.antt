@@ -1,5 +1,5 @@
 -- The turns of a processor, printed run by run.
-use Rattle.std.proofs.Common.{◌≡◌, ℕ, ◌<◌, ◌==◌, Bool, true, false, List, [], ◌∷◌, ◌++◌, ◌∙◌, sym, ap, subst, length, take, drop, arith, Option}
+use Rattle.std.proofs.Common.{◌≡◌, ℕ, ◌<◌, ◌==◌, true, false, List, [], ◌∷◌, ◌∙◌, sym, ap, subst, length, take, drop, arith, Option}
 use Rattle.std.proofs.lemmas.Bool.{eqb-true}
 use Rattle.boot_data.specs.declared.boot_plan.BootPlan.{BootPlan}
 use Rattle.boot_log.specs.declared.entry.Entry.{Entry}

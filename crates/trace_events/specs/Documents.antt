@@ -1,8 +1,8 @@
 -- A trace as one JSON value, and its text.
-use Rattle.std.specs.Prelude.{◌≡◌, ◌≤◌, ℕ, List, [], ◌∷◌, ◌++◌, Option, codes}
+use Rattle.std.specs.Prelude.{◌≡◌, ◌≤◌, ℕ, List, [], ◌∷◌, Option, codes}
 use Rattle.std.specs.Io.KnownBytes.{Appends}
 use Rattle.std.specs.List.{AllByRecursion, flat_map}
-use Rattle.json.specs.Json.{Json, string, array}
+use Rattle.json.specs.Json.{Json, array}
 use Rattle.json.specs.Print.{print}
 use Rattle.json.specs.Tree.{HasNumbers, depth, json_tokens}
 use Rattle.trace_events.specs.Objects.{Named, items_of, object_of, worded}

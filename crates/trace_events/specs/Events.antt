@@ -26,7 +26,15 @@ turn_json name track from until args =
 unfoldable pub turn_opening : List ℕ → ℕ → ℕ → ℕ → List Token
 turn_opening name track from until =
     begin_object ∷ list_tokens (head name (codes "turn") (codes "X") track
-    ++ timed (codes "ts") from ∷ timed (codes "dur") (until - from) ∷ []) ++ key (codes "args") ∷ begin_object ∷ []
+    ++ timed (codes "ts") from ∷ timed (codes "dur") (until - from) ∷ [])
+    ++ key (codes "args") ∷ begin_object ∷ []
+
+-- an instant event on a track: so many turns of the processor after this time are missing
+abbrev pub missed_json : ℕ → ℕ → ℕ → ℕ → Json
+missed_json track at processor missed =
+    object_of (head (codes "turns not recorded") (codes "turn") (codes "i") track
+    ++ timed (codes "ts") at ∷ worded (codes "s") (codes "t")
+    ∷ nested (codes "args") (numbered (codes "processor") processor ∷ numbered (codes "turns") missed ∷ []) ∷ [])
 
 -- the event at which a line starts
 abbrev pub line_start_json : ℕ → ℕ → ℕ → Json

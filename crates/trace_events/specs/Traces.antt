@@ -1,13 +1,16 @@
 -- The trace of a boot: the names of its tracks, and the turns of each processor.
-use Rattle.std.specs.Prelude.{ℕ, ◌+◌, List, [], ◌∷◌, ◌++◌, codes}
+use Rattle.std.specs.Prelude.{ℕ, ◌+◌, ◌-◌, max, List, [], ◌∷◌, ◌++◌, codes}
 use Rattle.std.specs.Fmt.{decimal}
 use Rattle.boot_data.specs.declared.boot_plan.BootPlan.{BootPlan}
 use Rattle.boot_data.specs.declared.plan.PlannedThread.{PlannedThread}
 use Rattle.boot_script.specs.Reports.{heard_text}
 use Rattle.json.specs.Json.{Json}
-use Rattle.trace_events.specs.declared.trace.ProcessorLog.{ProcessorLog}
-use Rattle.trace_events.specs.Events.{metadata_json}
-use Rattle.trace_events.specs.Turns.{processor_track, thread_track, runs_of, runs_events}
+use Rattle.boot_log.specs.declared.line_turn.LineTurn.{LineTurn}
+use Rattle.boot_log.specs.declared.passing.Passing.{Passing}
+use Rattle.boot_log.specs.Kept.{Kept}
+use Rattle.boot_log.specs.Lines.{passings}
+use Rattle.trace_events.specs.Events.{line_end_json, line_start_json, metadata_json}
+use Rattle.trace_events.specs.Turns.{end_of, missed_events, processor_track, runs_events, runs_of, thread_track}
 
 -- the events of things, which are numbered from this number on
 abbrev pub numbered_events : {A : Type 0} → (ℕ → A → List Json) → ℕ → List A → List Json
@@ -28,16 +31,31 @@ abbrev pub thread_events : ℕ → PlannedThread → List Json
 thread_events number thread =
     metadata_json (codes "thread_name") (thread_track number) (heard_text thread.name) ∷ []
 
--- the turns of a processor, of which the first one starts at this time
-abbrev pub log_events : BootPlan → ℕ → ℕ → ProcessorLog → List Json
-log_events plan from processor log = runs_events plan log.bytes.now processor from (runs_of log.entries.now)
+-- the turns of a processor, of which the first one starts at this time, and how many turns were missed after them
+abbrev pub log_events : BootPlan → ℕ → ℕ → Kept → List Json
+log_events plan from processor log =
+    runs_events plan log.bytes processor from (runs_of log.entries)
+    ++ missed_events processor (end_of from log.entries) log.missed
 
--- the events of a boot after the name of its process: the names of all tracks, and all turns of all processors
-abbrev pub boot_events : BootPlan → ℕ → List ProcessorLog → List Json
+-- the last nanosecond of a turn, or its start if it has none
+abbrev pub last_of : LineTurn → ℕ
+last_of turn = max turn.began (turn.ended - 1)
+
+-- A line that passed, with this number: from the turn that said it to the turn that heard it, on the tracks of their
+-- threads. It starts at the start of the one, and arrives at the end of the other
+abbrev pub passing_events : ℕ → Passing → List Json
+passing_events number passing =
+    line_start_json number (thread_track passing.said.thread) passing.said.began
+    ∷ line_end_json number (thread_track passing.heard.thread) (last_of passing.heard) ∷ []
+
+-- The events of a boot after the name of its process: the names of all tracks, all turns of all processors, and all
+-- lines that passed
+abbrev pub boot_events : BootPlan → ℕ → List Kept → List Json
 boot_events plan from logs =
     numbered_events (λ processor log. processor_events processor) 0 logs
     ++ numbered_events thread_events 0 plan.threads ++ numbered_events (log_events plan from) 0 logs
+    ++ numbered_events passing_events 0 (passings from logs)
 
 -- the events of a boot
-abbrev pub trace_events : BootPlan → ℕ → List ProcessorLog → List Json
+abbrev pub trace_events : BootPlan → ℕ → List Kept → List Json
 trace_events plan from logs = process_json ∷ boot_events plan from logs

@@ -2,18 +2,16 @@
 use Rattle.std.specs.Prelude.{ℕ, List, codes, Bool, true, false, Result, Ok, Err}
 use Rattle.claim_queue.specs.declared.claim.ClaimRefusal.{ClaimRefusal}
 use Rattle.claim_queue.specs.declared.claim.ClaimRefusal.TheVariants as claims
-use Rattle.claim_queue.specs.declared.take.TakeRefusal.{TakeRefusal}
 use Rattle.claim_queue.specs.declared.take.TakeRefusal.TheVariants as takes
 use Rattle.proc_chain.specs.declared.chaining.ChainRefusal.{ChainRefusal}
 use Rattle.proc_chain.specs.declared.chaining.ChainRefusal.TheVariants as chains
-use Rattle.processor.specs.declared.sending.Moved.{Moved}
-use Rattle.processor.specs.declared.sending.Moved.TheVariants.{Ready, Freed, Waits, Ticketed}
+use Rattle.processor.specs.declared.phases.Moved.{Moved}
+use Rattle.processor.specs.declared.phases.Moved.TheVariants.{Ready, Freed, Waits, Ticketed}
 use Rattle.thread_table.specs.declared.states.Lost.{Lost}
 use Rattle.thread_table.specs.declared.states.Signalled.{Signalled}
 use Rattle.thread_table.specs.declared.states.Signalled.TheVariants.{Raised, Merged}
 use Rattle.turn_dispatch.specs.declared.dispatch.Idle.{Idle}
 use Rattle.turn_dispatch.specs.declared.dispatch.Idle.TheVariants.{NothingReady, Parked, ParkLost}
-use Rattle.turn_dispatch.specs.declared.moving.Waited.{Waited}
 use Rattle.turn_dispatch.specs.declared.moving.Waited.TheVariants as waits
 use Rattle.turn_dispatch.specs.declared.waking.Resumed.{Resumed}
 use Rattle.turn_dispatch.specs.declared.waking.Resumed.TheVariants as starts

@@ -1,5 +1,5 @@
 -- The events of the turns of a processor. Turns in a row with nothing at hand are one event, with their number.
-use Rattle.std.specs.Prelude.{ℕ, suc, ◌+◌, ◌-◌, ◌==◌, ◌&&◌, List, [], ◌∷◌, ◌++◌, length, take, drop, codes, Bool, true, false}
+use Rattle.std.specs.Prelude.{ℕ, suc, ◌+◌, ◌==◌, ◌&&◌, List, [], ◌∷◌, ◌++◌, length, codes}
 use Rattle.std.specs.Prelude.{if◌then◌else◌, cond, Option, Some, None}
 use Rattle.std.specs.List.{prefix_len}
 use Rattle.boot_data.specs.declared.boot_plan.BootPlan.{BootPlan}
@@ -9,9 +9,11 @@ use Rattle.turn_dispatch.specs.declared.dispatch.Idle.TheVariants.{NothingReady,
 use Rattle.boot_log.specs.declared.entry.Did.{Did}
 use Rattle.boot_log.specs.declared.entry.Did.TheVariants as did
 use Rattle.boot_log.specs.declared.entry.Entry.{Entry}
-use Rattle.boot_log.specs.declared.entry.Part.{Part}
-use Rattle.trace_events.specs.Events.{turn_json}
-use Rattle.trace_events.specs.Objects.{Named, numbered}
+use Rattle.boot_log.specs.Idling.{is_idle}
+use Rattle.boot_log.specs.Kept.{part_of}
+use Rattle.boot_log.specs.Values.{line_part}
+use Rattle.trace_events.specs.Events.{missed_json, turn_json}
+use Rattle.trace_events.specs.Objects.{numbered}
 use Rattle.trace_events.specs.TurnArgs.{turn_args}
 use Rattle.trace_events.specs.TurnNames.{turn_name}
 
@@ -23,24 +25,14 @@ processor_track processor = processor + 1
 abbrev pub thread_track : ℕ → ℕ
 thread_track thread = thread + 11
 
--- whether nothing was at hand
-abbrev pub has_nothing : Did → Bool
-has_nothing (did.Idle (NothingReady refusal)) = true
-has_nothing (did.Idle (Parked element)) = false
-has_nothing (did.Idle (ParkLost element lost ready)) = false
-has_nothing (did.Retired begun freed) = false
-has_nothing (did.Stepped begun tried counted moved line) = false
-
--- whether a turn had nothing at hand and fired no alarm
-abbrev pub is_idle : Entry → Bool
-is_idle entry = has_nothing entry.did && (entry.fired.len == 0)
-
 -- a turn, put before the runs of the turns after it: in front of the first run, if that is idle as the turn is
 abbrev pub joined : Entry → List (List Entry) → List (List Entry)
 joined entry [] = (entry ∷ []) ∷ []
 joined entry ([] ∷ runs) = (entry ∷ []) ∷ runs
 joined entry ((next ∷ run) ∷ runs) =
-    if is_idle entry && is_idle next then (entry ∷ next ∷ run) ∷ runs else (entry ∷ []) ∷ (next ∷ run) ∷ runs
+    if is_idle entry && is_idle next
+    then (entry ∷ next ∷ run) ∷ runs
+    else (entry ∷ []) ∷ (next ∷ run) ∷ runs
 
 -- the turns by runs: each run is one turn, or all idle turns in a row
 abbrev pub runs_of : List Entry → List (List Entry)
@@ -63,16 +55,6 @@ abbrev pub element_of : Did → Option ℕ
 element_of (did.Idle idle) = element_taken idle
 element_of (did.Retired begun freed) = Some begun.element
 element_of (did.Stepped begun tried counted moved line) = Some begun.element
-
--- the part of the bytes that is the line said or heard
-abbrev pub line_part : Did → Part
-line_part (did.Idle idle) = record { start = 0; len = 0 }
-line_part (did.Retired begun freed) = record { start = 0; len = 0 }
-line_part (did.Stepped begun tried counted moved line) = line
-
--- the bytes of a part; what is past the end is cut
-abbrev pub part_of : List ℕ → Part → List ℕ
-part_of bytes part = take part.len (drop part.start bytes)
 
 -- a turn on the track of the element that was at hand
 abbrev pub on_thread : Option ℕ → (ℕ → Json) → List Json
@@ -98,11 +80,17 @@ abbrev pub end_of : ℕ → List Entry → ℕ
 end_of from [] = from
 end_of from (entry ∷ entries) = end_of entry.at entries
 
+-- the turns that were missed after the last one that was kept, at whose end their number is shown
+abbrev pub missed_events : ℕ → ℕ → ℕ → List Json
+missed_events processor at missed =
+    if missed == 0 then [] else missed_json (processor_track processor) at processor missed ∷ []
+
 -- a run
 abbrev pub run_events : BootPlan → List ℕ → ℕ → ℕ → List Entry → List Json
 run_events plan bytes processor from [] = []
 run_events plan bytes processor from (entry ∷ entries) =
-    if is_idle entry then idle_event processor from (end_of from (entry ∷ entries)) (length (entry ∷ entries)) ∷ []
+    if is_idle entry
+    then idle_event processor from (end_of from (entry ∷ entries)) (length (entry ∷ entries)) ∷ []
     else turn_events plan bytes processor from entry
 
 -- runs, one after the other: each starts when the one before it has ended

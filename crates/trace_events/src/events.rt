@@ -5,7 +5,8 @@ ghost use Rattle.json.specs.Token.{begin_object, end_object, key};
 ghost use Rattle.json.specs.Print.{print};
 ghost use Rattle.trace_events.specs.Objects.{IsAlone, Puts, Writes, list_tokens};
 ghost use Rattle.trace_events.specs.Documents.{IsEvent};
-ghost use Rattle.trace_events.specs.Events.{head, metadata_json, turn_opening, line_start_json, line_end_json};
+ghost use Rattle.trace_events.specs.Events.{head, line_end_json, line_start_json, metadata_json, missed_json};
+ghost use Rattle.trace_events.specs.Events.{turn_opening};
 
 use crate::members::{put_number, put_text, put_time};
 use event_theory::OutOfMemory;
@@ -94,6 +95,25 @@ pub(crate) fn begin_turn(
     put_time(alloc, &mut out, "dur", until.saturating_sub(from))?;
     open_args(&mut out)?;
     Ok(out)
+}
+
+/// The event that shows how many turns of a processor after this time are missing.
+pub(crate) fn missed_event(
+    alloc: Global,
+    track: u64,
+    at: u64,
+    processor: u8,
+    missed: u64,
+) -> Result<Vec<u8>, OutOfMemory>
+    ensures { IfOk result (λ text. IsEvent text.items (missed_json track at processor missed)) }
+{
+    let mut out = begin_event(alloc, "turns not recorded", "turn", "i", track)?;
+    put_time(alloc, &mut out, "ts", at)?;
+    put_text(&mut out, "s", "t")?;
+    open_args(&mut out)?;
+    put_number(&mut out, "processor", processor as u64)?;
+    put_number(&mut out, "turns", missed)?;
+    end_args(out)
 }
 
 /// The end of an event, after its arguments.

@@ -1,7 +1,6 @@
 //! Why no whole trace was printed.
 
 use event_theory::OutOfMemory;
-use std::io;
 use thiserror::Error;
 
 /// Why no whole trace was printed. What was printed before is no JSON value.
@@ -18,11 +17,5 @@ pub enum TraceFault {
 impl From<OutOfMemory> for TraceFault {
     fn from(_e: OutOfMemory) -> TraceFault {
         TraceFault::Memory
-    }
-}
-
-impl From<io::Error> for TraceFault {
-    fn from(_e: io::Error) -> TraceFault {
-        TraceFault::Write
     }
 }

@@ -1,23 +1,25 @@
 //! The events of the turns of a processor, printed one after the other.
 
-ghost use Rattle.std.specs.Prelude.{◌≡◌, ◌≤◌, ◌∷◌, IfOk, OnOk, length};
+ghost use Rattle.std.specs.Prelude.{◌≡◌, ◌≤◌, IfOk, OnOk, length};
 ghost use Rattle.std.specs.List.{prefix_len};
-ghost use Rattle.std.specs.Io.KnownBytes.{Appends};
+ghost use Rattle.boot_log.specs.Idling.{is_idle};
+ghost use Rattle.boot_log.specs.Kept.{part_of};
+ghost use Rattle.boot_log.specs.Values.{line_part};
 ghost use Rattle.trace_events.specs.Documents.{IsEvent, Prints};
-ghost use Rattle.trace_events.specs.Turns.{processor_track, thread_track, has_nothing, is_idle, run_length, runs_of};
-ghost use Rattle.trace_events.specs.Turns.{element_of, element_taken, line_part, part_of, turn_events, idle_event, end_of, run_events};
-ghost use Rattle.trace_events.specs.Turns.{runs_events};
+ghost use Rattle.trace_events.specs.Events.{turn_json};
 ghost use Rattle.trace_events.specs.TurnArgs.{turn_args};
 ghost use Rattle.trace_events.specs.TurnNames.{turn_name};
-ghost use Rattle.trace_events.specs.Events.{turn_json};
+ghost use Rattle.trace_events.specs.Turns.{element_of, element_taken, end_of, idle_event, processor_track};
+ghost use Rattle.trace_events.specs.Turns.{run_events, run_length, runs_events, runs_of, thread_track, turn_events};
 
 use crate::events::{begin_turn, end_args};
 use crate::fault::TraceFault;
 use crate::members::put_number;
+use crate::output::print_later;
 use crate::turn_args::put_turn;
 use crate::turn_names::turn_name;
 use boot_data::BootPlan;
-use boot_log::{Did, Entry, Part};
+use boot_log::{Did, Entry, Log};
 use event_theory::OutOfMemory;
 use std::alloc::Global;
 use std::io::Write;
@@ -31,24 +33,10 @@ pub(crate) fn processor_track(processor: u8) -> u64
 }
 
 /// The track of a thread.
-fn thread_track(thread: u8) -> u64
+pub(crate) fn thread_track(thread: u8) -> u64
     ensures { result ≡ thread_track thread }
 {
     u64::from(thread) + 11
-}
-
-/// Whether nothing was at hand.
-fn has_nothing(did: Did) -> bool
-    ensures { result ≡ has_nothing did }
-{
-    matches!(did, Did::Idle(Idle::NothingReady(_)))
-}
-
-/// Whether a turn had nothing at hand and fired no alarm.
-fn is_idle(entry: &Entry) -> bool
-    ensures { result ≡ is_idle entry.now }
-{
-    has_nothing(entry.did) && entry.fired.len == 0
 }
 
 /// The number of the element that a turn without one at hand took from the ready ring, if it took one.
@@ -73,39 +61,20 @@ fn element_of(did: Did) -> Option<u8>
     }
 }
 
-/// The part of the bytes that is the line said or heard.
-fn line_part(did: Did) -> Part
-    ensures { result ≡ line_part did }
-{
-    match did {
-        Did::Stepped { line, .. } => line,
-        _ => Part { start: 0, len: 0 },
-    }
-}
-
-/// The bytes of a part; what is past the end is cut.
-pub(crate) fn part_of(bytes: &[u8], part: Part) -> &[u8]
-    ensures { result.now ≡ part_of bytes.now part }
-{
-    let start = part.start.min(bytes.len());
-    let after = &bytes[start..];
-    &after[..part.len.min(after.len())]
-}
-
 /// The text of a turn on a track.
 fn turn_text(
     alloc: Global,
     plan: &BootPlan,
-    bytes: &[u8],
+    log: &Log,
     processor: u8,
     from: u64,
     entry: &Entry,
     track: u64,
 ) -> Result<Vec<u8>, OutOfMemory>
     ensures { IfOk result (λ text. IsEvent text.items (turn_json (turn_name entry.now.did) track from entry.now.at
-        (turn_args plan.now processor (part_of bytes.now (line_part entry.now.did)) entry.now))) }
+        (turn_args plan.now processor (part_of log.now.bytes (line_part entry.now.did)) entry.now))) }
 {
-    let line = part_of(bytes, line_part(entry.did));
+    let line = log.line(entry.did.line());
     let mut out = begin_turn(alloc, turn_name(entry.did), track, from, entry.at)?;
     put_turn(alloc, &mut out, plan, processor as u64, line, entry)?;
     end_args(out)
@@ -127,31 +96,23 @@ fn idle_text(
     end_args(out)
 }
 
-/// Prints an event after another one.
-pub(crate) fn print_later<W: Write>(text: &[u8], out: &mut W) -> Result<(), TraceFault>
-    ensures { OnOk result (Appends (W.contents out.old) (W.contents out.new) (44 ∷ text.now)) }
-{
-    out.write_all(b",")?;
-    Ok(out.write_all(text)?)
-}
-
 /// Prints a turn, on the track of its processor and on that of the element that was at hand.
 fn print_turn<W: Write>(
     alloc: Global,
     plan: &BootPlan,
-    bytes: &[u8],
+    log: &Log,
     processor: u8,
     from: u64,
     entry: &Entry,
     out: &mut W,
 ) -> Result<(), TraceFault>
     ensures { OnOk result (Prints (W.contents out.old) (W.contents out.new)
-        (turn_events plan.now bytes.now processor from entry.now)) }
+        (turn_events plan.now log.now.bytes processor from entry.now)) }
 {
     let text = turn_text(
         alloc,
         plan,
-        bytes,
+        log,
         processor,
         from,
         entry,
@@ -163,7 +124,7 @@ fn print_turn<W: Write>(
             let text = turn_text(
                 alloc,
                 plan,
-                bytes,
+                log,
                 processor,
                 from,
                 entry,
@@ -181,7 +142,7 @@ fn idle_front(entries: &[Entry]) -> usize
     ensures within { result ≤ length entries.now }
 {
     for (count, entry) in entries.iter().enumerate() {
-        if !is_idle(entry) {
+        if !entry.is_idle() {
             return count;
         }
     }
@@ -195,13 +156,13 @@ fn run_length(entries: &[Entry]) -> usize
 {
     match entries {
         [] => 0,
-        [first, rest @ ..] if is_idle(first) => 1 + idle_front(rest),
+        [first, rest @ ..] if first.is_idle() => 1 + idle_front(rest),
         _ => 1,
     }
 }
 
 /// The time at the end of the last of these turns.
-fn end_of(from: u64, entries: &[Entry]) -> u64
+pub(crate) fn end_of(from: u64, entries: &[Entry]) -> u64
     ensures { result ≡ end_of from entries.now }
 {
     match entries {
@@ -214,43 +175,43 @@ fn end_of(from: u64, entries: &[Entry]) -> u64
 fn print_run<W: Write>(
     alloc: Global,
     plan: &BootPlan,
-    bytes: &[u8],
+    log: &Log,
     processor: u8,
     from: u64,
     run: &[Entry],
     out: &mut W,
 ) -> Result<(), TraceFault>
     ensures { OnOk result (Prints (W.contents out.old) (W.contents out.new)
-        (run_events plan.now bytes.now processor from run.now)) }
+        (run_events plan.now log.now.bytes processor from run.now)) }
 {
     let [entry, ..] = run else {
         return Ok(());
     };
-    if is_idle(entry) {
+    if entry.is_idle() {
         let text = idle_text(alloc, processor, from, end_of(from, run), run.len() as u64)?;
         return print_later(&text, out);
     }
-    print_turn(alloc, plan, bytes, processor, from, entry, out)
+    print_turn(alloc, plan, log, processor, from, entry, out)
 }
 
 /// Prints the turns of a processor. The first one starts at `from`.
 pub(crate) fn print_turns<W: Write>(
     alloc: Global,
     plan: &BootPlan,
-    bytes: &[u8],
+    log: &Log,
     processor: u8,
     from: u64,
     entries: &[Entry],
     out: &mut W,
 ) -> Result<(), TraceFault>
     ensures { OnOk result (Prints (W.contents out.old) (W.contents out.new)
-        (runs_events plan.now bytes.now processor from (runs_of entries.now))) }
+        (runs_events plan.now log.now.bytes processor from (runs_of entries.now))) }
 {
     let mut left = entries;
     let mut start = from;
     while !left.is_empty() {
         let (run, later) = left.split_at(run_length(left));
-        print_run(alloc, plan, bytes, processor, start, run, out)?;
+        print_run(alloc, plan, log, processor, start, run, out)?;
         start = end_of(start, run);
         left = later;
     }

@@ -1,11 +1,11 @@
-use Rattle.std.proofs.Common.{◌≡◌, ◌≤◌, ◌+◌, ◌-◌, List, sym, subst, arith, length, take, drop, length-drop}
-use Rattle.std.specs.List.{All, flat_map}
+use Rattle.std.proofs.Common.{◌≡◌, ◌+◌, ◌-◌, List, sym, subst, arith, length, take, drop, length-drop}
+use Rattle.std.specs.List.{All}
 use Rattle.std.proofs.lemmas.List.Elements.{All-push}
 use Rattle.boot_log.specs.declared.entry.Entry.{Entry}
 use Rattle.boot_picture.specs.declared.blocks.Block.{Block}
-use Rattle.boot_picture.specs.Blocks.{AreBlock, IsBlock, turns_of}
+use Rattle.boot_picture.specs.Blocks.{AreBlock, AreInARow, IsBlock}
 use Rattle.std.proofs.lemmas.List.{take_all}
-use Rattle.boot_picture.proofs.BlockTurns.{more_turns}
+use Rattle.boot_picture.proofs.BlockTurns.{more_turns, row_more}
 use Rattle.boot_picture.proofs.blocks.blocks_of.Goals as goal
 
 pub loop-first-preserved : goal.loop-first-preserved
@@ -22,4 +22,5 @@ loop-first-preserved c =
       within = let w = front.within in let l = length-drop block.first entries in let h = c.loop-first-test.true in omega arith;
       each_once = rw pushed (more_turns entries blocks block c.loop-first.invariant.each_once);
       each = subst (λ (bs : List Block). All (IsBlock entries) bs) (sym pushed) (All-push (IsBlock entries) blocks block c.loop-first.invariant.each is);
+      in_a_row = subst (λ (bs : List Block). AreInARow 0 bs (block.first + block.turns)) (sym pushed) (row_more 0 blocks block c.loop-first.invariant.in_a_row);
     }

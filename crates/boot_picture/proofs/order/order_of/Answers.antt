@@ -2,7 +2,10 @@ use Rattle.std.proofs.Common.{◌≡◌, ◌<◌, ◌≤◌, ◌+◌, ◌++◌, 
 use Rattle.std.specs.List.{All}
 use Rattle.std.proofs.lemmas.List.Elements.{All-push}
 use Rattle.boot_picture.specs.declared.order.Ordered.{Ordered}
-use Rattle.boot_picture.specs.Orders.{AreUsed, IsNextIn}
+use Rattle.boot_picture.specs.Orders.{AreUsed, IsLeast, IsNextIn, time_of}
+use Rattle.std.proofs.lemmas.List.Sorted.{IsNonDecreasingBy-push}
+use Rattle.std.specs.List.Sorted.{IsNonDecreasingBy}
+use Rattle.boot_picture.proofs.Clocks.{IsLastBelow, last_more, least_first}
 use Rattle.boot_picture.proofs.Orders.{HasTaken, next_within, next_fits, read_at, taken_more, first_taken, all_taken}
 use Rattle.boot_picture.proofs.order.order_of.Goals as goal
 
@@ -15,6 +18,7 @@ returns c =
       of_tracks = inv.of_tracks;
       first = first_taken c.args.tracks.now c.loop-nexts.nexts.items c.loop-nexts.order.items inv.taken;
       all_or_most = inl (omega (arith, c.loop-nexts-test.false, many, ok.0, inv.few));
+      by_clock = λ all. (inv.timed all).0;
     }
 
 pub returns-in_default : goal.returns-in_default
@@ -27,6 +31,7 @@ returns-in_default c =
       of_tracks = inv.of_tracks;
       first = first_taken tracks nexts c.loop-nexts.order.items inv.taken;
       all_or_most = inr (all_taken tracks nexts c.loop-nexts.order.items inv.taken used);
+      by_clock = λ all. (inv.timed all).0;
     }
 
 pub index_mut-requires : goal.index_mut-requires
@@ -67,4 +72,9 @@ loop-nexts-preserved c =
       few = rw pushed (simp length-append (let many = c.len.ensures in let ok = c.loop-nexts.order.ok in let test = c.loop-nexts-test.true in omega (arith, ok.0, many, test)));
       of_tracks = subst (λ (os : List Ordered). All (λ (x : Ordered). x.processor < length tracks) os) (sym pushed) (All-push (λ (x : Ordered). x.processor < length tracks) order o inv.of_tracks (subst (λ k. o.processor < k) inv.as_many within));
       taken = subst (λ (os : List Ordered). HasTaken tracks (set nexts o.processor (v + 1)) os) (sym pushed) more;
+      timed = λ all.
+          let old = inv.timed all in
+          let least : IsLeast tracks nexts (length tracks) o = subst (λ (ns : List ℕ). IsLeast tracks ns (length tracks) o) c.deref.ensures.value c.in-Some.ensures.least in
+          let later : (a : Ordered) → IsNextIn tracks (set nexts o.processor (v + 1)) a → time_of tracks o ≤ time_of tracks a = λ a is. least_first tracks nexts o inv.as_many next least all a (subst (λ k. IsNextIn tracks (set nexts o.processor (k + 1)) a) (sym value) is) in
+          subst (λ (os : List Ordered). IsNonDecreasingBy (time_of tracks) os × IsLastBelow tracks (set nexts o.processor (v + 1)) os) (sym pushed) (IsNonDecreasingBy-push (time_of tracks) order o old.0 (λ d some. old.1 d some o next), last_more tracks (set nexts o.processor (v + 1)) order o later);
     }

@@ -1,7 +1,8 @@
 use Rattle.std.proofs.Common.{take}
 use Rattle.std.specs.List.{AllZip}
+use Rattle.boot_log.specs.Kept.{kept_in}
 use Rattle.boot_picture.specs.Orders.{IsTrackOf}
 use Rattle.boot_picture.proofs.order.tracks_of.Given as goal
 
-abbrev pub invariant-loop-recorded : goal.invariant-loop-recorded
-invariant-loop-recorded l = AllZip IsTrackOf (take l.recorded-index l.all) l.tracks.items
+abbrev pub invariant-loop-log : goal.invariant-loop-log
+invariant-loop-log l = AllZip IsTrackOf (kept_in (take l.log-index l.logs)) l.tracks.items

@@ -1,6 +1,6 @@
 use Rattle.std.proofs.Common.{◌≡◌, ◌+◌, drop}
 use Rattle.std.specs.List.{prefix_len}
-use Rattle.trace_events.specs.Turns.{is_idle}
+use Rattle.boot_log.specs.Idling.{is_idle}
 use Rattle.trace_events.proofs.turns.idle_front.Given as goal
 
 -- The turns so far are all idle.

@@ -1,4 +1,4 @@
-use Rattle.std.proofs.Common.{◌≡◌, subst, ap, append_assoc, ◌∙◌, [], ◌∷◌, ◌++◌, List, ℕ, codes, IfOk, arith}
+use Rattle.std.proofs.Common.{subst, ap, append_assoc, ◌∙◌, [], ◌∷◌, ◌++◌, List, ℕ, codes, IfOk, arith}
 use Rattle.json.specs.Token.{end_object}
 use Rattle.trace_events.specs.Objects.{Named, list_tokens, numbered}
 use Rattle.trace_events.specs.Documents.{IsEvent}

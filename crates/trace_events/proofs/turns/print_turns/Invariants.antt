@@ -6,8 +6,8 @@ use Rattle.trace_events.proofs.turns.print_turns.Given as goal
 -- Whoever prints the events of the turns that are left has printed those of all turns.
 abbrev pub invariant-loop-left : goal.invariant-loop-left
 invariant-loop-left g l =
-    (later : Option (List ℕ)) → Prints (g.W.Write.contents l.out) later (runs_events l.plan l.bytes l.processor l.start (runs_of l.left))
-    → Prints (g.W.Write.contents l.fn.out) later (runs_events l.plan l.bytes l.processor l.from (runs_of l.entries))
+    (later : Option (List ℕ)) → Prints (g.W.Write.contents l.out) later (runs_events l.plan l.log.bytes l.processor l.start (runs_of l.left))
+    → Prints (g.W.Write.contents l.fn.out) later (runs_events l.plan l.log.bytes l.processor l.from (runs_of l.entries))
 
 abbrev pub decreases-loop-left : goal.decreases-loop-left
 decreases-loop-left g l = length l.left

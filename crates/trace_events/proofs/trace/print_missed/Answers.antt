@@ -1,0 +1,18 @@
+use Rattle.std.proofs.Common.{Bool, List, [], ◌∷◌, ℕ, ap, subst, sym}
+use Rattle.std.proofs.lemmas.Bool.{ne_eqb}
+use Rattle.std.specs.Prelude.{OnOk, if◌then◌else◌}
+use Rattle.json.specs.Json.{Json}
+use Rattle.trace_events.specs.Documents.{IsEvent, Prints}
+use Rattle.trace_events.specs.Events.{missed_json}
+use Rattle.trace_events.specs.Turns.{processor_track}
+use Rattle.trace_events.proofs.Printing.{prints_text}
+use Rattle.trace_events.proofs.trace.print_missed.Goals as goal
+
+pub returns : goal.returns
+returns g c =
+    let event : ℕ → Json = λ track. missed_json track c.args.at c.args.processor c.args.missed in
+    let shown : Json = event (processor_track c.args.processor) in
+    let text = subst (λ (track : ℕ). IsEvent c.in_ok-text.text.items (event track)) c.processor_track.ensures c.in_ok-text.ensures in
+    let some = ap (λ (none : Bool). if none then [] else shown ∷ []) (ne_eqb c.args.missed 0 c.if-missed-eq0.false) in
+    subst (λ (events : List Json). OnOk c.print_later.result (Prints (g.W.Write.contents c.args.out.now) (g.W.Write.contents c.print_later.new.out) events)) (sym some)
+    (prints_text c.print_later.result _ _ _ _ _ text c.deref.ensures.value c.print_later.ensures)

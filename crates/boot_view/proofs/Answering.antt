@@ -1,8 +1,5 @@
 -- The view of a boot of the script that was read.
-use Rattle.std.proofs.Common.{◌≡◌, ◌≢◌, ◌∙◌, ◌+◌, ◌<◌, ◌++◌, ℕ, suc, refl, ap, length, take, get_or, add-one, [], ◌∷◌, sym, subst, List, Option, Some, None, Result, Ok, Err, IfOk, IfErr, IfSome, IsOk}
-use Rattle.std.proofs.Math.Seq.{take-suc}
-use Rattle.std.proofs.lemmas.Slice.Zip.{all_zipped_more}
-use Rattle.std.specs.List.{AllZip}
+use Rattle.std.proofs.Common.{◌≡◌, ◌∙◌, ◌+◌, ℕ, suc, refl, ap, length, [], ◌∷◌, sym, subst, List, Option, Some, None, Ok, IfSome}
 use Rattle.boot_data.specs.declared.boot_plan.BootPlan.{BootPlan}
 use Rattle.boot_objects.specs.declared.closing.all.TornDown.{TornDown}
 use Rattle.boot_log.specs.declared.recorder.Recorder.{Recorder}
@@ -15,6 +12,7 @@ use Rattle.synth_kernel.specs.declared.outcome.BootFault.{BootFault}
 use Rattle.synth_kernel.specs.declared.printing.Booted.{Booted}
 use Rattle.synth_kernel.specs.Boots.{HooksSaw, IsBootFault, RunsOf, Says}
 use Rattle.boot_view.specs.declared.command.Command.{Command}
+use Rattle.boot_data.specs.BootPlans.{plan_of}
 use Rattle.boot_view.specs.Views.{HasBooted, IsViewed}
 
 says_read : (read : Option (List ℕ)) (script : List ℕ) (plan : BootPlan) → IfSome read (λ bytes. text_plan bytes ≡ text_plan script) → Says (Some script) plan → Says read plan
@@ -22,9 +20,9 @@ says_read None script plan same says = same
 says_read (Some bytes) script plan same says = same ∙ says
 
 -- a boot of the script that was read is a boot of what was read
-pub booted_read : {C : Type 0} (ran : RunsOf (Recorder C)) (shown : TornDown → Type 0) (T : Calls (Recorder C)) (command : Command) (read : Option (List ℕ)) (script report : List ℕ) (booted : Booted (Recorder C))
-    → IfSome read (λ bytes. text_plan bytes ≡ text_plan script) → HasBooted ran shown T command (Some script) report booted → HasBooted ran shown T command read report booted
-booted_read ran shown T command read script report booted same came = record {
+pub booted_read : {C : Type 0} (ran : RunsOf (Recorder C)) (shown : TornDown → Type 0) (T : Calls (Recorder C)) (clock : C) (from : ℕ) (command : Command) (read : Option (List ℕ)) (script report : List ℕ) (booted : Booted (Recorder C))
+    → IfSome read (λ bytes. text_plan bytes ≡ text_plan script) → HasBooted ran shown T clock from command (Some script) report booted → HasBooted ran shown T clock from command read report booted
+booted_read ran shown T clock from command read script report booted same came = record {
   recorders = came.recorders;
   many = came.many;
   empty = came.empty;
@@ -32,17 +30,24 @@ booted_read ran shown T command read script report booted same came = record {
 }
 
 -- the page of the script that was read is the page of what was read
-pub viewed_read : {C : Type 0} (ran : RunsOf (Recorder C)) (shown : TornDown → Type 0) (T : Calls (Recorder C)) (command : Command) (read : Option (List ℕ)) (script : List ℕ) (ended : Ended) (page : List ℕ)
-    → IfSome read (λ bytes. text_plan bytes ≡ text_plan script) → IsViewed ran shown T command (Some script) ended page → IsViewed ran shown T command read ended page
-viewed_read ran shown T command read script ended page same viewed = record {
+pub viewed_read : {C : Type 0} (ran : RunsOf (Recorder C)) (shown : TornDown → Type 0) (T : Calls (Recorder C)) (clock : C) (said : ℕ → Type 0) (command : Command) (read : Option (List ℕ)) (script : List ℕ) (ended : Ended) (page : List ℕ)
+    → IfSome read (λ bytes. text_plan bytes ≡ text_plan script) → IsViewed ran shown T clock said command (Some script) ended page → IsViewed ran shown T clock said command read ended page
+unfolding booted_read
+viewed_read ran shown T clock said command read script ended page same viewed = record {
+  from = viewed.from;
+  from_said = viewed.from_said;
   booted = viewed.booted;
   report = viewed.report;
-  came = booted_read ran shown T command read script viewed.report viewed.booted same viewed.came;
+  came = booted_read ran shown T clock viewed.from command read script viewed.report viewed.booted same viewed.came;
   ended_is = viewed.ended_is;
   plan = viewed.plan;
-  says = says_read read script viewed.plan same viewed.says;
+  plan_is = viewed.plan_is;
   page_of = viewed.page_of;
 }
+
+-- a text is of one plan
+pub one_plan : (script : List ℕ) (plan other : BootPlan) → text_plan script ≡ Ok (plan_of plan) → text_plan script ≡ Ok (plan_of other) → plan_of plan ≡ plan_of other
+one_plan script plan other a b = let e = sym a ∙ b in cc
 
 -- a fault of the script that was read is a fault of what was read
 pub fault_read : (read : Option (List ℕ)) (script : List ℕ) (fault : BootFault) → IfSome read (λ bytes. text_plan bytes ≡ text_plan script) → IsBootFault (text_plan script) fault → IfSome read (λ bytes. IsBootFault (text_plan bytes) fault)
@@ -58,13 +63,7 @@ hooks_many ran T shared p turns (gate ∷ gates) (gate' ∷ back) [] saw = absur
 hooks_many ran T shared p turns (gate ∷ gates) (gate' ∷ back) (log ∷ logs) saw = ap suc (hooks_many ran T shared (p + 1) turns gates back logs saw.1)
 
 -- as many recorders come back as there are processors
-pub back_many : {C : Type 0} (ran : RunsOf (Recorder C)) (shown : TornDown → Type 0) (T : Calls (Recorder C)) (command : Command) (read : Option (List ℕ)) (report : List ℕ) (booted : Booted (Recorder C)) → HasBooted ran shown T command read report booted → length booted.gates.items ≡ command.processors
-back_many ran shown T command read report booted came =
+pub back_many : {C : Type 0} (ran : RunsOf (Recorder C)) (shown : TornDown → Type 0) (T : Calls (Recorder C)) (clock : C) (from : ℕ) (command : Command) (read : Option (List ℕ)) (report : List ℕ) (booted : Booted (Recorder C)) → HasBooted ran shown T clock from command read report booted → length booted.gates.items ≡ command.processors
+back_many ran shown T clock from command read report booted came =
     let did = came.boot.run.booted.did in
     hooks_many ran T did.shared 0 command.turns came.recorders booted.gates.items came.boot.run.booted.logs did.reported ∙ came.many
-
--- the lists of one item more each
-pub zipped_more : {A B : Type 0} (R : A → B → Type 0) (all : List A) (i : ℕ) (one : A) (made new : List B) (b : B) → i < length all → one ≡ get_or all i one → AllZip R (take i all) made → R one b → new ≡ made ++ b ∷ [] → AllZip R (take (i + 1) all) new
-zipped_more {A = A} {B = B} R all i one made new b within is before next pushed =
-    let longer : take (i + 1) all ≡ take i all ++ one ∷ [] = ap (λ k. take k all) (add-one i) ∙ (take-suc all i one within ∙ ap (λ (x : A). take i all ++ x ∷ []) (sym is)) in
-    subst (λ (ts : List B). AllZip R (take (i + 1) all) ts) (sym pushed) (subst (λ (rs : List A). AllZip R rs (made ++ b ∷ [])) (sym longer) (all_zipped_more R (take i all) made one b before next))

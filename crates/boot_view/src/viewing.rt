@@ -1,21 +1,23 @@
 //! The view of a boot of a script: a picture of its turns, or a trace.
 
 ghost use Rattle.std.specs.Prelude.{◌≡◌, ◌≢◌, ◌≤◌, length, Some, Ok, IfOk, IfErr, IfSome};
-ghost use Rattle.std.specs.List.{AllZip};
 ghost use Rattle.std.specs.Io.KnownBytes.{Keeps};
 ghost use Rattle.boot_data.specs.BootPlans.{plan_of};
+ghost use Rattle.boot_log.specs.Kept.{kept_in};
 ghost use Rattle.boot_script.specs.Plans.{text_plan};
 ghost use Rattle.boot_script.specs.StreamFaults.{IsReadFault, IsWriteFault};
 ghost use Rattle.processor.specs.Points.{calls};
 ghost use Rattle.synth_kernel.specs.Boots.{IsBootFault, IsRead};
 ghost use Rattle.synth_kernel.specs.declared.outcome.BootFault.{BootFault};
-ghost use Rattle.boot_view.specs.Views.{IsViewed, IsLogOf, IsOfRecorder, IsPageOf, IsPictureOf, IsTraceOf, IsPrinted};
+ghost use Rattle.boot_view.specs.Views.{IsPageOf, IsPictureOf, IsPrinted, IsViewed, logs_in};
+ghost use Rattle.trace_events.specs.Documents.{trace_text};
+ghost use Rattle.trace_events.specs.Traces.{trace_events};
 
 use crate::booting::boot_recorded;
 use crate::command::{Command, View};
 use boot_data::BootPlan;
-use boot_log::{Recorder, TurnClock};
-use boot_picture::{Boot, Recorded, picture_of};
+use boot_log::{Log, Recorder, TurnClock};
+use boot_picture::{Boot, picture_of};
 use boot_script::{ScriptRefusal, Sink, Source, parse_boot, read_script};
 use event_theory::OutOfMemory;
 use processor::{Gate, Shared, TurnGate};
@@ -23,7 +25,7 @@ use std::alloc::Global;
 use std::sync::Wait;
 use svg::print_picture;
 use synth_kernel::{BootFault, Ended, Witness, Work, Worked};
-use trace_events::{ProcessorLog, print_trace};
+use trace_events::print_trace;
 
 /// One byte more than a script may have, so that a longer one is seen.
 const BUFFER: usize = 65_537;
@@ -42,42 +44,18 @@ fn plan_said(alloc: Global, text: &[u8]) -> Result<BootPlan, BootFault>
     }
 }
 
-/// The turns that were recorded of each processor.
-fn recorded_of<'a, C: TurnClock>(
-    alloc: Global,
-    gates: &'a [Recorder<C>],
-) -> Result<Vec<Recorded<'a>>, OutOfMemory>
-    ensures { IfOk result (λ all. AllZip IsOfRecorder gates.now all.items) }
-{
-    let mut all = Vec::new(alloc);
-    for gate in gates {
-        let log = gate.log();
-        all.push(Recorded {
-            entries: log.entries(),
-            bytes: log.bytes(),
-            fired: log.fired(),
-            missed: log.missed(),
-        })?;
-    }
-    Ok(all)
-}
-
-/// What the trace of a boot shows of each processor.
+/// The logs of the processors.
 fn logs_of<'a, C: TurnClock>(
     alloc: Global,
     gates: &'a [Recorder<C>],
-) -> Result<Vec<ProcessorLog<'a>>, OutOfMemory>
-    ensures { IfOk result (λ all. AllZip IsLogOf gates.now all.items) }
+) -> Result<Vec<&'a Log>, OutOfMemory>
+    ensures { IfOk result (λ logs. kept_in logs.items ≡ logs_in gates.now) }
 {
-    let mut all = Vec::new(alloc);
+    let mut logs = Vec::new(alloc);
     for gate in gates {
-        let log = gate.log();
-        all.push(ProcessorLog {
-            entries: log.entries(),
-            bytes: log.bytes(),
-        })?;
+        logs.push(gate.log())?;
     }
-    Ok(all)
+    Ok(logs)
 }
 
 /// The page with the trace of a boot that has ended, and that began at this time.
@@ -88,11 +66,11 @@ fn trace_of<C: TurnClock>(
     gates: &[Recorder<C>],
 ) -> Result<Vec<u8>, OutOfMemory>
     requires { length gates.now ≤ 8 }
-    ensures { IfOk result (λ page. IsTraceOf plan.now gates.now page.items) }
+    ensures { IfOk result (λ page. page.items ≡ trace_text (trace_events plan.now from (logs_in gates.now))) }
 {
-    let all = logs_of(alloc, gates)?;
+    let logs = logs_of(alloc, gates)?;
     let mut page = Vec::new(alloc);
-    match print_trace(alloc, plan, from, &all, &mut page) {
+    match print_trace(alloc, plan, from, &logs, &mut page) {
         Ok(()) => Ok(page),
         Err(_) => Err(OutOfMemory),
     }
@@ -105,10 +83,10 @@ fn drawn_of<C: TurnClock>(
     gates: &[Recorder<C>],
 ) -> Result<Vec<u8>, OutOfMemory>
     requires { length gates.now ≤ 8 }
-    ensures { IfOk result (λ page. IsPictureOf gates.now page.items) }
+    ensures { IfOk result (λ page. IsPictureOf (logs_in gates.now) page.items) }
 {
-    let all = recorded_of(alloc, gates)?;
-    let picture = picture_of(alloc, boot, &all)?;
+    let logs = logs_of(alloc, gates)?;
+    let picture = picture_of(alloc, boot, &logs)?;
     let mut page = Vec::new(alloc);
     match print_picture(&picture, &mut page) {
         Ok(()) => Ok(page),
@@ -125,7 +103,7 @@ fn page_of<C: TurnClock>(
     gates: &[Recorder<C>],
 ) -> Result<Vec<u8>, OutOfMemory>
     requires { length gates.now ≤ 8 }
-    ensures { IfOk result (λ page. IsPageOf view boot.now.plan.now gates.now page.items) }
+    ensures { IfOk result (λ page. IsPageOf view boot.now.plan.now from (logs_in gates.now) page.items) }
 {
     match view {
         View::InOrder => drawn_of(alloc, boot, gates),
@@ -152,11 +130,11 @@ where
     requires plan { text_plan script.now ≡ Ok (plan_of plan.now) }
     ensures ok { IfOk result (λ viewed. IsViewed R.ran R.shown
         (calls ⟦<Recorder<C> as Gate>⟧.observes ⟦<Recorder<C> as TurnGate>⟧.learns)
-        command (Some script.now) viewed.0 viewed.1.items) }
+        clock (C.says clock 0) command (Some script.now) viewed.0 viewed.1.items) }
 {
     let mut report = Vec::new(alloc);
     let from = clock.time(0);
-    let booted = boot_recorded(rt, clock, alloc, command, script, &mut report)?;
+    let booted = boot_recorded(rt, clock, alloc, from, command, script, &mut report)?;
     let boot = Boot {
         script,
         plan,
@@ -184,7 +162,7 @@ where
     requires { (1 ≤ command.processors) × (command.processors ≤ 8) }
     ensures ok { IfOk result (λ viewed. IsViewed R.ran R.shown
         (calls ⟦<Recorder<C> as Gate>⟧.observes ⟦<Recorder<C> as TurnGate>⟧.learns)
-        command (Some script.now) viewed.0 viewed.1.items) }
+        clock (C.says clock 0) command (Some script.now) viewed.0 viewed.1.items) }
     ensures fault { IfErr result (λ fault. IsBootFault (text_plan script.now) fault) }
     ensures unwritten { IfErr result (λ fault. (fault ≢ BootFault.Write) × (fault ≢ BootFault.Read)) }
 {
@@ -193,11 +171,13 @@ where
 }
 
 /// Boots the script that is read, and prints this view of the boot: a picture, or a trace, of the turns that a recorder
-/// on each processor has kept. Times are the clock's. The turns that are kept are the first 50,000 of each processor,
-/// and no more than have lines of 1,000,000 bytes together.
+/// on each processor has kept. The turns that are kept are the first 50,000 of each processor, and no more than have
+/// lines of 1,000,000 bytes together. Times are the clock's, in nanoseconds. The clock is read before the boot, and no
+/// turn's time is before that.
 ///
 /// Returns how the boot has ended. After a fault other than `Write` nothing was written. `Script` is returned if the
-/// script is invalid, `Memory` if an allocation was refused, `Read` if the reader failed, and `Write` if the writer did.
+/// script is invalid, `Memory` if an allocation was refused or a thread couldn't be started, `Read` if the reader
+/// failed, and `Write` if the writer did.
 ///
 /// Condition: there are 1 to 8 processors.
 pub fn view_on<R, C, I, O>(
@@ -216,7 +196,7 @@ where
     requires { (1 ≤ command.processors) × (command.processors ≤ 8) }
     ensures ok { IfOk result (λ ended. IsPrinted R.ran R.shown
         (calls ⟦<Recorder<C> as Gate>⟧.observes ⟦<Recorder<C> as TurnGate>⟧.learns)
-        command (I.remaining reader.old) ended (O.contents writer.old) (O.contents writer.new)) }
+        clock (C.says clock 0) command (I.remaining reader.old) ended (O.contents writer.old) (O.contents writer.new)) }
     ensures fault { IfErr result (λ fault. IfSome (I.remaining reader.old) (λ bytes. IsBootFault
         (text_plan bytes) fault)) }
     ensures unwritten { IfErr result (λ fault. fault ≢ BootFault.Write

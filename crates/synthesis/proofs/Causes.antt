@@ -6,14 +6,13 @@ use Rattle.boot_script.specs.declared.outcome.Replayed.TheVariants.{AllAllowed, 
 use Rattle.boot_script.specs.declared.outcome.ReplayFault.{ReplayFault}
 use Rattle.boot_script.specs.declared.outcome.ReplayFault.TheVariants.{Script, Memory, Read, Write}
 use Rattle.boot_script.specs.StreamFaults.{IsReadFault, IsWriteFault}
-use Rattle.synth_kernel.specs.declared.outcome.Ended as endings
-use Rattle.synth_kernel.specs.declared.outcome.Ended.TheVariants.{AllEnded, Unfinished}
 use Rattle.synth_kernel.specs.declared.outcome.BootFault.{BootFault}
 use Rattle.synth_kernel.specs.declared.outcome.BootFault.TheVariants as boot_faults
 use Rattle.synth_kernel.specs.declared.printing.Booted.{Booted}
 use Rattle.turn_io.specs.declared.gate.NoGate.{NoGate}
 use Rattle.boot_script.specs.Exits.{exit_code_of}
-use Rattle.synthesis.specs.Runs.{boot_exit_code_of, answer_in, HasCause, HasBootCause, HasStreamFailed}
+use Rattle.boot_exit.specs.Exits.{HasBootCause, HasStreamFailed}
+use Rattle.synthesis.specs.Runs.{answer_in, HasCause}
 
 module _ {R W : Type 0} (answers : R → Result ℕ Error → R → Type 0) (fails : W → W → Type 0) where
   pub boot_caused : (answer : Result (Booted NoGate) BootFault) (old new : R) (written : W)
@@ -32,12 +31,3 @@ module _ {R W : Type 0} (answers : R → Result ℕ Error → R → Type 0) (fai
   replay_failed (Err Memory) old new written five cause = absurd (omega (arith, five))
   replay_failed (Err Read) old new written five cause = inl (cause.0 refl)
   replay_failed (Err Write) old new written five cause = inr (cause.1 refl)
-
-  pub boot_failed : (answer : Result endings.Ended BootFault) (old new : R) (written : W) → boot_exit_code_of answer ≡ 5
-      → HasBootCause answers fails answer old new written → HasStreamFailed answers fails old new written
-  boot_failed (Ok AllEnded) old new written five cause = absurd (omega (arith, five))
-  boot_failed (Ok (Unfinished live)) old new written five cause = absurd (omega (arith, five))
-  boot_failed (Err (boot_faults.Script fault)) old new written five cause = absurd (omega (arith, five))
-  boot_failed (Err boot_faults.Memory) old new written five cause = absurd (omega (arith, five))
-  boot_failed (Err boot_faults.Read) old new written five cause = inl (cause.0 refl)
-  boot_failed (Err boot_faults.Write) old new written five cause = inr (cause.1 refl)

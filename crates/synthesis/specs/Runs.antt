@@ -1,8 +1,8 @@
 -- The exit status of each run, and the words for standard error.
-use Rattle.std.specs.Prelude.{◌≡◌, ◌≢◌, ◌⊎◌, ℕ, List, [], ◌++◌, codes, Option, Some, None, Result, Ok, Err}
-use Rattle.std.specs.Prelude.{IfErr, IfSome}
+use Rattle.std.specs.Prelude.{◌≡◌, ◌≢◌, ℕ, List, ◌++◌, codes, Option, Some, None, Result, Ok, Err, IfErr, IfSome}
 use Rattle.std.specs.declared.io.Error.{Error}
 use Rattle.std.specs.Io.KnownBytes.{Keeps}
+use Rattle.boot_exit.specs.Exits.{boot_exit_code_of}
 use Rattle.boot_script.specs.declared.outcome.Replayed.{Replayed}
 use Rattle.boot_script.specs.declared.outcome.ReplayFault.{ReplayFault}
 use Rattle.boot_script.specs.declared.outcome.ReplayFault.TheVariants.{Read, Write}
@@ -13,10 +13,8 @@ use Rattle.boot_script.specs.Plans.{text_plan}
 use Rattle.boot_script.specs.Replays.{IsReplay}
 use Rattle.boot_script.specs.StreamFaults.{IsReadFault, IsWriteFault}
 use Rattle.synth_kernel.specs.declared.outcome.Ended as endings
-use Rattle.synth_kernel.specs.declared.outcome.Ended.TheVariants.{AllEnded, Unfinished}
 use Rattle.synth_kernel.specs.declared.outcome.BootFault.{BootFault}
 use Rattle.synth_kernel.specs.declared.outcome.BootFault.TheVariants as boot_faults
-use Rattle.synth_kernel.specs.Faults.{boot_fault_text}
 use Rattle.synth_kernel.specs.declared.printing.Booted.{Booted}
 use Rattle.synth_kernel.specs.Boots.{RunsOf, CameBackPlain, HasNumbers, IsBoot, IsBootAnswer, IsBootFault}
 use Rattle.turn_io.specs.declared.gate.NoGate.{NoGate}
@@ -35,20 +33,6 @@ abbrev pub HasCause : {R W : Type 0} → (R → Result ℕ Error → R → Type 
     → Result Replayed ReplayFault → R → R → W → Type 0
 HasCause answers fails answer old new written = IfErr answer (λ fault.
     (fault ≡ Read → IsReadFault answers old new) × (fault ≡ Write → IsWriteFault fails written))
-
--- the exit status of a boot
-abbrev pub boot_exit_code_of : Result endings.Ended BootFault → ℕ
-boot_exit_code_of (Ok AllEnded) = 0
-boot_exit_code_of (Ok (Unfinished live)) = 4
-boot_exit_code_of (Err (boot_faults.Script fault)) = 1
-boot_exit_code_of (Err boot_faults.Memory) = 3
-boot_exit_code_of (Err boot_faults.Read) = 5
-boot_exit_code_of (Err boot_faults.Write) = 5
-
--- the words for standard error: none if the report was printed, else the line that names the fault
-abbrev pub boot_words_of : Result endings.Ended BootFault → List ℕ
-boot_words_of (Ok ended) = []
-boot_words_of (Err fault) = boot_fault_text fault ++ end_of_line
 
 -- the answer of a boot alone
 abbrev pub answer_in : Result (Booted NoGate) BootFault → Result endings.Ended BootFault
@@ -77,16 +61,6 @@ abbrev pub IsBootedBy : RunsOf NoGate → (TornDown → Type 0) → Option (List
     → Result endings.Ended BootFault → Option (Booted NoGate) → Option (List ℕ) → Option (List ℕ) → Type 0
 IsBootedBy ran shown read processors turns answer booted old new =
     BootAnswers ran shown read processors turns answer booted old new × IsBootUnwritten answer old new
-
--- a read or write fault of a boot has its cause in the calls on the streams
-abbrev pub HasBootCause : {R W : Type 0} → (R → Result ℕ Error → R → Type 0) → (W → W → Type 0)
-    → Result endings.Ended BootFault → R → R → W → Type 0
-HasBootCause answers fails answer old new written = IfErr answer (λ fault.
-    (fault ≡ boot_faults.Read → IsReadFault answers old new) × (fault ≡ boot_faults.Write → IsWriteFault fails written))
-
--- the reader or the writer failed
-abbrev pub HasStreamFailed : {R W : Type 0} → (R → Result ℕ Error → R → Type 0) → (W → W → Type 0) → R → R → W → Type 0
-HasStreamFailed answers fails old new written = IsReadFault answers old new ⊎ IsWriteFault fails written
 
 -- the answer of a boot is correct for what was read, whatever was written
 abbrev pub IsBootAnswerOf : RunsOf NoGate → (TornDown → Type 0) → Option (List ℕ) → ℕ → ℕ

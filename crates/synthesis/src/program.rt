@@ -2,6 +2,7 @@
 
 ghost use Rattle.std.specs.Prelude.{◌≡◌, ◌≢◌, ◌≤◌, ℕ, map, IfSome, Result};
 ghost use Rattle.std.specs.Result.{result_ok};
+ghost use Rattle.boot_exit.specs.Exits.{HasBootCause, HasStreamFailed, boot_exit_code_of, boot_words_of};
 ghost use Rattle.boot_script.specs.declared.outcome.Replayed.{Replayed};
 ghost use Rattle.boot_script.specs.declared.outcome.ReplayFault.{ReplayFault};
 ghost use Rattle.boot_script.specs.Exits.{exit_code_of, words_of, IsExit, IsStatus};
@@ -10,16 +11,17 @@ ghost use Rattle.boot_script.specs.Scripts.{text_events};
 ghost use Rattle.synth_kernel.specs.declared.outcome.Ended as endings;
 ghost use Rattle.synth_kernel.specs.declared.outcome.BootFault.{BootFault};
 ghost use Rattle.synthesis.specs.Commands.{replay_command, IsBootCommand, IsNoCommand};
-ghost use Rattle.synthesis.specs.Runs.{usage_words, IsReplayOf, HasCause, HasBootCause, HasStreamFailed};
-ghost use Rattle.synthesis.specs.Runs.{boot_exit_code_of, boot_words_of, answer_in, IsBootedBy, IsBootStatus};
+ghost use Rattle.synthesis.specs.Runs.{usage_words, IsReplayOf, HasCause};
+ghost use Rattle.synthesis.specs.Runs.{answer_in, IsBootedBy, IsBootStatus};
 
 use crate::command::{Command, command_of};
+use boot_exit::after_boot;
 use boot_script::exit::Exit;
 use boot_script::{Sink, Source, exit, replay_on};
 use std::alloc::Global;
 use std::io::Write;
 use std::sync::Wait;
-use synth_kernel::{BootFault, Booted, Ended, NoGate, Shared, Witness, Work, Worked, boot_on};
+use synth_kernel::{BootFault, Booted, NoGate, Shared, Witness, Work, Worked, boot_on};
 
 /// How a run has ended.
 #[derive(Drop)]
@@ -118,17 +120,11 @@ fn answer_of_boot<E: Write>(answer: Result<Booted<NoGate>, BootFault>, errors: &
 {
     match answer {
         Ok(booted) => Outcome {
-            exit: Exit {
-                status: boot_status(Ok(booted.ended())),
-                reported: Ok(()),
-            },
+            exit: after_boot(Ok(booted.ended()), errors),
             booted: Some(booted),
         },
         Err(fault) => Outcome {
-            exit: Exit {
-                status: boot_status(Err(fault)),
-                reported: writeln!(errors, "{fault}"),
-            },
+            exit: after_boot(Err(fault), errors),
             booted: None,
         },
     }
@@ -139,17 +135,4 @@ pub fn usage<E: Write>(errors: &mut E) -> Exit
     ensures { IsExit result 2 usage_words (E.contents errors.old) (E.contents errors.new) }
 {
     exit::usage("usage: synthesis replay | synthesis boot P TURNS", errors)
-}
-
-/// The exit status of a boot.
-fn boot_status(answer: Result<Ended, BootFault>) -> u8
-    ensures { result ≡ boot_exit_code_of answer }
-{
-    match answer {
-        Ok(Ended::AllEnded) => 0,
-        Ok(Ended::Unfinished { .. }) => 4,
-        Err(BootFault::Script(_)) => 1,
-        Err(BootFault::Memory) => 3,
-        Err(BootFault::Read | BootFault::Write) => 5,
-    }
 }

@@ -1,7 +1,7 @@
-use Rattle.std.proofs.Common.{take}
-use Rattle.std.specs.List.{AllZip}
-use Rattle.boot_view.specs.Views.{IsLogOf}
+use Rattle.std.proofs.Common.{◌≡◌, take}
+use Rattle.boot_log.specs.Kept.{kept_in}
+use Rattle.boot_view.specs.Views.{logs_in}
 use Rattle.boot_view.proofs.viewing.logs_of.Given as goal
 
 abbrev pub invariant-loop-gate : goal.invariant-loop-gate
-invariant-loop-gate g l = AllZip IsLogOf (take l.gate-index l.gates) l.all.items
+invariant-loop-gate g l = kept_in l.logs.items ≡ logs_in (take l.gate-index l.gates)

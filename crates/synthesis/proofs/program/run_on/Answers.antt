@@ -4,7 +4,8 @@ use Rattle.synth_kernel.specs.declared.printing.Booted.{Booted}
 use Rattle.turn_io.specs.declared.gate.NoGate.{NoGate}
 use Rattle.synthesis.specs.Runs.{answer_in, IsBootedBy}
 use Rattle.synthesis.proofs.Boots.{booted_by}
-use Rattle.synthesis.proofs.Causes.{boot_caused, replay_failed, boot_failed}
+use Rattle.boot_exit.proofs.Causes.{boot_failed}
+use Rattle.synthesis.proofs.Causes.{boot_caused, replay_failed}
 use Rattle.synthesis.proofs.Words.{asked_of, same_processors, same_turns}
 use Rattle.synthesis.proofs.program.run_on.Goals as goal
 

@@ -1,0 +1,44 @@
+//! The exit status of a program that boots a script, and its words for standard error.
+#![tactic(auto)]
+
+ghost use Rattle.std.specs.Prelude.{◌≡◌};
+ghost use Rattle.boot_script.specs.Exits.{IsExit};
+ghost use Rattle.boot_exit.specs.Exits.{boot_exit_code_of, boot_words_of};
+
+use boot_script::exit::Exit;
+use std::io::Write;
+use synth_kernel::{BootFault, Ended};
+
+/// Reports how a boot has ended.
+///
+/// Status 0 is returned if all threads have ended; 1 if the script is invalid; 3 if memory was exhausted; 4 if threads
+/// have not ended; 5 if the reader or the writer failed. Words are written only for a fault.
+pub fn after_boot<E: Write>(answer: Result<Ended, BootFault>, errors: &mut E) -> Exit
+    ensures { IsExit result (boot_exit_code_of answer) (boot_words_of answer)
+        (E.contents errors.old) (E.contents errors.new) }
+{
+    let status = boot_status(answer);
+    match answer {
+        Ok(_) => Exit {
+            status,
+            reported: Ok(()),
+        },
+        Err(fault) => Exit {
+            status,
+            reported: writeln!(errors, "{fault}"),
+        },
+    }
+}
+
+/// The exit status of a boot.
+fn boot_status(answer: Result<Ended, BootFault>) -> u8
+    ensures { result ≡ boot_exit_code_of answer }
+{
+    match answer {
+        Ok(Ended::AllEnded) => 0,
+        Ok(Ended::Unfinished { .. }) => 4,
+        Err(BootFault::Script(_)) => 1,
+        Err(BootFault::Memory) => 3,
+        Err(BootFault::Read | BootFault::Write) => 5,
+    }
+}

@@ -12,7 +12,7 @@
 # No source is made from another, and to look for such rules takes seconds.
 MAKEFLAGS += --no-builtin-rules
 
-programs := crates/synthesis/out/synthesis crates/draw/out/draw
+programs := $(foreach name,synthesis draw timeline,crates/$(name)/out/$(name))
 # Folders count too, since a file may have been taken away.
 sources := $(shell find crates/*/src crates/*/specs crates/*/proofs crates.txt HANDLES)
 

@@ -17,5 +17,5 @@ END
 esac
 
 # The programs and the library that are installed, if no others are named.
-: "${PROGRAMS=$root/crates/synthesis/out/synthesis $root/crates/draw/out/draw}"
+: "${PROGRAMS=$root/crates/synthesis/out/synthesis $root/crates/draw/out/draw $root/crates/timeline/out/timeline}"
 : "${LIBRARY=$root/bindings/out/libsynthesis.a}"

@@ -1,5 +1,5 @@
 //! Queues with an end of each, a pump over two of them, and a gate that keeps the points at which it is called.
-ghost use Rattle.std.specs.Prelude.{◌≡◌, ◌≤◌, length, IfOk};
+ghost use Rattle.std.specs.Prelude.{◌≡◌, ◌<◌, ◌≤◌, length, IfOk};
 ghost use Rattle.std.specs.List.{All};
 ghost use Rattle.claim_queue.specs.Handles.{view_of};
 ghost use Rattle.quajects.specs.Ports.{IsEndAt, IsUnused};
@@ -310,9 +310,8 @@ pub(crate) type Seen = (
 /// As many items as a small queue has places.
 pub(crate) const SIXTY_FOUR: &[u64] = &[7; 64];
 
-/// A gate that tries at each point, at other ends of a small queue, to put as many items as it has places and then to take
-/// a line.
-/// It keeps the answers, which show how far a step is when the gate is called.
+/// A gate that tries at each point, at other ends of a small queue, to put as many items as it has places and then to
+/// take a line. It keeps the answers, which show how far a step is when the gate is called.
 #[derive(Drop)]
 pub(crate) struct Watcher<'a> {
     pub(crate) world: &'a Queues,

@@ -94,18 +94,18 @@ is_before one other = nat_lt one.ended other.ended
 abbrev pub count_before : List Kept → List LineTurn → LineTurn → ℕ
 count_before logs all turn = count_by (λ other. are_same logs other turn && is_before other turn) all
 
--- A line that was put is the one that was taken: both are of one text and queue, and as many lines of this text were
--- put into the queue before as were taken from it before
+-- A line that was put is taken for the one that was taken: both are of one text and queue, and as many lines of this
+-- text were put into the queue before as were taken from it before, as far as the logs have them
 abbrev pub is_passed : List Kept → List LineTurn → List LineTurn → LineTurn → LineTurn → Bool
 is_passed logs puts takings put taken =
     are_same logs put taken && (count_before logs puts put == count_before logs takings taken)
 
--- the passing of a line that was taken, if it was put by a say
+-- the passing of a line that was taken, if a say of the logs is joined to it
 abbrev pub passing_of : List Kept → List LineTurn → List LineTurn → LineTurn → Option Passing
 passing_of logs puts takings taken =
     option_map (λ put. record { said = put; heard = taken }) (find (λ put. is_passed logs puts takings put taken) puts)
 
--- the lines that passed, in the order of the turns that took them, processor by processor
+-- the lines that are taken to have passed, in the order of the turns that took them, processor by processor
 abbrev pub passings : ℕ → List Kept → List Passing
 passings from logs =
     let puts : List LineTurn = all_line_turns Put from 0 logs in

@@ -1,6 +1,6 @@
 -- The turns of lines are in the order of their processors and their numbers.
-use Rattle.std.proofs.Common.{◌≡◌, ◌<◌, ◌≤◌, ◌+◌, ◌∙◌, ℕ, List, [], ◌∷◌, ◌++◌, ◌⊎◌, inl, inr, Option, Some, None, IfSome, refl, sym, arith}
-use Rattle.std.specs.List.{AllByRecursion, cons_option}
+use Rattle.std.proofs.Common.{◌≡◌, ◌<◌, ◌≤◌, ◌+◌, ◌∙◌, ℕ, Bool, true, false, cond, List, [], ◌∷◌, ◌++◌, ◌⊎◌, inl, inr, Option, Some, None, IfSome, refl, sym, arith}
+use Rattle.std.specs.List.{AllByRecursion, cons_option, filter}
 use Rattle.std.specs.Prelude.{option_map}
 use Rattle.boot_data.specs.declared.plan.QueueIndex.{QueueIndex}
 use Rattle.boot_log.specs.declared.entry.Did.{Did}
@@ -8,8 +8,10 @@ use Rattle.boot_log.specs.declared.entry.Did.TheVariants as did
 use Rattle.boot_log.specs.declared.entry.Entry.{Entry}
 use Rattle.boot_log.specs.declared.line_turn.LineTurn.{LineTurn}
 use Rattle.boot_log.specs.declared.line_turn.Way.{Way}
+use Rattle.boot_data.specs.declared.boot_plan.BootPlan.{BootPlan}
+use Rattle.boot_log.specs.Counting.{is_counted}
 use Rattle.boot_log.specs.Kept.{Kept}
-use Rattle.boot_log.specs.Lines.{all_line_turns, line_turn_in, line_turn_of, line_turns, queue_of}
+use Rattle.boot_log.specs.Lines.{all_line_turns, counted_turns, line_turn_in, line_turn_of, line_turns, queue_of}
 
 -- one turn comes before another in the lists: on a lower processor, or earlier on the same
 abbrev pub Before : LineTurn → LineTurn → Type 0
@@ -78,8 +80,27 @@ all_from way from processor (log ∷ logs) =
     (all_weaker (IsFrom processor 0) (λ it. processor ≤ it.processor) _ (λ it h. let e = h.0 in omega (arith, e)) (turns_from way processor 0 from log.entries))
     (all_weaker (λ (it : LineTurn). processor + 1 ≤ it.processor) (λ it. processor ≤ it.processor) _ (λ it h. omega (arith, h)) (all_from way from (processor + 1) logs))
 
-pub all_ascend : (way : Way) (from processor : ℕ) (logs : List Kept) → Ascends (all_line_turns way from processor logs)
+all_ascend : (way : Way) (from processor : ℕ) (logs : List Kept) → Ascends (all_line_turns way from processor logs)
 all_ascend way from processor [] = tt
 all_ascend way from processor (log ∷ logs) =
     append_ascends (line_turns way processor 0 from log.entries) (all_line_turns way from (processor + 1) logs) (turns_ascend way processor 0 from log.entries) (all_ascend way from (processor + 1) logs)
     (all_weaker (IsFrom processor 0) (λ x. AllByRecursion (Before x) (all_line_turns way from (processor + 1) logs)) _ (λ x h. all_weaker (λ (it : LineTurn). processor + 1 ≤ it.processor) (Before x) _ (λ it l. let e = h.0 in inl (omega (arith, e, l))) (all_from way from (processor + 1) logs)) (turns_from way processor 0 from log.entries))
+
+all_if : {A : Type 0} (P : A → Type 0) (b : Bool) (x : A) (xs : List A) → P x → AllByRecursion P xs → AllByRecursion P (cond b (x ∷ xs) xs)
+all_if P true x xs h k = (h, k)
+all_if P false x xs h k = k
+
+all_filter : {A : Type 0} (P : A → Type 0) (test : A → Bool) (xs : List A) → AllByRecursion P xs → AllByRecursion P (filter test xs)
+all_filter P test [] h = tt
+all_filter P test (x ∷ xs) h = all_if P (test x) x (filter test xs) h.0 (all_filter P test xs h.1)
+
+ascends_if : (b : Bool) (turn : LineTurn) (turns : List LineTurn) → AllByRecursion (Before turn) turns → Ascends turns → Ascends (cond b (turn ∷ turns) turns)
+ascends_if true turn turns h a = (h, a)
+ascends_if false turn turns h a = a
+
+filter_ascends : (test : LineTurn → Bool) (turns : List LineTurn) → Ascends turns → Ascends (filter test turns)
+filter_ascends test [] a = tt
+filter_ascends test (turn ∷ turns) a = ascends_if (test turn) turn (filter test turns) (all_filter (Before turn) test turns a.0) (filter_ascends test turns a.1)
+
+pub counted_ascend : (way : Way) (plan : BootPlan) (from : ℕ) (logs : List Kept) → Ascends (counted_turns way plan from logs)
+counted_ascend way plan from logs = filter_ascends (is_counted plan from logs) (all_line_turns way from 0 logs) (all_ascend way from 0 logs)

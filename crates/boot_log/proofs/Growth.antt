@@ -7,7 +7,7 @@ use Rattle.processor.specs.Entries.{LogEntry}
 use Rattle.boot_log.specs.declared.entry.Entry.{Entry}
 use Rattle.boot_log.specs.Fronts.{AreTimes, IsRecordOf}
 use Rattle.boot_log.specs.Growing.{GrowsIf, entry_at, has_room_for, is_kept, with_miss, with_turn}
-use Rattle.boot_log.specs.Kept.{Kept, Room, nothing_kept}
+use Rattle.boot_log.specs.Kept.{Kept, Room, end_of, nothing_kept}
 use Rattle.boot_log.proofs.Fixed.{AreFixed, Extends, all_stay, fixed_are, new_fixed, one_more_fixed, turn_extends}
 
 -- the log grew by a turn, with a clock that had said this number before, and then another
@@ -27,15 +27,10 @@ GrewBy says [] last time old new = (time ≡ last) × (new ≡ old)
 GrewBy says (turn ∷ turns) last time old new =
     (then : ℕ) × (mid : Kept) × Grew says turn last then old mid × GrewBy says turns then time mid new
 
--- the time of the last entry, and this number if there is none
-abbrev pub last_time : ℕ → List Entry → ℕ
-last_time first [] = first
-last_time first (entry ∷ entries) = last_time entry.at entries
-
 -- the entries have times of a clock that said one number before them, and another at the last of them
 pub record HasTimes (says : ℕ → ℕ → Type 0) (first last : ℕ) (entries : List Entry) : Type 0 where
   pub times : AreTimes says first entries
-  pub last_is : last_time first entries ≡ last
+  pub last_is : end_of first entries ≡ last
 
 -- one entry more, with a time that the clock said after the last
 pub one_more_time : (says : ℕ → ℕ → Type 0) (first last : ℕ) (entries : List Entry) (entry : Entry) → HasTimes says first last entries → says last entry.at → last ≤ entry.at → HasTimes says first entry.at (entries ++ entry ∷ [])

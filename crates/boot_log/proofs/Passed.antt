@@ -1,20 +1,21 @@
 -- A line passes between turns of its text and queue, and each line passes once.
-use Rattle.std.proofs.Common.{◌≡◌, ◌<◌, ◌≤◌, ◌+◌, ◌∙◌, ◌==◌, ◌&&◌, ℕ, Bool, true, false, cond, List, [], ◌∷◌, ◌⊎◌, inl, inr, ⊎_elim, Option, Some, None, IfSome, refl, sym, ap, subst, arith, nat_lt}
-use Rattle.std.proofs.lemmas.Bool.{eqb-true, eq-eqb, cases_Bool}
+use Rattle.std.proofs.Common.{◌≡◌, ◌<◌, ◌≤◌, ◌+◌, ◌∙◌, ◌==◌, ◌&&◌, ℕ, Bool, true, false, cond, List, [], ◌∷◌, ◌⊎◌, inl, inr, ⊎_elim, Option, Some, None, IfSome, refl, sym, ap, subst, arith, nat_le, nat_lt}
+use Rattle.std.proofs.lemmas.Bool.{eqb-true, eq-eqb, leb-true, cases_Bool}
 use Rattle.std.proofs.lemmas.Bool.Decides.{nat_tests}
 use Rattle.std.proofs.lemmas.List.Sums.{sum_by-cons}
 use Rattle.std.proofs.lemmas.Slice.Eq.{bytes_eq-Decides}
 use Rattle.std.specs.List.{AllByRecursion, cons_option, filter_map, find}
 use Rattle.std.specs.Prelude.{option_map, ◌||◌, count_by}
 use Rattle.std.specs.Str.{bytes_eq}
+use Rattle.boot_data.specs.declared.boot_plan.BootPlan.{BootPlan}
 use Rattle.boot_data.specs.declared.plan.QueueIndex.{QueueIndex}
 use Rattle.boot_data.specs.declared.plan.QueueIndex.TheVariants.{Small, Large}
 use Rattle.boot_log.specs.declared.line_turn.LineTurn.{LineTurn}
 use Rattle.boot_log.specs.declared.line_turn.Way.TheVariants.{Put, Taken}
 use Rattle.boot_log.specs.declared.passing.Passing.{Passing}
 use Rattle.boot_log.specs.Kept.{Kept}
-use Rattle.boot_log.specs.Lines.{AreApart, PassOnce, all_line_turns, are_same, count_before, is_before, is_passed, is_same_queue, passing_of, passings, text_of}
-use Rattle.boot_log.proofs.Ascending.{Ascends, Before, all_ascend, all_cons, all_weaker}
+use Rattle.boot_log.specs.Lines.{AreApart, PassOnce, counted_turns, are_same, count_before, is_before, is_passed, is_same_queue, passing_of, passings, text_of}
+use Rattle.boot_log.proofs.Ascending.{Ascends, Before, all_cons, all_weaker, counted_ascend}
 
 -- the order by the clock, on numbers
 abbrev earlier : ℕ → ℕ → ℕ → ℕ → ℕ → ℕ → Bool
@@ -57,7 +58,7 @@ queue_self (Small n) = eq-eqb n n refl
 queue_self (Large n) = eq-eqb n n refl
 
 -- two turns are of one queue and text
-abbrev SameLine : List Kept → LineTurn → LineTurn → Type 0
+abbrev pub SameLine : List Kept → LineTurn → LineTurn → Type 0
 SameLine logs one other = (one.queue ≡ other.queue) × (text_of logs one ≡ text_of logs other)
 
 line_same : (logs : List Kept) (one other : LineTurn) → are_same logs one other ≡ true → SameLine logs one other
@@ -128,8 +129,10 @@ differ logs turns a b in_a in_b before same is =
     (earlier_either a.ended a.processor a.turn b.ended b.processor b.turn before)
 
 -- what is known of a line that passed to this turn
-abbrev IsPassed : List Kept → List LineTurn → List LineTurn → LineTurn → Passing → Type 0
-IsPassed logs puts takings taken passing = (passing.heard ≡ taken) × SameLine logs passing.said taken × (count_before logs puts passing.said ≡ count_before logs takings taken)
+abbrev pub IsPassed : List Kept → List LineTurn → List LineTurn → LineTurn → Passing → Type 0
+IsPassed logs puts takings taken passing =
+    (passing.heard ≡ taken) × SameLine logs passing.said taken × (count_before logs puts passing.said ≡ count_before logs takings taken)
+    × (passing.said.began ≤ taken.ended)
 
 found_at : {A : Type 0} (test : A → Bool) (b : Bool) (x : A) (rest : Option A) → test x ≡ b → IfSome rest (λ y. test y ≡ true) → IfSome (cond b (Some x) rest) (λ y. test y ≡ true)
 found_at test true x rest is later = is
@@ -143,10 +146,11 @@ passed_of : (logs : List Kept) (puts takings : List LineTurn) (taken : LineTurn)
     → IfSome (option_map (λ (it : LineTurn). record { said = it; heard = taken }) put) (IsPassed logs puts takings taken)
 passed_of logs puts takings taken None h = tt
 passed_of logs puts takings taken (Some put) h =
-    let parts = both_true (are_same logs put taken) (count_before logs puts put == count_before logs takings taken) h in
-    (refl, line_same logs put taken parts.0, eqb-true _ _ parts.1)
+    let all = both_true (are_same logs put taken && (count_before logs puts put == count_before logs takings taken)) (nat_le put.began taken.ended) h in
+    let parts = both_true (are_same logs put taken) (count_before logs puts put == count_before logs takings taken) all.0 in
+    (refl, line_same logs put taken parts.0, eqb-true _ _ parts.1, leb-true _ _ all.1)
 
-passed : (logs : List Kept) (puts takings : List LineTurn) (taken : LineTurn) → IfSome (passing_of logs puts takings taken) (IsPassed logs puts takings taken)
+pub passed : (logs : List Kept) (puts takings : List LineTurn) (taken : LineTurn) → IfSome (passing_of logs puts takings taken) (IsPassed logs puts takings taken)
 passed logs puts takings taken = passed_of logs puts takings taken (find (λ put. is_passed logs puts takings put taken) puts) (found (λ put. is_passed logs puts takings put taken) puts)
 
 not_before_self : (a b : LineTurn) → Before a b → a ≡ b → ⊥
@@ -186,11 +190,11 @@ once_each logs puts takings (a ∷ turns) ascends all =
     cons_once (passing_of logs puts takings a) _ (some_later logs puts takings a turns (passing_of logs puts takings a) (passed logs puts takings a) all.0 ascends.0 all.1)
     (once_each logs puts takings turns ascends.1 all.1)
 
-pub passed_once : (from : ℕ) (logs : List Kept) → PassOnce (passings from logs)
-passed_once from logs =
-    let puts : List LineTurn = all_line_turns Put from 0 logs in
-    let takings : List LineTurn = all_line_turns Taken from 0 logs in
-    once_each logs puts takings takings (all_ascend Taken from 0 logs) (all_in takings)
+pub passed_once : (plan : BootPlan) (from : ℕ) (logs : List Kept) → PassOnce (passings plan from logs)
+passed_once plan from logs =
+    let puts : List LineTurn = counted_turns Put plan from logs in
+    let takings : List LineTurn = counted_turns Taken plan from logs in
+    once_each logs puts takings takings (counted_ascend Taken plan from logs) (all_in takings)
 
 kept_text : (logs : List Kept) (puts takings : List LineTurn) (taken : LineTurn) (one : Option Passing) → IfSome one (IsPassed logs puts takings taken) → IfSome one (λ passing. are_same logs passing.said passing.heard ≡ true)
 kept_text logs puts takings taken None h = tt
@@ -200,9 +204,9 @@ all_mapped : {A B : Type 0} (P : B → Type 0) (f : A → Option B) (xs : List A
 all_mapped P f [] h = tt
 all_mapped P f (x ∷ xs) h = all_cons P (f x) (filter_map f xs) (h x) (all_mapped P f xs h)
 
-pub same_lines : (from : ℕ) (logs : List Kept) → AllByRecursion (λ (passing : Passing). are_same logs passing.said passing.heard ≡ true) (passings from logs)
-same_lines from logs =
-    let puts : List LineTurn = all_line_turns Put from 0 logs in
-    let takings : List LineTurn = all_line_turns Taken from 0 logs in
+pub same_lines : (plan : BootPlan) (from : ℕ) (logs : List Kept) → AllByRecursion (λ (passing : Passing). are_same logs passing.said passing.heard ≡ true) (passings plan from logs)
+same_lines plan from logs =
+    let puts : List LineTurn = counted_turns Put plan from logs in
+    let takings : List LineTurn = counted_turns Taken plan from logs in
     all_mapped (λ (passing : Passing). are_same logs passing.said passing.heard ≡ true) (passing_of logs puts takings) takings
     (λ taken. kept_text logs puts takings taken (passing_of logs puts takings taken) (passed logs puts takings taken))

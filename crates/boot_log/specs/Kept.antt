@@ -1,6 +1,6 @@
 -- What is kept of a processor's turns, and how an entry names its line and its alarms.
 use Rattle.std.specs.Borrow.{Bor}
-use Rattle.std.specs.Prelude.{ℕ, List, [], length, take, drop, map}
+use Rattle.std.specs.Prelude.{ℕ, List, [], ◌∷◌, length, take, drop, map}
 use Rattle.event_theory.specs.declared.alarm.Alarm.{Alarm}
 use Rattle.boot_log.specs.declared.entry.Entry.{Entry}
 use Rattle.boot_log.specs.declared.entry.Part.{Part}
@@ -35,3 +35,8 @@ part_after items more = record { start = length items; len = length more }
 -- what these logs have kept
 abbrev pub kept_in : List (Bor Kept) → List Kept
 kept_in logs = map (λ log. log.now) logs
+
+-- when the last of these turns ended; this time, if there is none
+abbrev pub end_of : ℕ → List Entry → ℕ
+end_of from [] = from
+end_of from (entry ∷ entries) = end_of entry.at entries

@@ -2,6 +2,7 @@
 
 ghost use Rattle.std.specs.Prelude.{◌≡◌};
 ghost use Rattle.boot_log.specs.Idling.{is_idle};
+ghost use Rattle.boot_log.specs.Kept.{end_of};
 ghost use Rattle.boot_log.specs.Values.{line_part};
 
 use boot_data::plan::QueueIndex;
@@ -137,5 +138,15 @@ impl Entry {
         ensures { result ≡ is_idle self.now }
     {
         matches!(self.did, Did::Idle(Idle::NothingReady(_))) && self.fired.len == 0
+    }
+}
+
+/// When the last of these turns ended, which are in a row on their processor. The first one began at `from`.
+pub fn end_of(from: u64, entries: &[Entry]) -> u64
+    ensures { result ≡ end_of from entries.now }
+{
+    match entries {
+        [.., last] => last.at,
+        [] => from,
     }
 }

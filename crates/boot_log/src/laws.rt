@@ -1,6 +1,7 @@
-//! A run that was recorded: its log is the front of all turns. Lines that passed: each with its text.
+//! A run that was recorded: its log is the front of all turns. Lines that passed: each with its text, and once.
 ghost use Rattle.std.specs.Prelude.{◌≡◌, ◌<◌, ◌^◌, ℕ, List, length, true};
 ghost use Rattle.std.specs.List.{AllByRecursion};
+ghost use Rattle.boot_data.specs.declared.boot_plan.BootPlan.{BootPlan};
 ghost use Rattle.processor.specs.Entries.{LogEntry};
 ghost use Rattle.processor.specs.Logs.{RanTurns};
 ghost use Rattle.processor.specs.Points.{HookedTurns, calls};
@@ -9,7 +10,7 @@ ghost use Rattle.processor.specs.declared.station.Parts.{Parts};
 ghost use Rattle.boot_log.specs.declared.recorder.Recorder.{Recorder};
 ghost use Rattle.boot_log.specs.Fronts.{IsRecordOf};
 ghost use Rattle.boot_log.specs.Kept.{Kept, Room, nothing_kept};
-ghost use Rattle.boot_log.specs.Lines.{PassOnce, are_same, passings};
+ghost use Rattle.boot_log.specs.Lines.{IsKnownLine, PassOnce, are_same, passings};
 
 use crate::clock::TurnClock;
 use crate::recorder::Recorder;
@@ -35,11 +36,19 @@ pub fn runs_are_kept<C: TurnClock>()
 
 /// Each line that passed was put into the queue from which it was taken, with the text with which it was taken.
 pub fn lines_keep_their_text()
-    ensures { (from : ℕ) (logs : List Kept) → AllByRecursion (λ passing. are_same logs passing.said passing.heard
-        ≡ true) (passings from logs) }
+    ensures { (plan : BootPlan) (from : ℕ) (logs : List Kept) → AllByRecursion (λ passing.
+        are_same logs passing.said passing.heard ≡ true) (passings plan from logs) }
 {}
 
 /// No two lines that passed were said by one turn, or heard by one.
 pub fn lines_pass_once()
-    ensures { (from : ℕ) (logs : List Kept) → PassOnce (passings from logs) }
+    ensures { (plan : BootPlan) (from : ℕ) (logs : List Kept) → PassOnce (passings plan from logs) }
+{}
+
+/// Only threads put lines into the queue of a line that passed, and take lines from it. The put began no later than the
+/// taking ended. Each log has all turns of its processor that ended by the end of these two: it missed none, or has one
+/// that ended later.
+pub fn lines_are_known()
+    ensures { (plan : BootPlan) (from : ℕ) (logs : List Kept) → AllByRecursion (IsKnownLine plan from logs)
+        (passings plan from logs) }
 {}

@@ -6,14 +6,18 @@
 //! which exists in contracts alone.
 //!
 //! `passings_of` joins the lines that were said to those that were heard, over the logs of all processors, by their
-//! texts and the clock. Pictures and traces of a boot take these logs, and show these lines.
+//! texts and the clock. Pictures and traces of a boot take these logs, and show these lines. What a pump, a switch or a
+//! tty's device moves is in no log, so at the queues of these no line is joined. Nor is one joined after the first turn
+//! that a log missed.
 //!
 //! `runs_are_kept` says that a recorder's log is the front of its run, entry by entry, with the clock's times, and that
 //! the kept and the missed turns are all turns. `lines_keep_their_text` says that no line is joined to one of another
-//! queue or text, and `lines_pass_once` that none is joined twice.
+//! queue or text, and `lines_pass_once` that none is joined twice. `lines_are_known` says that only threads use the
+//! queue of a joined line, that its put began no later than its taking ended, and that no log misses a turn up to both.
 #![tactic(auto)]
 
 mod clock;
+mod counted;
 mod entry;
 mod laws;
 mod line_turn;
@@ -23,11 +27,12 @@ mod passing;
 mod recorder;
 #[cfg(test)]
 mod tests;
+mod thread_queues;
 mod values;
 
 pub use clock::TurnClock;
-pub use entry::{Did, Entry, HeardAnswer, Part, SaidAnswer, Tried};
-pub use laws::{lines_keep_their_text, lines_pass_once, runs_are_kept};
+pub use entry::{Did, Entry, HeardAnswer, Part, SaidAnswer, Tried, end_of};
+pub use laws::{lines_are_known, lines_keep_their_text, lines_pass_once, runs_are_kept};
 pub use line_turn::{LineTurn, Way};
 pub use log::{ALARMS, Log};
 pub use passing::{Passing, passings_of};

@@ -1,17 +1,21 @@
 //! The lines that passed from a say to a hear.
 //!
 //! A log doesn't have the positions of lines in a queue, so lines are joined by their texts. The nth taking of a text
-//! from a queue is joined to the nth putting of this text into the queue, by the clock at the end of the turns. No line
-//! is joined to one of another text or of another queue. What a device, a pump or a switch puts is in no log: a hear of
-//! such a line is joined to a thread's say of the same text into the same queue, if there is one, and else to none.
+//! from a queue is joined to the nth putting of this text into the queue, by the clock at the end of the turns, if the
+//! put began no later than the taking ended. No line is joined to one of another text or of another queue.
+//!
+//! What a pump, a switch or a tty's device puts or takes is in no log. So at a queue that one of these uses no line is
+//! joined. If a log missed turns, only those turns count that ended before the last one that it kept.
 
-ghost use Rattle.std.specs.Prelude.{◌≡◌, ◌&&◌, ◌==◌, IfOk, map};
+ghost use Rattle.std.specs.Prelude.{◌≡◌, ◌&&◌, ◌==◌, nat_le, IfOk, map};
 ghost use Rattle.std.specs.List.{filter_map, find};
 ghost use Rattle.boot_log.specs.Kept.{kept_in};
 ghost use Rattle.boot_log.specs.Lines.{are_same, count_before, is_before, is_same_queue, passing_of, passings, text_of};
 
-use crate::line_turn::{LineTurn, Way, all_line_turns};
+use crate::counted::counted_turns;
+use crate::line_turn::{LineTurn, Way};
 use crate::log::Log;
+use boot_data::BootPlan;
 use boot_data::plan::QueueIndex;
 use event_theory::OutOfMemory;
 use std::alloc::Global;
@@ -84,8 +88,8 @@ fn counts_before(alloc: Global, logs: &[&Log], all: &[LineTurn]) -> Result<Vec<u
     )
 }
 
-/// The turn that put the line that this turn took. `counts` has how many of its lines come before each putting, and
-/// `before` how many come before this taking.
+/// The turn that put the line that this turn took, and that began no later than this one ended. `counts` has how many
+/// of its lines come before each putting, and `before` how many come before this taking.
 fn put_of(
     logs: &[&Log],
     puts: &[LineTurn],
@@ -95,10 +99,10 @@ fn put_of(
 ) -> Option<LineTurn>
     requires { counts.now ≡ map (count_before (kept_in logs.now) puts.now) puts.now }
     ensures { result ≡ find (λ put. are_same (kept_in logs.now) put taken.now
-        && (count_before (kept_in logs.now) puts.now put == before)) puts.now }
+        && (count_before (kept_in logs.now) puts.now put == before) && nat_le put.began taken.now.ended) puts.now }
 {
     for (number, put) in puts.iter().enumerate() {
-        if are_same(logs, put, taken) && counts[number] == before {
+        if are_same(logs, put, taken) && counts[number] == before && put.began <= taken.ended {
             return Some(*put);
         }
     }
@@ -150,11 +154,18 @@ fn joined(
 /// The lines that passed from a say to a hear, in the order of the turns that took them, processor by processor. The
 /// first turns of all processors began at `from`.
 ///
-/// `logs` has the log of each processor, from 0 on. The lines of turns that were missed are not seen.
-pub fn passings_of(alloc: Global, from: u64, logs: &[&Log]) -> Result<Vec<Passing>, OutOfMemory>
-    ensures { IfOk result (λ all. all.items ≡ passings from (kept_in logs.now)) }
+/// `plan` is that of the boot, and `logs` has the log of each processor, from 0 on. A line is joined only at a queue or
+/// pipe that no pump or switch takes lines from or puts lines into. If a log missed turns, only those turns count that
+/// ended before the last one that it kept, or none, if it kept none.
+pub fn passings_of(
+    alloc: Global,
+    plan: &BootPlan,
+    from: u64,
+    logs: &[&Log],
+) -> Result<Vec<Passing>, OutOfMemory>
+    ensures { IfOk result (λ all. all.items ≡ passings plan.now from (kept_in logs.now)) }
 {
-    let puts = all_line_turns(alloc, Way::Put, from, logs)?;
-    let takings = all_line_turns(alloc, Way::Taken, from, logs)?;
+    let puts = counted_turns(alloc, Way::Put, plan, from, logs)?;
+    let takings = counted_turns(alloc, Way::Taken, plan, from, logs)?;
     joined(alloc, logs, &puts, &takings)
 }

@@ -1,6 +1,6 @@
-//! A recorder of turns that a test makes up.
+//! A recorder of turns that a test makes up, and when turns end.
 
-use crate::{Did, Entry, Log, Recorder};
+use crate::{Did, Entry, Log, Part, Recorder, end_of};
 use event_theory::{Alarm, Element};
 use processor::{TurnGate, TurnOutcome, TurnResult};
 use std::io;
@@ -118,5 +118,21 @@ fn a_clock_that_cannot_be_read_stays(rt: HostRuntime) -> Result<(), Fail> {
     recorder.turned(0, None, &[], nothing_ready(), &[]);
     assert_eq!(rt; recorder.log().entries().len(), 1);
     assert_eq!(rt; recorder.log().entries()[0].at, 7);
+    Ok(())
+}
+
+fn ended_at(at: u64) -> Entry {
+    Entry {
+        at,
+        tended: None,
+        fired: Part { start: 0, len: 0 },
+        did: Did::Idle(Idle::NothingReady(NextRefusal::NoneReady)),
+    }
+}
+
+#[test]
+fn turns_end_with_the_last_one(rt: HostRuntime) -> Result<(), Fail> {
+    assert_eq!(rt; end_of(7, &[]), 7);
+    assert_eq!(rt; end_of(7, &[ended_at(9), ended_at(12)]), 12);
     Ok(())
 }

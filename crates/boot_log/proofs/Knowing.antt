@@ -1,5 +1,6 @@
--- A line that passed is known: only threads use its queue, its put began in time, and the logs have all turns up to both.
-use Rattle.std.proofs.Common.{◌≡◌, ◌<◌, ◌≤◌, ◌==◌, ◌||◌, ℕ, Bool, true, false, cond, List, [], ◌∷◌, ◌⊎◌, inl, inr, ⊎_elim, Option, Some, None, IfSome, max, nat_lt, refl, sym, subst, arith}
+-- A line that passed is known: only threads use its queue, line by line, its put began in time, and the logs have all
+-- turns up to both.
+use Rattle.std.proofs.Common.{◌≡◌, ◌<◌, ◌≤◌, ◌==◌, ◌&&◌, ◌||◌, ℕ, Bool, true, false, cond, List, [], ◌∷◌, ◌⊎◌, inl, inr, ⊎_elim, Option, Some, None, IfSome, max, nat_lt, refl, sym, subst, arith}
 use Rattle.std.proofs.lemmas.Bool.{and_parts, eqb-true, ltb-true, or_cases}
 use Rattle.std.specs.List.{AllByRecursion, filter, filter_map, find, list_all}
 use Rattle.std.specs.Prelude.{option_map}
@@ -11,7 +12,7 @@ use Rattle.boot_log.specs.declared.passing.Passing.{Passing}
 use Rattle.boot_log.specs.Counting.{has_all_until, is_counted, is_known}
 use Rattle.boot_log.specs.Kept.{Kept, end_of}
 use Rattle.boot_log.specs.Lines.{HaveAllUntil, IsKnownLine, all_line_turns, counted_turns, is_passed, passing_of, passings}
-use Rattle.boot_log.specs.Queues.{is_of_threads}
+use Rattle.boot_log.specs.Queues.{has_single_lines, is_of_threads}
 use Rattle.boot_log.proofs.Ascending.{all_cons}
 use Rattle.boot_log.proofs.Passed.{IsPassed, passed}
 
@@ -61,10 +62,13 @@ known_line : (plan : BootPlan) (from : ℕ) (logs : List Kept) (puts takings : L
 known_line plan from logs puts takings taken None p said heard = tt
 known_line plan from logs puts takings taken (Some passing) p said heard =
     let same = sym p.0 in
-    let one = and_parts (is_of_threads plan passing.said.queue) (is_known from logs passing.said) said in
-    let other = and_parts (is_of_threads plan taken.queue) (is_known from logs taken) heard in
+    let said_all = and_parts (is_of_threads plan passing.said.queue && is_known from logs passing.said) (has_single_lines plan passing.said.queue) said in
+    let one = and_parts (is_of_threads plan passing.said.queue) (is_known from logs passing.said) said_all.0 in
+    let heard_all = and_parts (is_of_threads plan taken.queue && is_known from logs taken) (has_single_lines plan taken.queue) heard in
+    let other = and_parts (is_of_threads plan taken.queue) (is_known from logs taken) heard_all.0 in
     record {
       queue = one.0;
+      single = said_all.1;
       order = subst (λ (turn : LineTurn). passing.said.began ≤ turn.ended) same p.3;
       whole = subst (λ (turn : LineTurn). HaveAllUntil from (max passing.said.ended turn.ended) logs) same (all_until from passing.said.ended taken.ended logs one.1 other.1);
     }

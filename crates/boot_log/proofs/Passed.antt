@@ -14,7 +14,8 @@ use Rattle.boot_log.specs.declared.line_turn.LineTurn.{LineTurn}
 use Rattle.boot_log.specs.declared.line_turn.Way.TheVariants.{Put, Taken}
 use Rattle.boot_log.specs.declared.passing.Passing.{Passing}
 use Rattle.boot_log.specs.Kept.{Kept}
-use Rattle.boot_log.specs.Lines.{AreApart, PassOnce, counted_turns, are_same, count_before, is_before, is_passed, is_same_queue, passing_of, passings, text_of}
+use Rattle.boot_log.specs.Lines.{AreApart, PassOnce, counted_turns, are_same, count_before, is_before, is_passed, passing_of, passings, text_of}
+use Rattle.boot_log.specs.Queues.{is_same_queue}
 use Rattle.boot_log.proofs.Ascending.{Ascends, Before, all_cons, all_weaker, counted_ascend}
 
 -- the order by the clock, on numbers

@@ -1,11 +1,10 @@
 -- The turns in which a line was put into a queue or taken from it, and the lines that passed from one to the other.
-use Rattle.std.specs.Prelude.{◌≡◌, ◌≢◌, ◌≤◌, ◌<◌, ◌⊎◌, ℕ, ◌+◌, ◌==◌, ◌&&◌, ◌||◌, nat_le, nat_lt, max, Bool, true, false}
+use Rattle.std.specs.Prelude.{◌≡◌, ◌≢◌, ◌≤◌, ◌<◌, ◌⊎◌, ℕ, ◌+◌, ◌==◌, ◌&&◌, ◌||◌, nat_le, nat_lt, max, Bool, true}
 use Rattle.std.specs.Prelude.{List, [], ◌∷◌, ◌++◌, count_by, Option, Some, None, option_map}
 use Rattle.std.specs.Str.{bytes_eq}
 use Rattle.std.specs.List.{AllByRecursion, cons_option, filter, filter_map, find, slice_get}
 use Rattle.boot_data.specs.declared.boot_plan.BootPlan.{BootPlan}
 use Rattle.boot_data.specs.declared.plan.QueueIndex.{QueueIndex}
-use Rattle.boot_data.specs.declared.plan.QueueIndex.TheVariants.{Small, Large}
 use Rattle.boot_log.specs.declared.entry.Did.{Did}
 use Rattle.boot_log.specs.declared.entry.Did.TheVariants as did
 use Rattle.boot_log.specs.declared.entry.Entry.{Entry}
@@ -19,7 +18,7 @@ use Rattle.boot_log.specs.declared.line_turn.Way.TheVariants.{Put, Taken}
 use Rattle.boot_log.specs.declared.passing.Passing.{Passing}
 use Rattle.boot_log.specs.Counting.{is_counted}
 use Rattle.boot_log.specs.Kept.{Kept, end_of, part_of}
-use Rattle.boot_log.specs.Queues.{is_of_threads}
+use Rattle.boot_log.specs.Queues.{has_single_lines, is_of_threads, is_same_queue}
 
 -- the queue into which a step put a line, if it did
 abbrev pub queue_put : Tried → Option QueueIndex
@@ -78,12 +77,6 @@ text_in (Some log) turn = part_of log.bytes turn.line
 abbrev pub text_of : List Kept → LineTurn → List ℕ
 text_of logs turn = text_in (slice_get logs turn.processor) turn
 
--- two names are of one queue
-abbrev pub is_same_queue : QueueIndex → QueueIndex → Bool
-is_same_queue (Small one) (Small other) = one == other
-is_same_queue (Large one) (Large other) = one == other
-is_same_queue one other = false
-
 -- two turns are of lines of one text and of one queue
 abbrev pub are_same : List Kept → LineTurn → LineTurn → Bool
 are_same logs one other = is_same_queue one.queue other.queue && bytes_eq (text_of logs one) (text_of logs other)
@@ -122,10 +115,11 @@ passings plan from logs =
 abbrev pub HaveAllUntil : ℕ → ℕ → List Kept → Type 0
 HaveAllUntil from time logs = AllByRecursion (λ log. (log.missed ≡ 0) ⊎ (time < end_of from log.entries)) logs
 
--- What is known of a line that passed: only threads use its queue, its put began no later than its taking ended, and
--- each log has all turns up to both
+-- What is known of a line that passed: only threads use its queue, line by line, its put began no later than its taking
+-- ended, and each log has all turns up to both
 pub record IsKnownLine (plan : BootPlan) (from : ℕ) (logs : List Kept) (passing : Passing) : Type 0 where
   pub queue : is_of_threads plan passing.said.queue ≡ true
+  pub single : has_single_lines plan passing.said.queue ≡ true
   pub order : passing.said.began ≤ passing.heard.ended
   pub whole : HaveAllUntil from (max passing.said.ended passing.heard.ended) logs
 

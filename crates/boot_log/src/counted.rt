@@ -1,4 +1,5 @@
-//! The turns of lines that are counted: at queues that only threads use, and before any turn that a log missed.
+//! The turns of lines that are counted: at queues that only threads use, line by line, and before any turn that a log
+//! missed.
 
 ghost use Rattle.std.specs.Prelude.{◌≡◌, IfOk};
 ghost use Rattle.boot_log.specs.Counting.{has_all_until, is_counted, is_known};
@@ -8,7 +9,7 @@ ghost use Rattle.boot_log.specs.Lines.{counted_turns};
 use crate::entry::end_of;
 use crate::line_turn::{LineTurn, Way, all_line_turns};
 use crate::log::Log;
-use crate::thread_queues::is_of_threads;
+use crate::thread_queues::{has_single_lines, is_of_threads};
 use boot_data::BootPlan;
 use event_theory::OutOfMemory;
 use std::alloc::Global;
@@ -33,11 +34,13 @@ fn is_known(from: u64, logs: &[&Log], turn: &LineTurn) -> bool
     true
 }
 
-/// Whether a turn is counted: only threads use its queue, and the logs have each turn up to its end.
+/// Whether a turn is counted: only threads use its queue, line by line, and the logs have each turn up to its end.
 fn is_counted(plan: &BootPlan, from: u64, logs: &[&Log], turn: &LineTurn) -> bool
     ensures { result ≡ is_counted plan.now from (kept_in logs.now) turn.now }
 {
-    is_of_threads(plan, turn.queue) && is_known(from, logs, turn)
+    is_of_threads(plan, turn.queue)
+        && is_known(from, logs, turn)
+        && has_single_lines(plan, turn.queue)
 }
 
 /// The turns of all lines that went this way, and that are counted, processor by processor. The first turns began at

@@ -45,9 +45,9 @@ pub fn lines_pass_once()
     ensures { (plan : BootPlan) (from : ℕ) (logs : List Kept) → PassOnce (passings plan from logs) }
 {}
 
-/// Only threads put lines into the queue of a line that passed, and take lines from it. The put began no later than the
-/// taking ended. Each log has all turns of its processor that ended by the end of these two: it missed none, or has one
-/// that ended later.
+/// Only threads put lines into the queue of a line that passed, and take lines from it, and each of their texts is one
+/// line. The put began no later than the taking ended. Each log has all turns of its processor that ended by the end of
+/// these two: it missed none, or has one that ended later.
 pub fn lines_are_known()
     ensures { (plan : BootPlan) (from : ℕ) (logs : List Kept) → AllByRecursion (IsKnownLine plan from logs)
         (passings plan from logs) }

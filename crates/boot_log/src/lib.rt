@@ -7,13 +7,14 @@
 //!
 //! `passings_of` joins the lines that were said to those that were heard, over the logs of all processors, by their
 //! texts and the clock. Pictures and traces of a boot take these logs, and show these lines. What a pump, a switch or a
-//! tty's device moves is in no log, so at the queues of these no line is joined. Nor is one joined after the first turn
-//! that a log missed.
+//! tty's device moves is in no log, so at the queues of these no line is joined. Nor is one at a queue into which a text
+//! of several lines is said, or after the first turn that a log missed.
 //!
 //! `runs_are_kept` says that a recorder's log is the front of its run, entry by entry, with the clock's times, and that
 //! the kept and the missed turns are all turns. `lines_keep_their_text` says that no line is joined to one of another
 //! queue or text, and `lines_pass_once` that none is joined twice. `lines_are_known` says that only threads use the
-//! queue of a joined line, that its put began no later than its taking ended, and that no log misses a turn up to both.
+//! queue of a joined line, line by line, that its put began no later than its taking ended, and that no log misses a
+//! turn up to both.
 #![tactic(auto)]
 
 mod clock;

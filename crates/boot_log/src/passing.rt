@@ -4,19 +4,20 @@
 //! from a queue is joined to the nth putting of this text into the queue, by the clock at the end of the turns, if the
 //! put began no later than the taking ended. No line is joined to one of another text or of another queue.
 //!
-//! What a pump, a switch or a tty's device puts or takes is in no log. So at a queue that one of these uses no line is
-//! joined. If a log missed turns, only those turns count that ended before the last one that it kept.
+//! What a pump, a switch or a tty's device puts or takes is in no log, so at a queue that one of these uses no line is
+//! joined. Nor is one at a queue into which the plan says a text of several lines: one say puts them, and several hears
+//! take them. If a log missed turns, only those turns count that ended before the last one that it kept.
 
 ghost use Rattle.std.specs.Prelude.{◌≡◌, ◌&&◌, ◌==◌, nat_le, IfOk, map};
 ghost use Rattle.std.specs.List.{filter_map, find};
 ghost use Rattle.boot_log.specs.Kept.{kept_in};
-ghost use Rattle.boot_log.specs.Lines.{are_same, count_before, is_before, is_same_queue, passing_of, passings, text_of};
+ghost use Rattle.boot_log.specs.Lines.{are_same, count_before, is_before, passing_of, passings, text_of};
 
 use crate::counted::counted_turns;
 use crate::line_turn::{LineTurn, Way};
 use crate::log::Log;
+use crate::thread_queues::is_same_queue;
 use boot_data::BootPlan;
-use boot_data::plan::QueueIndex;
 use event_theory::OutOfMemory;
 use std::alloc::Global;
 
@@ -25,17 +26,6 @@ use std::alloc::Global;
 pub struct Passing {
     pub said: LineTurn,
     pub heard: LineTurn,
-}
-
-/// Whether two names are of one queue.
-fn is_same_queue(one: QueueIndex, other: QueueIndex) -> bool
-    ensures { result ≡ is_same_queue one other }
-{
-    match (one, other) {
-        (QueueIndex::Small(one), QueueIndex::Small(other)) => one == other,
-        (QueueIndex::Large(one), QueueIndex::Large(other)) => one == other,
-        _ => false,
-    }
 }
 
 /// The text of a turn's line.
@@ -155,8 +145,9 @@ fn joined(
 /// first turns of all processors began at `from`.
 ///
 /// `plan` is that of the boot, and `logs` has the log of each processor, from 0 on. A line is joined only at a queue or
-/// pipe that no pump or switch takes lines from or puts lines into. If a log missed turns, only those turns count that
-/// ended before the last one that it kept, or none, if it kept none.
+/// pipe that no pump or switch takes lines from or puts lines into, and into which no thread says a text with a 0x0A in
+/// it. If a log missed turns, only those turns count that ended before the last one that it kept, or none, if it kept
+/// none.
 pub fn passings_of(
     alloc: Global,
     plan: &BootPlan,

@@ -1,6 +1,7 @@
 //! The arrows of the lines that passed from a thread that said them to one that heard them.
 
 use crate::columns::{Bounds, Placed};
+use boot_data::BootPlan;
 use boot_log::{LineTurn, Log, passings_of};
 use event_theory::OutOfMemory;
 use std::alloc::Global;
@@ -30,10 +31,11 @@ fn middle_of(all: &[Placed], turn: &LineTurn) -> Option<u32> {
 /// The arrows of all lines that passed between turns that are shown. `boot_log` defines which line passed from where.
 pub(crate) fn arrows_of(
     alloc: Global,
+    plan: &BootPlan,
     logs: &[&Log],
     all: &[Placed],
 ) -> Result<Vec<Arrow>, OutOfMemory> {
-    let passings = passings_of(alloc, 0, logs)?;
+    let passings = passings_of(alloc, plan, 0, logs)?;
     let mut arrows = Vec::new(alloc);
     for passing in &passings {
         if let (Some(said_at), Some(heard_at)) = (

@@ -168,7 +168,7 @@ fn add_rest(
     add_thread_names(canvas, frame, boot.plan)?;
     let spans = spans_of(alloc, boot.plan, tracks, all, frame.right)?;
     add_spans(canvas, frame, &spans)?;
-    let arrows = arrows_of(alloc, logs, all)?;
+    let arrows = arrows_of(alloc, boot.plan, logs, all)?;
     add_arrows(canvas, frame, &arrows)?;
     add_report(canvas, frame, boot.report)?;
     add_legend(canvas, frame)

@@ -54,7 +54,7 @@ abbrev pub boot_events : BootPlan → ℕ → List Kept → List Json
 boot_events plan from logs =
     numbered_events (λ processor log. processor_events processor) 0 logs
     ++ numbered_events thread_events 0 plan.threads ++ numbered_events (log_events plan from) 0 logs
-    ++ numbered_events passing_events 0 (passings from logs)
+    ++ numbered_events passing_events 0 (passings plan from logs)
 
 -- the events of a boot
 abbrev pub trace_events : BootPlan → ℕ → List Kept → List Json

@@ -10,6 +10,7 @@ use crate::events::{line_end, line_start};
 use crate::fault::TraceFault;
 use crate::output::print_later;
 use crate::turns::thread_track;
+use boot_data::BootPlan;
 use boot_log::{LineTurn, Log, Passing, passings_of};
 use std::alloc::Global;
 use std::io::Write;
@@ -52,13 +53,14 @@ fn print_passings<W: Write>(alloc: Global, all: &[Passing], out: &mut W) -> Resu
 /// Prints the lines that passed from a say to a hear. The first turns of all processors began at `from`.
 pub(crate) fn print_flows<W: Write>(
     alloc: Global,
+    plan: &BootPlan,
     from: u64,
     logs: &[&Log],
     out: &mut W,
 ) -> Result<(), TraceFault>
     ensures { OnOk result (Prints (W.contents out.old) (W.contents out.new)
-        (numbered_events passing_events 0 (passings from (kept_in logs.now)))) }
+        (numbered_events passing_events 0 (passings plan.now from (kept_in logs.now)))) }
 {
-    let all = passings_of(alloc, from, logs)?;
+    let all = passings_of(alloc, plan, from, logs)?;
     print_passings(alloc, &all, out)
 }

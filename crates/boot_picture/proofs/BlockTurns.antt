@@ -1,5 +1,5 @@
 -- The turns of blocks, block by block.
-use Rattle.std.proofs.Common.{◌≡◌, ◌+◌, ◌∙◌, ℕ, zero, suc, List, [], ◌∷◌, ◌++◌, Some, sym, ap, take, append-nil}
+use Rattle.std.proofs.Common.{◌≡◌, ◌≤◌, ◌+◌, ◌∙◌, arith, ℕ, zero, suc, List, [], ◌∷◌, ◌++◌, Some, sym, ap, take, append-nil}
 use Rattle.std.proofs.Math.Seq.{take-add}
 use Rattle.std.proofs.lemmas.Grind.{flat_map-append}
 use Rattle.std.specs.List.{flat_map, slice_get}
@@ -16,16 +16,26 @@ pub row_more : (from : ℕ) (blocks : List Block) (block : Block) → AreInARow 
 row_more from [] block h = (sym h, ap (λ n. n + block.turns) h)
 row_more from (first ∷ blocks) block h = (h.0, row_more (from + first.turns) blocks block h.1)
 
-first_next : (from to : ℕ) (blocks : List Block) (next : Block) → AreInARow from blocks to → slice_get blocks 0 ≡ Some next → next.first ≡ from
-first_next from to [] next row at = absurd cc
-first_next from to (block ∷ blocks) next row at =
+-- no block begins before the first one
+starts_after : (from to : ℕ) (blocks : List Block) (m : ℕ) (next : Block) → AreInARow from blocks to → slice_get blocks m ≡ Some next → from ≤ next.first
+starts_after from to [] m next row at = absurd cc
+starts_after from to (block ∷ blocks) zero next row at =
     let same : block ≡ next = cc in
-    ap (λ (b : Block). b.first) (sym same) ∙ row.0
+    let begins : block.first ≡ next.first = ap (λ (b : Block). b.first) same in
+    let here : block.first ≡ from = row.0 in
+    omega arith
+starts_after from to (block ∷ blocks) (suc m) next row at =
+    let later : from + block.turns ≤ next.first = starts_after (from + block.turns) to blocks m next row.1 at in
+    omega arith
 
--- a block begins where the one before it ends
-pub row_next : (from to : ℕ) (blocks : List Block) (n : ℕ) (one next : Block) → AreInARow from blocks to → slice_get blocks n ≡ Some one → slice_get blocks (suc n) ≡ Some next → next.first ≡ one.first + one.turns
-row_next from to [] n one next row p q = absurd cc
-row_next from to (block ∷ blocks) zero one next row p q =
+-- of two blocks, the later one doesn't begin before the earlier one
+pub starts_forward : (from to : ℕ) (blocks : List Block) (n m : ℕ) (one next : Block) → AreInARow from blocks to → n ≤ m → slice_get blocks n ≡ Some one → slice_get blocks m ≡ Some next → one.first ≤ next.first
+starts_forward from to [] n m one next row order p q = absurd cc
+starts_forward from to (block ∷ blocks) zero m one next row order p q =
     let same : block ≡ one = cc in
-    first_next (from + block.turns) to blocks next row.1 q ∙ (ap (λ n. n + block.turns) (sym row.0) ∙ ap (λ (b : Block). b.first + b.turns) same)
-row_next from to (block ∷ blocks) (suc n) one next row p q = row_next (from + block.turns) to blocks n one next row.1 p q
+    let begins : block.first ≡ one.first = ap (λ (b : Block). b.first) same in
+    let here : block.first ≡ from = row.0 in
+    let later : from ≤ next.first = starts_after from to (block ∷ blocks) m next row q in
+    omega arith
+starts_forward from to (block ∷ blocks) (suc n) zero one next row order p q = absurd (omega (arith, order))
+starts_forward from to (block ∷ blocks) (suc n) (suc m) one next row order p q = starts_forward (from + block.turns) to blocks n m one next row.1 (omega (arith, order)) p q

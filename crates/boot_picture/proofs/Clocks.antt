@@ -1,19 +1,23 @@
 -- Blocks in the order of the clock.
-use Rattle.std.proofs.Common.{◌≡◌, ◌<◌, ◌≤◌, ◌+◌, ◌-◌, ◌∙◌, ℕ, suc, List, [], ◌∷◌, ◌++◌, ⊎_elim, Option, Some, None, IfSome, refl, sym, ap, subst, length, set, get_or, true≢false, add-one, arith, length-drop, ◌==◌}
-use Rattle.std.proofs.lemmas.Bool.{cases_Bool, eqb-true, eq-eqb}
+use Rattle.std.proofs.Common.{◌≡◌, ◌<◌, ◌≤◌, ◌+◌, ◌-◌, ◌∙◌, ℕ, suc, List, [], ◌∷◌, ◌++◌, ⊎_elim, Option, Some, None, IfSome, refl, sym, ap, subst, length, take, set, get_or, true≢false, add-one, arith, length-drop, ◌==◌}
+use Rattle.std.proofs.lemmas.Bool.{cases_Bool, cases_lt, eqb-true, eq-eqb}
 use Rattle.std.proofs.lemmas.Grind.{get_or-set_at}
 use Rattle.std.proofs.Math.Seq.{get_or-append_seam}
-use Rattle.std.proofs.lemmas.List.{get_or-set_other, length_push}
+use Rattle.std.proofs.lemmas.List.{get_or-set_other, length-take-le, length_push, take_all}
 use Rattle.std.proofs.lemmas.Option.{slice_get_cases, slice_get_within, slice_get-get_or, get_or_from_slice_get}
 use Rattle.std.specs.List.{All, slice_get}
+use Rattle.std.specs.List.Sorted.{IsNonDecreasingBy}
 use Rattle.boot_log.specs.declared.entry.Entry.{Entry}
 use Rattle.boot_picture.specs.declared.blocks.Block.{Block}
 use Rattle.boot_picture.specs.declared.order.Ordered.{Ordered}
 use Rattle.boot_picture.specs.declared.order.Track.{Track}
 use Rattle.boot_picture.specs.Blocks.{IsBlock}
-use Rattle.boot_picture.specs.Orders.{AreInTime, AreUsed, IsLeast, IsNextIn, IsNotAfter, IsTimed, end_of, time_in, time_of}
-use Rattle.boot_picture.proofs.BlockTurns.{row_next}
-use Rattle.boot_picture.proofs.Orders.{lt_or_same, next_within}
+use Rattle.boot_picture.specs.Orders.{AreInTime, AreUsed, IsLeast, IsNextIn, IsNotAfter, blocks_in, IsBeforeLeftOut, IsLeftOut, IsTimed, end_of, ended, time_of}
+use Rattle.boot_picture.proofs.BlockTurns.{starts_forward}
+use Rattle.boot_picture.proofs.Orders.{HasTaken, lt_or_same, next_within}
+
+abbrev pub placed : ℕ → Block → Ordered
+placed processor block = record { processor = processor; block = block }
 
 -- a later turn doesn't end before an earlier one
 times_forward : (entries : List Entry) (i j : ℕ) → AreInTime entries → i ≤ j → j < length entries → end_of (slice_get entries i) ≤ end_of (slice_get entries j)
@@ -28,7 +32,7 @@ times_forward entries i j times order within =
 
 -- the time of a block of a known track
 time_known : (tracks : List Track) (o : Ordered) (track : Track) → slice_get tracks o.processor ≡ Some track → time_of tracks o ≡ end_of (slice_get track.log.now.entries o.block.first)
-time_known tracks o track at = ap (λ (t : Option Track). time_in t o.block) at
+time_known tracks o track at = ap (λ (t : Option Track). ended t o.block.first) at
 
 -- a block begins with a turn
 begins_within : (entries : List Entry) (block : Block) → IsBlock entries block → block.first < length entries
@@ -41,13 +45,13 @@ begins_within entries block is =
 all_at : {A : Type 0} (P : A → Type 0) (xs : List A) (n : ℕ) (x : A) → All P xs → slice_get xs n ≡ Some x → P x
 all_at P xs n x all at = subst P (get_or_from_slice_get xs n x x at) (all n x (slice_get_within xs n x at))
 
--- of two next blocks of one track, the later one doesn't end before the earlier one
-track_forward : (track : Track) (n : ℕ) (one next : Block) → IsTimed track → slice_get track.blocks.items n ≡ Some one → slice_get track.blocks.items (suc n) ≡ Some next → end_of (slice_get track.log.now.entries one.first) ≤ end_of (slice_get track.log.now.entries next.first)
-track_forward track n one next timed p q =
+-- of two blocks of one track, the later one doesn't end before the earlier one
+track_forward : (track : Track) (n m : ℕ) (one next : Block) → IsTimed track → n ≤ m → slice_get track.blocks.items n ≡ Some one → slice_get track.blocks.items m ≡ Some next → end_of (slice_get track.log.now.entries one.first) ≤ end_of (slice_get track.log.now.entries next.first)
+track_forward track n m one next timed order p q =
     let entries : List Entry = track.log.now.entries in
-    let begins = row_next 0 (length entries) track.blocks.items n one next timed.blocks.in_a_row p q in
-    let within = begins_within entries next (all_at (IsBlock entries) track.blocks.items (suc n) next timed.blocks.each q) in
-    times_forward entries one.first next.first timed.times (omega (arith, begins)) within
+    let begins = starts_forward 0 (length entries) track.blocks.items n m one next timed.blocks.in_a_row order p q in
+    let within = begins_within entries next (all_at (IsBlock entries) track.blocks.items m next timed.blocks.each q) in
+    times_forward entries one.first next.first timed.times begins within
 
 -- the next block of a processor is put in the order: it doesn't come after the blocks that are next then
 module _ (tracks : List Track) (nexts : List ℕ) (o : Ordered) (as_many : length nexts ≡ length tracks) (next : IsNextIn tracks nexts o) (least : IsLeast tracks nexts (length tracks) o) (timed : All IsTimed tracks) (a : Ordered) (later : IsNextIn tracks (set nexts o.processor (get_or nexts o.processor 0 + 1)) a) where
@@ -58,7 +62,7 @@ module _ (tracks : List Track) (nexts : List ℕ) (o : Ordered) (as_many : lengt
       let same : later.track ≡ next.track = cc (later.processor_of, is, next.processor_of) in
       let after : get_or (set nexts o.processor (n + 1)) a.processor 0 ≡ suc n = get_or-set_at nexts o.processor a.processor (n + 1) 0 (sym is) within ∙ add-one n in
       let found : slice_get next.track.blocks.items (suc n) ≡ Some a.block = subst (λ (t : Track). slice_get t.blocks.items (suc n) ≡ Some a.block) same (subst (λ k. slice_get later.track.blocks.items k ≡ Some a.block) after later.next) in
-      let forward = track_forward next.track n o.block a.block (all_at IsTimed tracks o.processor next.track timed next.processor_of) next.next found in
+      let forward = track_forward next.track n (suc n) o.block a.block (all_at IsTimed tracks o.processor next.track timed next.processor_of) (omega arith) next.next found in
       let second : slice_get tracks a.processor ≡ Some next.track = subst (λ p. slice_get tracks p ≡ Some next.track) is next.processor_of in
       rw (time_known tracks o next.track next.processor_of, time_known tracks a next.track second) forward
 
@@ -83,6 +87,42 @@ get_or_last order o d =
 pub last_more : (tracks : List Track) (nexts : List ℕ) (order : List Ordered) (o : Ordered) → ((next : Ordered) → IsNextIn tracks nexts next → time_of tracks o ≤ time_of tracks next) → IsLastBelow tracks nexts (order ++ o ∷ [])
 last_more tracks nexts order o h = λ d some next is. subst (λ (x : Ordered). time_of tracks x ≤ time_of tracks next) (sym (get_or_last order o d)) (h next is)
 
+-- a block that is left out doesn't come before the next block of its processor
+module _ (tracks : List Track) (nexts : List ℕ) (order : List Ordered) (taken : HasTaken tracks nexts order) (timed : All IsTimed tracks) (left : Ordered) (out : IsLeftOut tracks order left) where
+  not_before : get_or nexts left.processor 0 ≤ out.number
+  not_before =
+      let n : ℕ = get_or nexts left.processor 0 in
+      let blocks : List Block = out.track.blocks.items in
+      let within = slice_get_within blocks out.number left.block out.block_is in
+      let many : length (blocks_in left.processor order) ≡ length (take n blocks) = ap length (taken left.processor out.track out.processor_of) in
+      ⊎_elim (λ (h : out.number < n).
+      ⊎_elim (λ (few : n < length blocks). let whole = length-take-le n blocks (omega arith) in let after = out.after in absurd (omega arith))
+      (λ (all : length blocks ≤ n). let whole = ap length (take_all n blocks all) in let after = out.after in absurd (omega arith))
+      (cases_lt n (length blocks)))
+      (λ (h : n ≤ out.number). h) (cases_lt out.number n)
+
+  pub next_before : (time : ℕ) → ((next : Ordered) → IsNextIn tracks nexts next → time ≤ time_of tracks next) → time ≤ time_of tracks left
+  next_before time before =
+      let n : ℕ = get_or nexts left.processor 0 in
+      let blocks : List Block = out.track.blocks.items in
+      let within = slice_get_within blocks out.number left.block out.block_is in
+      let first = not_before in
+      let at : slice_get blocks n ≡ Some (get_or blocks n left.block) = slice_get-get_or blocks n left.block (omega arith) in
+      let next : Ordered = placed left.processor (get_or blocks n left.block) in
+      let early = before next (record { track = out.track; processor_of = out.processor_of; next = at }) in
+      let forward = track_forward out.track n out.number next.block left.block (all_at IsTimed tracks left.processor out.track timed out.processor_of) first at out.block_is in
+      let known = time_known tracks next out.track out.processor_of in
+      let own = time_known tracks left out.track out.processor_of in
+      omega arith
+
+-- no block that is left out comes before one that is in the order
+pub none_before : (tracks : List Track) (nexts : List ℕ) (order : List Ordered) → HasTaken tracks nexts order → All IsTimed tracks → IsNonDecreasingBy (time_of tracks) order → IsLastBelow tracks nexts order → All (IsBeforeLeftOut tracks order) order
+none_before tracks nexts order taken timed sorted last = λ k d within left out.
+    next_before tracks nexts order taken timed left out (time_of tracks (get_or order k d)) (λ next is.
+    let long = sorted k (length order - 1) d (omega arith) (omega arith) in
+    let end = last d (omega arith) next is in
+    omega arith)
+
 -- the earlier of what was found and of the next block of one more processor is the least so far
 pub least_more : (tracks : List Track) (nexts : List ℕ) (end : ℕ) (result found next : Option Ordered) → IfSome result (λ o. IsNotAfter tracks o found × IsNotAfter tracks o next) → IfSome found (IsLeast tracks nexts end) → (found ≡ None → AreUsed tracks nexts end)
     → ((o : Ordered) → IsNextIn tracks nexts o → o.processor ≡ end → next ≡ Some o) → IfSome result (IsLeast tracks nexts (end + 1))
@@ -100,9 +140,6 @@ next_known tracks nexts processor track found o at is next same =
     let known : next.track ≡ track = cc (next.processor_of, same, at) in
     let there : slice_get track.blocks.items (get_or nexts o.processor 0) ≡ Some o.block = subst (λ (t : Track). slice_get t.blocks.items (get_or nexts o.processor 0) ≡ Some o.block) known next.next in
     sym is ∙ subst (λ p. slice_get track.blocks.items (get_or nexts p 0) ≡ Some o.block) same there
-
-abbrev pub placed : ℕ → Block → Ordered
-placed processor block = record { processor = processor; block = block }
 
 pub next_is : (processor : ℕ) (block : Block) (o : Ordered) → Some block ≡ Some o.block → o.processor ≡ processor → Some (placed processor block) ≡ Some o
 next_is processor block o found same =

@@ -33,13 +33,14 @@ abbrev pub end_of : Option Entry → ℕ
 end_of None = 0
 end_of (Some entry) = entry.at
 
--- when the first turn of a block ended
-abbrev pub time_in : Option Track → Block → ℕ
-time_in None block = 0
-time_in (Some track) block = end_of (slice_get track.log.now.entries block.first)
+-- when a turn of a processor ended, by its number; 0 if there is none
+abbrev pub ended : Option Track → ℕ → ℕ
+ended None turn = 0
+ended (Some track) turn = end_of (slice_get track.log.now.entries turn)
 
+-- when the first turn of a block ended
 abbrev pub time_of : List Track → Ordered → ℕ
-time_of tracks o = time_in (slice_get tracks o.processor) o.block
+time_of tracks o = ended (slice_get tracks o.processor) o.block.first
 
 -- the turns are in the order of the clock
 abbrev pub AreInTime : List Entry → Type 0
@@ -50,13 +51,27 @@ pub record IsTimed (track : Track) : Type 0 where
   pub blocks : AreBlocksOf track.log.now.entries track.blocks.items
   pub times : AreInTime track.log.now.entries
 
--- Blocks of these processors: the first of each in their order, and all of them unless there are 2,000. They are in the
--- order of the clock if the turns of each processor are
+-- the block is of its processor's track, and comes there after all that are in the order
+pub record IsLeftOut (tracks : List Track) (order : List Ordered) (o : Ordered) : Type 0 where
+  pub track : Track
+  pub processor_of : slice_get tracks o.processor ≡ Some track
+  pub number : ℕ
+  pub block_is : slice_get track.blocks.items number ≡ Some o.block
+  pub after : length (blocks_in o.processor order) ≤ number
+
+-- no block that is left out comes before this one by the clock
+abbrev pub IsBeforeLeftOut : List Track → List Ordered → Ordered → Type 0
+IsBeforeLeftOut tracks order o = (left : Ordered) → IsLeftOut tracks order left → time_of tracks o ≤ time_of tracks left
+
+-- Blocks of these processors: the first of each in their order, and all of them unless there are 2,000. If the turns of
+-- each processor are in the order of the clock, the blocks are too, and none that is left out comes before one of them
 pub record IsOrderOf (tracks : List Track) (order : List Ordered) : Type 0 where
   pub of_tracks : All (λ o. o.processor < length tracks) order
+  pub few : length order ≤ 2000
   pub first : HasFirst tracks order
   pub all_or_most : (length order ≡ 2000) ⊎ HasAll tracks order
   pub by_clock : All IsTimed tracks → IsNonDecreasingBy (time_of tracks) order
+  pub earliest : All IsTimed tracks → All (IsBeforeLeftOut tracks order) order
 
 -- the block is the next one of its processor; `nexts` has the number of each processor's next block
 pub record IsNextIn (tracks : List Track) (nexts : List ℕ) (o : Ordered) : Type 0 where

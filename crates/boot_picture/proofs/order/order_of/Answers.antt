@@ -5,7 +5,7 @@ use Rattle.boot_picture.specs.declared.order.Ordered.{Ordered}
 use Rattle.boot_picture.specs.Orders.{AreUsed, IsLeast, IsNextIn, time_of}
 use Rattle.std.proofs.lemmas.List.Sorted.{IsNonDecreasingBy-push}
 use Rattle.std.specs.List.Sorted.{IsNonDecreasingBy}
-use Rattle.boot_picture.proofs.Clocks.{IsLastBelow, last_more, least_first}
+use Rattle.boot_picture.proofs.Clocks.{IsLastBelow, last_more, least_first, none_before}
 use Rattle.boot_picture.proofs.Orders.{HasTaken, next_within, next_fits, read_at, taken_more, first_taken, all_taken}
 use Rattle.boot_picture.proofs.order.order_of.Goals as goal
 
@@ -17,8 +17,10 @@ returns c =
     record {
       of_tracks = inv.of_tracks;
       first = first_taken c.args.tracks.now c.loop-nexts.nexts.items c.loop-nexts.order.items inv.taken;
+      few = inv.few;
       all_or_most = inl (omega (arith, c.loop-nexts-test.false, many, ok.0, inv.few));
       by_clock = λ all. (inv.timed all).0;
+      earliest = λ all. none_before c.args.tracks.now c.loop-nexts.nexts.items c.loop-nexts.order.items inv.taken all (inv.timed all).0 (inv.timed all).1;
     }
 
 pub returns-in_default : goal.returns-in_default
@@ -30,8 +32,10 @@ returns-in_default c =
     record {
       of_tracks = inv.of_tracks;
       first = first_taken tracks nexts c.loop-nexts.order.items inv.taken;
+      few = inv.few;
       all_or_most = inr (all_taken tracks nexts c.loop-nexts.order.items inv.taken used);
       by_clock = λ all. (inv.timed all).0;
+      earliest = λ all. none_before tracks nexts c.loop-nexts.order.items inv.taken all (inv.timed all).0 (inv.timed all).1;
     }
 
 pub index_mut-requires : goal.index_mut-requires

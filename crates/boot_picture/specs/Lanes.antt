@@ -1,10 +1,11 @@
 -- The boxes of blocks.
-use Rattle.std.specs.Prelude.{◌≡◌, ℕ, ◌+◌, ◌*◌, List, ◌++◌, codes}
+use Rattle.std.specs.Prelude.{◌≡◌, ℕ, ◌+◌, ◌-◌, ◌*◌, List, ◌++◌, codes}
 use Rattle.std.specs.List.{AllZip}
 use Rattle.std.specs.Fmt.{decimal}
 use Rattle.svg.specs.declared.shapes.Colour.{Colour}
 use Rattle.svg.specs.declared.shapes.Shape.{Shape}
 use Rattle.svg.specs.declared.shapes.Shape.TheVariants.{Titled}
+use Rattle.boot_picture.specs.declared.columns.Placed.{Placed}
 use Rattle.boot_picture.specs.declared.order.Ordered.{Ordered}
 
 -- the words for a block: the number of its first turn, and its processor
@@ -15,15 +16,15 @@ turn_words o = (codes "turn " ++ decimal o.block.first) ++ (codes " on p" ++ dec
 abbrev pub IsTitleOf : Ordered → List ℕ → Type 0
 IsTitleOf o title = (details : List ℕ) × (title ≡ turn_words o ++ details)
 
--- the shape is a box in the lane of the block's processor, whose title names the block; the first lane is at `top`
-pub record IsBoxOf (top : ℕ) (o : Ordered) (shape : Shape) : Type 0 where
-  pub x : ℕ
-  pub width : ℕ
+-- the shape is a box from side to side of the block, in the lane of its processor, and its title names the block; the
+-- first lane is at `top`
+pub record IsBoxOf (top : ℕ) (placed : Placed) (shape : Shape) : Type 0 where
   pub fill : Colour
   pub title : List ℕ
-  pub drawn : shape ≡ Titled x (top + o.processor * 60) width 48 fill title
-  pub titled : IsTitleOf o title
+  pub drawn : shape ≡ Titled placed.bounds.left (top + placed.ordered.processor * 60)
+      (placed.bounds.right - placed.bounds.left) 48 fill title
+  pub titled : IsTitleOf placed.ordered title
 
 -- the shapes are drawn upon all others: for each block, in their order, its box
-abbrev pub AreBoxesDrawn : ℕ → List Ordered → List Shape → List Shape → Type 0
-AreBoxesDrawn top order old new = (boxes : List Shape) × (new ≡ old ++ boxes) × AllZip (IsBoxOf top) order boxes
+abbrev pub AreBoxesDrawn : ℕ → List Placed → List Shape → List Shape → Type 0
+AreBoxesDrawn top all old new = (boxes : List Shape) × (new ≡ old ++ boxes) × AllZip (IsBoxOf top) all boxes

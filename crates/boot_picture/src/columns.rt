@@ -1,5 +1,9 @@
 //! The places of blocks: a column for each, in the order of the clock, or by the time itself.
 
+ghost use Rattle.std.specs.Prelude.{◌≡◌, ◌≤◌, ◌<◌, length, IfOk};
+ghost use Rattle.std.specs.List.{All};
+ghost use Rattle.boot_picture.specs.Places.{IsWide, ArePlaced, blocks_of};
+
 use crate::order::{Ordered, Track};
 use crate::wording::{Wording, words_of};
 use boot_data::BootPlan;
@@ -56,23 +60,29 @@ pub(crate) struct Scale {
 }
 
 impl Scale {
-    /// The place of a time.
-    pub(crate) fn place(&self, at: u64) -> u32 {
+    /// The place of a time. A time after the last one that is shown is no farther to the right than a picture is wide.
+    pub(crate) fn place(&self, at: u64) -> u32
+        ensures { result ≤ 48160 }
+    {
         let passed = u128::from(at.saturating_sub(self.from));
         let along = passed * u128::from(self.width) / u128::from(self.span.max(1));
-        let along = u32::try_from(along).unwrap_or(u32::MAX);
-        along.saturating_add(LEFT + LEAD)
+        LEFT + LEAD + along.min(u128::from(MOST_WIDTH)) as u32
     }
 }
 
 /// How wide a line of words is.
-fn wide(words: &[u8]) -> u32 {
+fn wide(words: &[u8]) -> u32
+    ensures { result ≤ 136 }
+{
     let letters = words.len().min(MOST_LETTERS) as u32;
     letters * LETTER + MARGIN
 }
 
 /// How wide a box with these words is.
-fn width_of(wording: &Wording) -> u32 {
+fn width_of(wording: &Wording) -> u32
+    ensures least { 40 ≤ result }
+    ensures most { result ≤ 136 }
+{
     let thread = wide(wording.thread.as_slice());
     let step = wide(wording.step.as_slice());
     let answer = wide(wording.answer.as_slice());
@@ -97,25 +107,30 @@ fn wording_of(
 }
 
 /// Places each block in a column of its own, one after the other.
+///
+/// Conditions: there are at most 2,000 blocks, each of one of these processors.
 fn place_in_turns(
     alloc: Global,
     plan: &BootPlan,
     tracks: &[Track],
     order: &[Ordered],
-) -> Result<Vec<Placed>, OutOfMemory> {
+) -> Result<Vec<Placed>, OutOfMemory>
+    requires few { length order.now ≤ 2000 }
+    requires processors { All (λ o. o.processor < length tracks.now) order.now }
+    ensures { IfOk result (λ all. ArePlaced order.now all.items) }
+{
     let mut all = Vec::new(alloc);
     let mut left = LEFT;
     for ordered in order {
-        if let Some(track) = tracks.get(ordered.processor) {
-            let wording = wording_of(alloc, plan, track, ordered)?;
-            let right = left.saturating_add(width_of(&wording));
-            all.push(Placed {
-                ordered: *ordered,
-                bounds: Bounds { left, right },
-                wording,
-            })?;
-            left = right.saturating_add(GAP);
-        }
+        let track = &tracks[ordered.processor];
+        let wording = wording_of(alloc, plan, track, ordered)?;
+        let right = left.saturating_add(width_of(&wording));
+        all.push(Placed {
+            ordered: *ordered,
+            bounds: Bounds { left, right },
+            wording,
+        })?;
+        left = right.saturating_add(GAP);
     }
     Ok(all)
 }
@@ -128,22 +143,41 @@ pub(crate) fn is_idle(tracks: &[Track], ordered: &Ordered) -> bool {
     }
 }
 
+/// The right side of a block. A block of idle turns is stretched up to where the next block of its processor begins.
+fn stretched(bounds: Bounds, next: u32, idle: bool) -> u32
+    ensures { bounds.right ≤ result }
+{
+    if idle {
+        next.saturating_sub(GAP).max(bounds.right)
+    } else {
+        bounds.right
+    }
+}
+
 /// Stretches the blocks of idle turns up to the next block of their processor.
-fn stretch(alloc: Global, tracks: &[Track], all: &mut [Placed]) -> Result<(), OutOfMemory> {
+///
+/// Condition: each block is of one of these processors.
+fn stretch(alloc: Global, tracks: &[Track], all: &mut [Placed]) -> Result<(), OutOfMemory>
+    requires processors { All (λ placed. placed.ordered.processor < length tracks.now) all.old }
+    requires wide { All IsWide all.old }
+    ensures blocks { blocks_of all.new ≡ blocks_of all.old }
+    ensures wide { All IsWide all.new }
+{
     let mut nexts = vec![in alloc; right_of(all).saturating_add(GAP); tracks.len()]?;
-    for placed in all.iter_mut().rev() {
-        if let Some(next) = nexts.get_mut(placed.ordered.processor) {
-            if is_idle(tracks, &placed.ordered) {
-                placed.bounds.right = next.saturating_sub(GAP).max(placed.bounds.right);
-            }
-            *next = placed.bounds.left;
-        }
+    for number in (0..all.len()).rev() {
+        let placed = &mut all[number];
+        let idle = is_idle(tracks, &placed.ordered);
+        let next = &mut nexts[placed.ordered.processor];
+        placed.bounds.right = stretched(placed.bounds, *next, idle);
+        *next = placed.bounds.left;
     }
     Ok(())
 }
 
 /// The right side of the last of these blocks.
-pub(crate) fn right_of(all: &[Placed]) -> u32 {
+pub(crate) fn right_of(all: &[Placed]) -> u32
+    ensures { All (λ placed. placed.bounds.right ≤ result) all.now }
+{
     let mut right = LEFT;
     for placed in all {
         right = right.max(placed.bounds.right);
@@ -151,9 +185,11 @@ pub(crate) fn right_of(all: &[Placed]) -> u32 {
     right
 }
 
-/// The left side of a block: when the turn before it had ended. No log has the start of a first turn, so the first block
-/// of a processor begins as far before its end as there is space before the first end of all.
-fn left_of(scale: &Scale, track: &Track, ordered: &Ordered) -> u32 {
+/// The left side of a block: when the turn before it had ended. No log has the start of a first turn, so the first
+/// block of a processor begins as far before its end as there is space before the first end of all.
+fn left_of(scale: &Scale, track: &Track, ordered: &Ordered) -> u32
+    ensures { result ≤ 48160 }
+{
     if ordered.block.first == 0 {
         return scale
             .place(first_end_of(track, ordered))
@@ -205,39 +241,46 @@ pub(crate) fn scale_of(tracks: &[Track], order: &[Ordered]) -> Scale {
 }
 
 /// Places each block by the time.
+///
+/// Condition: each block is of one of these processors.
 fn place_in_time(
     alloc: Global,
     plan: &BootPlan,
     tracks: &[Track],
     order: &[Ordered],
-) -> Result<Vec<Placed>, OutOfMemory> {
+) -> Result<Vec<Placed>, OutOfMemory>
+    requires { All (λ o. o.processor < length tracks.now) order.now }
+    ensures { IfOk result (λ all. ArePlaced order.now all.items) }
+{
     let scale = scale_of(tracks, order);
     let mut all = Vec::new(alloc);
     for ordered in order {
-        if let Some(track) = tracks.get(ordered.processor) {
-            let left = left_of(&scale, track, ordered);
-            let right = scale.place(end_of(track, ordered));
-            all.push(Placed {
-                ordered: *ordered,
-                bounds: Bounds {
-                    left,
-                    right: right.max(left.saturating_add(2)),
-                },
-                wording: wording_of(alloc, plan, track, ordered)?,
-            })?;
-        }
+        let track = &tracks[ordered.processor];
+        let left = left_of(&scale, track, ordered);
+        let right = scale.place(end_of(track, ordered)).max(left + 2);
+        all.push(Placed {
+            ordered: *ordered,
+            bounds: Bounds { left, right },
+            wording: wording_of(alloc, plan, track, ordered)?,
+        })?;
     }
     Ok(all)
 }
 
 /// The blocks at their places, in the order of the clock: by the time, or each in a column of its own.
+///
+/// Conditions: there are at most 2,000 blocks, each of one of these processors.
 pub(crate) fn place_all(
     alloc: Global,
     plan: &BootPlan,
     tracks: &[Track],
     order: &[Ordered],
     by_time: bool,
-) -> Result<Vec<Placed>, OutOfMemory> {
+) -> Result<Vec<Placed>, OutOfMemory>
+    requires few { length order.now ≤ 2000 }
+    requires processors { All (λ o. o.processor < length tracks.now) order.now }
+    ensures { IfOk result (λ all. ArePlaced order.now all.items) }
+{
     if by_time {
         return place_in_time(alloc, plan, tracks, order);
     }

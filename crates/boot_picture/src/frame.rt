@@ -1,8 +1,10 @@
 //! The places of the picture's rows: the head, the lanes, the report and the legend.
 
-ghost use Rattle.std.specs.Prelude.{◌<◌};
+ghost use Rattle.std.specs.Prelude.{◌≡◌, ◌≤◌, ◌<◌, ◌+◌, ◌*◌};
+ghost use Rattle.std.specs.List.{All};
 
 use crate::columns::{LETTER, Placed, right_of};
+use crate::lanes::lane_side;
 use boot_data::BootPlan;
 
 /// The side at which the names of lanes begin.
@@ -33,7 +35,8 @@ const LEGEND: u32 = 110;
 /// The least width.
 const LEAST: u32 = 900;
 
-/// The upper sides of the rows, and the size of the picture.
+/// The upper sides of the rows, and the size of the picture. There is room for marks above the lanes of the processors,
+/// and the legend is the last row.
 #[derive(Clone, Copy)]
 pub(crate) struct Frame {
     pub(crate) times: u32,
@@ -46,10 +49,14 @@ pub(crate) struct Frame {
     /// The right side of the last block.
     pub(crate) right: u32,
     pub(crate) width: u32,
+    ghost marks: { 23 ≤ processors },
+    ghost last: { threads ≤ legend },
 }
 
 /// The side after so many rows from here on, each of this height.
-pub(crate) fn after(from: u32, count: usize, each: u32) -> u32 {
+pub(crate) fn after(from: u32, count: usize, each: u32) -> u32
+    ensures { from ≤ result }
+{
     let count = u32::try_from(count).unwrap_or(u32::MAX);
     from.saturating_add(count.saturating_mul(each))
 }
@@ -76,6 +83,8 @@ fn wide(text: &[u8]) -> u32 {
 }
 
 /// The places of the rows of a picture with this plan, these blocks and this report, on so many processors.
+///
+/// Condition: there are at most eight processors.
 pub(crate) fn frame_of(
     plan: &BootPlan,
     all: &[Placed],
@@ -83,12 +92,16 @@ pub(crate) fn frame_of(
     processors: usize,
     by_time: bool,
 ) -> Frame
-    ensures { result.processors < 1000 }
+    requires { processors ≤ 8 }
+    ensures top { result.processors < 1000 }
+    ensures lanes { result.threads ≡ result.processors + processors * 60 + 20 }
+    ensures high { result.threads ≤ result.height }
+    ensures wide { All (λ placed. placed.bounds.right ≤ result.width) all.now }
 {
     let alarms = if by_time { FIRST + MARKS } else { FIRST };
     let has_alarms = !plan.alarms.as_slice().is_empty();
     let lanes = if has_alarms { alarms + MARKS } else { alarms } + 4;
-    let threads = after(lanes, processors, PROCESSOR).saturating_add(SPACE);
+    let threads = lane_side(lanes, processors) + SPACE;
     let below = after(threads, plan.threads.as_slice().len(), THREAD).saturating_add(SPACE);
     let legend = after(below, lines_in(report), LINE).saturating_add(SPACE);
     let right = right_of(all);

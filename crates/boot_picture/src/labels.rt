@@ -1,5 +1,8 @@
 //! The words in the boxes of blocks.
 
+ghost use Rattle.std.specs.Prelude.{OnOk};
+ghost use Rattle.boot_picture.specs.Clear.{DrawsTexts};
+
 use crate::columns::{Bounds, LETTER, MARGIN, MOST_LETTERS, Placed};
 use crate::frame::{Frame, PROCESSOR, after};
 use event_theory::OutOfMemory;
@@ -16,7 +19,9 @@ pub(crate) fn letters_in(bounds: Bounds) -> usize {
 }
 
 /// Draws the front of a line of words, if it fits.
-fn add_line(canvas: &mut Canvas, bounds: Bounds, y: u32, words: &[u8]) -> Result<(), OutOfMemory> {
+fn add_line(canvas: &mut Canvas, bounds: Bounds, y: u32, words: &[u8]) -> Result<(), OutOfMemory>
+    ensures { OnOk result (DrawsTexts canvas.old canvas.new) }
+{
     if words.is_empty() || letters_in(bounds) < words.len().min(MOST_LETTERS) {
         return Ok(());
     }
@@ -35,7 +40,9 @@ fn add_line(canvas: &mut Canvas, bounds: Bounds, y: u32, words: &[u8]) -> Result
 }
 
 /// Draws the words in the box of a block.
-fn add_words(canvas: &mut Canvas, placed: &Placed, y: u32) -> Result<(), OutOfMemory> {
+fn add_words(canvas: &mut Canvas, placed: &Placed, y: u32) -> Result<(), OutOfMemory>
+    ensures { OnOk result (DrawsTexts canvas.old canvas.new) }
+{
     let bounds = placed.bounds;
     add_line(canvas, bounds, y, placed.wording.thread.as_slice())?;
     let second = y.saturating_add(NEXT);
@@ -49,7 +56,9 @@ pub(crate) fn add_labels(
     canvas: &mut Canvas,
     frame: &Frame,
     all: &[Placed],
-) -> Result<(), OutOfMemory> {
+) -> Result<(), OutOfMemory>
+    ensures { OnOk result (DrawsTexts canvas.old canvas.new) }
+{
     for placed in all {
         let y = after(frame.processors, placed.ordered.processor, PROCESSOR);
         add_words(canvas, placed, y)?;

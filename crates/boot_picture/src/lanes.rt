@@ -4,8 +4,9 @@ ghost use Rattle.std.specs.Prelude.{◌≡◌, ◌≤◌, ◌<◌, ◌+◌, ◌*
 ghost use Rattle.std.specs.List.{All};
 ghost use Rattle.svg.specs.declared.shapes.Shape.{Shape};
 ghost use Rattle.boot_picture.specs.Lanes.{IsBoxOf, AreBoxesDrawn};
+ghost use Rattle.boot_picture.specs.Places.{IsWide};
 
-use crate::columns::{Bounds, Placed};
+use crate::columns::Placed;
 use crate::order::{Ordered, Track};
 use crate::titles::title_of;
 use crate::wording::thread_of;
@@ -54,53 +55,45 @@ pub(crate) fn lane_side(top: u32, processor: usize) -> u32
     top + processor as u32 * LANE
 }
 
-/// Draws the box of a block. The first lane is at `top`.
+/// Draws the box of a block at its place. The first lane is at `top`.
 fn add_box(
     canvas: &mut Canvas,
     plan: &BootPlan,
     track: &Track,
-    ordered: &Ordered,
-    bounds: Bounds,
+    placed: &Placed,
     top: u32,
 ) -> Result<(), OutOfMemory>
     requires top { top < 1000 }
-    requires processor { ordered.now.processor < 1000 }
-    ensures { OnOk result ((shape : Shape) × (canvas.new ≡ canvas.old ++ shape ∷ []) × IsBoxOf top ordered.now shape) }
+    requires processor { placed.now.ordered.processor < 1000 }
+    requires wide { IsWide placed.now }
+    ensures { OnOk result ((shape : Shape) × (canvas.new ≡ canvas.old ++ shape ∷ []) × IsBoxOf top placed.now shape) }
 {
-    let title = title_of(canvas.alloc(), plan, track.log, *ordered)?;
-    let fill = fill_of(track, ordered);
-    let width = bounds.right.saturating_sub(bounds.left);
+    let ordered = placed.ordered;
+    let title = title_of(canvas.alloc(), plan, track.log, ordered)?;
+    let fill = fill_of(track, &ordered);
+    let left = placed.bounds.left;
     let y = lane_side(top, ordered.processor);
-    canvas.titled_box(bounds.left, y, width, HIGH, fill, title)
+    canvas.titled_box(left, y, placed.bounds.right - left, HIGH, fill, title)
 }
 
-/// The place of a block, by its number in the order.
-fn bounds_at(placed: &[Placed], number: usize) -> Bounds {
-    match placed.get(number) {
-        Some(placed) => placed.bounds,
-        None => Bounds { left: 0, right: 0 },
-    }
-}
-
-/// Draws the boxes of all blocks in their order. The first lane is at `top`.
+/// Draws the boxes of all blocks at their places, in their order. The first lane is at `top`.
 pub(crate) fn add_boxes(
     canvas: &mut Canvas,
     plan: &BootPlan,
     tracks: &[Track],
-    order: &[Ordered],
-    placed: &[Placed],
+    all: &[Placed],
     top: u32,
 ) -> Result<(), OutOfMemory>
     requires top { top < 1000 }
     requires few { length tracks.now ≤ 8 }
-    requires processors { All (λ o. o.processor < length tracks.now) order.now }
-    ensures { OnOk result (AreBoxesDrawn top order.now canvas.old canvas.new) }
+    requires processors { All (λ placed. placed.ordered.processor < length tracks.now) all.now }
+    requires wide { All IsWide all.now }
+    ensures { OnOk result (AreBoxesDrawn top all.now canvas.old canvas.new) }
 {
-    for number in 0..order.len() {
-        let ordered = &order[number];
-        let track = &tracks[ordered.processor];
-        let bounds = bounds_at(placed, number);
-        add_box(canvas, plan, track, ordered, bounds, top)?;
+    for number in 0..all.len() {
+        let placed = &all[number];
+        let track = &tracks[placed.ordered.processor];
+        add_box(canvas, plan, track, placed, top)?;
     }
     Ok(())
 }

@@ -1,5 +1,8 @@
 //! The legend: the meaning of the colours, the bars and the marks.
 
+ghost use Rattle.std.specs.Prelude.{◌-◌, OnOk};
+ghost use Rattle.boot_picture.specs.Clear.{DrawsBelow};
+
 use crate::columns::Bounds;
 use crate::frame::Frame;
 use crate::spans::Place;
@@ -73,7 +76,9 @@ fn place_of(sample: Sample) -> Option<Place> {
 }
 
 /// Draws a thing.
-fn add_sample(canvas: &mut Canvas, sample: Sample, x: u32, y: u32) -> Result<(), OutOfMemory> {
+fn add_sample(canvas: &mut Canvas, sample: Sample, x: u32, y: u32) -> Result<(), OutOfMemory>
+    ensures { OnOk result (DrawsBelow y canvas.old canvas.new) }
+{
     let right = x.saturating_add(SAMPLE);
     match sample {
         Sample::Words(words) => canvas.words(x, y, words),
@@ -96,11 +101,9 @@ fn add_sample(canvas: &mut Canvas, sample: Sample, x: u32, y: u32) -> Result<(),
 }
 
 /// Draws a line.
-fn add_line(
-    canvas: &mut Canvas,
-    line: &'static [(u32, Sample)],
-    y: u32,
-) -> Result<(), OutOfMemory> {
+fn add_line(canvas: &mut Canvas, line: &'static [(u32, Sample)], y: u32) -> Result<(), OutOfMemory>
+    ensures { OnOk result (DrawsBelow y canvas.old canvas.new) }
+{
     for (x, sample) in line {
         add_sample(canvas, *sample, *x, y)?;
     }
@@ -108,7 +111,9 @@ fn add_line(
 }
 
 /// Draws the legend.
-pub(crate) fn add_legend(canvas: &mut Canvas, frame: &Frame) -> Result<(), OutOfMemory> {
+pub(crate) fn add_legend(canvas: &mut Canvas, frame: &Frame) -> Result<(), OutOfMemory>
+    ensures { OnOk result (DrawsBelow (frame.now.legend - 8) canvas.old canvas.new) }
+{
     let y = frame.legend;
     canvas.bar(0, y.saturating_sub(8), frame.width, 1, Colour::Faint)?;
     add_line(canvas, &PROCESSORS, y)?;

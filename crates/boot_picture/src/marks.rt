@@ -1,5 +1,8 @@
 //! The marks above the lanes: the alarms that were fired, and the times.
 
+ghost use Rattle.std.specs.Prelude.{OnOk};
+ghost use Rattle.boot_picture.specs.Clear.{DrawsAbove};
+
 use crate::columns::{Bounds, LETTER, Placed, Scale, entry_of};
 use crate::frame::{Frame, NAMES};
 use crate::labels::letters_in;
@@ -13,6 +16,9 @@ use svg::{Anchor, Canvas, Colour};
 
 /// How wide and how high the mark of an alarm is.
 const MARK: u32 = 12;
+
+/// How far above the lanes it is.
+const ABOVE: u32 = 23;
 
 /// How far the marks of times are from each other at least.
 const STEP: u64 = 120;
@@ -63,9 +69,11 @@ fn add_alarm(
     plan: &BootPlan,
     alarms: &[Alarm],
     bounds: Bounds,
-) -> Result<(), OutOfMemory> {
+) -> Result<(), OutOfMemory>
+    ensures { OnOk result (DrawsAbove frame.now.processors canvas.old canvas.new) }
+{
     let title = alarms_title(canvas.alloc(), plan, alarms)?;
-    let y = frame.alarms.saturating_add(3);
+    let y = frame.processors - ABOVE;
     canvas.titled_box(bounds.left, y, MARK, MARK, Colour::Red, title)?;
     let words = alarms_words(canvas.alloc(), plan, alarms)?;
     let left = bounds.left.saturating_add(MARK);
@@ -86,7 +94,9 @@ pub(crate) fn add_alarms(
     plan: &BootPlan,
     tracks: &[Track],
     all: &[Placed],
-) -> Result<(), OutOfMemory> {
+) -> Result<(), OutOfMemory>
+    ensures { OnOk result (DrawsAbove frame.now.processors canvas.old canvas.new) }
+{
     if !plan.alarms.as_slice().is_empty() {
         canvas.words(NAMES, frame.alarms, b"alarms")?;
     }

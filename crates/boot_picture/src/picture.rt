@@ -1,7 +1,8 @@
 //! The picture of a boot: a lane for each processor, a lane for each thread, and the report below them.
 
-ghost use Rattle.std.specs.Prelude.{◌≡◌, ◌≤◌, ◌++◌, length, IfOk};
+ghost use Rattle.std.specs.Prelude.{◌≡◌, ◌≤◌, ◌-◌, ◌++◌, length, IfOk, OnOk};
 ghost use Rattle.boot_log.specs.Kept.{kept_in};
+ghost use Rattle.boot_picture.specs.Clear.{DrawsOutside, DrawsTexts};
 ghost use Rattle.boot_picture.specs.Pictures.{ShowsTurns};
 
 use crate::arrows::arrows_of;
@@ -119,7 +120,9 @@ fn add_rules(
 }
 
 /// Draws the lines of the report.
-fn add_report(canvas: &mut Canvas, frame: &Frame, report: &[u8]) -> Result<(), OutOfMemory> {
+fn add_report(canvas: &mut Canvas, frame: &Frame, report: &[u8]) -> Result<(), OutOfMemory>
+    ensures { OnOk result (DrawsTexts canvas.old canvas.new) }
+{
     let mut y = frame.report;
     for line in report.split(|byte| *byte == b'\n') {
         canvas.words(NAMES, y, line)?;
@@ -161,7 +164,9 @@ fn add_rest(
     logs: &[&Log],
     tracks: &[Track],
     all: &[Placed],
-) -> Result<(), OutOfMemory> {
+) -> Result<(), OutOfMemory>
+    ensures { OnOk result (DrawsOutside frame.now.processors (frame.now.threads - 20) canvas.old canvas.new) }
+{
     let alloc = canvas.alloc();
     add_labels(canvas, frame, all)?;
     add_alarms(canvas, frame, boot.plan, tracks, all)?;
@@ -198,14 +203,7 @@ pub fn picture_of(alloc: Global, boot: &Boot, logs: &[&Log]) -> Result<Picture, 
     let frame = frame_of(boot.plan, &placed, boot.report, tracks.len(), boot.by_time);
     let mut below = Canvas::new(alloc);
     add_ground(&mut below, &frame, boot, &tracks, &order)?;
-    add_boxes(
-        &mut below,
-        boot.plan,
-        &tracks,
-        &order,
-        &placed,
-        frame.processors,
-    )?;
+    add_boxes(&mut below, boot.plan, &tracks, &placed, frame.processors)?;
     let mut above = Canvas::new(alloc);
     add_rest(&mut above, &frame, boot, logs, &tracks, &placed)?;
     Ok(Picture {

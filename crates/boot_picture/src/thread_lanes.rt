@@ -1,5 +1,8 @@
 //! The lanes of the threads: where each was, and the lines that passed between them.
 
+ghost use Rattle.std.specs.Prelude.{◌<◌, ◌≤◌, ◌-◌, OnOk};
+ghost use Rattle.boot_picture.specs.Clear.{DrawsBelow, DrawsTexts};
+
 use crate::arrows::Arrow;
 use crate::columns::Bounds;
 use crate::frame::{Frame, NAMES, THREAD, after};
@@ -27,7 +30,9 @@ fn add_place(
     fill: Colour,
     name: Items<u8>,
     title: Items<u8>,
-) -> Result<(), OutOfMemory> {
+) -> Result<(), OutOfMemory>
+    ensures { OnOk result (DrawsBelow y canvas.old canvas.new) }
+{
     let width = bounds.right.saturating_sub(bounds.left);
     canvas.titled_box(bounds.left, y, width, BOX, fill, title)?;
     if name.as_slice().len() > letters_in(bounds) {
@@ -44,7 +49,9 @@ fn add_bar(
     y: u32,
     height: u32,
     fill: Colour,
-) -> Result<(), OutOfMemory> {
+) -> Result<(), OutOfMemory>
+    ensures { OnOk result (DrawsBelow y canvas.old canvas.new) }
+{
     let width = bounds.right.saturating_sub(bounds.left);
     let above = y.saturating_add(BOX.saturating_sub(height) / 2);
     canvas.bar(bounds.left, above, width, height, fill)
@@ -57,7 +64,9 @@ pub(crate) fn add_thread_place(
     bounds: Bounds,
     y: u32,
     colour: Colour,
-) -> Result<(), OutOfMemory> {
+) -> Result<(), OutOfMemory>
+    ensures { OnOk result (DrawsBelow y canvas.old canvas.new) }
+{
     let alloc = canvas.alloc();
     match place {
         Place::Ready => add_bar(canvas, bounds, y, 3, Colour::Dim),
@@ -82,7 +91,9 @@ pub(crate) fn add_spans(
     canvas: &mut Canvas,
     frame: &Frame,
     spans: &[Span],
-) -> Result<(), OutOfMemory> {
+) -> Result<(), OutOfMemory>
+    ensures { OnOk result (DrawsBelow frame.now.threads canvas.old canvas.new) }
+{
     for span in spans {
         let y = after(frame.threads, span.thread, THREAD);
         let bounds = Bounds {
@@ -96,7 +107,11 @@ pub(crate) fn add_spans(
 
 /// The heights at which a line leaves the lane of its say, and comes to the lane of its hear: at the sides of these
 /// lanes that face each other, or above the lane if both are one.
-fn ends_of(frame: &Frame, arrow: &Arrow) -> (u32, u32) {
+fn ends_of(frame: &Frame, arrow: &Arrow) -> (u32, u32)
+    ensures said { frame.now.threads - 5 ≤ result.0 }
+    ensures heard { frame.now.threads - 5 ≤ result.1 }
+    ensures up { arrow.now.heard_by < arrow.now.said_by → frame.now.threads ≤ result.1 }
+{
     let said = after(frame.threads, arrow.said_by, THREAD);
     let heard = after(frame.threads, arrow.heard_by, THREAD);
     if arrow.said_by < arrow.heard_by {
@@ -113,7 +128,9 @@ pub(crate) fn add_arrows(
     canvas: &mut Canvas,
     frame: &Frame,
     arrows: &[Arrow],
-) -> Result<(), OutOfMemory> {
+) -> Result<(), OutOfMemory>
+    ensures { OnOk result (DrawsBelow (frame.now.threads - 5) canvas.old canvas.new) }
+{
     for arrow in arrows {
         let (from, to) = ends_of(frame, arrow);
         canvas.line(arrow.said_at, from, arrow.heard_at, to, Colour::Ink)?;
@@ -132,7 +149,9 @@ pub(crate) fn add_thread_names(
     canvas: &mut Canvas,
     frame: &Frame,
     plan: &BootPlan,
-) -> Result<(), OutOfMemory> {
+) -> Result<(), OutOfMemory>
+    ensures { OnOk result (DrawsTexts canvas.old canvas.new) }
+{
     for (number, thread) in plan.threads.as_slice().iter().enumerate() {
         let y = after(frame.threads, number, THREAD);
         canvas.words(NAMES, y, thread.name.as_slice())?;

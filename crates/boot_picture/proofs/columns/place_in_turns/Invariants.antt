@@ -1,0 +1,8 @@
+use Rattle.std.proofs.Common.{◌≡◌, ◌≤◌, ◌+◌, ◌*◌, take}
+use Rattle.std.specs.List.{All}
+use Rattle.boot_picture.specs.Places.{IsWide, blocks_of}
+use Rattle.boot_picture.proofs.columns.place_in_turns.Given as goal
+
+-- the blocks so far have places, and the next one begins at `left`
+abbrev pub invariant-loop-ordered : goal.invariant-loop-ordered
+invariant-loop-ordered l = record { blocks : blocks_of l.all.items ≡ take l.ordered-index l.order; wide : All IsWide l.all.items; near : l.left ≤ 96 + 140 * l.ordered-index }

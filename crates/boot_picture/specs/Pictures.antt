@@ -29,7 +29,7 @@ pub record ShowsTurns (logs : List Kept) (picture : Picture) : Type 0 where
   pub boxes : List Shape
   pub above : List Shape
   pub top : ℕ
-  pub boxes_of : AllZip (IsBoxOf top) all boxes
+  pub boxes_of : AllZip (IsBoxOf tracks top) all boxes
   pub lanes_inside : lanes_end top (length logs) ≤ picture.height
   pub lanes_clear : All (IsClear top (lanes_end top (length logs))) above
   pub parts : picture.shapes ≡ (below ++ boxes) ++ above

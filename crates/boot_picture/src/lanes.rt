@@ -7,7 +7,7 @@ ghost use Rattle.boot_picture.specs.Lanes.{IsBoxOf, AreBoxesDrawn};
 ghost use Rattle.boot_picture.specs.Places.{IsWide};
 
 use crate::columns::Placed;
-use crate::order::{Ordered, Track};
+use crate::order::{Ordered, Track, time_of};
 use crate::titles::title_of;
 use crate::wording::thread_of;
 use boot_data::BootPlan;
@@ -59,17 +59,21 @@ pub(crate) fn lane_side(top: u32, processor: usize) -> u32
 fn add_box(
     canvas: &mut Canvas,
     plan: &BootPlan,
-    track: &Track,
+    tracks: &[Track],
     placed: &Placed,
     top: u32,
 ) -> Result<(), OutOfMemory>
     requires top { top < 1000 }
-    requires processor { placed.now.ordered.processor < 1000 }
+    requires few { length tracks.now ≤ 8 }
+    requires processor { placed.now.ordered.processor < length tracks.now }
     requires wide { IsWide placed.now }
-    ensures { OnOk result ((shape : Shape) × (canvas.new ≡ canvas.old ++ shape ∷ []) × IsBoxOf top placed.now shape) }
+    ensures { OnOk result ((shape : Shape) × (canvas.new ≡ canvas.old ++ shape ∷ [])
+        × IsBoxOf tracks.now top placed.now shape) }
 {
     let ordered = placed.ordered;
-    let title = title_of(canvas.alloc(), plan, track.log, ordered)?;
+    let track = &tracks[ordered.processor];
+    let at = time_of(tracks, &ordered);
+    let title = title_of(canvas.alloc(), plan, track.log, ordered, at)?;
     let fill = fill_of(track, &ordered);
     let left = placed.bounds.left;
     let y = lane_side(top, ordered.processor);
@@ -88,12 +92,10 @@ pub(crate) fn add_boxes(
     requires few { length tracks.now ≤ 8 }
     requires processors { All (λ placed. placed.ordered.processor < length tracks.now) all.now }
     requires wide { All IsWide all.now }
-    ensures { OnOk result (AreBoxesDrawn top all.now canvas.old canvas.new) }
+    ensures { OnOk result (AreBoxesDrawn tracks.now top all.now canvas.old canvas.new) }
 {
     for number in 0..all.len() {
-        let placed = &all[number];
-        let track = &tracks[placed.ordered.processor];
-        add_box(canvas, plan, track, placed, top)?;
+        add_box(canvas, plan, tracks, &all[number], top)?;
     }
     Ok(())
 }

@@ -42,7 +42,7 @@ pub(crate) fn tracks_of<'a>(alloc: Global, logs: &[&'a Log]) -> Result<Vec<Track
 }
 
 /// When the first turn of a block ended. If there is no such turn, the time is 0.
-fn time_of(tracks: &[Track], ordered: &Ordered) -> u64
+pub(crate) fn time_of(tracks: &[Track], ordered: &Ordered) -> u64
     ensures { result ≡ time_of tracks.now ordered.now }
 {
     let Some(track) = tracks.get(ordered.processor) else {

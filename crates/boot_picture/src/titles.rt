@@ -72,10 +72,9 @@ fn add_words(
 ) -> Result<(), OutOfMemory> {
     let words = words_of(alloc, plan, log, ordered.block)?;
     if !words.thread.as_slice().is_empty() {
-        phrase.words(": ")?;
         phrase.bytes(words.thread.as_slice())?;
+        phrase.words(": ")?;
     }
-    phrase.words(": ")?;
     phrase.bytes(words.step.as_slice())?;
     if words.answer.as_slice().is_empty() {
         return Ok(());
@@ -84,7 +83,7 @@ fn add_words(
     phrase.bytes(words.answer.as_slice())
 }
 
-/// All that is known of the turns of a block, besides its number and its processor.
+/// All that is known of the turns of a block, besides its number, its processor and its time.
 fn details_of(
     alloc: Global,
     plan: &BootPlan,
@@ -95,10 +94,8 @@ fn details_of(
     let Some(entry) = log.entries().get(ordered.block.first) else {
         return Ok(phrase.end());
     };
-    phrase.numbered(", at ", entry.at)?;
-    phrase.words(" ns")?;
     if entry.is_idle() {
-        phrase.numbered(": idle, turns in a row ", ordered.block.turns as u64)?;
+        phrase.numbered("idle, turns in a row ", ordered.block.turns as u64)?;
         return Ok(phrase.end());
     }
     add_words(&mut phrase, alloc, plan, log, ordered)?;
@@ -106,19 +103,24 @@ fn details_of(
     Ok(phrase.end())
 }
 
-/// The title of the box of a block. It begins with the number of the block's first turn, and its processor.
+/// The title of the box of a block whose first turn ended at this time. It begins with the number of this turn, its
+/// processor, and the time.
 pub(crate) fn title_of(
     alloc: Global,
     plan: &BootPlan,
     log: &Log,
     ordered: Ordered,
+    at: u64,
 ) -> Result<Items<u8>, OutOfMemory>
-    ensures { IfOk result (IsTitleOf ordered) }
+    ensures { IfOk result (IsTitleOf at ordered) }
 {
     let details = details_of(alloc, plan, log, ordered)?;
     let processor = numbered(alloc, " on p", ordered.processor as u64)?;
+    let time = numbered(alloc, ", at ", at)?;
     let mut title = numbered(alloc, "turn ", ordered.block.first as u64)?.into_vec();
     title.extend_from_slice(processor.as_slice())?;
+    title.extend_from_slice(time.as_slice())?;
+    title.extend_from_slice(b" ns: ")?;
     title.extend_from_slice(details.as_slice())?;
     Ok(Items::new(title))
 }

@@ -73,7 +73,7 @@ returns c =
       boxes = drawn.0;
       above = c.add_rest.new.canvas;
       top = frame.processors;
-      boxes_of = subst (λ (ps : List Placed). AllZip (IsBoxOf frame.processors) ps drawn.0) c.deref-8.ensures.value drawn.2;
+      boxes_of = subst (λ (ts : List Track). AllZip (IsBoxOf ts frame.processors) all drawn.0) c.deref-7.ensures.value (subst (λ (ps : List Placed). AllZip (IsBoxOf c.deref-7.result.now frame.processors) ps drawn.0) c.deref-8.ensures.value drawn.2);
       lanes_inside = omega arith;
       lanes_clear = subst (λ (n : ℕ). All (IsClear frame.processors n) c.add_rest.new.canvas) end (c.in_ok-add_rest.ensures (subst (λ (shapes : List Shape). All (IsClear frame.processors (frame.threads - 20)) shapes) (sym c.new-above.ensures) (All-nil (IsClear frame.processors (frame.threads - 20)))));
       parts = let first = c.into_shapes.ensures in let second = c.into_shapes-2.ensures in let joined = c.in_ok-joined.ensures in let boxes = drawn.1 in cc;

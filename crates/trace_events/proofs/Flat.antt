@@ -40,9 +40,9 @@ flat_append : (ms ns : List Named) → IsFlat ms → IsFlat ns → IsFlat (ms ++
 flat_append [] ns h k = k
 flat_append (m ∷ ms) ns h k = (h.0, flat_append ms ns h.1 k)
 
-woken_flat : (name : List ℕ) (woken : Option Woken) → IsFlat (woken_args name woken)
-woken_flat name None = tt
-woken_flat name (Some woken) = (refl, tt)
+woken_flat : (plan : BootPlan) (name : List ℕ) (woken : Option Woken) → IsFlat (woken_args plan name woken)
+woken_flat plan name None = tt
+woken_flat plan name (Some woken) = (refl, tt)
 
 claim_flat : (refusal : ClaimRefusal) → IsFlat (claim_args refusal)
 claim_flat claims.NoItems = tt
@@ -52,20 +52,20 @@ claim_flat claims.Spent = tt
 claim_flat (claims.Full head tail) = (refl, (refl, tt))
 claim_flat (claims.Lost head) = (refl, tt)
 
-say_flat : (answer : SaidAnswer) → IsFlat (say_args answer)
-say_flat (says.Put woken) = woken_flat (codes "woken") woken
-say_flat says.Over = tt
-say_flat (says.Refused refusal) = claim_flat refusal
+say_flat : (plan : BootPlan) (answer : SaidAnswer) → IsFlat (say_args plan answer)
+say_flat plan (says.Put woken) = woken_flat plan (codes "woken") woken
+say_flat plan says.Over = tt
+say_flat plan (says.Refused refusal) = claim_flat refusal
 
 take_flat : (refusal : TakeRefusal) → IsFlat (take_args refusal)
 take_flat (takes.Empty place) = (refl, tt)
 take_flat (takes.Lost tail) = (refl, tt)
 take_flat takes.Closed = tt
 
-hear_flat : (line : List ℕ) (answer : HeardAnswer) → IsFlat (hear_args line answer)
-hear_flat line (hears.Taken woken) = (refl, woken_flat (codes "woken") woken)
-hear_flat line (hears.Over woken) = woken_flat (codes "woken") woken
-hear_flat line (hears.Refused refusal) = take_flat refusal
+hear_flat : (plan : BootPlan) (line : List ℕ) (answer : HeardAnswer) → IsFlat (hear_args plan line answer)
+hear_flat plan line (hears.Taken woken) = (refl, woken_flat plan (codes "woken") woken)
+hear_flat plan line (hears.Over woken) = woken_flat plan (codes "woken") woken
+hear_flat plan line (hears.Refused refusal) = take_flat refusal
 
 poke_flat : (answer : Result Poked ChainRefusal) → IsFlat (poke_args answer)
 poke_flat (Ok (Ran notes)) = (refl, tt)
@@ -75,8 +75,8 @@ poke_flat (Err (chains.Full head tail)) = (refl, (refl, tt))
 poke_flat (Err (chains.Lost head)) = (refl, tt)
 
 step_flat : (plan : BootPlan) (line : List ℕ) (tried : Tried) → IsFlat (step_args plan line tried)
-step_flat plan line (Say queue answer) = (refl, (refl, say_flat answer))
-step_flat plan line (Hear queue answer) = (refl, hear_flat line answer)
+step_flat plan line (Say queue answer) = (refl, (refl, say_flat plan answer))
+step_flat plan line (Hear queue answer) = (refl, hear_flat plan line answer)
 step_flat plan line (Wait wait) = (refl, tt)
 step_flat plan line (Wake wait woken) = (refl, (refl, tt))
 step_flat plan line (Signal thread signal answer) = (refl, (refl, tt))
@@ -86,7 +86,7 @@ step_flat plan line (Tick gauge amount before) = (refl, (refl, (refl, tt)))
 step_flat plan line (Poke mover answer) = (refl, poke_flat answer)
 step_flat plan line Pass = tt
 step_flat plan line (Close queue was_open readers writers) =
-    (refl, flat_append (woken_args (codes "readers") readers) (woken_args (codes "writers") writers) (woken_flat (codes "readers") readers) (woken_flat (codes "writers") writers))
+    (refl, flat_append (woken_args plan (codes "readers") readers) (woken_args plan (codes "writers") writers) (woken_flat plan (codes "readers") readers) (woken_flat plan (codes "writers") writers))
 
 delivered_flat : (delivered : Result ℕ Lost) → IsFlat (delivered_args delivered)
 delivered_flat (Ok signals) = (refl, tt)

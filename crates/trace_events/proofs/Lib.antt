@@ -2,6 +2,7 @@ mod Documents
 mod Flat
 mod Growing
 mod Joined
+mod Masks
 mod Numbers
 mod Plans
 mod Printing

@@ -1,6 +1,6 @@
 -- The names that a plan gives to what turns name by numbers. Bytes are written as a report writes them.
-use Rattle.std.specs.Prelude.{ℕ, ◌/◌, ◌%◌, ◌==◌, List, [], ◌++◌, codes, if◌then◌else◌, Option, Some, None}
-use Rattle.std.specs.List.{slice_get}
+use Rattle.std.specs.Prelude.{ℕ, ◌/◌, ◌%◌, ◌==◌, List, [], ◌++◌, codes, if◌then◌else◌, Option, Some, None, map, filter}
+use Rattle.std.specs.List.{join_with_byte, range_with_len, slice_get}
 use Rattle.boot_data.specs.declared.boot_plan.BootPlan.{BootPlan}
 use Rattle.boot_data.specs.declared.plan.PlannedMover.{PlannedMover}
 use Rattle.boot_data.specs.declared.plan.PlannedQueue.{PlannedQueue}
@@ -9,6 +9,7 @@ use Rattle.boot_data.specs.declared.plan.PlannedTty.{PlannedTty}
 use Rattle.boot_data.specs.declared.plan.QueueIndex.{QueueIndex}
 use Rattle.boot_data.specs.declared.plan.QueueIndex.TheVariants.{Small, Large}
 use Rattle.boot_script.specs.Reports.{heard_text}
+use Rattle.thread_table.specs.Answers.{is_in}
 
 -- the name of a thread; it is empty if there is none
 abbrev pub name_of_thread : Option PlannedThread → List ℕ
@@ -38,6 +39,14 @@ name_of_gauge (Some name) = name
 -- the text of a thread, by its number
 abbrev pub thread_text : BootPlan → ℕ → List ℕ
 thread_text plan thread = heard_text (name_of_thread (slice_get plan.threads thread))
+
+-- the names of the threads of a mask, of so many threads from this number on
+unfoldable pub thread_names : BootPlan → ℕ → ℕ → ℕ → List (List ℕ)
+thread_names plan mask number count = map (thread_text plan) (filter (is_in mask) (range_with_len number count))
+
+-- the names of all threads of a mask, with a space between two
+abbrev pub threads_text : BootPlan → ℕ → List ℕ
+threads_text plan mask = join_with_byte 32 (thread_names plan mask 0 64)
 
 -- the text of a pump or switch, by its number
 abbrev pub mover_text : BootPlan → ℕ → List ℕ

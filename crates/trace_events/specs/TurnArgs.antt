@@ -31,14 +31,18 @@ use Rattle.boot_log.specs.declared.entry.SaidAnswer.TheVariants as says
 use Rattle.boot_log.specs.declared.entry.Tried.{Tried}
 use Rattle.boot_log.specs.declared.entry.Tried.TheVariants.{Say, Hear, Wait, Wake, Signal, Stop, Start}
 use Rattle.boot_log.specs.declared.entry.Tried.TheVariants.{Tick, Poke, Pass, Close}
-use Rattle.trace_events.specs.Names.{gauge_text, mover_text, queue_text, thread_text}
+use Rattle.trace_events.specs.Names.{gauge_text, mover_text, queue_text, thread_text, threads_text}
 use Rattle.trace_events.specs.Objects.{Named, numbered, worded}
 use Rattle.trace_events.specs.TurnNames.{way_name}
 
--- the elements that were woken, if those who wait were woken at all: bit e for element e
-abbrev pub woken_args : List ℕ → Option Woken → List Named
-woken_args name None = []
-woken_args name (Some woken) = numbered name woken.taken ∷ []
+-- the threads of a mask, by their names
+abbrev pub threads_args : BootPlan → List ℕ → ℕ → List Named
+threads_args plan name mask = worded name (threads_text plan mask) ∷ []
+
+-- the threads that were woken, if those who wait were woken at all
+abbrev pub woken_args : BootPlan → List ℕ → Option Woken → List Named
+woken_args plan name None = []
+woken_args plan name (Some woken) = threads_args plan name woken.taken
 
 -- a line, as a report writes it
 abbrev pub line_args : List ℕ → List Named
@@ -54,10 +58,10 @@ claim_args (claims.Full head tail) = numbered (codes "head") head ∷ numbered (
 claim_args (claims.Lost head) = numbered (codes "head") head ∷ []
 
 -- the answer to a say
-abbrev pub say_args : SaidAnswer → List Named
-say_args (says.Put woken) = woken_args (codes "woken") woken
-say_args says.Over = []
-say_args (says.Refused refusal) = claim_args refusal
+abbrev pub say_args : BootPlan → SaidAnswer → List Named
+say_args plan (says.Put woken) = woken_args plan (codes "woken") woken
+say_args plan says.Over = []
+say_args plan (says.Refused refusal) = claim_args refusal
 
 -- the position that a refused hear found
 abbrev pub take_args : TakeRefusal → List Named
@@ -66,10 +70,10 @@ take_args (takes.Lost tail) = numbered (codes "tail") tail ∷ []
 take_args takes.Closed = []
 
 -- the answer to a hear, and the line that was taken
-abbrev pub hear_args : List ℕ → HeardAnswer → List Named
-hear_args line (hears.Taken woken) = line_args line ++ woken_args (codes "woken") woken
-hear_args line (hears.Over woken) = woken_args (codes "woken") woken
-hear_args line (hears.Refused refusal) = take_args refusal
+abbrev pub hear_args : BootPlan → List ℕ → HeardAnswer → List Named
+hear_args plan line (hears.Taken woken) = line_args line ++ woken_args plan (codes "woken") woken
+hear_args plan line (hears.Over woken) = woken_args plan (codes "woken") woken
+hear_args plan line (hears.Refused refusal) = take_args refusal
 
 -- the answer to a poke: how many notes were run, or what a refused one found
 abbrev pub poke_args : Result Poked ChainRefusal → List Named
@@ -97,18 +101,19 @@ gauge_args plan gauge amount before =
 abbrev pub mover_args : BootPlan → ℕ → Result Poked ChainRefusal → List Named
 mover_args plan mover answer = worded (codes "mover") (mover_text plan mover) ∷ poke_args answer
 
--- a queue that was closed, and the elements that were woken
+-- a queue that was closed, and the threads that were woken
 abbrev pub close_args : BootPlan → ℕ → Option Woken → Option Woken → List Named
 close_args plan queue readers writers =
-    queue_args plan (Small queue) ++ woken_args (codes "readers") readers ++ woken_args (codes "writers") writers
+    queue_args plan (Small queue) ++ woken_args plan (codes "readers") readers
+    ++ woken_args plan (codes "writers") writers
 
 -- a step: what it named, and the answer
 abbrev pub step_args : BootPlan → List ℕ → Tried → List Named
-step_args plan line (Say queue answer) = queue_args plan queue ++ line_args line ++ say_args answer
-step_args plan line (Hear queue answer) = queue_args plan queue ++ hear_args line answer
+step_args plan line (Say queue answer) = queue_args plan queue ++ line_args line ++ say_args plan answer
+step_args plan line (Hear queue answer) = queue_args plan queue ++ hear_args plan line answer
 step_args plan line (Wait wait) = numbered (codes "wait") wait ∷ []
 step_args plan line (Wake wait woken) =
-    numbered (codes "wait") wait ∷ numbered (codes "woken") woken.taken ∷ []
+    numbered (codes "wait") wait ∷ threads_args plan (codes "woken") woken.taken
 step_args plan line (Signal thread signal answer) = other_args plan thread ++ numbered (codes "signal") signal ∷ []
 step_args plan line (Stop thread was_clear) = other_args plan thread
 step_args plan line (Start thread answer) = other_args plan thread

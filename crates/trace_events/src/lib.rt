@@ -19,6 +19,7 @@ mod micros;
 mod names;
 mod output;
 mod texts;
+mod threads;
 mod trace;
 mod turn_args;
 mod turn_names;

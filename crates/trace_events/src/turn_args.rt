@@ -7,11 +7,12 @@ ghost use Rattle.trace_events.specs.TurnArgs.{woken_args, line_args, claim_args,
 ghost use Rattle.trace_events.specs.TurnArgs.{poke_args, other_args, step_args, thread_args, delivered_args};
 ghost use Rattle.trace_events.specs.TurnArgs.{begun_args, counted_args, went_args, retired_name, idle_args, did_args};
 ghost use Rattle.trace_events.specs.TurnArgs.{tick_args, fired_args, turn_args, queue_args};
-ghost use Rattle.trace_events.specs.TurnArgs.{gauge_args, mover_args, close_args};
+ghost use Rattle.trace_events.specs.TurnArgs.{gauge_args, mover_args, close_args, threads_args};
 
 use crate::members::{put_number, put_text};
 use crate::names::{gauge_name, mover_name, thread_name};
 use crate::texts::{text_of, text_of_queue};
+use crate::threads::text_of_threads;
 use crate::turn_names::way_name;
 use boot_data::BootPlan;
 use boot_data::plan::QueueIndex;
@@ -26,12 +27,32 @@ use thread_table::Lost;
 use turn_dispatch::{Begun, Counted, Idle, Woken};
 use turn_io::Poked;
 
-/// The elements that were woken, if those who wait were woken at all.
-fn put_woken(out: &mut Writer, name: &'static str, woken: Option<Woken>) -> Result<(), OutOfMemory>
-    ensures { Puts result out.old out.new (woken_args name.now woken) }
+/// The threads of a mask, by their names.
+fn put_threads(
+    alloc: Global,
+    out: &mut Writer,
+    plan: &BootPlan,
+    name: &'static str,
+    mask: u64,
+) -> Result<(), OutOfMemory>
+    ensures { Puts result out.old out.new (threads_args plan.now name.now mask) }
+{
+    let text = text_of_threads(alloc, plan, mask)?;
+    put_text(out, name, text.as_str())
+}
+
+/// The threads that were woken, if those who wait were woken at all.
+fn put_woken(
+    alloc: Global,
+    out: &mut Writer,
+    plan: &BootPlan,
+    name: &'static str,
+    woken: Option<Woken>,
+) -> Result<(), OutOfMemory>
+    ensures { Puts result out.old out.new (woken_args plan.now name.now woken) }
 {
     match woken {
-        Some(woken) => put_number(out, name, woken.taken),
+        Some(woken) => put_threads(alloc, out, plan, name, woken.taken),
         None => Ok(()),
     }
 }
@@ -59,11 +80,16 @@ fn put_claim(out: &mut Writer, refusal: ClaimRefusal) -> Result<(), OutOfMemory>
 }
 
 /// The answer to a say.
-fn put_said(out: &mut Writer, answer: SaidAnswer) -> Result<(), OutOfMemory>
-    ensures { Puts result out.old out.new (say_args answer) }
+fn put_said(
+    alloc: Global,
+    out: &mut Writer,
+    plan: &BootPlan,
+    answer: SaidAnswer,
+) -> Result<(), OutOfMemory>
+    ensures { Puts result out.old out.new (say_args plan.now answer) }
 {
     match answer {
-        SaidAnswer::Put(woken) => put_woken(out, "woken", woken),
+        SaidAnswer::Put(woken) => put_woken(alloc, out, plan, "woken", woken),
         SaidAnswer::Over => Ok(()),
         SaidAnswer::Refused(refusal) => put_claim(out, refusal),
     }
@@ -84,17 +110,18 @@ fn put_take(out: &mut Writer, refusal: TakeRefusal) -> Result<(), OutOfMemory>
 fn put_heard(
     alloc: Global,
     out: &mut Writer,
+    plan: &BootPlan,
     line: &[u8],
     answer: HeardAnswer,
 ) -> Result<(), OutOfMemory>
-    ensures { Puts result out.old out.new (hear_args line.now answer) }
+    ensures { Puts result out.old out.new (hear_args plan.now line.now answer) }
 {
     match answer {
         HeardAnswer::Taken(woken) => {
             put_line(alloc, out, line)?;
-            put_woken(out, "woken", woken)
+            put_woken(alloc, out, plan, "woken", woken)
         }
-        HeardAnswer::Over(woken) => put_woken(out, "woken", woken),
+        HeardAnswer::Over(woken) => put_woken(alloc, out, plan, "woken", woken),
         HeardAnswer::Refused(refusal) => put_take(out, refusal),
     }
 }
@@ -184,7 +211,7 @@ fn put_mover(
     put_poked(out, answer)
 }
 
-/// A queue that was closed, and the elements that were woken.
+/// A queue that was closed, and the threads that were woken.
 fn put_closed(
     alloc: Global,
     out: &mut Writer,
@@ -196,8 +223,8 @@ fn put_closed(
     ensures { Puts result out.old out.new (close_args plan.now queue readers writers) }
 {
     put_queue(alloc, out, plan, QueueIndex::Small(queue))?;
-    put_woken(out, "readers", readers)?;
-    put_woken(out, "writers", writers)
+    put_woken(alloc, out, plan, "readers", readers)?;
+    put_woken(alloc, out, plan, "writers", writers)
 }
 
 /// A step: what it named, and the answer.
@@ -214,16 +241,16 @@ fn put_step(
         Tried::Say { queue, answer } => {
             put_queue(alloc, out, plan, queue)?;
             put_line(alloc, out, line)?;
-            put_said(out, answer)
+            put_said(alloc, out, plan, answer)
         }
         Tried::Hear { queue, answer } => {
             put_queue(alloc, out, plan, queue)?;
-            put_heard(alloc, out, line, answer)
+            put_heard(alloc, out, plan, line, answer)
         }
         Tried::Wait { wait } => put_number(out, "wait", u64::from(wait.number())),
         Tried::Wake { wait, woken } => {
             put_number(out, "wait", u64::from(wait.number()))?;
-            put_number(out, "woken", woken.taken)
+            put_threads(alloc, out, plan, "woken", woken.taken)
         }
         Tried::Signal { thread, signal, .. } => {
             put_other(alloc, out, plan, thread)?;

@@ -24,7 +24,7 @@ fn a_line_is_put(rt: HostRuntime) -> Result<(), Fail> {
          \"args\":{\"name\":\"processor 0\"}}",
         "{\"name\":\"say put\",\"cat\":\"turn\",\"ph\":\"X\",\"pid\":1,\"tid\":1,\"ts\":1.000,\"dur\":1.500,\
          \"args\":{\"processor\":0,\"thread\":\"a\",\"step\":0,\"signals\":0,\"queue\":\"in\",\
-         \"line\":\"h\\\"\\\\0A\",\"woken\":2,\"done\":1,\"went\":\"ready\"}}",
+         \"line\":\"h\\\"\\\\0A\",\"woken\":\"b\",\"done\":1,\"went\":\"ready\"}}",
         "{\"name\":\"say put\",\"cat\":\"turn\",\"ph\":\"X\",\"pid\":1,\"tid\":11,\"ts\":1.000,\"dur\":1.500,\
          \"args\":{\"processor\":0,",
     ];
@@ -95,7 +95,7 @@ fn other_steps(rt: HostRuntime) -> Result<(), Fail> {
         queue: 0,
         was_open: false,
         readers: None,
-        writers: Some(Woken { taken: 4, ready: 0 }),
+        writers: Some(Woken { taken: 3, ready: 0 }),
     };
     let entries = [
         stepped(2000, first, tick, Moved::Freed(true), NO_PART),
@@ -116,7 +116,7 @@ fn other_steps(rt: HostRuntime) -> Result<(), Fail> {
         "{\"name\":\"wait\",\"cat\":\"turn\",",
         "\"wait\":2,\"done\":1,\"went\":\"held\"}}",
         "{\"name\":\"close again\",\"cat\":\"turn\",",
-        "\"queue\":\"in\",\"writers\":4,\"done\":1,\"went\":\"held\"}}",
+        "\"queue\":\"in\",\"writers\":\"a b\",\"done\":1,\"went\":\"held\"}}",
     ];
     assert!(rt; shows(rt.alloc(), &entries, b"", &events)?);
     Ok(())

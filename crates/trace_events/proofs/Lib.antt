@@ -1,3 +1,4 @@
+mod Apart
 mod Documents
 mod Flat
 mod Growing
@@ -7,5 +8,6 @@ mod Numbers
 mod Plans
 mod Printing
 mod Runs
+mod Starts
 mod Turning
 mod Values

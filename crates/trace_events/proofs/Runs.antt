@@ -5,6 +5,7 @@ use Rattle.std.specs.List.{prefix_len}
 use Rattle.boot_data.specs.declared.boot_plan.BootPlan.{BootPlan}
 use Rattle.boot_log.specs.declared.entry.Entry.{Entry}
 use Rattle.boot_log.specs.Idling.{is_idle}
+use Rattle.trace_events.specs.declared.tracks.ThreadTurn.{ThreadTurn}
 use Rattle.trace_events.specs.Turns.{joined, runs_of, end_of, run_length, idle_event, run_events, runs_events}
 
 -- how many turns after the first one are in its run
@@ -46,12 +47,12 @@ end_last from (entry ∷ next ∷ entries) last h is =
     end_last entry.at (next ∷ entries) last (omega arith) (subst (λ n. last ≡ get_or (entry ∷ next ∷ entries) n last) e is)
 
 -- a run of idle turns is one event
-pub idle_run : (plan : BootPlan) (bytes : List ℕ) (processor from : ℕ) (run : List Entry) (first : Entry) → 0 < length run → first ≡ get_or run 0 first → is_idle first ≡ true
-    → run_events plan bytes processor from run ≡ idle_event processor from (end_of from run) (length run) ∷ []
-idle_run plan bytes processor from [] first h is idle = absurd (omega arith)
-idle_run plan bytes processor from (entry ∷ entries) first h is idle = rw (ap is_idle (sym is) ∙ idle) refl
+pub idle_run : (plan : BootPlan) (bytes : List ℕ) (begins : ThreadTurn → ℕ) (processor number from : ℕ) (run : List Entry) (first : Entry) → 0 < length run → first ≡ get_or run 0 first → is_idle first ≡ true
+    → run_events plan bytes begins processor number from run ≡ idle_event processor from (end_of from run) (length run) ∷ []
+idle_run plan bytes begins processor number from [] first h is idle = absurd (omega arith)
+idle_run plan bytes begins processor number from (entry ∷ entries) first h is idle = rw (ap is_idle (sym is) ∙ idle) refl
 
 -- the events of the first run, and of those after it
-pub runs_first : (plan : BootPlan) (bytes : List ℕ) (processor from : ℕ) (entries : List Entry) → 0 < length entries
-    → runs_events plan bytes processor from (runs_of entries) ≡ run_events plan bytes processor from (take (run_length entries) entries) ++ runs_events plan bytes processor (end_of from (take (run_length entries) entries)) (runs_of (drop (run_length entries) entries))
-runs_first plan bytes processor from entries h = ap (runs_events plan bytes processor from) (run_first entries h)
+pub runs_first : (plan : BootPlan) (bytes : List ℕ) (begins : ThreadTurn → ℕ) (processor number from : ℕ) (entries : List Entry) → 0 < length entries
+    → runs_events plan bytes begins processor number from (runs_of entries) ≡ run_events plan bytes begins processor number from (take (run_length entries) entries) ++ runs_events plan bytes begins processor (number + length (take (run_length entries) entries)) (end_of from (take (run_length entries) entries)) (runs_of (drop (run_length entries) entries))
+runs_first plan bytes begins processor number from entries h = ap (runs_events plan bytes begins processor number from) (run_first entries h)

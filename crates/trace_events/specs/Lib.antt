@@ -4,6 +4,7 @@ pub mod Micros
 pub mod Names
 pub mod Objects
 pub mod Traces
+pub mod Tracks
 pub mod TurnArgs
 pub mod TurnNames
 pub mod Turns

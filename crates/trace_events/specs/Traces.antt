@@ -9,7 +9,9 @@ use Rattle.boot_log.specs.declared.line_turn.LineTurn.{LineTurn}
 use Rattle.boot_log.specs.declared.passing.Passing.{Passing}
 use Rattle.boot_log.specs.Kept.{Kept}
 use Rattle.boot_log.specs.Lines.{passings}
+use Rattle.trace_events.specs.declared.tracks.ThreadTurn.{ThreadTurn}
 use Rattle.trace_events.specs.Events.{line_end_json, line_start_json, metadata_json}
+use Rattle.trace_events.specs.Tracks.{all_thread_turns, slice_start}
 use Rattle.trace_events.specs.Turns.{end_of, missed_events, processor_track, runs_events, runs_of, thread_track}
 
 -- the events of things, which are numbered from this number on
@@ -32,9 +34,9 @@ thread_events number thread =
     metadata_json (codes "thread_name") (thread_track number) (heard_text thread.name) ∷ []
 
 -- the turns of a processor, of which the first one starts at this time, and how many turns were missed after them
-abbrev pub log_events : BootPlan → ℕ → ℕ → Kept → List Json
-log_events plan from processor log =
-    runs_events plan log.bytes processor from (runs_of log.entries)
+abbrev pub log_events : BootPlan → ℕ → (ThreadTurn → ℕ) → ℕ → Kept → List Json
+log_events plan from begins processor log =
+    runs_events plan log.bytes begins processor 0 from (runs_of log.entries)
     ++ missed_events processor (end_of from log.entries) log.missed
 
 -- the last nanosecond of a turn, or its start if it has none
@@ -53,7 +55,8 @@ passing_events number passing =
 abbrev pub boot_events : BootPlan → ℕ → List Kept → List Json
 boot_events plan from logs =
     numbered_events (λ processor log. processor_events processor) 0 logs
-    ++ numbered_events thread_events 0 plan.threads ++ numbered_events (log_events plan from) 0 logs
+    ++ numbered_events thread_events 0 plan.threads
+    ++ numbered_events (log_events plan from (slice_start (all_thread_turns from 0 logs))) 0 logs
     ++ numbered_events passing_events 0 (passings plan from logs)
 
 -- the events of a boot

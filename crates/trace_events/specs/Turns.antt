@@ -4,16 +4,14 @@ use Rattle.std.specs.Prelude.{if◌then◌else◌, cond, Option, Some, None}
 use Rattle.std.specs.List.{prefix_len}
 use Rattle.boot_data.specs.declared.boot_plan.BootPlan.{BootPlan}
 use Rattle.json.specs.Json.{Json}
-use Rattle.turn_dispatch.specs.declared.dispatch.Idle.{Idle}
-use Rattle.turn_dispatch.specs.declared.dispatch.Idle.TheVariants.{NothingReady, Parked, ParkLost}
-use Rattle.boot_log.specs.declared.entry.Did.{Did}
-use Rattle.boot_log.specs.declared.entry.Did.TheVariants as did
 use Rattle.boot_log.specs.declared.entry.Entry.{Entry}
 use Rattle.boot_log.specs.Idling.{is_idle}
 use Rattle.boot_log.specs.Kept.{part_of}
 use Rattle.boot_log.specs.Values.{line_part}
+use Rattle.trace_events.specs.declared.tracks.ThreadTurn.{ThreadTurn}
 use Rattle.trace_events.specs.Events.{missed_json, turn_json}
 use Rattle.trace_events.specs.Objects.{numbered}
+use Rattle.trace_events.specs.Tracks.{thread_turn_of}
 use Rattle.trace_events.specs.TurnArgs.{turn_args}
 use Rattle.trace_events.specs.TurnNames.{turn_name}
 
@@ -44,30 +42,20 @@ abbrev pub run_length : List Entry → ℕ
 run_length [] = 0
 run_length (entry ∷ entries) = suc (cond (is_idle entry) (prefix_len is_idle entries) 0)
 
--- the element that a turn without one at hand took from the ready ring, if it took one
-abbrev pub element_taken : Idle → Option ℕ
-element_taken (NothingReady refusal) = None
-element_taken (Parked element) = Some element
-element_taken (ParkLost element lost ready) = Some element
-
--- the element that was at hand, if there was one
-abbrev pub element_of : Did → Option ℕ
-element_of (did.Idle idle) = element_taken idle
-element_of (did.Retired begun freed) = Some begun.element
-element_of (did.Stepped begun tried counted moved line) = Some begun.element
-
--- a turn on the track of the element that was at hand
-abbrev pub on_thread : Option ℕ → (ℕ → Json) → List Json
+-- a turn on the track of its thread, if it has one
+abbrev pub on_thread : Option ThreadTurn → (ThreadTurn → Json) → List Json
 on_thread None event = []
-on_thread (Some element) event = event (thread_track element) ∷ []
+on_thread (Some turn) event = event turn ∷ []
 
--- a turn: on the track of its processor, and on that of the element that was at hand
-abbrev pub turn_events : BootPlan → List ℕ → ℕ → ℕ → Entry → List Json
-turn_events plan bytes processor from entry =
-    let event : ℕ → Json = λ track.
-    turn_json (turn_name entry.did) track from entry.at
+-- A turn with this number, which began at this time: on the track of its processor, and on that of the element that was
+-- at hand, where it begins as `begins` says
+abbrev pub turn_events : BootPlan → List ℕ → (ThreadTurn → ℕ) → ℕ → ℕ → ℕ → Entry → List Json
+turn_events plan bytes begins processor number from entry =
+    let event : ℕ → ℕ → Json = λ track start.
+    turn_json (turn_name entry.did) track start entry.at
     (turn_args plan processor (part_of bytes (line_part entry.did)) entry) in
-    event (processor_track processor) ∷ on_thread (element_of entry.did) event
+    event (processor_track processor) from
+    ∷ on_thread (thread_turn_of processor number from entry) (λ turn. event (thread_track turn.thread) (begins turn))
 
 -- idle turns in a row: how many there are, on the track of their processor
 abbrev pub idle_event : ℕ → ℕ → ℕ → ℕ → Json
@@ -85,16 +73,17 @@ abbrev pub missed_events : ℕ → ℕ → ℕ → List Json
 missed_events processor at missed =
     if missed == 0 then [] else missed_json (processor_track processor) at processor missed ∷ []
 
--- a run
-abbrev pub run_events : BootPlan → List ℕ → ℕ → ℕ → List Entry → List Json
-run_events plan bytes processor from [] = []
-run_events plan bytes processor from (entry ∷ entries) =
+-- a run, whose first turn has this number
+abbrev pub run_events : BootPlan → List ℕ → (ThreadTurn → ℕ) → ℕ → ℕ → ℕ → List Entry → List Json
+run_events plan bytes begins processor number from [] = []
+run_events plan bytes begins processor number from (entry ∷ entries) =
     if is_idle entry
     then idle_event processor from (end_of from (entry ∷ entries)) (length (entry ∷ entries)) ∷ []
-    else turn_events plan bytes processor from entry
+    else turn_events plan bytes begins processor number from entry
 
--- runs, one after the other: each starts when the one before it has ended
-abbrev pub runs_events : BootPlan → List ℕ → ℕ → ℕ → List (List Entry) → List Json
-runs_events plan bytes processor from [] = []
-runs_events plan bytes processor from (run ∷ runs) =
-    run_events plan bytes processor from run ++ runs_events plan bytes processor (end_of from run) runs
+-- runs, one after the other: each starts when the one before it has ended, with the number after its last turn
+abbrev pub runs_events : BootPlan → List ℕ → (ThreadTurn → ℕ) → ℕ → ℕ → ℕ → List (List Entry) → List Json
+runs_events plan bytes begins processor number from [] = []
+runs_events plan bytes begins processor number from (run ∷ runs) =
+    run_events plan bytes begins processor number from run
+    ++ runs_events plan bytes begins processor (number + length run) (end_of from run) runs

@@ -8,6 +8,7 @@ ghost use Rattle.boot_log.specs.Kept.{kept_in};
 ghost use Rattle.trace_events.specs.Documents.{Prints, trace_json, trace_text};
 ghost use Rattle.trace_events.specs.Traces.{boot_events, log_events, numbered_events, processor_events};
 ghost use Rattle.trace_events.specs.Traces.{thread_events, trace_events};
+ghost use Rattle.trace_events.specs.Tracks.{slice_start};
 ghost use Rattle.trace_events.specs.Turns.{missed_events};
 
 use crate::events::{metadata_event, missed_event};
@@ -15,6 +16,7 @@ use crate::fault::TraceFault;
 use crate::flows::print_flows;
 use crate::output::{print_bytes, print_later};
 use crate::texts::text_of;
+use crate::tracks::ThreadTurns;
 use crate::turns::{end_of, print_turns, processor_track};
 use boot_data::BootPlan;
 use boot_data::plan::PlannedThread;
@@ -104,16 +106,17 @@ fn print_missed<W: Write>(
 fn print_log<W: Write>(
     alloc: Global,
     plan: &BootPlan,
+    turns: &ThreadTurns,
     from: u64,
     processor: u8,
     log: &Log,
     out: &mut W,
 ) -> Result<(), TraceFault>
     ensures { OnOk result (Prints (W.contents out.old) (W.contents out.new)
-        (log_events plan.now from processor log.now)) }
+        (log_events plan.now from (slice_start turns.now) processor log.now)) }
 {
     let entries = log.entries();
-    print_turns(alloc, plan, log, processor, from, entries, out)?;
+    print_turns(alloc, plan, log, turns, processor, from, entries, out)?;
     print_missed(alloc, processor, end_of(from, entries), log.missed(), out)
 }
 
@@ -121,16 +124,17 @@ fn print_log<W: Write>(
 fn print_logs<W: Write>(
     alloc: Global,
     plan: &BootPlan,
+    turns: &ThreadTurns,
     from: u64,
     logs: &[&Log],
     out: &mut W,
 ) -> Result<(), TraceFault>
     requires { length logs.now ≤ 8 }
     ensures { OnOk result (Prints (W.contents out.old) (W.contents out.new)
-        (numbered_events (log_events plan.now from) 0 (kept_in logs.now))) }
+        (numbered_events (log_events plan.now from (slice_start turns.now)) 0 (kept_in logs.now))) }
 {
     for (processor, log) in logs.iter().enumerate() {
-        print_log(alloc, plan, from, processor as u8, log, out)?;
+        print_log(alloc, plan, turns, from, processor as u8, log, out)?;
     }
     Ok(())
 }
@@ -147,9 +151,10 @@ fn print_events<W: Write>(
     ensures { OnOk result (Prints (W.contents out.old) (W.contents out.new)
         (boot_events plan.now from (kept_in logs.now))) }
 {
+    let turns = ThreadTurns::of(alloc, from, logs)?;
     print_processors(alloc, logs, out)?;
     print_threads(alloc, plan.threads.as_slice(), out)?;
-    print_logs(alloc, plan, from, logs, out)?;
+    print_logs(alloc, plan, &turns, from, logs, out)?;
     print_flows(alloc, plan, from, logs, out)
 }
 

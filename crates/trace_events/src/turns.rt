@@ -9,21 +9,22 @@ ghost use Rattle.trace_events.specs.Documents.{IsEvent, Prints};
 ghost use Rattle.trace_events.specs.Events.{turn_json};
 ghost use Rattle.trace_events.specs.TurnArgs.{turn_args};
 ghost use Rattle.trace_events.specs.TurnNames.{turn_name};
-ghost use Rattle.trace_events.specs.Turns.{element_of, element_taken, end_of, idle_event, processor_track};
-ghost use Rattle.trace_events.specs.Turns.{run_events, run_length, runs_events, runs_of, thread_track, turn_events};
+ghost use Rattle.trace_events.specs.Tracks.{slice_start};
+ghost use Rattle.trace_events.specs.Turns.{end_of, idle_event, processor_track, run_events, run_length, runs_events};
+ghost use Rattle.trace_events.specs.Turns.{runs_of, thread_track, turn_events};
 
 use crate::events::{begin_turn, end_args};
 use crate::fault::TraceFault;
 use crate::members::put_number;
 use crate::output::print_later;
+use crate::tracks::{ThreadTurns, thread_turn_of};
 use crate::turn_args::put_turn;
 use crate::turn_names::turn_name;
 use boot_data::BootPlan;
-use boot_log::{Did, Entry, Log};
+use boot_log::{Entry, Log};
 use event_theory::OutOfMemory;
 use std::alloc::Global;
 use std::io::Write;
-use turn_dispatch::Idle;
 
 /// The track of a processor.
 pub(crate) fn processor_track(processor: u8) -> u64
@@ -37,28 +38,6 @@ pub(crate) fn thread_track(thread: u8) -> u64
     ensures { result ≡ thread_track thread }
 {
     u64::from(thread) + 11
-}
-
-/// The number of the element that a turn without one at hand took from the ready ring, if it took one.
-fn element_taken(idle: Idle) -> Option<u8>
-    ensures { result ≡ element_taken idle }
-{
-    match idle {
-        Idle::NothingReady(_) => None,
-        Idle::Parked(element) => Some(element.number()),
-        Idle::ParkLost { element, .. } => Some(element.number()),
-    }
-}
-
-/// The number of the element that was at hand, if there was one.
-fn element_of(did: Did) -> Option<u8>
-    ensures { result ≡ element_of did }
-{
-    match did {
-        Did::Idle(idle) => element_taken(idle),
-        Did::Retired { begun, .. } => Some(begun.element.number()),
-        Did::Stepped { begun, .. } => Some(begun.element.number()),
-    }
 }
 
 /// The text of a turn on a track.
@@ -101,13 +80,15 @@ fn print_turn<W: Write>(
     alloc: Global,
     plan: &BootPlan,
     log: &Log,
+    turns: &ThreadTurns,
     processor: u8,
+    number: usize,
     from: u64,
     entry: &Entry,
     out: &mut W,
 ) -> Result<(), TraceFault>
     ensures { OnOk result (Prints (W.contents out.old) (W.contents out.new)
-        (turn_events plan.now log.now.bytes processor from entry.now)) }
+        (turn_events plan.now log.now.bytes (slice_start turns.now) processor number from entry.now)) }
 {
     let text = turn_text(
         alloc,
@@ -119,16 +100,17 @@ fn print_turn<W: Write>(
         processor_track(processor),
     )?;
     print_later(&text, out)?;
-    match element_of(entry.did) {
-        Some(element) => {
+    match thread_turn_of(processor as usize, number, from, entry) {
+        Some(turn) => {
+            let start = turns.slice_start(&turn);
             let text = turn_text(
                 alloc,
                 plan,
                 log,
                 processor,
-                from,
+                start,
                 entry,
-                thread_track(element),
+                thread_track(turn.thread),
             )?;
             print_later(&text, out)
         }
@@ -171,18 +153,20 @@ pub(crate) fn end_of(from: u64, entries: &[Entry]) -> u64
     }
 }
 
-/// Prints a run.
+/// Prints a run, whose first turn has this number.
 fn print_run<W: Write>(
     alloc: Global,
     plan: &BootPlan,
     log: &Log,
+    turns: &ThreadTurns,
     processor: u8,
+    number: usize,
     from: u64,
     run: &[Entry],
     out: &mut W,
 ) -> Result<(), TraceFault>
     ensures { OnOk result (Prints (W.contents out.old) (W.contents out.new)
-        (run_events plan.now log.now.bytes processor from run.now)) }
+        (run_events plan.now log.now.bytes (slice_start turns.now) processor number from run.now)) }
 {
     let [entry, ..] = run else {
         return Ok(());
@@ -191,7 +175,7 @@ fn print_run<W: Write>(
         let text = idle_text(alloc, processor, from, end_of(from, run), run.len() as u64)?;
         return print_later(&text, out);
     }
-    print_turn(alloc, plan, log, processor, from, entry, out)
+    print_turn(alloc, plan, log, turns, processor, number, from, entry, out)
 }
 
 /// Prints the turns of a processor. The first one starts at `from`.
@@ -199,20 +183,23 @@ pub(crate) fn print_turns<W: Write>(
     alloc: Global,
     plan: &BootPlan,
     log: &Log,
+    turns: &ThreadTurns,
     processor: u8,
     from: u64,
     entries: &[Entry],
     out: &mut W,
 ) -> Result<(), TraceFault>
     ensures { OnOk result (Prints (W.contents out.old) (W.contents out.new)
-        (runs_events plan.now log.now.bytes processor from (runs_of entries.now))) }
+        (runs_events plan.now log.now.bytes (slice_start turns.now) processor 0 from (runs_of entries.now))) }
 {
     let mut left = entries;
+    let mut number = 0;
     let mut start = from;
     while !left.is_empty() {
         let (run, later) = left.split_at(run_length(left));
-        print_run(alloc, plan, log, processor, start, run, out)?;
+        print_run(alloc, plan, log, turns, processor, number, start, run, out)?;
         start = end_of(start, run);
+        number += run.len();
         left = later;
     }
     Ok(())

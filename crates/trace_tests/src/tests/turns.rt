@@ -1,6 +1,6 @@
 //! The events of turns.
 
-use super::{NO_PART, element, idle, show, shows, stepped};
+use super::{NO_PART, element, idle, log_of, show, shows, stepped};
 use boot_data::plan::QueueIndex;
 use boot_log::{Did, Entry, HeardAnswer, Log, Part, SaidAnswer, Tried};
 use claim_queue::TakeRefusal;
@@ -119,6 +119,27 @@ fn other_steps(rt: HostRuntime) -> Result<(), Fail> {
         "\"queue\":\"in\",\"writers\":\"a b\",\"done\":1,\"went\":\"held\"}}",
     ];
     assert!(rt; shows(rt.alloc(), &entries, b"", &events)?);
+    Ok(())
+}
+
+#[test]
+fn turns_of_a_thread_do_not_overlap(rt: HostRuntime) -> Result<(), Fail> {
+    let first = element(&rt, 0);
+    let pass = |at: u64| stepped(at, first, Tried::Pass, Moved::Ready(true), NO_PART);
+    let one = log_of(rt.alloc(), &[pass(2000), pass(4000), pass(1000)], b"")?;
+    let other = log_of(rt.alloc(), &[idle(1500), pass(3000), pass(4000)], b"")?;
+    let events = [
+        "{\"name\":\"pass\",\"cat\":\"turn\",\"ph\":\"X\",\"pid\":1,\"tid\":11,\"ts\":1.000,\"dur\":1.000,\
+         \"args\":{\"processor\":0,",
+        "\"tid\":1,\"ts\":2.000,\"dur\":2.000,\"args\":{\"processor\":0,",
+        "\"tid\":11,\"ts\":3.000,\"dur\":1.000,\"args\":{\"processor\":0,",
+        "\"tid\":11,\"ts\":4.000,\"dur\":0.000,\"args\":{\"processor\":0,",
+        "\"tid\":2,\"ts\":1.500,\"dur\":1.500,\"args\":{\"processor\":1,",
+        "\"tid\":11,\"ts\":2.000,\"dur\":1.000,\"args\":{\"processor\":1,",
+        "\"tid\":2,\"ts\":3.000,\"dur\":1.000,\"args\":{\"processor\":1,",
+        "\"tid\":11,\"ts\":4.000,\"dur\":0.000,\"args\":{\"processor\":1,",
+    ];
+    assert!(rt; show(rt.alloc(), &[&one, &other], &events)?);
     Ok(())
 }
 

@@ -2,8 +2,9 @@ use Rattle.std.proofs.Common.{ℕ, List, Option, drop}
 use Rattle.boot_log.specs.Kept.{kept_in}
 use Rattle.trace_events.specs.Documents.{Prints}
 use Rattle.trace_events.specs.Traces.{numbered_events, log_events}
+use Rattle.trace_events.specs.Tracks.{slice_start}
 use Rattle.trace_events.proofs.trace.print_logs.Given as goal
 
 -- Whoever prints the events of those that are left has printed the events of all.
 abbrev pub invariant-loop-processor : goal.invariant-loop-processor
-invariant-loop-processor g l = (later : Option (List ℕ)) → Prints (g.W.Write.contents l.out) later (numbered_events (log_events l.plan l.from) l.processor (kept_in (drop l.processor l.logs))) → Prints (g.W.Write.contents l.fn.out) later (numbered_events (log_events l.plan l.from) 0 (kept_in l.logs))
+invariant-loop-processor g l = (later : Option (List ℕ)) → Prints (g.W.Write.contents l.out) later (numbered_events (log_events l.plan l.from (slice_start l.turns)) l.processor (kept_in (drop l.processor l.logs))) → Prints (g.W.Write.contents l.fn.out) later (numbered_events (log_events l.plan l.from (slice_start l.turns)) 0 (kept_in l.logs))

@@ -100,6 +100,31 @@ def track_faults(events, boot):
         yield "the processors begin at different times"
 
 
+def slices(turns, processors):
+    """The turns of threads as they have to be on the tracks of their threads, by those of the processors. None begins
+    before the thread's last turn has ended: the last by the clock, and at one time by the processor and the turn."""
+    ended = {}
+    places = enumerate(it for it in turns if it["tid"] <= processors and "thread" in it["args"])
+    order = lambda place: (place[1]["ts"] + place[1]["dur"], place[1]["tid"], place[0])
+    for _, turn in sorted(places, key=order):
+        thread, end = turn["args"]["thread"], turn["ts"] + turn["dur"]
+        begin = max(turn["ts"], ended.get(thread, 0))
+        ended[thread] = end
+        yield {**turn, "ts": begin, "dur": end - begin}
+
+
+def overlap_faults(events):
+    """The turns that overlap on a track: each has to begin when the one before it has ended, or later."""
+    tracks = {}
+    for it in (it for it in events if it["ph"] == "X"):
+        tracks.setdefault(it["tid"], []).append((it["ts"], it["ts"] + it["dur"], it["name"]))
+    for track, turns in tracks.items():
+        turns.sort()
+        for one, other in zip(turns, turns[1:]):
+            if other[0] < one[1]:
+                yield f"turns overlap on track {track}: {one} and {other}"
+
+
 def thread_faults(events, boot):
     """What is wrong with the tracks of the threads: their turns are those of the processors, and end as reported."""
     names = boot.threads()
@@ -110,13 +135,15 @@ def thread_faults(events, boot):
         yield "other names of tracks"
     key = lambda it: (it["ts"], it["dur"], it["name"], json.dumps(it["args"], sort_keys=True))
     turns = [it for it in events if it["ph"] == "X"]
-    of_processors = [it for it in turns if it["tid"] <= boot.processors and "thread" in it["args"]]
     of_threads = [it for it in turns if it["tid"] > boot.processors]
-    if sorted(map(key, of_processors)) != sorted(map(key, of_threads)):
-        yield "the threads have other turns than the processors"
+    if sorted(map(key, slices(turns, boot.processors))) != sorted(map(key, of_threads)):
+        yield "the threads have other turns than the processors, or at other times"
     for it in of_threads:
         if it["tid"] - 11 >= len(names) or it["args"]["thread"] != names[it["tid"] - 11]:
             yield f"a turn of another thread: {it}"
+        for woken in (str(it["args"].get(member, "")).split() for member in ("woken", "readers", "writers")):
+            if woken != [name for name in names if name in woken]:
+                yield f"other threads are woken than there are: {it}"
     if boot.report is None or boot.turns > MOST_TURNS:
         return
     done, heard = {}, []
@@ -142,4 +169,5 @@ def trace_faults(page, boot):
         return ["other members than those of a trace"]
     faults = [f"{fault}: {event}" for event in events if (fault := event_fault(event))]
     return faults or [
-        *track_faults(events, boot), *thread_faults(events, boot), *flow_faults(events, boot.processors)]
+        *track_faults(events, boot), *overlap_faults(events), *thread_faults(events, boot),
+        *flow_faults(events, boot.processors)]

@@ -11,7 +11,7 @@ use Rattle.boot_log.specs.Kept.{Kept}
 use Rattle.boot_log.specs.Lines.{passings}
 use Rattle.trace_events.specs.declared.tracks.ThreadTurn.{ThreadTurn}
 use Rattle.trace_events.specs.Events.{line_end_json, line_start_json, metadata_json}
-use Rattle.trace_events.specs.Tracks.{all_thread_turns, slice_start}
+use Rattle.trace_events.specs.Tracks.{all_thread_turns, slice_start, turn_of_line}
 use Rattle.trace_events.specs.Turns.{end_of, missed_events, processor_track, runs_events, runs_of, thread_track}
 
 -- the events of things, which are numbered from this number on
@@ -39,25 +39,25 @@ log_events plan from begins processor log =
     runs_events plan log.bytes begins processor 0 from (runs_of log.entries)
     ++ missed_events processor (end_of from log.entries) log.missed
 
--- the last nanosecond of a turn, or its start if it has none
-abbrev pub last_of : LineTurn → ℕ
-last_of turn = max turn.began (turn.ended - 1)
+-- the last nanosecond of a turn on the track of its thread, or its start there if it has none
+abbrev pub last_of : (ThreadTurn → ℕ) → LineTurn → ℕ
+last_of begins turn = max (begins (turn_of_line turn)) (turn.ended - 1)
 
 -- A line that passed, with this number: from the turn that said it to the turn that heard it, on the tracks of their
--- threads. It starts at the start of the one, and arrives at the end of the other
-abbrev pub passing_events : ℕ → Passing → List Json
-passing_events number passing =
-    line_start_json number (thread_track passing.said.thread) passing.said.began
-    ∷ line_end_json number (thread_track passing.heard.thread) (last_of passing.heard) ∷ []
+-- threads. It starts at the start of the one there, and arrives at the end of the other
+abbrev pub passing_events : (ThreadTurn → ℕ) → ℕ → Passing → List Json
+passing_events begins number passing =
+    line_start_json number (thread_track passing.said.thread) (begins (turn_of_line passing.said))
+    ∷ line_end_json number (thread_track passing.heard.thread) (last_of begins passing.heard) ∷ []
 
 -- The events of a boot after the name of its process: the names of all tracks, all turns of all processors, and all
 -- lines that passed
 abbrev pub boot_events : BootPlan → ℕ → List Kept → List Json
 boot_events plan from logs =
+    let begins : ThreadTurn → ℕ = slice_start (all_thread_turns from 0 logs) in
     numbered_events (λ processor log. processor_events processor) 0 logs
-    ++ numbered_events thread_events 0 plan.threads
-    ++ numbered_events (log_events plan from (slice_start (all_thread_turns from 0 logs))) 0 logs
-    ++ numbered_events passing_events 0 (passings plan from logs)
+    ++ numbered_events thread_events 0 plan.threads ++ numbered_events (log_events plan from begins) 0 logs
+    ++ numbered_events (passing_events begins) 0 (passings plan from logs)
 
 -- the events of a boot
 abbrev pub trace_events : BootPlan → ℕ → List Kept → List Json

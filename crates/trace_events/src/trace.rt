@@ -155,7 +155,7 @@ fn print_events<W: Write>(
     print_processors(alloc, logs, out)?;
     print_threads(alloc, plan.threads.as_slice(), out)?;
     print_logs(alloc, plan, &turns, from, logs, out)?;
-    print_flows(alloc, plan, from, logs, out)
+    print_flows(alloc, plan, &turns, from, logs, out)
 }
 
 /// Prints the trace of a boot as one JSON value: the name of the process, those of the tracks, the turns, and the lines

@@ -8,9 +8,9 @@ ghost use Rattle.std.specs.List.Sorted.{IsPartitionPoint, IsSortedBy};
 ghost use Rattle.boot_log.specs.Kept.{kept_in};
 ghost use Rattle.trace_events.specs.Tracks.{all_thread_turns, comes_before, element_of, element_taken, is_first_of};
 ghost use Rattle.trace_events.specs.Tracks.{last_end, precedes, slice_start, sorts_before, thread_turn_of};
-ghost use Rattle.trace_events.specs.Tracks.{thread_turns};
+ghost use Rattle.trace_events.specs.Tracks.{thread_turns, turn_of_line};
 
-use boot_log::{Did, Entry, Log};
+use boot_log::{Did, Entry, LineTurn, Log};
 use event_theory::OutOfMemory;
 use std::alloc::Global;
 use std::marker::Model;
@@ -106,6 +106,19 @@ pub(crate) fn thread_turn_of(
             ended: entry.at,
         }),
         None => None,
+    }
+}
+
+/// The turn of a line, as a turn of its thread.
+pub(crate) fn turn_of_line(line: &LineTurn) -> ThreadTurn
+    ensures { result ≡ turn_of_line line.now }
+{
+    ThreadTurn {
+        thread: line.thread.number(),
+        processor: line.processor,
+        number: line.turn,
+        began: line.began,
+        ended: line.ended,
     }
 }
 

@@ -1,8 +1,9 @@
 use Rattle.std.proofs.Common.{ℕ, List, Option, drop}
 use Rattle.trace_events.specs.Documents.{Prints}
 use Rattle.trace_events.specs.Traces.{numbered_events, passing_events}
+use Rattle.trace_events.specs.Tracks.{slice_start}
 use Rattle.trace_events.proofs.flows.print_passings.Given as goal
 
 -- Whoever prints the events of those that are left has printed the events of all.
 abbrev pub invariant-loop-number : goal.invariant-loop-number
-invariant-loop-number g l = (later : Option (List ℕ)) → Prints (g.W.Write.contents l.out) later (numbered_events passing_events l.number (drop l.number l.all)) → Prints (g.W.Write.contents l.fn.out) later (numbered_events passing_events 0 l.all)
+invariant-loop-number g l = (later : Option (List ℕ)) → Prints (g.W.Write.contents l.out) later (numbered_events (passing_events (slice_start l.turns)) l.number (drop l.number l.all)) → Prints (g.W.Write.contents l.fn.out) later (numbered_events (passing_events (slice_start l.turns)) 0 l.all)

@@ -1,6 +1,7 @@
 //! Traces of a few turns: the turns, the lines that pass, and the whole text.
 
 mod flows;
+mod passings;
 mod turns;
 mod whole;
 

@@ -1,5 +1,6 @@
 -- The order of all processors' blocks by the clock.
-use Rattle.std.specs.Prelude.{◌≡◌, ℕ, ◌<◌, ◌≤◌, ◌==◌, ◌⊎◌, List, length, take, map, get_or, Option, Some, None, IfSome}
+use Rattle.std.specs.Prelude.{◌≡◌, ℕ, ◌+◌, ◌-◌, ◌<◌, ◌≤◌, ◌==◌, ◌⊎◌, List, length, take, map, get_or}
+use Rattle.std.specs.Prelude.{Option, Some, None, IfSome}
 use Rattle.std.specs.List.{All, filter, slice_get}
 use Rattle.boot_picture.specs.declared.blocks.Block.{Block}
 use Rattle.std.specs.List.Sorted.{IsNonDecreasingBy}
@@ -41,6 +42,10 @@ ended (Some track) turn = end_of (slice_get track.log.now.entries turn)
 -- when the first turn of a block ended
 abbrev pub time_of : List Track → Ordered → ℕ
 time_of tracks o = ended (slice_get tracks o.processor) o.block.first
+
+-- when the last turn of a block ended
+abbrev pub last_time_of : List Track → Ordered → ℕ
+last_time_of tracks o = ended (slice_get tracks o.processor) (o.block.first + o.block.turns - 1)
 
 -- the turns are in the order of the clock
 abbrev pub AreInTime : List Entry → Type 0

@@ -1,10 +1,10 @@
 //! The places of blocks: a column for each, in the order of the clock, or by the time itself.
 
-ghost use Rattle.std.specs.Prelude.{◌≡◌, ◌≤◌, ◌<◌, length, IfOk};
-ghost use Rattle.std.specs.List.{All};
-ghost use Rattle.boot_picture.specs.Places.{IsWide, ArePlaced, blocks_of};
+ghost use Rattle.std.specs.Prelude.{◌≡◌, ◌≤◌, ◌<◌, max, true, false, length, IfOk};
+ghost use Rattle.std.specs.List.{All, AllPairs};
+ghost use Rattle.boot_picture.specs.Places.{ArePlaced, IsBefore, IsWide, blocks_of, left_place, place, scale_of};
 
-use crate::order::{Ordered, Track};
+use crate::order::{Ordered, Track, ended, last_time_of, time_of};
 use crate::wording::{Wording, words_of};
 use boot_data::BootPlan;
 use boot_log::{Entry, Log};
@@ -60,9 +60,10 @@ pub(crate) struct Scale {
 }
 
 impl Scale {
-    /// The place of a time. A time after the last one that is shown is no farther to the right than a picture is wide.
+    /// The place of a time. No place is past the right side of the widest picture.
     pub(crate) fn place(&self, at: u64) -> u32
-        ensures { result ≤ 48160 }
+        ensures exact { result ≡ place self.now at }
+        ensures most { result ≤ 48160 }
     {
         let passed = u128::from(at.saturating_sub(self.from));
         let along = passed * u128::from(self.width) / u128::from(self.span.max(1));
@@ -117,7 +118,7 @@ fn place_in_turns(
 ) -> Result<Vec<Placed>, OutOfMemory>
     requires few { length order.now ≤ 2000 }
     requires processors { All (λ o. o.processor < length tracks.now) order.now }
-    ensures { IfOk result (λ all. ArePlaced order.now all.items) }
+    ensures { IfOk result (λ all. ArePlaced false tracks.now order.now all.items) }
 {
     let mut all = Vec::new(alloc);
     let mut left = LEFT;
@@ -145,7 +146,8 @@ pub(crate) fn is_idle(tracks: &[Track], ordered: &Ordered) -> bool {
 
 /// The right side of a block. A block of idle turns is stretched up to where the next block of its processor begins.
 fn stretched(bounds: Bounds, next: u32, idle: bool) -> u32
-    ensures { bounds.right ≤ result }
+    ensures least { bounds.right ≤ result }
+    ensures most { result ≤ max bounds.right next }
 {
     if idle {
         next.saturating_sub(GAP).max(bounds.right)
@@ -160,8 +162,10 @@ fn stretched(bounds: Bounds, next: u32, idle: bool) -> u32
 fn stretch(alloc: Global, tracks: &[Track], all: &mut [Placed]) -> Result<(), OutOfMemory>
     requires processors { All (λ placed. placed.ordered.processor < length tracks.now) all.old }
     requires wide { All IsWide all.old }
+    requires turns { AllPairs IsBefore all.old }
     ensures blocks { blocks_of all.new ≡ blocks_of all.old }
     ensures wide { All IsWide all.new }
+    ensures turns { AllPairs IsBefore all.new }
 {
     let mut nexts = vec![in alloc; right_of(all).saturating_add(GAP); tracks.len()]?;
     for number in (0..all.len()).rev() {
@@ -187,50 +191,25 @@ pub(crate) fn right_of(all: &[Placed]) -> u32
 
 /// The left side of a block: when the turn before it had ended. No log has the start of a first turn, so the first
 /// block of a processor begins as far before its end as there is space before the first end of all.
-fn left_of(scale: &Scale, track: &Track, ordered: &Ordered) -> u32
-    ensures { result ≤ 48160 }
+fn left_of(scale: &Scale, tracks: &[Track], ordered: &Ordered) -> u32
+    ensures exact { result ≡ left_place tracks.now scale.now ordered.now }
+    ensures most { result ≤ 48160 }
 {
     if ordered.block.first == 0 {
-        return scale
-            .place(first_end_of(track, ordered))
-            .saturating_sub(LEAD);
+        return scale.place(time_of(tracks, ordered)).saturating_sub(LEAD);
     }
-    match track.log.entries().get(ordered.block.first - 1) {
-        Some(entry) => scale.place(entry.at),
-        None => LEFT,
-    }
-}
-
-/// When the first turn of a block ended.
-fn first_end_of(track: &Track, ordered: &Ordered) -> u64 {
-    match track.log.entries().get(ordered.block.first) {
-        Some(entry) => entry.at,
-        None => u64::MAX,
-    }
-}
-
-/// When the last turn of a block ended.
-fn end_of(track: &Track, ordered: &Ordered) -> u64 {
-    let last = ordered
-        .block
-        .first
-        .saturating_add(ordered.block.turns)
-        .saturating_sub(1);
-    match track.log.entries().get(last) {
-        Some(entry) => entry.at,
-        None => 0,
-    }
+    scale.place(ended(tracks, ordered.processor, ordered.block.first - 1))
 }
 
 /// The times of these blocks, from the first end of a turn on.
-pub(crate) fn scale_of(tracks: &[Track], order: &[Ordered]) -> Scale {
+pub(crate) fn scale_of(tracks: &[Track], order: &[Ordered]) -> Scale
+    ensures { result ≡ scale_of tracks.now order.now }
+{
     let mut from = u64::MAX;
     let mut to = 0;
     for ordered in order {
-        if let Some(track) = tracks.get(ordered.processor) {
-            from = from.min(first_end_of(track, ordered));
-            to = to.max(end_of(track, ordered));
-        }
+        from = from.min(time_of(tracks, ordered));
+        to = to.max(last_time_of(tracks, ordered));
     }
     let width = (order.len() as u64).saturating_mul(AVERAGE);
     Scale {
@@ -250,14 +229,14 @@ fn place_in_time(
     order: &[Ordered],
 ) -> Result<Vec<Placed>, OutOfMemory>
     requires { All (λ o. o.processor < length tracks.now) order.now }
-    ensures { IfOk result (λ all. ArePlaced order.now all.items) }
+    ensures { IfOk result (λ all. ArePlaced true tracks.now order.now all.items) }
 {
     let scale = scale_of(tracks, order);
     let mut all = Vec::new(alloc);
     for ordered in order {
         let track = &tracks[ordered.processor];
-        let left = left_of(&scale, track, ordered);
-        let right = scale.place(end_of(track, ordered)).max(left + 2);
+        let left = left_of(&scale, tracks, ordered);
+        let right = scale.place(last_time_of(tracks, ordered)).max(left + 2);
         all.push(Placed {
             ordered: *ordered,
             bounds: Bounds { left, right },
@@ -279,7 +258,7 @@ pub(crate) fn place_all(
 ) -> Result<Vec<Placed>, OutOfMemory>
     requires few { length order.now ≤ 2000 }
     requires processors { All (λ o. o.processor < length tracks.now) order.now }
-    ensures { IfOk result (λ all. ArePlaced order.now all.items) }
+    ensures { IfOk result (λ all. ArePlaced by_time tracks.now order.now all.items) }
 {
     if by_time {
         return place_in_time(alloc, plan, tracks, order);

@@ -1,11 +1,11 @@
 //! The order of all processors' blocks by the clock.
 
-ghost use Rattle.std.specs.Prelude.{◌≡◌, ◌<◌, ◌⊎◌, length, Some, None, IfOk, IfSome};
-ghost use Rattle.std.specs.List.{AllZip};
+ghost use Rattle.std.specs.Prelude.{◌≡◌, ◌<◌, ◌≤◌, ◌+◌, ◌⊎◌, ℕ, length, Some, None, IfOk, IfSome};
+ghost use Rattle.std.specs.List.{AllZip, slice_get};
 ghost use Rattle.boot_log.specs.Kept.{kept_in};
 ghost use Rattle.boot_picture.specs.declared.order.Ordered.{Ordered};
 ghost use Rattle.boot_picture.specs.Orders.{AreUsed, IsLeast, IsNextIn, IsNotAfter, IsOrderOf, IsTrackOf, IsUsed};
-ghost use Rattle.boot_picture.specs.Orders.{time_of};
+ghost use Rattle.boot_picture.specs.Orders.{ended, last_time_of, time_of};
 
 use crate::blocks::{Block, blocks_of};
 use boot_log::Log;
@@ -41,17 +41,33 @@ pub(crate) fn tracks_of<'a>(alloc: Global, logs: &[&'a Log]) -> Result<Vec<Track
     Ok(tracks)
 }
 
-/// When the first turn of a block ended. If there is no such turn, the time is 0.
-pub(crate) fn time_of(tracks: &[Track], ordered: &Ordered) -> u64
-    ensures { result ≡ time_of tracks.now ordered.now }
+/// When a turn of a processor ended, by its number. If there is no such turn, the time is 0.
+pub(crate) fn ended(tracks: &[Track], processor: usize, turn: usize) -> u64
+    ensures time { result ≡ ended (slice_get tracks.now processor) turn }
+    ensures past { (n : ℕ) → usize.MAX ≤ n + 1 → ended (slice_get tracks.now processor) n ≡ 0 }
 {
-    let Some(track) = tracks.get(ordered.processor) else {
+    let Some(track) = tracks.get(processor) else {
         return 0;
     };
-    match track.log.entries().get(ordered.block.first) {
+    match track.log.entries().get(turn) {
         Some(entry) => entry.at,
         None => 0,
     }
+}
+
+/// When the first turn of a block ended.
+pub(crate) fn time_of(tracks: &[Track], ordered: &Ordered) -> u64
+    ensures { result ≡ time_of tracks.now ordered.now }
+{
+    ended(tracks, ordered.processor, ordered.block.first)
+}
+
+/// When the last turn of a block ended.
+pub(crate) fn last_time_of(tracks: &[Track], ordered: &Ordered) -> u64
+    ensures { result ≡ last_time_of tracks.now ordered.now }
+{
+    let end = ordered.block.first.saturating_add(ordered.block.turns);
+    ended(tracks, ordered.processor, end.saturating_sub(1))
 }
 
 /// The next block of a processor, if there is one. `nexts` has the number of the next block of each processor.

@@ -195,7 +195,7 @@ fn joined(below: Items<Shape>, above: Items<Shape>) -> Result<Items<Shape>, OutO
 /// Condition: there are at most eight processors.
 pub fn picture_of(alloc: Global, boot: &Boot, logs: &[&Log]) -> Result<Picture, OutOfMemory>
     requires { length logs.now ≤ 8 }
-    ensures { IfOk result (ShowsTurns (kept_in logs.now)) }
+    ensures { IfOk result (ShowsTurns (kept_in logs.now) boot.now.by_time) }
 {
     let tracks = tracks_of(alloc, logs)?;
     let order = order_of(alloc, &tracks)?;

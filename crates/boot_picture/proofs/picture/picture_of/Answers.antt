@@ -39,7 +39,8 @@ add_boxes-requires-clause-processors c =
     let order = c.in_ok-order.order.items in
     let all = c.in_ok-placed.placed.items in
     let ordered : IsOrderOf tracks order = subst (λ (ts : List Track). IsOrderOf ts order) c.deref.ensures.value c.in_ok-order.ensures in
-    let placed : ArePlaced order all = subst (λ (os : List Ordered). ArePlaced os all) c.deref-3.ensures.value c.in_ok-placed.ensures in
+    let by_time = c.args.boot.now.by_time in
+    let placed : ArePlaced by_time tracks order all = subst (λ (ts : List Track). ArePlaced by_time ts order all) c.deref-2.ensures.value (subst (λ (os : List Ordered). ArePlaced by_time c.deref-2.result.now os all) c.deref-3.ensures.value c.in_ok-placed.ensures) in
     let known = processors_of (length tracks) all order placed.blocks ordered.of_tracks in
     subst (λ (ps : List Placed). All (λ (p : Placed). p.ordered.processor < length c.deref-7.result.now) ps) (sym c.deref-8.ensures.value) (subst (λ (ts : List Track). All (λ (p : Placed). p.ordered.processor < length ts) all) (sym c.deref-7.ensures.value) known)
 
@@ -55,7 +56,8 @@ returns c =
     let frame = c.frame_of-frame.result in
     let drawn = c.in_ok-add_boxes.ensures in
     let ordered : IsOrderOf tracks order = subst (λ (ts : List Track). IsOrderOf ts order) c.deref.ensures.value c.in_ok-order.ensures in
-    let placed : ArePlaced order all = subst (λ (os : List Ordered). ArePlaced os all) c.deref-3.ensures.value c.in_ok-placed.ensures in
+    let by_time = c.args.boot.now.by_time in
+    let placed : ArePlaced by_time tracks order all = subst (λ (ts : List Track). ArePlaced by_time ts order all) c.deref-2.ensures.value (subst (λ (os : List Ordered). ArePlaced by_time c.deref-2.result.now os all) c.deref-3.ensures.value c.in_ok-placed.ensures) in
     let wide : All (λ (p : Placed). p.bounds.right ≤ frame.width) all = subst (λ (ps : List Placed). All (λ (p : Placed). p.bounds.right ≤ frame.width) ps) c.deref-4.ensures.value c.frame_of-frame.ensures.wide in
     let many : length tracks ≡ length logs = AllZip-long IsTrackOf logs tracks c.in_ok-tracks.ensures in
     let len = c.len.ensures in
@@ -68,6 +70,7 @@ returns c =
       tracks_of = c.in_ok-tracks.ensures;
       all = all;
       order_of = subst (λ (os : List Ordered). IsOrderOf tracks os) (sym placed.blocks) ordered;
+      places = placed.places;
       inside = λ k d within. record { wide = placed.wide k d within; ends = wide k d within };
       below = c.add_ground.new.canvas;
       boxes = drawn.0;

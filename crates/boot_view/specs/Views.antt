@@ -1,5 +1,5 @@
 -- The page of a boot that was recorded.
-use Rattle.std.specs.Prelude.{◌≡◌, ℕ, List, [], length, map, min, Option, Some}
+use Rattle.std.specs.Prelude.{◌≡◌, ℕ, Bool, true, false, List, [], length, map, min, Option, Some}
 use Rattle.std.specs.List.{All}
 use Rattle.std.specs.Io.KnownBytes.{Appends}
 use Rattle.boot_data.specs.declared.boot_plan.BootPlan.{BootPlan}
@@ -54,16 +54,16 @@ pub record HasFrontOf {C : Type 0} (says : ℕ → ℕ → Type 0) (from : ℕ) 
 abbrev pub logs_in : {C : Type 0} → List (Recorder C) → List Kept
 logs_in recorders = map (λ recorder. recorder.log) recorders
 
--- the page is the text of a picture that shows the turns of these logs
-pub record IsPictureOf (logs : List Kept) (page : List ℕ) : Type 0 where
+-- the page is the text of a picture that shows the turns of these logs, by the time or not
+pub record IsPictureOf (by_time : Bool) (logs : List Kept) (page : List ℕ) : Type 0 where
   pub picture : Picture
-  pub shows : ShowsTurns logs picture
+  pub shows : ShowsTurns logs by_time picture
   pub page_is : page ≡ picture_text picture
 
 -- the page is this view of the turns of these logs; a trace starts at this time, and has the plan's names
 abbrev pub IsPageOf : View → BootPlan → ℕ → List Kept → List ℕ → Type 0
-IsPageOf InOrder plan from logs page = IsPictureOf logs page
-IsPageOf ByTime plan from logs page = IsPictureOf logs page
+IsPageOf InOrder plan from logs page = IsPictureOf false logs page
+IsPageOf ByTime plan from logs page = IsPictureOf true logs page
 IsPageOf Trace plan from logs page = page ≡ trace_text (trace_events plan from logs)
 
 -- A boot of what was read came to this end, and the page shows the turns that its recorders had when they came back,

@@ -76,17 +76,19 @@ fn trace_of<C: TurnClock>(
     }
 }
 
-/// The page with the picture of a boot that has ended.
+/// The page with the picture of a boot that has ended, with the turns at their times or not.
 fn drawn_of<C: TurnClock>(
     alloc: Global,
     boot: &Boot,
+    by_time: bool,
     gates: &[Recorder<C>],
 ) -> Result<Vec<u8>, OutOfMemory>
     requires { length gates.now ≤ 8 }
-    ensures { IfOk result (λ page. IsPictureOf (logs_in gates.now) page.items) }
+    ensures { IfOk result (λ page. IsPictureOf by_time (logs_in gates.now) page.items) }
 {
     let logs = logs_of(alloc, gates)?;
-    let picture = picture_of(alloc, boot, &logs)?;
+    let drawn = Boot { by_time, ..*boot };
+    let picture = picture_of(alloc, &drawn, &logs)?;
     let mut page = Vec::new(alloc);
     match print_picture(&picture, &mut page) {
         Ok(()) => Ok(page),
@@ -106,8 +108,8 @@ fn page_of<C: TurnClock>(
     ensures { IfOk result (λ page. IsPageOf view boot.now.plan.now from (logs_in gates.now) page.items) }
 {
     match view {
-        View::InOrder => drawn_of(alloc, boot, gates),
-        View::ByTime => drawn_of(alloc, boot, gates),
+        View::InOrder => drawn_of(alloc, boot, false, gates),
+        View::ByTime => drawn_of(alloc, boot, true, gates),
         View::Trace => trace_of(alloc, boot.plan, from, gates),
     }
 }
@@ -140,7 +142,8 @@ where
         plan,
         turns: command.turns,
         report: &report,
-        by_time: command.view == View::ByTime,
+        // the view says so
+        by_time: false,
     };
     let page = page_of(alloc, &boot, command.view, from, booted.gates())?;
     Ok((booted.ended(), page))

@@ -26,8 +26,6 @@ mod log;
 mod parts;
 mod passing;
 mod recorder;
-#[cfg(test)]
-mod tests;
 mod thread_queues;
 mod values;
 

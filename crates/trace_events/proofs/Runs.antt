@@ -5,8 +5,9 @@ use Rattle.std.specs.List.{prefix_len}
 use Rattle.boot_data.specs.declared.boot_plan.BootPlan.{BootPlan}
 use Rattle.boot_log.specs.declared.entry.Entry.{Entry}
 use Rattle.boot_log.specs.Idling.{is_idle}
+use Rattle.boot_log.specs.Kept.{end_of}
 use Rattle.trace_events.specs.declared.tracks.ThreadTurn.{ThreadTurn}
-use Rattle.trace_events.specs.Turns.{joined, runs_of, end_of, run_length, idle_event, run_events, runs_events}
+use Rattle.trace_events.specs.Turns.{joined, runs_of, run_length, idle_event, run_events, runs_events}
 
 -- how many turns after the first one are in its run
 abbrev after_first : Entry → List Entry → ℕ
@@ -37,14 +38,6 @@ run_first (entry ∷ entries) h = first_run entry entries
 pub some_first : (entries : List Entry) → 0 < length entries → 0 < run_length entries
 some_first [] h = absurd (omega arith)
 some_first (entry ∷ entries) h = omega arith
-
--- the end of the last turn
-pub end_last : (from : ℕ) (entries : List Entry) (last : Entry) → 0 < length entries → last ≡ get_or entries (length entries - 1) last → end_of from entries ≡ last.at
-end_last from [] last h is = absurd (omega arith)
-end_last from (entry ∷ []) last h is = ap (λ e. e.at) (sym is)
-end_last from (entry ∷ next ∷ entries) last h is =
-    let e : length (entry ∷ next ∷ entries) - 1 ≡ suc (length (next ∷ entries) - 1) = omega arith in
-    end_last entry.at (next ∷ entries) last (omega arith) (subst (λ n. last ≡ get_or (entry ∷ next ∷ entries) n last) e is)
 
 -- a run of idle turns is one event
 pub idle_run : (plan : BootPlan) (bytes : List ℕ) (begins : ThreadTurn → ℕ) (processor number from : ℕ) (run : List Entry) (first : Entry) → 0 < length run → first ≡ get_or run 0 first → is_idle first ≡ true

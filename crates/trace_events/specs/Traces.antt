@@ -7,12 +7,12 @@ use Rattle.boot_script.specs.Reports.{heard_text}
 use Rattle.json.specs.Json.{Json}
 use Rattle.boot_log.specs.declared.line_turn.LineTurn.{LineTurn}
 use Rattle.boot_log.specs.declared.passing.Passing.{Passing}
-use Rattle.boot_log.specs.Kept.{Kept}
+use Rattle.boot_log.specs.Kept.{Kept, end_of}
 use Rattle.boot_log.specs.Lines.{passings}
 use Rattle.trace_events.specs.declared.tracks.ThreadTurn.{ThreadTurn}
 use Rattle.trace_events.specs.Events.{line_end_json, line_start_json, metadata_json}
 use Rattle.trace_events.specs.Tracks.{all_thread_turns, slice_start, turn_of_line}
-use Rattle.trace_events.specs.Turns.{end_of, missed_events, processor_track, runs_events, runs_of, thread_track}
+use Rattle.trace_events.specs.Turns.{missed_events, processor_track, runs_events, runs_of, thread_track}
 
 -- the events of things, which are numbered from this number on
 abbrev pub numbered_events : {A : Type 0} → (ℕ → A → List Json) → ℕ → List A → List Json

@@ -6,7 +6,7 @@ use Rattle.boot_data.specs.declared.boot_plan.BootPlan.{BootPlan}
 use Rattle.json.specs.Json.{Json}
 use Rattle.boot_log.specs.declared.entry.Entry.{Entry}
 use Rattle.boot_log.specs.Idling.{is_idle}
-use Rattle.boot_log.specs.Kept.{part_of}
+use Rattle.boot_log.specs.Kept.{end_of, part_of}
 use Rattle.boot_log.specs.Values.{line_part}
 use Rattle.trace_events.specs.declared.tracks.ThreadTurn.{ThreadTurn}
 use Rattle.trace_events.specs.Events.{missed_json, turn_json}
@@ -62,11 +62,6 @@ abbrev pub idle_event : ℕ → ℕ → ℕ → ℕ → Json
 idle_event processor from until turns =
     turn_json (codes "idle") (processor_track processor) from until
     (numbered (codes "processor") processor ∷ numbered (codes "turns") turns ∷ [])
-
--- the time at the end of the last of these turns
-abbrev pub end_of : ℕ → List Entry → ℕ
-end_of from [] = from
-end_of from (entry ∷ entries) = end_of entry.at entries
 
 -- the turns that were missed after the last one that was kept, at whose end their number is shown
 abbrev pub missed_events : ℕ → ℕ → ℕ → List Json

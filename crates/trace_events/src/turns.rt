@@ -10,7 +10,7 @@ ghost use Rattle.trace_events.specs.Events.{turn_json};
 ghost use Rattle.trace_events.specs.TurnArgs.{turn_args};
 ghost use Rattle.trace_events.specs.TurnNames.{turn_name};
 ghost use Rattle.trace_events.specs.Tracks.{slice_start};
-ghost use Rattle.trace_events.specs.Turns.{end_of, idle_event, processor_track, run_events, run_length, runs_events};
+ghost use Rattle.trace_events.specs.Turns.{idle_event, processor_track, run_events, run_length, runs_events};
 ghost use Rattle.trace_events.specs.Turns.{runs_of, thread_track, turn_events};
 
 use crate::events::{begin_turn, end_args};
@@ -21,7 +21,7 @@ use crate::tracks::{ThreadTurns, thread_turn_of};
 use crate::turn_args::put_turn;
 use crate::turn_names::turn_name;
 use boot_data::BootPlan;
-use boot_log::{Entry, Log};
+use boot_log::{Entry, Log, end_of};
 use event_theory::OutOfMemory;
 use std::alloc::Global;
 use std::io::Write;
@@ -140,16 +140,6 @@ fn run_length(entries: &[Entry]) -> usize
         [] => 0,
         [first, rest @ ..] if first.is_idle() => 1 + idle_front(rest),
         _ => 1,
-    }
-}
-
-/// The time at the end of the last of these turns.
-pub(crate) fn end_of(from: u64, entries: &[Entry]) -> u64
-    ensures { result ≡ end_of from entries.now }
-{
-    match entries {
-        [.., last] => last.at,
-        [] => from,
     }
 }
 

@@ -2,6 +2,7 @@
 
 mod flows;
 mod passings;
+mod recorders;
 mod turns;
 mod whole;
 

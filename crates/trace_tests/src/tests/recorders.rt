@@ -1,6 +1,6 @@
 //! A recorder of turns that a test makes up, and when turns end.
 
-use crate::{Did, Entry, Log, Part, Recorder, end_of};
+use boot_log::{Did, Entry, Log, Part, Recorder, end_of};
 use event_theory::{Alarm, Element};
 use processor::{TurnGate, TurnOutcome, TurnResult};
 use std::io;

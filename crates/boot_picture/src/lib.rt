@@ -4,11 +4,17 @@
 //! lane for each thread, which shows the thread's places over time. The turns are in the order of the clock over all
 //! processors, or at their times.
 //!
-//! It is proved that each turn of a log is in one block, and that only idle turns share a block. The blocks are in the
-//! order of the clock if the turns of each log are, as a recorder's are. Each block that is shown has one box in the
-//! lane of its processor, whose title begins with the number of its first turn; all are shown unless there are more
-//! than 2,000. Not proved are the places along the lanes, the colours, the lanes of the threads, the arrows, the marks
-//! and the words. Which say an arrow comes from is defined in `boot_log`.
+//! It is proved that each turn of a log is in one block, and that only idle turns share a block. Each block that is
+//! shown has one box in the lane of its processor. The title of the box begins with the number of the block's first
+//! turn, its processor, and when this turn ended. All blocks are shown unless there are more than 2,000. If the turns
+//! of each log are in the order of the clock, as a recorder's are, the blocks are too, and no block that is left out
+//! comes before one that is shown.
+//!
+//! Each box is at least 2 wide and inside of the picture, and what is drawn upon it is text. If the places are by the
+//! time, a box lies between the ends of the turn before it and of its last turn, on one scale. Otherwise each box
+//! begins to the right of the one before it in the order, and no two boxes of a lane overlap. Not proved are the
+//! colours, the lanes of the threads, the arrows, the marks and all other words. Which say an arrow comes from is
+//! defined in `boot_log`.
 #![tactic(auto)]
 
 mod arrows;

@@ -1,6 +1,6 @@
 //! The lines that pass from a say to a hear.
 
-use super::{element, idle, log_of, show, stepped};
+use super::{NO_PART, element, idle, log_of, show, stepped};
 use boot_data::plan::QueueIndex;
 use boot_log::{Entry, HeardAnswer, Part, SaidAnswer, Tried};
 use event_theory::Element;
@@ -55,5 +55,29 @@ fn lines_pass_between_processors(rt: HostRuntime) -> Result<(), Fail> {
          \"ph\":\"f\",\"pid\":1,\"tid\":12,\"bp\":\"e\",\"id\":2,\"ts\":4.000}],\"displayTimeUnit\":\"ns\"}",
     ];
     assert!(rt; show(rt.alloc(), &[&said, &heard], &flows)?);
+    Ok(())
+}
+
+#[test]
+fn flows_are_within_the_slices_of_threads(rt: HostRuntime) -> Result<(), Fail> {
+    let (first, second) = (element(&rt, 0), element(&rt, 1));
+    let hi = Part { start: 0, len: 3 };
+    let pass = |at, thread| stepped(at, thread, Tried::Pass, Moved::Ready(true), NO_PART);
+    let one = [pass(2000, first), pass(4000, second)];
+    let other = [
+        idle(1500),
+        passed(3000, first, true, hi),
+        passed(4000, second, false, hi),
+    ];
+    let one = log_of(rt.alloc(), &one, b"")?;
+    let other = log_of(rt.alloc(), &other, b"hi\n")?;
+    // The say began at 1,500 on its processor, and the hear at 3,000.
+    let flows = [
+        "\"tid\":11,\"ts\":2.000,\"dur\":1.000,\"args\":{\"processor\":1,",
+        "\"tid\":12,\"ts\":4.000,\"dur\":0.000,\"args\":{\"processor\":1,",
+        "\"ph\":\"s\",\"pid\":1,\"tid\":11,\"id\":0,\"ts\":2.000},{\"name\":\"line\",\"cat\":\"line\",\"ph\":\"f\",\
+         \"pid\":1,\"tid\":12,\"bp\":\"e\",\"id\":0,\"ts\":4.000}],\"displayTimeUnit\":\"ns\"}",
+    ];
+    assert!(rt; show(rt.alloc(), &[&one, &other], &flows)?);
     Ok(())
 }

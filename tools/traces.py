@@ -12,6 +12,7 @@ from timelines import MOST_TURNS
 # The members of each kind of event in the trace event format of Chrome, besides those of all: name, cat, ph, pid, tid.
 ALL = {"name": str, "cat": str, "ph": str, "pid": int, "tid": int}
 TIME = decimal.Decimal
+NANOSECOND = TIME("0.001")
 KINDS = {
     "M": {"args": dict},
     "X": {"ts": TIME, "dur": TIME, "args": dict},
@@ -54,29 +55,60 @@ def once(pairs):
     return found
 
 
-def lines_at(turns, event, name):
-    """The queues and lines of the turns of this name that the end of an arrow is in."""
-    mine = (it for it in turns if it["tid"] == event["tid"] and it["name"] == name)
-    around = [it for it in mine if it["ts"] <= event["ts"] <= it["ts"] + it["dur"]]
-    return {(it["args"]["queue"], it["args"]["line"]) for it in around}
+def ended(turn):
+    return turn["ts"] + turn["dur"]
 
 
-def flow_faults(events, processors):
-    """What is wrong with the arrows: each leads from a say to a hear of the same line, on the tracks of their threads,
-    and of each line of each queue there are as many as were both put and taken."""
-    turns, ends = [it for it in events if it["ph"] == "X" and it["tid"] > processors], {}
+def slices(turns, processors):
+    """The turns that had a thread at hand, by the clock at their ends, and at one time by the processor and the turn.
+    Each has with it when it begins on the track of its thread: it has begun, and the thread's turns before it have
+    ended."""
+    last = {}
+    places = enumerate(it for it in turns if it["tid"] <= processors and "thread" in it["args"])
+    for _, turn in sorted(places, key=lambda place: (ended(place[1]), place[1]["tid"], place[0])):
+        thread = turn["args"]["thread"]
+        begin = max(turn["ts"], last.get(thread, 0))
+        last[thread] = ended(turn)
+        yield turn, begin
+
+
+def passed_lines(events, boot):
+    """The says and the hears that an arrow joins, with their begins on the tracks of their threads: the nth hear of a
+    line from a queue and the nth say of this line into the queue, by the clock, if the say began no later than the hear
+    ended. Only threads use the queue, each of their texts is one line, and each processor has all its turns up to
+    both."""
+    words = [it.split(" ") for it in boot.script.split("\n")]
+    others = {name for it in words if it[0] in ("pump", "switch") for name in (*it[2:4], *it[5::2])}
+    others |= {it[1] for it in words if it[0] == "say" and "\\0A" in " ".join(it[2:])}
+    missed = [it["ts"] for it in events if it["ph"] == "i"]
+    passed = {name: collections.defaultdict(list) for name in ("say put", "hear taken")}
+    for turn, begin in slices([it for it in events if it["ph"] == "X"], boot.processors):
+        args = turn["args"]
+        if turn["name"] in passed and "." not in args["queue"] and args["queue"] not in others:
+            if all(ended(turn) < at for at in missed):
+                passed[turn["name"]][args["queue"], args["line"]].append((turn, begin))
+    pairs = [pair for line, hears in passed["hear taken"].items() for pair in zip(passed["say put"][line], hears)]
+    return [(say, hear) for say, hear in pairs if say[0]["ts"] <= ended(hear[0])]
+
+
+def flow_faults(events, boot):
+    """What is wrong with the arrows: each has a beginning and an end, and they are those of the lines that passed, from
+    the start of the say to the last nanosecond of the hear, on the tracks of their threads."""
+    tracks, ends, found = {name: 11 + at for at, name in enumerate(boot.threads())}, {}, []
     for event in (it for it in events if it["ph"] in "sf"):
         ends.setdefault(event["id"], []).append(event)
     for number, pair in ends.items():
         both = sorted(pair, key=lambda it: it["ph"], reverse=True)
         if [it["ph"] for it in both] != ["s", "f"] or len({(it["name"], it["cat"]) for it in both}) != 1:
             yield f"arrow {number} has not one beginning and one end"
-        elif not lines_at(turns, both[0], "say put") & lines_at(turns, both[1], "hear taken"):
-            yield f"arrow {number} leads from no say to a hear of its line: {both}"
-    put, taken = (collections.Counter((it["args"]["queue"], it["args"]["line"]) for it in turns if it["name"] == name)
-                  for name in ("say put", "hear taken"))
-    if len(ends) != sum((put & taken).values()):
-        yield f"{len(ends)} lines passed, and not {sum((put & taken).values())}"
+        else:
+            found.append(tuple(it[part] for it in both for part in ("tid", "ts")))
+    track = lambda turn: tracks.get(turn["args"]["thread"])
+    wanted = [(track(say), begin, track(hear), max(start, ended(hear) - NANOSECOND))
+              for (say, begin), (hear, start) in passed_lines(events, boot)]
+    arrows, lines = collections.Counter(found), collections.Counter(wanted)
+    yield from (f"an arrow of no line that passed: {it}" for it in arrows - lines)
+    yield from (f"no arrow of a line that passed: {it}" for it in lines - arrows)
 
 
 def track_faults(events, boot):
@@ -100,24 +132,11 @@ def track_faults(events, boot):
         yield "the processors begin at different times"
 
 
-def slices(turns, processors):
-    """The turns of threads as they have to be on the tracks of their threads, by those of the processors. None begins
-    before the thread's last turn has ended: the last by the clock, and at one time by the processor and the turn."""
-    ended = {}
-    places = enumerate(it for it in turns if it["tid"] <= processors and "thread" in it["args"])
-    order = lambda place: (place[1]["ts"] + place[1]["dur"], place[1]["tid"], place[0])
-    for _, turn in sorted(places, key=order):
-        thread, end = turn["args"]["thread"], turn["ts"] + turn["dur"]
-        begin = max(turn["ts"], ended.get(thread, 0))
-        ended[thread] = end
-        yield {**turn, "ts": begin, "dur": end - begin}
-
-
 def overlap_faults(events):
     """The turns that overlap on a track: each has to begin when the one before it has ended, or later."""
     tracks = {}
     for it in (it for it in events if it["ph"] == "X"):
-        tracks.setdefault(it["tid"], []).append((it["ts"], it["ts"] + it["dur"], it["name"]))
+        tracks.setdefault(it["tid"], []).append((it["ts"], ended(it), it["name"]))
     for track, turns in tracks.items():
         turns.sort()
         for one, other in zip(turns, turns[1:]):
@@ -136,7 +155,8 @@ def thread_faults(events, boot):
     key = lambda it: (it["ts"], it["dur"], it["name"], json.dumps(it["args"], sort_keys=True))
     turns = [it for it in events if it["ph"] == "X"]
     of_threads = [it for it in turns if it["tid"] > boot.processors]
-    if sorted(map(key, slices(turns, boot.processors))) != sorted(map(key, of_threads)):
+    wanted = [{**turn, "ts": begin, "dur": ended(turn) - begin} for turn, begin in slices(turns, boot.processors)]
+    if sorted(map(key, wanted)) != sorted(map(key, of_threads)):
         yield "the threads have other turns than the processors, or at other times"
     for it in of_threads:
         if it["tid"] - 11 >= len(names) or it["args"]["thread"] != names[it["tid"] - 11]:
@@ -170,4 +190,4 @@ def trace_faults(page, boot):
     faults = [f"{fault}: {event}" for event in events if (fault := event_fault(event))]
     return faults or [
         *track_faults(events, boot), *overlap_faults(events), *thread_faults(events, boot),
-        *flow_faults(events, boot.processors)]
+        *flow_faults(events, boot)]

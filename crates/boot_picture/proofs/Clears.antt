@@ -6,7 +6,7 @@ use Rattle.std.proofs.lemmas.List.Elements.{All-push}
 use Rattle.std.proofs.lemmas.Result.{on_ok_weaker}
 use Rattle.event_theory.specs.declared.refusal.OutOfMemory.{OutOfMemory}
 use Rattle.svg.specs.declared.shapes.Shape.{Shape}
-use Rattle.boot_picture.specs.Clear.{DrawsAbove, DrawsBelow, DrawsTexts, IsClear}
+use Rattle.boot_picture.specs.Clear.{DrawsAbove, DrawsBelow, DrawsGround, DrawsTexts, IsClear, IsGround}
 
 -- one more part that is clear of the lanes
 clear_more : (top bottom : ℕ) (old new : List Shape) (shape : Shape) → new ≡ old ++ shape ∷ [] → IsClear top bottom shape → All (IsClear top bottom) old → All (IsClear top bottom) new
@@ -34,3 +34,11 @@ above_then_text side a b c text first drawn clear = λ bottom all. clear_more si
 
 pub above_then : (side : ℕ) (a b c : List Shape) → DrawsAbove side a b → DrawsAbove side b c → DrawsAbove side a c
 above_then side a b c first later = λ bottom all. later bottom (first bottom all)
+
+-- no box is drawn, and one more part that is none
+pub ground_more : (width height : ℕ) (a b c : List Shape) (shape : Shape) → DrawsGround width height a b → c ≡ b ++ shape ∷ [] → IsGround width height shape → DrawsGround width height a c
+ground_more width height a b c shape first drawn ground = λ all. subst (λ (shapes : List Shape). All (IsGround width height) shapes) (sym drawn) (All-push (IsGround width height) b shape (first all) ground)
+
+-- no box is drawn, and none by a call whose answer is returned
+pub then_ground : (width height : ℕ) (result : Result (Unit {0}) OutOfMemory) (a b c : List Shape) → DrawsGround width height a b → OnOk result (DrawsGround width height b c) → OnOk result (DrawsGround width height a c)
+then_ground width height result a b c first h = on_ok_weaker result (λ later all. later (first all)) h

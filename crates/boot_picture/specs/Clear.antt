@@ -1,6 +1,7 @@
--- Parts that fill nothing in the lanes.
-use Rattle.std.specs.Prelude.{ℕ, ◌≤◌, ◌+◌, ◌-◌, ◌⊎◌, min, max, List}
+-- Parts that fill nothing in the lanes, and those that are no boxes.
+use Rattle.std.specs.Prelude.{◌≡◌, ℕ, ◌≤◌, ◌+◌, ◌-◌, ◌⊎◌, min, max, List}
 use Rattle.std.specs.List.{All}
+use Rattle.svg.specs.declared.shapes.Colour.TheVariants.{White}
 use Rattle.svg.specs.declared.shapes.Shape.{Shape}
 use Rattle.svg.specs.declared.shapes.Shape.TheVariants.{Cell, Bar, Down, Up, Line, Titled, Words}
 
@@ -34,3 +35,18 @@ DrawsAbove side old new = (bottom : ℕ) → All (IsClear side bottom) old → A
 -- texts are drawn, and parts outside of the lanes: these are clear if they were
 abbrev pub DrawsOutside : ℕ → ℕ → List Shape → List Shape → Type 0
 DrawsOutside top bottom old new = All (IsClear top bottom) old → All (IsClear top bottom) new
+
+-- the part is no box: a text, a bar that is 1 wide or 1 high, or the white ground of a picture of this size
+abbrev pub IsGround : ℕ → ℕ → Shape → Type 0
+IsGround width height (Cell x y wide high fill) = ⊥
+IsGround width height (Bar x y wide high fill) =
+    ((wide ≡ 1) ⊎ (high ≡ 1)) ⊎ (Bar x y wide high fill ≡ Bar 0 0 width height White)
+IsGround width height (Down x y) = ⊥
+IsGround width height (Up x y) = ⊥
+IsGround width height (Line x1 y1 x2 y2 ink) = ⊥
+IsGround width height (Titled x y wide high fill title) = ⊥
+IsGround width height (Words x y anchor ink text) = Unit {0}
+
+-- no box is drawn: if there was none before, there is none
+abbrev pub DrawsGround : ℕ → ℕ → List Shape → List Shape → Type 0
+DrawsGround width height old new = All (IsGround width height) old → All (IsGround width height) new

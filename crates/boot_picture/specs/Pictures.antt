@@ -6,7 +6,7 @@ use Rattle.svg.specs.declared.shapes.Picture.{Picture}
 use Rattle.boot_log.specs.Kept.{Kept}
 use Rattle.boot_picture.specs.declared.columns.Placed.{Placed}
 use Rattle.boot_picture.specs.declared.order.Track.{Track}
-use Rattle.boot_picture.specs.Clear.{IsClear}
+use Rattle.boot_picture.specs.Clear.{IsClear, IsGround}
 use Rattle.boot_picture.specs.Orders.{IsTrackOf, IsOrderOf}
 use Rattle.boot_picture.specs.Lanes.{IsBoxOf}
 use Rattle.boot_picture.specs.Places.{AreAtPlaces, IsInside, blocks_of}
@@ -18,8 +18,8 @@ lanes_end top processors = top + processors * 60
 -- The picture shows the turns of these logs, by the time or not. Each turn is in one block of its processor's track:
 -- alone, or with other idle turns in a row. The first blocks of each track have places in the picture, and all do unless
 -- there are 2,000 in all. Each has a box at its place, in its processor's lane, whose title names the block. Besides the
--- boxes the picture has only the parts below them and those upon them, and none of the latter fills anything in the
--- lanes
+-- boxes the picture has only the parts below them, none of which is a box, and those upon them, none of which fills
+-- anything in the lanes
 pub record ShowsTurns (logs : List Kept) (by_time : Bool) (picture : Picture) : Type 0 where
   pub tracks : List Track
   pub tracks_of : AllZip IsTrackOf logs tracks
@@ -32,6 +32,7 @@ pub record ShowsTurns (logs : List Kept) (by_time : Bool) (picture : Picture) : 
   pub above : List Shape
   pub top : ℕ
   pub boxes_of : AllZip (IsBoxOf tracks top) all boxes
+  pub ground : All (IsGround picture.width picture.height) below
   pub lanes_inside : lanes_end top (length logs) ≤ picture.height
   pub lanes_clear : All (IsClear top (lanes_end top (length logs))) above
   pub parts : picture.shapes ≡ (below ++ boxes) ++ above

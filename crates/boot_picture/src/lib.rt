@@ -10,11 +10,11 @@
 //! of each log are in the order of the clock, as a recorder's are, the blocks are too, and no block that is left out
 //! comes before one that is shown.
 //!
-//! Each box is at least 2 wide and inside of the picture, and what is drawn upon it is text. If the places are by the
-//! time, a box lies between the ends of the turn before it and of its last turn, on one scale. Otherwise each box
-//! begins to the right of the one before it in the order, and no two boxes of a lane overlap. Not proved are the
-//! colours, the lanes of the threads, the arrows, the marks and all other words. Which say an arrow comes from is
-//! defined in `boot_log`.
+//! Each box is at least 2 wide and inside of the picture, and what is drawn upon it is text. Below the boxes there is
+//! no other box: only the white ground, texts and thin lines. If the places are by the time, a box lies between the ends
+//! of the turn before it and of its last turn, on one scale. Otherwise each box begins to the right of the one before it
+//! in the order, and no two boxes of a lane overlap. Not proved are the colours, the lanes of the threads, the arrows,
+//! the marks and all other words. Which say an arrow comes from is defined in `boot_log`.
 #![tactic(auto)]
 
 mod arrows;

@@ -1,7 +1,7 @@
 //! The marks above the lanes: the alarms that were fired, and the times.
 
 ghost use Rattle.std.specs.Prelude.{OnOk};
-ghost use Rattle.boot_picture.specs.Clear.{DrawsAbove};
+ghost use Rattle.boot_picture.specs.Clear.{DrawsAbove, DrawsGround};
 
 use crate::columns::{Bounds, LETTER, Placed, Scale, entry_of};
 use crate::frame::{Frame, NAMES};
@@ -150,12 +150,32 @@ fn time_words(alloc: Global, step: u64, passed: u64) -> Result<Items<u8>, OutOfM
     Ok(phrase.end())
 }
 
+/// Draws a time at its place along the upper side, if its words fit, and a thin line through the lanes there.
+fn add_time(
+    canvas: &mut Canvas,
+    frame: &Frame,
+    x: u32,
+    words: Items<u8>,
+) -> Result<(), OutOfMemory>
+    ensures { OnOk result (DrawsGround frame.now.width frame.now.height canvas.old canvas.new) }
+{
+    let height = frame.threads.saturating_sub(frame.times);
+    canvas.bar(x, frame.times, 1, height, Colour::Faint)?;
+    let wide = u32::try_from(words.as_slice().len()).unwrap_or(u32::MAX);
+    if x.saturating_add(wide.saturating_mul(LETTER)) >= frame.width {
+        return Ok(());
+    }
+    canvas.label(x.saturating_add(4), frame.times, Anchor::Start, words)
+}
+
 /// Draws the times along the upper side.
 pub(crate) fn add_times(
     canvas: &mut Canvas,
     frame: &Frame,
     scale: Scale,
-) -> Result<(), OutOfMemory> {
+) -> Result<(), OutOfMemory>
+    ensures { OnOk result (DrawsGround frame.now.width frame.now.height canvas.old canvas.new) }
+{
     canvas.words(NAMES, frame.times, b"time")?;
     let step = step_of(scale);
     let count = (scale.span / step.max(1)).min(1000);
@@ -163,12 +183,7 @@ pub(crate) fn add_times(
         let passed = number.saturating_mul(step);
         let words = time_words(canvas.alloc(), step, passed)?;
         let x = scale.place(scale.from.saturating_add(passed));
-        let height = frame.threads.saturating_sub(frame.times);
-        canvas.bar(x, frame.times, 1, height, Colour::Faint)?;
-        let wide = u32::try_from(words.as_slice().len()).unwrap_or(u32::MAX);
-        if x.saturating_add(wide.saturating_mul(LETTER)) < frame.width {
-            canvas.label(x.saturating_add(4), frame.times, Anchor::Start, words)?;
-        }
+        add_time(canvas, frame, x, words)?;
     }
     Ok(())
 }

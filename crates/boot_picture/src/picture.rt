@@ -2,7 +2,7 @@
 
 ghost use Rattle.std.specs.Prelude.{◌≡◌, ◌≤◌, ◌-◌, ◌++◌, length, IfOk, OnOk};
 ghost use Rattle.boot_log.specs.Kept.{kept_in};
-ghost use Rattle.boot_picture.specs.Clear.{DrawsOutside, DrawsTexts};
+ghost use Rattle.boot_picture.specs.Clear.{DrawsGround, DrawsOutside, DrawsTexts};
 ghost use Rattle.boot_picture.specs.Pictures.{ShowsTurns};
 
 use crate::arrows::arrows_of;
@@ -81,18 +81,10 @@ fn note_of(
     Ok(note.end())
 }
 
-/// Draws the ground, the title and the note, and the names of the processors' lanes.
-fn add_head(
-    canvas: &mut Canvas,
-    frame: &Frame,
-    script: &[u8],
-    note: Items<u8>,
-    processors: usize,
-) -> Result<(), OutOfMemory> {
-    canvas.bar(0, 0, frame.width, frame.height, Colour::White)?;
-    let title = front_of(canvas.alloc(), first_comment(script), TITLE_LETTERS)?;
-    canvas.text(NAMES, TITLE, Anchor::Start, Colour::Ink, title)?;
-    canvas.text(NAMES, NOTE, Anchor::Start, Colour::Dim, note)?;
+/// Draws the names of the processors' lanes.
+fn add_names(canvas: &mut Canvas, frame: &Frame, processors: usize) -> Result<(), OutOfMemory>
+    ensures { OnOk result (DrawsGround frame.now.width frame.now.height canvas.old canvas.new) }
+{
     for processor in 0..processors {
         let y = after(frame.processors, processor, PROCESSOR);
         let name = numbered(canvas.alloc(), "p", processor as u64)?;
@@ -101,15 +93,34 @@ fn add_head(
     Ok(())
 }
 
-/// Draws thin lines below the lanes.
+/// Draws the ground, the title and the note, and the names of the processors' lanes.
+fn add_head(
+    canvas: &mut Canvas,
+    frame: &Frame,
+    script: &[u8],
+    note: Items<u8>,
+    processors: usize,
+) -> Result<(), OutOfMemory>
+    ensures { OnOk result (DrawsGround frame.now.width frame.now.height canvas.old canvas.new) }
+{
+    canvas.bar(0, 0, frame.width, frame.height, Colour::White)?;
+    let title = front_of(canvas.alloc(), first_comment(script), TITLE_LETTERS)?;
+    canvas.text(NAMES, TITLE, Anchor::Start, Colour::Ink, title)?;
+    canvas.text(NAMES, NOTE, Anchor::Start, Colour::Dim, note)?;
+    add_names(canvas, frame, processors)
+}
+
+/// Draws thin lines below the lanes, in this frame.
 fn add_rules(
     canvas: &mut Canvas,
+    frame: &Frame,
     from: u32,
     count: usize,
     each: u32,
-    right: u32,
-) -> Result<(), OutOfMemory> {
-    let width = right.saturating_sub(LEFT).max(1);
+) -> Result<(), OutOfMemory>
+    ensures { OnOk result (DrawsGround frame.now.width frame.now.height canvas.old canvas.new) }
+{
+    let width = frame.right.saturating_sub(LEFT).max(1);
     for number in 0..count {
         let y = after(from, number, each)
             .saturating_add(each)
@@ -138,20 +149,16 @@ fn add_ground(
     boot: &Boot,
     tracks: &[Track],
     order: &[Ordered],
-) -> Result<(), OutOfMemory> {
+) -> Result<(), OutOfMemory>
+    ensures { OnOk result (DrawsGround frame.now.width frame.now.height canvas.old canvas.new) }
+{
     let note = note_of(canvas.alloc(), boot, tracks, order)?;
     add_head(canvas, frame, boot.script, note, tracks.len())?;
-    add_rules(
-        canvas,
-        frame.processors,
-        tracks.len(),
-        PROCESSOR,
-        frame.right,
-    )?;
+    add_rules(canvas, frame, frame.processors, tracks.len(), PROCESSOR)?;
     let threads = boot.plan.threads.as_slice().len();
-    add_rules(canvas, frame.threads, threads, THREAD, frame.right)?;
+    add_rules(canvas, frame, frame.threads, threads, THREAD)?;
     if boot.by_time {
-        add_times(canvas, frame, scale_of(tracks, order))?;
+        return add_times(canvas, frame, scale_of(tracks, order));
     }
     Ok(())
 }

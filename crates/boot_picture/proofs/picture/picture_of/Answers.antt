@@ -8,7 +8,7 @@ use Rattle.svg.specs.declared.shapes.Shape.{Shape}
 use Rattle.boot_picture.specs.declared.columns.Placed.{Placed}
 use Rattle.boot_picture.specs.declared.order.Ordered.{Ordered}
 use Rattle.boot_picture.specs.declared.order.Track.{Track}
-use Rattle.boot_picture.specs.Clear.{IsClear}
+use Rattle.boot_picture.specs.Clear.{IsClear, IsGround}
 use Rattle.boot_picture.specs.Lanes.{IsBoxOf}
 use Rattle.boot_picture.specs.Orders.{IsOrderOf, IsTrackOf}
 use Rattle.boot_picture.specs.Pictures.{lanes_end}
@@ -77,6 +77,7 @@ returns c =
       above = c.add_rest.new.canvas;
       top = frame.processors;
       boxes_of = subst (λ (ts : List Track). AllZip (IsBoxOf ts frame.processors) all drawn.0) c.deref-7.ensures.value (subst (λ (ps : List Placed). AllZip (IsBoxOf c.deref-7.result.now frame.processors) ps drawn.0) c.deref-8.ensures.value drawn.2);
+      ground = c.in_ok-add_ground.ensures (subst (λ (shapes : List Shape). All (IsGround frame.width frame.height) shapes) (sym c.new-below.ensures) (All-nil (IsGround frame.width frame.height)));
       lanes_inside = omega arith;
       lanes_clear = subst (λ (n : ℕ). All (IsClear frame.processors n) c.add_rest.new.canvas) end (c.in_ok-add_rest.ensures (subst (λ (shapes : List Shape). All (IsClear frame.processors (frame.threads - 20)) shapes) (sym c.new-above.ensures) (All-nil (IsClear frame.processors (frame.threads - 20)))));
       parts = let first = c.into_shapes.ensures in let second = c.into_shapes-2.ensures in let joined = c.in_ok-joined.ensures in let boxes = drawn.1 in cc;

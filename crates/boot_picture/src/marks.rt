@@ -151,12 +151,7 @@ fn time_words(alloc: Global, step: u64, passed: u64) -> Result<Items<u8>, OutOfM
 }
 
 /// Draws a time at its place along the upper side, if its words fit, and a thin line through the lanes there.
-fn add_time(
-    canvas: &mut Canvas,
-    frame: &Frame,
-    x: u32,
-    words: Items<u8>,
-) -> Result<(), OutOfMemory>
+fn add_time(canvas: &mut Canvas, frame: &Frame, x: u32, words: Items<u8>) -> Result<(), OutOfMemory>
     ensures { OnOk result (DrawsGround frame.now.width frame.now.height canvas.old canvas.new) }
 {
     let height = frame.threads.saturating_sub(frame.times);
@@ -169,11 +164,7 @@ fn add_time(
 }
 
 /// Draws the times along the upper side.
-pub(crate) fn add_times(
-    canvas: &mut Canvas,
-    frame: &Frame,
-    scale: Scale,
-) -> Result<(), OutOfMemory>
+pub(crate) fn add_times(canvas: &mut Canvas, frame: &Frame, scale: Scale) -> Result<(), OutOfMemory>
     ensures { OnOk result (DrawsGround frame.now.width frame.now.height canvas.old canvas.new) }
 {
     canvas.words(NAMES, frame.times, b"time")?;

@@ -1,8 +1,9 @@
 """Which crates are as they were when all their wrong bodies were refused.
 
-What comes of a wrong body is a function of what its check reads: the sources of its crate and of the crates below, the
-edits, the tools that try them, and the kit. `tried.txt` has a sum of all that for each crate of which all edits were
-refused. tools/wrong-bodies writes it, and leaves out what hasn't changed if it is asked to.
+What comes of a wrong body is a function of what its check reads: the sources of its crate, the edits, the sources of the
+crates below without the proofs of their functions, which no other crate can name, the tools that try it, and the kit.
+`tried.txt` has a sum of all that for each crate of which all edits were refused. tools/wrong-bodies writes it, and leaves
+out what hasn't changed if it is asked to.
 """
 
 import hashlib
@@ -14,6 +15,8 @@ RECORD = listed.ROOT / "tools" / "tried.txt"
 HEAD = """# The crates of which all wrong bodies were refused: how many files they are, and the sum of all that their checks read.
 # tools/wrong-bodies writes it; tools/tried.py says what is in the sum.
 """
+# The proof of a function, which is private to it.
+OF_FUNCTION = ("Answers.antt", "Invariants.antt", "Proof.antt")
 # Of so many commits one, by its number, has a crate tried again that hasn't changed.
 TURNS = 12
 
@@ -28,7 +31,7 @@ def line_of(crate):
     needs, edits = listed.uses(), files_of(crate, ["wrong-bodies"])
     files = [listed.ROOT / "tools" / "wrong-bodies", listed.ROOT / "tools" / "crates.py", *files_of(crate, listed.PARTS), *edits]
     for name in listed.below(crate, needs):
-        files += files_of(name, listed.PARTS)
+        files += [it for it in files_of(name, listed.PARTS) if it.name not in OF_FUNCTION]
     found = hashlib.sha256(subprocess.run(["rt", "version"], check=True, capture_output=True).stdout)
     found.update(listed.rows()[crate].encode())
     for file in files:

@@ -2,7 +2,7 @@ ghost use Rattle.std.specs.Prelude.{◌≡◌, ◌+◌, true, false, Some, IfOk,
 ghost use Rattle.thread_table.specs.Handles.{view_of, IsHandOf, IsSameHand};
 ghost use Rattle.thread_table.specs.Rules.{has, serves, running};
 
-use crate::fixtures::{begins, closes, element, is_reported, processor, wait_queue};
+use crate::fixtures::{begins, closes, element, is_reported, part, processor, wait_queue};
 use crate::tables::scripts::{Act, does, free, plays};
 use event_theory::{Element, OutOfMemory, Processor, WaitNumber};
 use std::alloc::Global;
@@ -89,16 +89,29 @@ const PROCESSORS: &[Act] = &[
     Act::Park(0, false),
 ];
 
+/// Whether the hand serves the one processor, and not the other.
+fn serves_one(hand: &Hand, one: Processor, other: Processor) -> bool {
+    hand.serves(one) && !hand.serves(other)
+}
+
+/// Joins one hand with another.
+fn joins(table: &ThreadTable, hand: &mut Hand, other: Hand)
+    requires { IsHandOf table.now hand.old × IsHandOf table.now other }
+    ensures { IsSameHand hand.old hand.new }
+{
+    table.join(hand, other);
+}
+
 #[test]
 fn processors_and_stops(rt: HostRuntime) {
     let (table, mut first) = ThreadTable::new(rt.alloc()).expect(&rt, "memory");
     let a = &mut first;
     let (p0, p1) = (processor(&rt, 0), processor(&rt, 1));
-    assert!(rt; a.serves(p1) && a.on_processor(p1).is_none());
-    let b = table.split(a, 2);
-    assert!(rt; b.serves(p1) && !b.serves(p0) && !a.serves(p1));
+    let b = part(&table, a, p1).expect(&rt, "part");
+    assert!(rt; serves_one(a, p0, p1));
+    assert!(rt; serves_one(&b, p1, p0));
     does(&rt, &table, a, PROCESSORS);
-    table.join(a, b);
+    joins(&table, a, b);
     assert!(rt; a.serves(p1));
 }
 
@@ -192,30 +205,45 @@ const SIXTEEN_SIGNALS: &[Act] = &[
     Act::Pending(0, 65_535),
 ];
 
+/// The two hands of a new table, of which the second serves no processor.
+fn two_hands<R: Abort>(rt: &R, alloc: Global) -> (ThreadTable, Hand, Hand)
+    ensures { IsHandOf result.0 result.1 × IsHandOf result.0 result.2 }
+{
+    let (table, mut first) = ThreadTable::new(alloc).expect(rt, "memory");
+    let other = table.split(&mut first, 0);
+    (table, first, other)
+}
+
+/// Whether this element is taken off the processor, and all sixteen signals were pending before.
+fn takes_off_signalled(table: &ThreadTable, hand: &mut Hand, e: Element, p: Processor) -> bool
+    requires { IsHandOf table.now hand.old }
+    ensures { IsSameHand hand.old hand.new }
+{
+    hand.serves(p) && look_and_take_off(table, hand, e, p) == (65_535, Ok(e))
+}
+
 /// A hand can look at what it has on a processor: all sixteen signals, each by its bit, which another hand sends.
 #[test]
 fn pending_on_a_processor(rt: HostRuntime) {
-    let (table, mut first) = ThreadTable::new(rt.alloc()).expect(&rt, "memory");
-    let (a, p, e) = (&mut first, processor(&rt, 5), element(&rt, 0));
-    let mut b = table.split(a, 0);
+    let (table, mut a, mut b) = two_hands(&rt, rt.alloc());
+    let (p, e) = (processor(&rt, 5), element(&rt, 0));
     does(
         &rt,
         &table,
-        a,
+        &mut a,
         &[Act::Free(0), Act::On(5, 0, Ok(())), Act::Pending(0, 0)],
     );
     does(&rt, &table, &mut b, SIXTEEN_SIGNALS);
-    assert!(rt; a.serves(p));
-    assert!(rt; look_and_take_off(&table, a, e, p) == (65_535, Ok(e)));
+    assert!(rt; takes_off_signalled(&table, &mut a, e, p));
     does(
         &rt,
         &table,
-        a,
+        &mut a,
         &[Act::Deliver(0, 65_535), Act::Pending(0, 0)],
     );
-    assert!(rt; table.pending(&mut b, e) == 0);
-    table.join(a, b);
-    closes(&rt, table, first, &[(0, Place::Held)]);
+    does(&rt, &table, &mut b, &[Act::Pending(0, 0)]);
+    joins(&table, &mut a, b);
+    closes(&rt, table, a, &[(0, Place::Held)]);
 }
 
 const READY_IN_TURN: &[Act] = &[
@@ -300,28 +328,57 @@ const TWO_WAIT: &[Act] = &[
     Act::On(0, 0, Ok(())),
 ];
 
+/// Wakes all, which are none, and takes off the element on a processor, which the hand has to serve.
+fn wakes_none_and_takes_off<R: Wait>(
+    rt: &R,
+    table: &ThreadTable,
+    hand: &mut Hand,
+    wait: WaitNumber,
+    p: Processor,
+) -> Option<Element>
+    requires { IsHandOf table.now hand.old }
+    ensures { IsSameHand hand.old hand.new }
+{
+    if !hand.serves(p) {
+        return None;
+    }
+    match wake_and_take_off(rt, table, hand, wait, p) {
+        (0, Ok(element)) => Some(element),
+        _ => None,
+    }
+}
+
+/// Whether the hand holds the element all the time, and counts its first step.
+fn counts_first(table: &ThreadTable, hand: &mut Hand, element: Element) -> bool
+    requires { IsHandOf table.now hand.old }
+    ensures { IsSameHand hand.old hand.new }
+{
+    if !hand.holds(element) {
+        return false;
+    }
+    let counted = count_on(table, hand, element);
+    counted == (0, Ok(1)) && hand.holds(element) && table.pc(hand, element) == 1
+}
+
+/// Whether all elements from this number on are free, and have done nothing.
+fn are_free(closed: &Places, first: usize) -> bool {
+    for e in first..64 {
+        if (closed.places[e], closed.pcs[e]) != (Place::Free, 0) {
+            return false;
+        }
+    }
+    true
+}
+
 #[test]
 fn wakes_all(rt: HostRuntime) {
-    let (table, mut first) = begins(&rt, rt.alloc(), 0);
+    let (table, mut a) = begins(&rt, rt.alloc(), 0);
     let (w2, p0) = (wait_queue(&rt, 2), processor(&rt, 0));
-    let a = &mut first;
-    does(&rt, &table, a, TWO_WAIT);
-    assert!(rt; a.serves(p0));
-    let (woken, Ok(e0)) = wake_and_take_off(&rt, &table, a, w2, p0) else {
-        panic!(rt; "empty")
-    };
-    assert!(rt; woken == 0);
-    assert!(rt; a.holds(e0));
-    assert!(rt; count_on(&table, a, e0) == (0, Ok(1)));
-    assert!(rt; a.holds(e0));
-    assert!(rt; table.pc(a, e0) == 1);
-    let Ok(closed) = table.close(first) else {
-        panic!(rt; "close")
-    };
-    assert!(rt; (closed.places[0], closed.places[1]) == (Place::Held, Place::Held));
-    for e in 2..64usize {
-        assert!(rt; (closed.places[e], closed.pcs[e]) == (Place::Free, 0));
-    }
+    does(&rt, &table, &mut a, TWO_WAIT);
+    let e0 = wakes_none_and_takes_off(&rt, &table, &mut a, w2, p0).expect(&rt, "empty");
+    assert!(rt; counts_first(&table, &mut a, e0));
+    let closed = closes(&rt, table, a, &[(0, Place::Held), (1, Place::Held)]);
+    assert!(rt; are_free(&closed, 2));
     assert!(rt; (closed.pcs[0], closed.pcs[1], closed.stops) == (1, 0, 0));
 }
 
@@ -366,15 +423,28 @@ fn notified_are_taken(rt: HostRuntime) {
     plays(&rt, rt.alloc(), 0, NOTIFIED, &places);
 }
 
+/// Whether a notify and one try take this element, or none.
+fn takes_notified(
+    table: &ThreadTable,
+    hand: &mut Hand,
+    wait: WaitNumber,
+    wanted: Option<Element>,
+) -> bool
+    requires { IsHandOf table.now hand.old }
+    ensures { IsSameHand hand.old hand.new }
+{
+    notify_and_try(table, hand, wait) == Ok(wanted)
+}
+
 /// A notify and one try take the first of two elements that wait.
 #[test]
 fn one_is_taken(rt: HostRuntime) {
     let (table, mut first) = begins(&rt, rt.alloc(), 0);
     let (a, w2) = (&mut first, wait_queue(&rt, 2));
     does(&rt, &table, a, &TWO_WAIT[..4]);
-    assert!(rt; notify_and_try(&table, a, w2) == Ok(Some(element(&rt, 0))));
-    assert!(rt; notify_and_try(&table, a, w2) == Ok(Some(element(&rt, 1))));
-    assert!(rt; notify_and_try(&table, a, w2) == Ok(None));
+    assert!(rt; takes_notified(&table, a, w2, Some(element(&rt, 0))));
+    assert!(rt; takes_notified(&table, a, w2, Some(element(&rt, 1))));
+    assert!(rt; takes_notified(&table, a, w2, None));
     closes(&rt, table, first, &[(0, Place::Held), (1, Place::Held)]);
 }
 
@@ -397,23 +467,27 @@ fn late_positions_are_notified(rt: HostRuntime) {
     plays(&rt, rt.alloc(), 4_294_967_231, NOTIFIED_LATE, &places);
 }
 
+/// The number of the other hands, for which the table isn't closed.
+fn must_be_open<R: Abort>(rt: &R, table: ThreadTable, hand: Hand) -> (ThreadTable, Hand, u64)
+    requires { IsHandOf table hand }
+    ensures { (result.0 ≡ table) × IsHandOf result.0 result.1 }
+{
+    match table.close(hand) {
+        Ok(_) => panic!(rt; "closed"),
+        Err((table, hand, open)) => (table, hand, open.others),
+    }
+}
+
 #[test]
-fn hands_to_join(rt: HostRuntime) -> Result<(), Fail> {
-    let (table, mut first) = ThreadTable::new(rt.alloc())?;
-    let mut b = table.split(&mut first, 0);
+fn hands_to_join(rt: HostRuntime) {
+    let (table, first, mut b) = two_hands(&rt, rt.alloc());
     assert!(rt; free(&table, &mut b, 0));
-    let Err((table, first, open)) = table.close(first) else {
-        panic!(rt; "closed")
-    };
-    assert!(rt; open == OpenEnds { others: 1 });
-    let mut first = first;
-    table.join(&mut first, b);
+    let (table, mut first, others) = must_be_open(&rt, table, first);
+    assert!(rt; others == 1);
+    joins(&table, &mut first, b);
     assert!(rt; first.holds(element(&rt, 0)));
-    let Ok(closed) = table.close(first) else {
-        panic!(rt; "close")
-    };
-    assert!(rt; (closed.places[0], closed.places[63]) == (Place::Held, Place::Free));
-    Ok(())
+    let places = [(0, Place::Held), (63, Place::Free)];
+    closes(&rt, table, first, &places);
 }
 
 /// If all hands are joined, the table is closed. Proved, not tested: there is no other result.

@@ -13,6 +13,24 @@ use thread_table::*;
 
 const MOVES: u64 = 10_000;
 
+/// Tries once to take an element from the queue of this number: the ready ring, or one of two wait queues.
+fn try_take(
+    table: &ThreadTable,
+    hand: &mut Hand,
+    queue: u64,
+    waits: [WaitNumber; 2],
+) -> Option<Element>
+    requires { IsHandOf table.now hand.old }
+    ensures { IsSameHand hand.old hand.new }
+{
+    let taken = match queue {
+        0 => table.try_next(hand),
+        1 => table.try_wake(hand, waits[0]),
+        _ => table.try_wake(hand, waits[1]),
+    };
+    taken.ok()
+}
+
 /// Takes an element from the ready ring or from one of two wait queues, beginning with the queue of this number.
 fn take_any<R: Wait>(
     rt: &R,
@@ -26,17 +44,35 @@ fn take_any<R: Wait>(
 {
     let mut queue = from % 3;
     for _ in rt.forever() {
-        let taken = match queue {
-            0 => table.try_next(hand),
-            1 => table.try_wake(hand, waits[0]),
-            _ => table.try_wake(hand, waits[1]),
-        };
-        if let Ok(element) = taken {
-            return Some(element);
+        let taken = try_take(table, hand, queue, waits);
+        if taken.is_some() {
+            return taken;
         }
         queue = (queue + 1) % 3;
     }
     None
+}
+
+/// Tries once to put an element into the queue of this number. True if it was put, or isn't held.
+fn try_put(
+    table: &ThreadTable,
+    hand: &mut Hand,
+    element: Element,
+    queue: u64,
+    waits: [WaitNumber; 2],
+) -> bool
+    requires { IsHandOf table.now hand.old }
+    ensures { IsSameHand hand.old hand.new }
+{
+    if !hand.holds(element) {
+        return true;
+    }
+    let moved = match queue {
+        0 => table.try_ready(hand, element),
+        1 => table.try_wait(hand, element, waits[0]),
+        _ => table.try_wait(hand, element, waits[1]),
+    };
+    moved.is_ok()
 }
 
 /// Puts an element that the hand holds into the queue of this number.
@@ -52,15 +88,7 @@ fn put_any<R: Wait>(
     ensures { IsSameHand hand.old hand.new }
 {
     for _ in rt.forever() {
-        if !hand.holds(element) {
-            return;
-        }
-        let moved = match to % 3 {
-            0 => table.try_ready(hand, element),
-            1 => table.try_wait(hand, element, waits[0]),
-            _ => table.try_wait(hand, element, waits[1]),
-        };
-        if moved.is_ok() {
+        if try_put(table, hand, element, to % 3, waits) {
             return;
         }
     }
@@ -162,17 +190,24 @@ fn pass_four<R: Threads + Wait + Sync>(
     )
 }
 
+/// Takes a free element, and makes it ready.
+fn ready_one(table: &ThreadTable, hand: &mut Hand) -> bool
+    requires { IsHandOf table.now hand.old }
+    ensures { IsSameHand hand.old hand.new }
+{
+    let Ok(element) = table.try_free(hand) else {
+        return false;
+    };
+    hand.holds(element) && table.try_ready(hand, element).is_ok()
+}
+
 /// Takes all free elements, and makes them ready.
 fn ready_all<R: Abort>(rt: &R, table: &ThreadTable, hand: &mut Hand)
     requires { IsHandOf table.now hand.old }
     ensures { IsSameHand hand.old hand.new }
 {
     for _ in 0..64u8 {
-        let Ok(element) = table.try_free(hand) else {
-            panic!(rt; "free")
-        };
-        assert!(rt; hand.holds(element));
-        assert!(rt; table.try_ready(hand, element) == Ok(()));
+        assert!(rt; ready_one(table, hand));
     }
 }
 

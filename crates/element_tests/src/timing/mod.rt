@@ -1,4 +1,5 @@
 //! The tests of `meters`.
 
+mod scripts;
 mod tests;
 mod thread_tests;

@@ -35,11 +35,15 @@ fn note(times: &mut [u64], alarm: &Alarm) {
     }
 }
 
+/// A zero for each alarm of the four ends.
+fn no_times(alloc: Global) -> Result<Vec<u64>, AllocError> {
+    Vec::from_elem(alloc, 0u64, 4 * ALARMS as usize)
+}
+
 fn nothing_had(alloc: Global) -> Result<Had, AllocError> {
-    Ok(Had {
-        set: Vec::from_elem(alloc, 0u64, 4 * ALARMS as usize)?,
-        gone: Vec::from_elem(alloc, 0u64, 4 * ALARMS as usize)?,
-    })
+    let set = no_times(alloc)?;
+    let gone = no_times(alloc)?;
+    Ok(Had { set, gone })
 }
 
 /// Sets an alarm, moves the clock on, and cancels the alarm if its tick is even, else takes out what is due.
@@ -177,7 +181,7 @@ fn four_ends_in_four_threads(rt: HostRuntime) -> Result<(), Fail> {
         panic!(rt; "close")
     };
     assert!(rt; metered.gauges == [4 * TICKS, 0, 0, 0, 0, 0, 0, 0]);
-    let mut left = Vec::from_elem(alloc, 0u64, 4 * ALARMS as usize)?;
+    let mut left = no_times(alloc)?;
     for alarm in metered.alarms.as_slice() {
         note(left.as_mut_slice(), alarm);
     }

@@ -2,40 +2,38 @@
 
 use super::*;
 
-fn first_status(core: Result<Core, OutOfMemory>) -> Option<Status> {
-    core.ok()?.status().ok()
+/// Whether a core has this many free elements, and nothing else.
+fn is_new(status: &Status, elements: usize) -> bool {
+    status.events == 0
+        && status.queues.as_slice().is_empty()
+        && status.chains.as_slice().is_empty()
+        && status.elements.as_slice().len() == elements
+        && are_free(status.elements.as_slice())
+        && status.gauges == [0; 8]
+        && status.notified == [0; 16]
 }
 
-/// Whether a core has this many free elements, and nothing else.
-fn is_new(core: Result<Core, OutOfMemory>, elements: usize) -> bool {
-    first_status(core).is_some_and(|status| {
-        status.events == 0
-            && status.queues.as_slice().is_empty()
-            && status.chains.as_slice().is_empty()
-            && status.elements.as_slice().len() == elements
-            && status
-                .elements
-                .as_slice()
-                .iter()
-                .all(|element| *element == FREE)
-            && status.gauges == [0; 8]
-            && status.notified == [0; 16]
-    })
+fn assert_new<R: Abort>(rt: &R, core: Result<Core, OutOfMemory>, elements: usize) {
+    let core = core.expect(rt, "core");
+    assert!(rt; is_new(&status_of(rt, &core), elements));
 }
 
 #[test]
 fn a_new_core_has_free_elements_alone(rt: HostRuntime) {
-    assert!(rt; is_new(Core::with_elements(rt.alloc(), 1), 1));
-    assert!(rt; is_new(Core::with_elements(rt.alloc(), 16), 16));
-    assert!(rt; is_new(Core::with_elements(rt.alloc(), 64), 64));
-    assert!(rt; is_new(Core::new(rt.alloc()), 16));
+    assert_new(&rt, Core::with_elements(rt.alloc(), 1), 1);
+    assert_new(&rt, Core::with_elements(rt.alloc(), 16), 16);
+    assert_new(&rt, Core::with_elements(rt.alloc(), 64), 64);
+    assert_new(&rt, Core::new(rt.alloc()), 16);
 }
 
 /// An event of each kind that names element 4.
-fn of_element_4(alloc: Global) -> Option<Vec<Event>> {
-    let (call, element, processor) = (Call::new(0)?, Element::new(4)?, Processor::new(0)?);
-    let (signal, wait) = (Signal::new(0)?, WaitNumber::new(0)?);
-    let (queue, items) = (QueueName::Ready, Items::new([4].to_vec(alloc).ok()?));
+fn of_element_4<R: Abort>(rt: &R, alloc: Global) -> Vec<Event> {
+    let call = Call::new(0).expect(rt, "call");
+    let element = Element::new(4).expect(rt, "element");
+    let processor = Processor::new(0).expect(rt, "processor");
+    let signal = Signal::new(0).expect(rt, "signal");
+    let wait = WaitNumber::new(0).expect(rt, "wait queue");
+    let (queue, items) = (QueueName::Ready, items_of(rt, alloc, &[4]));
     let (due, ticket) = (1, 0);
     vec![in alloc;
         Event::Claim { call, queue, items },
@@ -67,19 +65,14 @@ fn of_element_4(alloc: Global) -> Option<Vec<Event>> {
             ticket
         },
     ]
-    .ok()
+    .expect(rt, "events")
 }
 
 #[test]
 fn an_element_that_the_core_lacks_is_no_name(rt: HostRuntime) {
-    let Some(events) = of_element_4(rt.alloc()) else {
-        panic!(rt; "no events")
-    };
-    let Ok(mut core) = Core::with_elements(rt.alloc(), 4) else {
-        panic!(rt; "no core")
-    };
-    for event in &events {
+    let mut core = Core::with_elements(rt.alloc(), 4).expect(&rt, "core");
+    for event in &of_element_4(&rt, rt.alloc()) {
         assert!(rt; core.apply(event) == Err(Refusal::UnknownName));
     }
-    assert!(rt; is_new(Ok(core), 4));
+    assert_new(&rt, Ok(core), 4);
 }

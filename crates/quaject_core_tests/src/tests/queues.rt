@@ -3,36 +3,22 @@
 use super::*;
 
 /// A later claim is raised first, and a taking waits for the first.
-fn later_claim_first(alloc: Global) -> Option<Vec<Event>> {
-    let (call, other) = (Call::new(1)?, Call::new(2)?);
-    let queue = QueueName::Bytes(QueueNumber::new(0)?);
-    let items = Items::new([10, 11].to_vec(alloc).ok()?);
-    let later = Items::new([12].to_vec(alloc).ok()?);
-    let (index, count) = (0, 1);
+fn later_claim_first<R: Abort>(rt: &R, alloc: Global) -> Vec<Event> {
+    let call = Call::new(1).expect(rt, "call");
+    let other = Call::new(2).expect(rt, "call");
+    let queue = QueueNumber::new(0).expect(rt, "queue");
+    let items = items_of(rt, alloc, &[10, 11]);
+    let later = items_of(rt, alloc, &[12]);
     vec![in alloc;
         Event::Queue { capacity: 4 },
-        Event::Claim { call, queue, items },
-        Event::Claim {
-            call: other,
-            queue,
-            items: later
-        },
-        Event::Raise {
-            call: other,
-            queue,
-            run: 1,
-            index
-        },
-        Event::Take { call, queue, count },
-        Event::Raise {
-            call,
-            queue,
-            run: 0,
-            index
-        },
-        Event::Take { call, queue, count },
+        claim(call, QueueName::Bytes(queue), items),
+        claim(other, QueueName::Bytes(queue), later),
+        raise(other, QueueName::Bytes(queue), 1),
+        take(call, QueueName::Bytes(queue)),
+        raise(call, QueueName::Bytes(queue), 0),
+        take(call, QueueName::Bytes(queue)),
     ]
-    .ok()
+    .expect(rt, "events")
 }
 
 const FIRST_TAKEN: QueueStatus = QueueStatus {
@@ -45,39 +31,41 @@ const FIRST_TAKEN: QueueStatus = QueueStatus {
     shut: false,
 };
 
-fn is_first_taken(core: &Core) -> bool {
-    core.status().is_ok_and(|status| status.events == 6
-        && status.queues.as_slice() == [FIRST_TAKEN].as_slice())
+fn is_first_taken(status: &Status) -> bool {
+    status.events == 6 && status.queues.as_slice() == [FIRST_TAKEN].as_slice()
+}
+
+/// Whether a run ends at the fifth event, and a run of the events after it does not.
+fn ends_once(core: &mut Core, events: &[Event]) -> bool {
+    core.run(events) == Err((4, Refusal::NotRaised))
+        && core.run(events.get(5..).unwrap_or(&[])) == Ok(())
 }
 
 #[test]
 fn a_run_ends_at_the_first_refusal(rt: HostRuntime) {
-    let Some(events) = later_claim_first(rt.alloc()) else {
-        panic!(rt; "no events")
-    };
-    let Ok(mut core) = Core::new(rt.alloc()) else {
-        panic!(rt; "no core")
-    };
-    assert!(rt; core.run(&events) == Err((4, Refusal::NotRaised)));
-    assert!(rt; core.run(events.get(5..).unwrap_or(&[])) == Ok(()));
-    assert!(rt; is_first_taken(&core));
+    let mut core = Core::new(rt.alloc()).expect(&rt, "core");
+    assert!(rt; ends_once(&mut core, &later_claim_first(&rt, rt.alloc())));
+    assert!(rt; is_first_taken(&status_of(&rt, &core)));
 }
 
-#[test]
-fn one_event_at_a_time_is_the_same(rt: HostRuntime) {
-    let Some(events) = later_claim_first(rt.alloc()) else {
-        panic!(rt; "no events")
-    };
-    let Ok(mut core) = Core::new(rt.alloc()) else {
-        panic!(rt; "no core")
-    };
+/// Whether the fifth event alone is refused.
+fn refuses_once(core: &mut Core, events: &[Event]) -> bool {
     for (index, event) in events.iter().enumerate() {
         let wanted = if index == 4 {
             Err(Refusal::NotRaised)
         } else {
             Ok(())
         };
-        assert!(rt; core.apply(event) == wanted);
+        if core.apply(event) != wanted {
+            return false;
+        }
     }
-    assert!(rt; is_first_taken(&core));
+    true
+}
+
+#[test]
+fn one_event_at_a_time_is_the_same(rt: HostRuntime) {
+    let mut core = Core::new(rt.alloc()).expect(&rt, "core");
+    assert!(rt; refuses_once(&mut core, &later_claim_first(&rt, rt.alloc())));
+    assert!(rt; is_first_taken(&status_of(&rt, &core)));
 }

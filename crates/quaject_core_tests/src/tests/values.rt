@@ -32,8 +32,18 @@ fn named(numbers: [u8; 9]) -> [Option<u8>; 9] {
 
 #[test]
 fn names_stay_in_their_ranges(rt: HostRuntime) {
-    let last = [63, 7, 7, 15, 7, 63, 15, 7, 15];
-    assert!(rt; named(last) == last.map(Some));
+    let last = [
+        Some(63),
+        Some(7),
+        Some(7),
+        Some(15),
+        Some(7),
+        Some(63),
+        Some(15),
+        Some(7),
+        Some(15),
+    ];
+    assert!(rt; named([63, 7, 7, 15, 7, 63, 15, 7, 15]) == last);
     assert!(rt; named([64, 8, 8, 16, 8, 64, 16, 8, 16]) == [None; 9]);
 }
 

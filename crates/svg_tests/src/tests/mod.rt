@@ -110,15 +110,21 @@ fn texts(rt: HostRuntime) {
     assert!(rt; shows(&rt, rt.alloc(), canvas, TEXTS));
 }
 
+const SCRIPT: &[u8] = b"events 1\n#no\n# a # b\n\n# c\nlast";
+
+/// Lines of the script by their numbers.
+const LINES: &[(u32, &[u8])] = &[(1, b"events 1"), (4, b""), (6, b"last"), (7, b""), (0, b"")];
+
 #[test]
 fn lines_of_scripts(rt: HostRuntime) {
-    let script = b"events 1\n#no\n# a # b\n\n# c\nlast".as_slice();
-    assert!(rt; line_at(script, 1) == b"events 1".as_slice());
-    assert!(rt; line_at(script, 4) == b"".as_slice());
-    assert!(rt; line_at(script, 6) == b"last".as_slice());
-    assert!(rt; line_at(script, 7) == b"".as_slice());
-    assert!(rt; line_at(script, 0) == b"".as_slice());
-    assert!(rt; first_comment(script) == b"a # b".as_slice());
+    for (number, line) in LINES {
+        assert!(rt; line_at(SCRIPT, *number) == *line);
+    }
+}
+
+#[test]
+fn fronts_and_comments(rt: HostRuntime) {
+    assert!(rt; first_comment(SCRIPT) == b"a # b".as_slice());
     assert!(rt; first_comment(b"events 1\n#\n") == b"".as_slice());
     let front = front_of(rt.alloc(), b"six by", 6).expect(&rt, "front");
     assert!(rt; front.as_slice() == b"six by".as_slice());

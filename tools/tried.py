@@ -3,15 +3,20 @@
 What comes of a wrong body is a function of what its check reads: the sources of its crate, the edits, the sources of the
 crates below without the proofs of their functions, which no other crate can name, the tools that try it, and the kit.
 `tried.txt` has a sum of all that for each crate of which all edits were refused. tools/wrong-bodies writes it, and leaves
-out what hasn't changed if it is asked to.
+out what hasn't changed if it is asked to. The gate has it written to another file, which SYNTHESIS_TRIED names, since it
+changes no file of the repository.
 """
 
+import functools
 import hashlib
+import os
+import pathlib
 import subprocess
 
 import crates as listed
 
 RECORD = listed.ROOT / "tools" / "tried.txt"
+NOTED = pathlib.Path(os.environ.get("SYNTHESIS_TRIED") or RECORD)
 HEAD = """# The crates of which all wrong bodies were refused: how many files they are, and the sum of all that their checks read.
 # tools/wrong-bodies writes it; tools/tried.py says what is in the sum.
 """
@@ -26,16 +31,23 @@ def files_of(crate, parts):
     return sorted(it for part in parts for it in (listed.ROOT / "crates" / crate / part).rglob("*") if it.is_file())
 
 
-def line_of(crate):
-    """The crate's line: its name, how many edits it has, and the sum of all that their checks read."""
+@functools.cache
+def kit():
+    """The line of the kit."""
+    return subprocess.run(["rt", "version"], check=True, capture_output=True).stdout
+
+
+def line_of(crate, sums):
+    """The crate's line: its name, how many edits it has, and the sum of all that their checks read. `sums` has those of files."""
     needs, edits = listed.uses(), files_of(crate, ["wrong-bodies"])
     files = [listed.ROOT / "tools" / "wrong-bodies", listed.ROOT / "tools" / "crates.py", *files_of(crate, listed.PARTS), *edits]
     for name in listed.below(crate, needs):
         files += [it for it in files_of(name, listed.PARTS) if it.name not in OF_FUNCTION]
-    found = hashlib.sha256(subprocess.run(["rt", "version"], check=True, capture_output=True).stdout)
+    found = hashlib.sha256(kit())
     found.update(listed.rows()[crate].encode())
     for file in files:
-        found.update(f"\n{file.relative_to(listed.ROOT)} {hashlib.sha256(file.read_bytes()).hexdigest()}".encode())
+        sums[file] = sums.get(file) or hashlib.sha256(file.read_bytes()).hexdigest()
+        found.update(f"\n{file.relative_to(listed.ROOT)} {sums[file]}".encode())
     return f"{crate} {len(edits)} {found.hexdigest()}"
 
 
@@ -45,12 +57,23 @@ def lines():
     return {it.partition(" ")[0]: it for it in found if not it.startswith("#")}
 
 
+def lines_of(crates):
+    """The lines that these crates have now."""
+    sums = {}
+    return {it: line_of(it, sums) for it in crates}
+
+
+# The lines as they are before anything is tried.
+BEFORE = lines_of(it.parent.name for it in listed.ROOT.glob("crates/*/wrong-bodies"))
+
+
 def note(crates, with_fault):
-    """Notes of which crates all wrong bodies were refused, and of which not all."""
-    found = lines() | {it: line_of(it) for it in crates}
+    """Notes of which crates all wrong bodies were refused, and of which not all. One that changed meanwhile is not noted."""
+    found = lines() | {it: line for it, line in lines_of(crates).items() if line == BEFORE[it]}
     text = HEAD + "".join(f"{found[it]}\n" for it in sorted(found) if it not in with_fault and files_of(it, ["wrong-bodies"]))
-    if not RECORD.is_file() or RECORD.read_text(encoding="ascii") != text:
-        RECORD.write_text(text, encoding="ascii")
+    if not NOTED.is_file() or NOTED.read_text(encoding="ascii") != text:
+        NOTED.parent.mkdir(exist_ok=True)
+        NOTED.write_text(text, encoding="ascii")
 
 
 def left_out(crates):
@@ -58,4 +81,4 @@ def left_out(crates):
     asked = subprocess.run(["git", "rev-parse", "HEAD"], cwd=listed.ROOT, capture_output=True, text=True, check=False)
     turn = int(asked.stdout, 16) % TURNS if asked.returncode == 0 else None
     found = lines()
-    return [it for at, it in enumerate(crates) if at % TURNS != turn and found.get(it) == line_of(it)]
+    return [it for at, it in enumerate(crates) if at % TURNS != turn and found.get(it) == BEFORE[it]]

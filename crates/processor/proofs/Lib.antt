@@ -5,13 +5,14 @@ pub mod Rising
 pub mod Fitted
 pub mod Rooming
 pub mod Longest
-pub mod Acting
 pub mod Summing
 pub mod Logging
 pub mod Ticking
 pub mod Keeping
 pub mod Placing
+pub mod Tallying
 pub mod Trying
 pub mod Signals
 pub mod Pointing
 pub mod Ordering
+pub mod Turning

@@ -1,9 +1,13 @@
--- The result of the try of a step: how it is counted, what its ends did, and what they know.
-use Rattle.processor.proofs.Common.{◌≡◌, ◌+◌, ◌==◌, ◌<◌, ⊎_elim, ℕ, Bool, true, false, cond, List, [], ◌∷◌, ◌++◌, map, length, Some, refl, sym, ap, subst, ◌∙◌, arith, eqb_tells, append-nil, QueueIndex, Step, Counted, CountAnswer, IsNumber, counted_step, Tally, AddsToTally, followed_by, view_of, View, done_at, StepOutcome, Rescheduled, Shared, Parts, shown_in, IsOutcomeOf, is_done, heard_by, raised_by, saw_shut, FollowsStep, trying, Climbs, Went, numbers_of, Key, program, step_of, Stepped, Goes, is_last}
+-- What a step comes to that was tried, by what was done: how it is counted, what its ends did, and what they know.
+use Rattle.processor.proofs.Common.{◌≡◌, ◌+◌, ◌==◌, ◌<◌, ⊎_elim, ℕ, Bool, true, false, cond, List, [], ◌∷◌, ◌++◌, map, length, Some, refl, sym, ap, subst, ◌∙◌, arith, eqb_tells, append-nil, QueueIndex, Step, Counted, CountAnswer, IsNumber, counted_step, Tally, AddsToTally, followed_by, call_of, view_of, View, done_at, Keeps, StepOutcome, Rescheduled, Shared, Parts, shown_in, IsOutcomeOf, is_done, heard_by, raised_by, saw_shut, FollowsStep, trying, Climbs, Went, numbers_of, Key, program, step_of, Stepped, Goes, is_last}
 use Rattle.std.proofs.lemmas.Bool.{leb-true, and_parts as split}
 use Rattle.turn_io.specs.declared.queue_ends.QueueEnds.{QueueEnds}
 use Rattle.turn_io.specs.Accounts.{know_shut}
 use Rattle.turn_io.proofs.Queues.{EndsWorked, heard_shut, said_shut}
+use Rattle.std.proofs.lemmas.Option.{slice_get_within}
+use Rattle.thread_table.specs.Rules.{has}
+use Rattle.turn_dispatch.specs.Holdings.{IsFree}
+use Rattle.turn_dispatch.proofs.Calm as calm
 use Rattle.turn_dispatch.specs.declared.counting.Counted.TheVariants as counted
 use Rattle.processor.specs.declared.step_outcome.StepOutcome.TheVariants as step_outcomes
 use Rattle.processor.specs.declared.phases.Moved.{Moved}
@@ -12,15 +16,16 @@ use Rattle.processor.specs.declared.phases.HearAnswer.TheVariants as hears
 use Rattle.processor.specs.declared.phases.SayAnswer.TheVariants as says
 use Rattle.processor.specs.Doings.{queues_by}
 use Rattle.processor.specs.Entries.{IsOver, count_of, gone}
-use Rattle.processor.specs.Running.{EndsDid}
 use Rattle.processor.specs.Steps.{QueuesDid}
-use Rattle.processor.specs.Turns.{heard_lines}
+use Rattle.processor.specs.Turns.{RanStep}
 use Rattle.meters.specs.Handles as seats
 use Rattle.turn_dispatch.proofs.Tallies.{adds_on}
 use Rattle.processor.proofs.Logging.{known_done}
 use Rattle.processor.proofs.Placing.{queues_worked, chains_worked, seat_worked}
-use Rattle.processor.proofs.Rising.{NeverFalls, fallen, going, rises_on, stepping}
+use Rattle.processor.proofs.Fitted.{few_steps}
+use Rattle.processor.proofs.Rising.{NeverFalls, fallen, rises_on}
 use Rattle.processor.proofs.Summing.{none_shows}
+use Rattle.processor.proofs.Tallying.{StepAdds, moved_adds, raises_done, step_adds}
 
 -- the end of a queue knows that the queue is shut, if a step was answered so
 reported_so : (step_outcome : StepOutcome) (line : List ℕ) (old new : QueueEnds) → QueuesDid step_outcome line old new → (queue : QueueIndex) → saw_shut step_outcome queue ≡ true → know_shut new queue ≡ true
@@ -47,10 +52,6 @@ count_climbs (counted.Done m) element number t u v w up on now is = ⊎_elim
     (λ other. subst (λ z. Climbs z (done_at u.seen.object t) (done_at w.seen.object t)) (sym (ap (λ (b : Bool). map (λ (key : Key). key.1) (cond b ((element, number) ∷ []) [])) other.0)) (up t))
     (eqb_tells t element)
 
-pub raises_done : (step_outcome : StepOutcome) → (raised_by step_outcome).done ≡ []
-raises_done (step_outcomes.Signal thread signal answer) = refl
-raises_done step_outcome = refl
-
 pub gone_done : (moved : Moved) (e n : ℕ) → (gone moved e n).done ≡ []
 gone_done (moveds.Freed true) e n = refl
 gone_done (moveds.Freed false) e n = refl
@@ -73,64 +74,66 @@ gone_so call call' step_outcome done steps e n (moveds.Freed moved) answer did a
     one_more false answer d c is = absurd cc
 gone_so call call' step_outcome done steps e n moved answer did after u v w g c is now low = refl
 
-module _ (shared : Shared) (call call' p e n : ℕ) (step : Step) (sent : Rescheduled) (line : List ℕ) (old mid new : Parts)
-    (is : step_of shared.plan e n ≡ Some step) (step_outcome : IsOutcomeOf step sent.tried.step_outcome line)
-    (ran : Stepped call shared.plan p e sent.tried.step_outcome sent.tried.counted (view_of old.hand) (view_of mid.hand))
-    (number : IsNumber sent.tried.counted e (view_of old.hand) (view_of mid.hand)) (now : n ≡ done_at (view_of old.hand).seen.object e) (low : n < 64)
-    (goes : Goes call' sent.tried.step_outcome (is_last (is_done sent.tried.step_outcome) n (length (program shared.plan e))) e sent.moved (view_of mid.hand) (view_of new.hand)) where
-  follows : FollowsStep shared.plan e n sent line
-  follows = record {
-    step = step;
-    is = is;
-    step_outcome = step_outcome;
-    counts = counted_so call e (is_done sent.tried.step_outcome) n sent.tried.counted ran.did ran.after (view_of old.hand) (view_of mid.hand) ran.counts number now low;
-    over = over_so call' sent.tried.step_outcome (is_done sent.tried.step_outcome) (length (program shared.plan e)) e n sent.moved (view_of mid.hand) (view_of new.hand) goes;
-  }
+-- a step was tried on a processor, and its element moved on after it
+module _ (shared : Shared) (p e n : ℕ) (sent : Rescheduled) (line : List ℕ) (old new : Parts) (low : e < 64) (now : n ≡ done_at (view_of old.hand).seen.object e) (held : has (view_of old.hand) e ≡ true) (free : IsFree p (view_of old.hand))
+    (r : RanStep shared p e n sent line old new) where
+  adds : StepAdds sent.tried.step_outcome sent.tried.counted e (view_of old.hand) (view_of r.stepped)
+  adds = step_adds (call_of old.hand) shared.plan p e sent.tried.step_outcome sent.tried.counted old.hand r.stepped low held free r.ran
 
-  -- a step was tried on a processor, and its element moved on after it
-  pub tried_went : AddsToTally (followed_by (raised_by sent.tried.step_outcome) (counted_step sent.tried.counted e (done_at (view_of old.hand).seen.object e))) (view_of old.hand) (view_of mid.hand)
-      → AddsToTally (gone sent.moved e (done_at (view_of mid.hand).seen.object e)) (view_of mid.hand) (view_of new.hand)
-      → EndsDid shared sent.tried.step_outcome line old new
-      → heard_lines new ≡ heard_lines old ++ heard_by sent.tried.step_outcome e n line → new.signals ≡ old.signals
-      → Went (FollowsStep shared.plan e n sent line) (trying e n sent line) (saw_shut sent.tried.step_outcome) old new
-  tried_went adds more ends lines signals = record {
-    planned = follows;
-    done = record {
-      did = λ i. record {
-        queues = worked.did i;
-        chains = (chains_worked shared.chains.items sent.tried.step_outcome old.chains.items new.chains.items ends.chains).0 i;
-        hand = all i;
-        meters = (seat_worked sent.tried.step_outcome (seats.view_of old.meters) (seats.view_of new.meters) ends.seat).0 i;
-        heard = lines i;
-        shown = (ap shown_in signals ∙ none_shows (shown_in old.signals)) i;
+  moved : calm.Goes (gone sent.moved e (done_at (view_of r.stepped).seen.object e)) (view_of r.stepped) (view_of new.hand)
+  moved = moved_adds (call_of old.hand) sent.tried.step_outcome (is_last (is_done sent.tried.step_outcome) n (length (program shared.plan e))) e sent.moved r.stepped new.hand low adds.held r.goes
+
+  few : n < 64
+  few = let within = slice_get_within (program shared.plan e) n r.step r.is in let most = few_steps shared.plan e in omega arith
+
+  worked : EndsWorked (queues_by sent.tried.step_outcome line) old.queues new.queues
+  worked = queues_worked sent.tried.step_outcome line old.queues new.queues r.ends.queues
+
+  up : NeverFalls (view_of old.hand) (view_of r.stepped)
+  up = fallen old.hand r.stepped adds.later
+
+  on : NeverFalls (view_of r.stepped) (view_of new.hand)
+  on = fallen r.stepped new.hand moved.later
+
+  abbrev counts : Tally
+  counts = counted_step sent.tried.counted e n
+
+  adds_here : AddsToTally (followed_by (raised_by sent.tried.step_outcome) counts) (view_of old.hand) (view_of r.stepped)
+  adds_here = subst (λ z. AddsToTally (followed_by (raised_by sent.tried.step_outcome) (counted_step sent.tried.counted e z)) (view_of old.hand) (view_of r.stepped)) (sym now) adds.adds
+
+  more_here : AddsToTally (gone sent.moved e (n + 1)) (view_of r.stepped) (view_of new.hand)
+  more_here = subst (λ z. AddsToTally z (view_of r.stepped) (view_of new.hand)) (gone_so (call_of old.hand) (call_of old.hand) sent.tried.step_outcome (is_done sent.tried.step_outcome) (length (program shared.plan e)) e n sent.moved sent.tried.counted r.ran.did r.ran.after (view_of old.hand) (view_of r.stepped) (view_of new.hand) r.goes r.ran.counts adds.number now few) moved.adds
+
+  all : AddsToTally (trying e n sent line).hand (view_of old.hand) (view_of new.hand)
+  all = adds_on (followed_by (raised_by sent.tried.step_outcome) counts) (gone sent.moved e (n + 1)) (view_of old.hand) (view_of r.stepped) (view_of new.hand) adds_here more_here
+
+  one : (trying e n sent line).hand.done ≡ counts.done
+  one = ap (λ z. (z ++ counts.done) ++ (gone sent.moved e (n + 1)).done) (raises_done sent.tried.step_outcome) ∙ (ap (λ z. counts.done ++ z) (gone_done sent.moved e (n + 1)) ∙ append-nil counts.done)
+
+  pub ran_went : Went (FollowsStep shared.plan e n sent line) (trying e n sent line) (saw_shut sent.tried.step_outcome) old new × Keeps (view_of old.hand) (view_of new.hand)
+  ran_went = (
+    record {
+      planned = record {
+        step = r.step;
+        is = r.is;
+        step_outcome = r.step_outcome;
+        counts = counted_so (call_of old.hand) e (is_done sent.tried.step_outcome) n sent.tried.counted r.ran.did r.ran.after (view_of old.hand) (view_of r.stepped) r.ran.counts adds.number now few;
+        over = over_so (call_of old.hand) sent.tried.step_outcome (is_done sent.tried.step_outcome) (length (program shared.plan e)) e n sent.moved (view_of r.stepped) (view_of new.hand) r.goes;
       };
-      order = λ t. subst (λ z. Climbs (numbers_of t z) (known_done old t) (known_done new t)) (sym one)
-          (count_climbs sent.tried.counted e n t (view_of old.hand) (view_of mid.hand) (view_of new.hand) (rises_on (view_of old.hand) (view_of mid.hand) (view_of new.hand) up on) on now number);
-      queues = worked.sound;
-    };
-    reported = reported_so sent.tried.step_outcome line old.queues new.queues ends.queues;
-  }
-    where
-      worked : EndsWorked (queues_by sent.tried.step_outcome line) old.queues new.queues
-      worked = queues_worked sent.tried.step_outcome line old.queues new.queues ends.queues
-
-      up : NeverFalls (view_of old.hand) (view_of mid.hand)
-      up = fallen old.hand mid.hand (stepping call shared.plan p e sent.tried.step_outcome sent.tried.counted (view_of old.hand) (view_of mid.hand) ran)
-
-      on : NeverFalls (view_of mid.hand) (view_of new.hand)
-      on = fallen mid.hand new.hand (going call' sent.tried.step_outcome (is_last (is_done sent.tried.step_outcome) n (length (program shared.plan e))) e sent.moved (view_of mid.hand) (view_of new.hand) goes)
-
-      counts : Tally
-      counts = counted_step sent.tried.counted e n
-
-      adds_here : AddsToTally (followed_by (raised_by sent.tried.step_outcome) counts) (view_of old.hand) (view_of mid.hand)
-      adds_here = subst (λ z. AddsToTally (followed_by (raised_by sent.tried.step_outcome) (counted_step sent.tried.counted e z)) (view_of old.hand) (view_of mid.hand)) (sym now) adds
-
-      more_here : AddsToTally (gone sent.moved e (n + 1)) (view_of mid.hand) (view_of new.hand)
-      more_here = subst (λ z. AddsToTally z (view_of mid.hand) (view_of new.hand)) (gone_so call' call sent.tried.step_outcome (is_done sent.tried.step_outcome) (length (program shared.plan e)) e n sent.moved sent.tried.counted ran.did ran.after (view_of old.hand) (view_of mid.hand) (view_of new.hand) goes ran.counts number now low) more
-
-      all : AddsToTally (trying e n sent line).hand (view_of old.hand) (view_of new.hand)
-      all = adds_on (followed_by (raised_by sent.tried.step_outcome) counts) (gone sent.moved e (n + 1)) (view_of old.hand) (view_of mid.hand) (view_of new.hand) adds_here more_here
-
-      one : (trying e n sent line).hand.done ≡ counts.done
-      one = ap (λ z. (z ++ counts.done) ++ (gone sent.moved e (n + 1)).done) (raises_done sent.tried.step_outcome) ∙ (ap (λ z. counts.done ++ z) (gone_done sent.moved e (n + 1)) ∙ append-nil counts.done)
+      done = record {
+        did = λ i. record {
+          queues = worked.did i;
+          chains = (chains_worked shared.chains.items sent.tried.step_outcome old.chains.items new.chains.items r.ends.chains).0 i;
+          hand = all i;
+          meters = (seat_worked sent.tried.step_outcome (seats.view_of old.meters) (seats.view_of new.meters) r.ends.seat).0 i;
+          heard = r.lines i;
+          shown = (ap shown_in r.signals ∙ none_shows (shown_in old.signals)) i;
+        };
+        order = λ t. subst (λ z. Climbs (numbers_of t z) (known_done old t) (known_done new t)) (sym one)
+            (count_climbs sent.tried.counted e n t (view_of old.hand) (view_of r.stepped) (view_of new.hand) (rises_on (view_of old.hand) (view_of r.stepped) (view_of new.hand) up on) on now adds.number);
+        queues = worked.sound;
+      };
+      reported = reported_so sent.tried.step_outcome line old.queues new.queues r.ends.queues;
+    },
+    calm.keeps_on (view_of old.hand) (view_of r.stepped) (view_of new.hand) adds.keeps moved.keeps,
+  )

@@ -1,5 +1,4 @@
 pub mod Accounts
-pub mod Acts
 pub mod Doings
 pub mod Entries
 pub mod Fitting

@@ -21,7 +21,6 @@ use Rattle.processor.specs.declared.outcome.TurnOutcome.TheVariants as outcomes
 use Rattle.processor.specs.declared.shared.Shared.{Shared}
 use Rattle.processor.specs.declared.station.Parts.{Parts}
 use Rattle.processor.specs.Entries.{LogEntry}
-use Rattle.processor.specs.Logs.{RanTurns}
 use Rattle.processor.specs.Pipes.{readers_of, writers_of}
 use Rattle.processor.specs.Points.{Calls, GateSawTurn}
 use Rattle.processor.specs.Queues.{waits_at}
@@ -124,8 +123,10 @@ TurnsInOrder {G} S T shared p number (entry ∷ log) old new gate gate' = (betwe
     × GateSawTurn T p number entry gate reported
     × TurnsInOrder S T shared p (suc number) log between new reported gate'
 
--- this many turns with their log, and each turn of this log did its parts in order
+-- Processor p had this many turns. The log has the result of each, in order, and each was reported to the gate. Each
+-- turn did its parts in order
 pub record RanTurnsInOrder {G : Type 0} (S : Sights) (T : Calls G) (shared : Shared) (p turns : ℕ) (gate gate' : G)
     (old new : Parts) : Type 0 where
-  pub turned : RanTurns T shared p turns gate gate' old new
-  pub order : TurnsInOrder S T shared p 0 turned.log old new gate gate'
+  pub log : List LogEntry
+  pub many : length log ≡ turns
+  pub order : TurnsInOrder S T shared p 0 log old new gate gate'

@@ -5,23 +5,20 @@ use Rattle.boot_data.specs.declared.plan.Step.{Step}
 use Rattle.event_theory.specs.Marks.{wait_ring}
 use Rattle.turn_dispatch.specs.declared.counting.Counted.{Counted}
 use Rattle.turn_dispatch.specs.declared.dispatch.Begun.{Begun}
-use Rattle.turn_dispatch.specs.Countings.{CountAnswer, IsNumber, counted_step}
+use Rattle.turn_dispatch.specs.Countings.{CountAnswer}
 use Rattle.turn_dispatch.specs.Sendings.{Sent, WaitedAt}
-use Rattle.turn_dispatch.specs.Tallies.{AddsToTally, followed_by}
 use Rattle.meters.specs.Handles as meters
+use Rattle.thread_table.specs.declared.layout.TheConstants.{ELEMENTS}
 use Rattle.thread_table.specs.Own.{View}
 use Rattle.thread_table.specs.Answers.{PutsOn, TakesOff}
 use Rattle.thread_table.specs.Handles.{view_of}
-use Rattle.thread_table.specs.Keeping.{Keeps}
 use Rattle.thread_table.specs.Rules.{done_at, has}
 use Rattle.processor.specs.declared.step_outcome.StepOutcome.{StepOutcome}
 use Rattle.processor.specs.declared.phases.Moved.{Moved}
 use Rattle.processor.specs.declared.phases.Moved.TheVariants as moveds
-use Rattle.processor.specs.declared.phases.StepCounted.{StepCounted}
 use Rattle.processor.specs.declared.phases.Ticket.{Ticket}
 use Rattle.processor.specs.declared.shared.Shared.{Shared}
 use Rattle.processor.specs.declared.station.Parts.{Parts}
-use Rattle.processor.specs.Doings.{raised_by}
 use Rattle.processor.specs.Outcomes.{is_done, sleeps_on, wait_of}
 use Rattle.processor.specs.Programs.{step_of}
 use Rattle.processor.specs.Steps.{HandDid, QueuesDid, ChainsDid, SeatDid}
@@ -37,18 +34,9 @@ pub record Stepped (call : ℕ) (plan : BootPlan) (p element : ℕ) (step_outcom
   pub counts : CountAnswer call element (is_done step_outcome) did counted after
   pub takes : TakesOff call p element after w
 
--- A step that was tried on a processor, and its count, at the hand. The hand then has the element, keeps its processors,
--- the elements on them and its share, and saw the new number of the element's steps done
-pub record RanAtHand (call : ℕ) (plan : BootPlan) (p element : ℕ) (tried : StepCounted) (v w : View) : Type 0 where
-  pub stepped : Stepped call plan p element tried.step_outcome tried.counted v w
-  pub held : has w element ≡ true
-  pub keeps : Keeps v w
-  pub adds : AddsToTally (followed_by (raised_by tried.step_outcome)
-      (counted_step tried.counted element (done_at v.seen.object element))) v w
-  pub number : IsNumber tried.counted element v w
-
 -- the hand holds the element, which had this number of steps done when its turn began, and this is its next step
 pub record IsAtHand (shared : Shared) (begun : Begun) (step : Step) (parts : Parts) : Type 0 where
+  pub is_one : begun.element < ELEMENTS
   pub held : has (view_of parts.hand) begun.element ≡ true
   pub known : begun.number ≡ done_at (view_of parts.hand).seen.object begun.element
   pub low : begun.number < 64

@@ -23,8 +23,6 @@ use Rattle.processor.specs.declared.phases.HearAnswer.{HearAnswer}
 use Rattle.processor.specs.declared.phases.HearAnswer.TheVariants as hears
 use Rattle.processor.specs.declared.phases.SayAnswer.{SayAnswer}
 use Rattle.processor.specs.declared.phases.SayAnswer.TheVariants as says
-use Rattle.processor.specs.Acts.{AddsOnly}
-use Rattle.processor.specs.Doings.{raised_by}
 use Rattle.processor.specs.Pipes.{TicketFor, WokeFor, readers_of, writers_of}
 use Rattle.processor.specs.Queues.{waits_at}
 use Rattle.processor.specs.Tries.{said, heard}
@@ -68,11 +66,6 @@ HandDid call plan (step_outcomes.Close queue was_open readers writers) v w = (u 
     × WokeFor call (readers_of (waits_at plan (Small queue))) v readers u
     × WokeFor call (writers_of (waits_at plan (Small queue))) u writers w
 HandDid call plan step_outcome v w = w ≡ v
-
--- The one try of a step with this result, at the hand: it had this effect, and the hand keeps the rest
-pub record TriedAtHand (call : ℕ) (plan : BootPlan) (step_outcome : StepOutcome) (v w : View) : Type 0 where
-  pub did : HandDid call plan step_outcome v w
-  pub only : AddsOnly (raised_by step_outcome) v w
 
 -- the effect of a step with this result at the ends of the queues, with the line said or heard
 abbrev pub QueuesDid : StepOutcome → List ℕ → QueueEnds → QueueEnds → Type 0

@@ -1,5 +1,5 @@
 -- The turns of a processor.
-use Rattle.std.specs.Prelude.{◌≡◌, ◌≢◌, ◌≤◌, ◌+◌, ◌&&◌, ℕ, Bool, nat_le, List, [], ◌++◌, length, Option, Some, None}
+use Rattle.std.specs.Prelude.{◌≡◌, ◌≢◌, ◌<◌, ◌≤◌, ◌+◌, ◌&&◌, ℕ, Bool, nat_le, List, [], ◌++◌, length, Option, Some, None}
 use Rattle.boot_data.specs.Hearing.{Line}
 use Rattle.boot_data.specs.declared.plan.Step.{Step}
 use Rattle.turn_dispatch.specs.declared.dispatch.Begun.{Begun}
@@ -8,9 +8,10 @@ use Rattle.turn_dispatch.specs.Dispatches.{Began, WasIdle, mask_of}
 use Rattle.turn_dispatch.specs.Holdings.{Shows}
 use Rattle.turn_dispatch.specs.Sendings.{Sent}
 use Rattle.turn_dispatch.specs.Tallies.{delivery}
-use Rattle.turn_dispatch.specs.Tendings.{Fires, RaisedAll}
+use Rattle.turn_dispatch.specs.Tendings.{DidTend, Fires, RaisedAll}
 use Rattle.meters.specs.Handles as meters
-use Rattle.thread_table.specs.Own.{View}
+use Rattle.thread_table.specs.declared.hand.Hand.{Hand}
+use Rattle.thread_table.specs.declared.layout.TheConstants.{ELEMENTS}
 use Rattle.thread_table.specs.Handles.{view_of, call_of}
 use Rattle.processor.specs.declared.outcome.TurnResult.{TurnResult}
 use Rattle.processor.specs.declared.outcome.TurnResult.TheVariants as hads
@@ -39,30 +40,32 @@ pub record AreAtRest (old new : Parts) : Type 0 where
   pub chains : new.chains ≡ old.chains
   pub heard : new.heard ≡ old.heard
 
--- an element that wasn't stopped was taken from the ready ring, and the signals delivered to it were added to its mask
+-- one of the elements, which wasn't stopped, was taken from the ready ring, and the signals delivered to it were added to
+-- its mask
 pub record BegunAt (begun : Begun) (old new : Parts) : Type 0 where
+  pub is_one : begun.element < ELEMENTS
   pub began : Began (call_of old.hand) begun (view_of old.hand) (view_of new.hand)
   pub shows : Shows (delivery begun.element (mask_of begun.delivered)) old.signals new.signals
   pub rest : AreAtRest old new
   pub meters : new.meters ≡ old.meters
 
--- The element's step was tried on the processor, with its effect at all ends, and the element moved on. The bytes of a
--- line that was heard are kept
+-- The element's step was tried on the processor, with its effect at all ends, and the element moved on. In between the
+-- hand was `stepped`. The bytes of a line that was heard are kept
 pub record RanStep (shared : Shared) (p element number : ℕ) (sent : Rescheduled) (line : List ℕ) (old new : Parts)
     : Type 0 where
   pub step : Step
   pub is : step_of shared.plan element number ≡ Some step
   pub step_outcome : IsOutcomeOf step sent.tried.step_outcome line
-  pub stepped : View
+  pub stepped : Hand
   pub ran : Stepped (call_of old.hand) shared.plan p element sent.tried.step_outcome sent.tried.counted
       (view_of old.hand)
-      stepped
+      (view_of stepped)
   pub goes : Goes (call_of old.hand) sent.tried.step_outcome
       (is_last (is_done sent.tried.step_outcome) number (length (program shared.plan element)))
-      element sent.moved stepped
+      element sent.moved (view_of stepped)
       (view_of new.hand)
   pub ends : EndsDid shared sent.tried.step_outcome line old new
-  pub lines : heard_lines new ≡ heard_lines old ++ heard_by sent.tried.step_outcome element number line
+  pub lines : new.heard.lines ≡ old.heard.lines ++ heard_by sent.tried.step_outcome element number line
   pub signals : new.signals ≡ old.signals
 
 -- no element was at hand, and all ends except the hand are unchanged
@@ -89,6 +92,7 @@ abbrev pub TendedBy : ℕ → Option Tended → Parts → Parts → Type 0
 TendedBy p None old new = (p ≢ 0) × (new ≡ old)
 TendedBy p (Some tended) old new = (p ≡ 0)
     × Fires tended.advanced tended.fired (meters.view_of old.meters) (meters.view_of new.meters)
+    × DidTend tended.advanced tended.fired (meters.view_of old.meters) (meters.view_of new.meters)
     × RaisedAll (call_of old.hand) tended.fired (view_of old.hand) (view_of new.hand)
     × AreAtRest old new × (new.signals ≡ old.signals)
 

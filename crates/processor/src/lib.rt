@@ -25,7 +25,7 @@ mod turn_gate;
 mod waking;
 mod watch;
 
-pub use laws::{accounts_add, hears_are_few, steps_fit};
+pub use laws::{accounts_add, hears_are_few, steps_fit, turns_add_up};
 pub use outcome::{TurnOutcome, TurnResult};
 pub use phases::{HearAnswer, Moved, Rescheduled, SayAnswer, StepCounted, Ticket, Unheard, Unsaid};
 pub use programs::hears_of;

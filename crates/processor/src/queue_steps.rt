@@ -11,7 +11,7 @@ ghost use Rattle.processor.specs.Orders.{TriedAtEnds, count_of};
 ghost use Rattle.processor.specs.Points.{GateSaw, points_of};
 ghost use Rattle.processor.specs.Queues.{said_line};
 ghost use Rattle.processor.specs.Stations.{ArePartsOf};
-ghost use Rattle.processor.specs.Steps.{TriedAtHand};
+ghost use Rattle.processor.specs.Steps.{HandDid};
 ghost use Rattle.processor.specs.Refusals.{is_shut, is_over};
 
 use crate::lines::write_line;
@@ -57,7 +57,7 @@ pub(crate) fn say_step<R: Wait, G: Watch>(
     requires parts { ArePartsOf shared.now parts.old }
     requires there { IsThere shared.now.queues queue }
     ensures line { room.new.line.items ≡ said_line text.now }
-    ensures hand { TriedAtHand (call_of parts.old.hand) shared.now.plan (step_outcomes.Say queue result)
+    ensures hand { HandDid (call_of parts.old.hand) shared.now.plan (step_outcomes.Say queue result)
         (view_of parts.old.hand) (view_of parts.new.hand) }
     ensures ends { TriedAtEnds G.shown shared.now (count_of parts.old.hand) (step_outcomes.Say queue result)
         room.new.line.items parts.old parts.new }
@@ -96,7 +96,7 @@ pub(crate) fn hear_step<R: Wait, G: Watch>(
     requires parts { ArePartsOf shared.now parts.old }
     requires there { IsThere shared.now.queues queue }
     requires empty { room.old.line.items ≡ [] }
-    ensures hand { TriedAtHand (call_of parts.old.hand) shared.now.plan (step_outcomes.Hear queue result)
+    ensures hand { HandDid (call_of parts.old.hand) shared.now.plan (step_outcomes.Hear queue result)
         (view_of parts.old.hand) (view_of parts.new.hand) }
     ensures ends { TriedAtEnds G.shown shared.now (count_of parts.old.hand) (step_outcomes.Hear queue result)
         room.new.line.items parts.old parts.new }
@@ -131,7 +131,7 @@ pub(crate) fn close_step<R: Wait, G: Watch>(
 ) -> (bool, Option<Woken>, Option<Woken>)
     requires parts { ArePartsOf shared.now parts.old }
     requires there { IsThere shared.now.queues (Small queue) }
-    ensures hand { TriedAtHand (call_of parts.old.hand) shared.now.plan
+    ensures hand { HandDid (call_of parts.old.hand) shared.now.plan
         (step_outcomes.Close queue result.0 result.1 result.2) (view_of parts.old.hand) (view_of parts.new.hand) }
     ensures ends { TriedAtEnds G.shown shared.now (count_of parts.old.hand)
         (step_outcomes.Close queue result.0 result.1 result.2) [] parts.old parts.new }

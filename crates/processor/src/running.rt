@@ -6,7 +6,7 @@ ghost use Rattle.processor.specs.Manning.{IsRunnable};
 ghost use Rattle.processor.specs.Orders.{TriedAtEnds, count_of, one_more};
 ghost use Rattle.processor.specs.Outcomes.{IsOutcomeOf};
 ghost use Rattle.processor.specs.Points.{GateSaw, points_of};
-ghost use Rattle.processor.specs.Running.{IsAtHand, RanAtHand};
+ghost use Rattle.processor.specs.Running.{IsAtHand, Stepped};
 
 use crate::laws::steps_fit;
 use crate::phases::{HearAnswer, StepCounted};
@@ -37,8 +37,8 @@ pub(crate) fn run_step<R: Wait, G: Watch>(
     requires at_hand { IsAtHand shared.now begun.now step.now parts.old }
     requires empty { room.old.line.items ≡ [] }
     ensures step_outcome { IsOutcomeOf step.now result.step_outcome room.new.line.items }
-    ensures hand { RanAtHand (call_of parts.old.hand) shared.now.plan p begun.now.element result (view_of parts.old.hand)
-        (view_of parts.new.hand) }
+    ensures hand { Stepped (call_of parts.old.hand) shared.now.plan p begun.now.element result.step_outcome result.counted
+        (view_of parts.old.hand) (view_of parts.new.hand) }
     ensures ends { TriedAtEnds G.shown shared.now (one_more (count_of parts.old.hand)) result.step_outcome
         room.new.line.items parts.old parts.new }
     ensures hook { GateSaw G.observes p (points_of result.step_outcome) gate.old gate.new }

@@ -1,11 +1,8 @@
 //! The queue to which an element goes after its step.
 ghost use Rattle.std.specs.Prelude.{◌≡◌, true, option_copied};
-ghost use Rattle.turn_dispatch.specs.Tallies.{AddsToTally};
 ghost use Rattle.thread_table.specs.Handles.{view_of, call_of, IsHandOf, IsSameHand};
-ghost use Rattle.thread_table.specs.Keeping.{Keeps};
-ghost use Rattle.thread_table.specs.Rules.{has, done_at};
+ghost use Rattle.thread_table.specs.Rules.{has};
 ghost use Rattle.processor.specs.Outcomes.{sleeps_on};
-ghost use Rattle.processor.specs.Entries.{gone};
 ghost use Rattle.processor.specs.Running.{Goes};
 
 use crate::phases::{HearAnswer, Moved, Rescheduled, SayAnswer, StepCounted, Ticket};
@@ -30,9 +27,6 @@ fn go_on<R: Wait>(
     requires table { IsHandOf threads.now hand.old }
     requires held { has (view_of hand.old) element ≡ true }
     requires ticket { option_copied ticket ≡ sleeps_on step_outcome.now }
-    ensures frame { Keeps (view_of hand.old) (view_of hand.new) }
-    ensures adds { AddsToTally (gone result element (done_at (view_of hand.old).seen.object element)) (view_of hand.old)
-        (view_of hand.new) }
     ensures goes { Goes (call_of hand.old) step_outcome.now last element result (view_of hand.old) (view_of hand.new) }
     ensures handle { IsSameHand hand.old hand.new }
 {
@@ -61,9 +55,6 @@ fn move_on<R: Wait>(
 ) -> Moved
     requires table { IsHandOf threads.now hand.old }
     requires held { has (view_of hand.old) element ≡ true }
-    ensures frame { Keeps (view_of hand.old) (view_of hand.new) }
-    ensures adds { AddsToTally (gone result element (done_at (view_of hand.old).seen.object element)) (view_of hand.old)
-        (view_of hand.new) }
     ensures goes { Goes (call_of hand.old) tried.now.step_outcome last element result (view_of hand.old)
         (view_of hand.new) }
     ensures handle { IsSameHand hand.old hand.new }
@@ -110,9 +101,6 @@ pub(crate) fn send_on<R: Wait>(
     requires table { IsHandOf threads.now hand.old }
     requires held { has (view_of hand.old) element ≡ true }
     ensures tried { result.tried ≡ tried }
-    ensures frame { Keeps (view_of hand.old) (view_of hand.new) }
-    ensures adds { AddsToTally (gone result.moved element (done_at (view_of hand.old).seen.object element)) (view_of hand.old)
-        (view_of hand.new) }
     ensures goes { Goes (call_of hand.old) tried.step_outcome last element result.moved (view_of hand.old)
         (view_of hand.new) }
     ensures handle { IsSameHand hand.old hand.new }

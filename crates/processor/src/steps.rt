@@ -5,7 +5,7 @@ ghost use Rattle.processor.specs.Orders.{TriedAtEnds, count_of};
 ghost use Rattle.processor.specs.Outcomes.{IsOutcomeOf};
 ghost use Rattle.processor.specs.Points.{GateSaw, points_of};
 ghost use Rattle.processor.specs.Stations.{ArePartsOf};
-ghost use Rattle.processor.specs.Steps.{Fits, TriedAtHand};
+ghost use Rattle.processor.specs.Steps.{Fits, HandDid};
 
 use crate::queue_steps::{close_step, hear_step, say_step};
 use crate::shared::Shared;
@@ -14,7 +14,7 @@ use crate::step_outcome::StepOutcome;
 use crate::watch::Watch;
 use boot_data::plan::Step;
 use std::sync::Wait;
-use turn_dispatch::{calls_only_add, start, wake};
+use turn_dispatch::{start, wake};
 use turn_io::{LineRoom, poke};
 
 // Tries a step of a thread once. The line that it says or hears goes into `room.line`.
@@ -31,12 +31,11 @@ pub(crate) fn try_step<R: Wait, G: Watch>(
     requires fits { Fits shared.now.queues (length shared.now.chains.items) step.now }
     requires empty { room.old.line.items ≡ [] }
     ensures step_outcome { IsOutcomeOf step.now result room.new.line.items }
-    ensures hand { TriedAtHand (call_of parts.old.hand) shared.now.plan result (view_of parts.old.hand)
+    ensures hand { HandDid (call_of parts.old.hand) shared.now.plan result (view_of parts.old.hand)
         (view_of parts.new.hand) }
     ensures ends { TriedAtEnds G.shown shared.now (count_of parts.old.hand) result room.new.line.items parts.old parts.new }
     ensures hook { GateSaw G.observes p (points_of result) gate.old gate.new }
 {
-    calls_only_add();
     let threads = &shared.threads;
     match step {
         Step::Say { queue, text } => StepOutcome::Say {

@@ -1,11 +1,8 @@
 //! Tickets of the wait queues at pipes: read before a try, and waited with after it.
 ghost use Rattle.std.specs.Prelude.{◌≡◌, true};
 ghost use Rattle.turn_dispatch.specs.Sendings.{WaitedAt};
-ghost use Rattle.turn_dispatch.specs.Tallies.{AddsToTally, no_events};
 ghost use Rattle.thread_table.specs.Handles.{view_of, call_of, IsHandOf, IsSameHand};
-ghost use Rattle.thread_table.specs.Keeping.{Keeps};
 ghost use Rattle.thread_table.specs.Rules.{has};
-ghost use Rattle.processor.specs.Acts.{AddsOnly};
 ghost use Rattle.processor.specs.Orders.{after_ticket, count_of};
 ghost use Rattle.processor.specs.Pipes.{TicketFor, IsTicketOf};
 
@@ -26,7 +23,6 @@ pub(crate) fn ticket_for(
     ensures ticket { TicketFor wait (view_of hand.old) result (view_of hand.new) }
     ensures its { IsTicketOf wait result }
     ensures count { count_of hand.new ≡ after_ticket wait (count_of hand.old) }
-    ensures acts { AddsOnly no_events (view_of hand.old) (view_of hand.new) }
 {
     match wait {
         Some(wait) => {
@@ -48,8 +44,6 @@ pub(crate) fn wait_with<R: Wait>(
 ) -> Waited
     requires table { IsHandOf threads.now hand.old }
     requires held { has (view_of hand.old) element ≡ true }
-    ensures frame { Keeps (view_of hand.old) (view_of hand.new) }
-    ensures adds { AddsToTally no_events (view_of hand.old) (view_of hand.new) }
     ensures waited { WaitedAt (call_of hand.old) ticket.now.wait element ticket.now.number result (view_of hand.old)
         (view_of hand.new) }
     ensures handle { IsSameHand hand.old hand.new }

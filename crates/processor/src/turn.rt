@@ -1,14 +1,9 @@
 //! The turns of a processor.
-ghost use Rattle.std.specs.Prelude.{◌≡◌, ◌<◌, ◌≤◌, [], ◌∷◌, true, length, IfOk, MatchResult};
+ghost use Rattle.std.specs.Prelude.{◌≡◌, ◌<◌, ◌≤◌, [], true, length, IfOk, MatchResult};
 ghost use Rattle.turn_dispatch.specs.Sendings.{Sent};
 ghost use Rattle.thread_table.specs.Handles.{view_of, call_of};
 ghost use Rattle.thread_table.specs.Rules.{has, done_at};
-ghost use Rattle.processor.specs.declared.outcome.TurnResult.TheVariants as hads;
-ghost use Rattle.processor.specs.Accounts.{nothing};
-ghost use Rattle.processor.specs.Doings.{saw_shut};
-ghost use Rattle.processor.specs.Entries.{FollowsStep, LogEntry, OutcomeFollows, beginning, having};
-ghost use Rattle.processor.specs.Entries.{outcome_account, outcome_saw_shut, tended_of, tending, trying};
-ghost use Rattle.processor.specs.Logs.{HasDone, Ran, Went};
+ghost use Rattle.processor.specs.Entries.{LogEntry, tended_of};
 ghost use Rattle.processor.specs.Manning.{IsRunnable, KeepsStation};
 ghost use Rattle.processor.specs.Orders.{CameInOrder, RanTurnsInOrder, InOrder, TurnInOrder, count_of, one_more};
 ghost use Rattle.processor.specs.Points.{GateSaw, TurnEnded, calls, points_of, points_out};
@@ -59,10 +54,7 @@ fn run_element<R: Wait, G: Watch>(
     requires empty { room.old.line.items ≡ [] }
     ensures station { KeepsStation shared.now p parts.old parts.new }
     ensures ran { RanStep shared.now p begun.now.element begun.now.number result room.new.line.items parts.old parts.new
-        × InOrder G.shown shared.now.plan (one_more (count_of parts.old.hand)) result.tried.step_outcome parts.old parts.new
-        × Went (FollowsStep shared.now.plan begun.now.element begun.now.number result room.new.line.items)
-        (trying begun.now.element begun.now.number result room.new.line.items) (saw_shut result.tried.step_outcome)
-        parts.old parts.new }
+        × InOrder G.shown shared.now.plan (one_more (count_of parts.old.hand)) result.tried.step_outcome parts.old parts.new }
     ensures hook { GateSaw G.observes p (points_of result.tried.step_outcome) gate.old gate.new }
 {
     let element = begun.element;
@@ -93,8 +85,6 @@ fn begin_turn<R: Wait>(
         (λ idle. IdleAt idle parts.old parts.new) }
     ensures held { IfOk result (λ begun. has (view_of parts.new.hand) begun.element ≡ true) }
     ensures number { IfOk result (λ begun. begun.number ≡ done_at (view_of parts.new.hand).seen.object begun.element) }
-    ensures done { MatchResult result (λ begun. HasDone (beginning begun) parts.old parts.new)
-        (λ idle. HasDone nothing parts.old parts.new) }
 {
     begin(rt, &shared.threads, &mut parts.hand, &mut parts.signals)
 }
@@ -114,8 +104,6 @@ fn retire_at<R: Wait>(
     ensures sent { Sent (call_of parts.old.hand) 1 element result (view_of parts.old.hand) (view_of parts.new.hand) }
     ensures rest { AreAtRest parts.old parts.new }
     ensures frame { (parts.new.meters ≡ parts.old.meters) × (parts.new.signals ≡ parts.old.signals) }
-    ensures done { HasDone (having element (done_at (view_of parts.old.hand).seen.object element) (hads.Retired result)
-        []) parts.old parts.new }
 {
     let threads = &shared.threads;
     retire(rt, threads, &mut parts.hand, element)
@@ -133,9 +121,7 @@ fn dispatch<R: Wait, G: Watch>(
 ) -> TurnOutcome
     requires station { IsRunnable shared.now p parts.old }
     ensures station { KeepsStation shared.now p parts.old parts.new }
-    ensures came { CameInOrder G.shown shared.now p result room.new.line.items parts.old parts.new
-        × Went (OutcomeFollows shared.now.plan result room.new.line.items)
-        (outcome_account result room.new.line.items) (outcome_saw_shut result) parts.old parts.new }
+    ensures came { CameInOrder G.shown shared.now p result room.new.line.items parts.old parts.new }
     ensures hook { GateSaw G.observes p (points_out result) gate.old gate.new }
 {
     steps_fit();
@@ -166,8 +152,7 @@ fn tend(
 ) -> Option<Result<u32, AdvanceRefusal>>
     requires station { IsRunnable shared.now p parts.old }
     ensures station { KeepsStation shared.now p parts.old parts.new }
-    ensures tended { TendedBy p (tended_of result fired.new.items) parts.old parts.new
-        × HasDone (tending (tended_of result fired.new.items)) parts.old parts.new }
+    ensures tended { TendedBy p (tended_of result fired.new.items) parts.old parts.new }
 {
     if p.number() != 0 {
         return None;
@@ -196,7 +181,6 @@ fn turn<R: Wait, G: Watch>(
     requires station { IsRunnable shared.now p parts.old }
     ensures station { KeepsStation shared.now p parts.old parts.new }
     ensures turn { (entry : LogEntry) × TurnInOrder G.shown shared.now p entry parts.old parts.new
-        × Ran shared.now.plan (entry ∷ []) parts.old parts.new
         × TurnEnded (calls G.observes G.learns) p entry gate.old gate.new }
 {
     let advanced = tend(shared, parts, p, fired);
@@ -214,7 +198,7 @@ fn turn<R: Wait, G: Watch>(
 /// processor 0 tends the alarms, and the oldest element of the ready ring has its turn: one try of its next step.
 /// Within a step the gate is called as `Point` says. At the end of the turn it gets the turn's result, by
 /// `TurnGate::turned`. It is never called otherwise. Returns the station, with what its ends did, and what was heard and
-/// signalled.
+/// signalled. `turns_add_up` says what all turns come to.
 ///
 /// Conditions: the station is one of `shared`, and its hand serves the processor, which has no element.
 pub fn run<R: Wait, G: Watch>(

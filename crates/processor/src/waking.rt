@@ -1,8 +1,6 @@
 //! Waking those who wait at a pipe.
 ghost use Rattle.std.specs.Prelude.{◌≡◌};
-ghost use Rattle.turn_dispatch.specs.Tallies.{no_events};
 ghost use Rattle.thread_table.specs.Handles.{view_of, call_of, IsHandOf, IsSameHand};
-ghost use Rattle.processor.specs.Acts.{AddsOnly};
 ghost use Rattle.processor.specs.Pipes.{WokeFor};
 
 use event_theory::WaitNumber;
@@ -11,7 +9,6 @@ use thread_table::{Hand, ThreadTable};
 use turn_dispatch::{Woken, wake};
 
 // Wakes all who wait in a wait queue, where there is one, and returns who was woken.
-#[tactic(auto, using(crate::proofs::Acting::acts_by))]
 pub(crate) fn wake_for<R: Wait>(
     rt: &R,
     threads: &ThreadTable,
@@ -21,7 +18,6 @@ pub(crate) fn wake_for<R: Wait>(
     requires { IsHandOf threads.now hand.old }
     ensures handle { IsSameHand hand.old hand.new }
     ensures woken { WokeFor (call_of hand.old) wait (view_of hand.old) result (view_of hand.new) }
-    ensures acts { AddsOnly no_events (view_of hand.old) (view_of hand.new) }
 {
     match wait {
         Some(wait) => Some(wake(rt, threads, hand, wait)),

@@ -1,6 +1,8 @@
 -- The parts that a hand keeps over several steps, what the steps add, and that none of its elements is counted a step.
 use Rattle.turn_dispatch.proofs.Common.{inl, inr, ∥∥₁_elim, ℕ_set, append-nil, MadeEvent, View, steps_in, MayStep, done_at, has, IsValidHandView, quiet, counted_done, IsFree, OnlyAdds, Steady, Tally, tally, followed_by, no_events, AddsToTally}
 use Rattle.std.proofs.Common.{◌≡◌, ℕ, ◌+◌, ◌<◌, true, false, List, [], ◌++◌, get_or, Some, None, refl, sym, ap, ◌∙◌, arith}
+use Rattle.table_theory.specs.Ends.{Begins}
+use Rattle.table_theory.proofs.Ends.{begins_refl, begins_trans}
 use Rattle.thread_table.specs.Entries.{Step, PerformsEvents, IsCalm}
 use Rattle.thread_table.specs.Keeping.{Keeps}
 use Rattle.thread_table.specs.Rules.{serves, running}
@@ -12,11 +14,12 @@ pub record Calm (v w : View) : Type 0 where
   pub fresh : w.own.fresh ≡ true
   pub calm : IsCalm v w
 
--- its processors are unchanged, and its events add this
+-- its processors are unchanged, its events add this, and the events that it has seen are a beginning of those that it sees
 pub record Goes (more : Tally) (v w : View) : Type 0 where
   pub keeps : Keeps v w
   pub adds : AddsToTally more v w
   pub calm : Calm v w
+  pub later : Begins v.seen.object w.seen.object
 
 -- the hand holds in between each element that it holds before and after
 abbrev pub Bridges : View → View → View → Type 0
@@ -45,6 +48,7 @@ goes_on s t u v w a b bridge = record {
   keeps = keeps_on u v w a.keeps b.keeps;
   adds = adds_on s t u v w a.adds b.adds;
   calm = record { fresh = b.calm.fresh; calm = calm_on u v w a.keeps b.keeps a.calm.fresh a.calm.calm b.calm.calm bridge };
+  later = begins_trans u.seen.object v.seen.object w.seen.object a.later b.later;
 }
 
 -- several steps, if the first ones add nothing, and if the last ones add nothing
@@ -52,7 +56,7 @@ pub goes_after : (t : Tally) (u v w : View) → Goes no_events u v → Goes t v 
 goes_after t u v w a b bridge = goes_on no_events t u v w a b bridge
 
 pub goes_before : (t : Tally) (u v w : View) → Goes t u v → Goes no_events v w → Bridges u v w → Goes t u w
-goes_before t u v w a b bridge = let g = goes_on t no_events u v w a b bridge in record { keeps = g.keeps; adds = adds_before t u v w a.adds b.adds; calm = g.calm }
+goes_before t u v w a b bridge = let g = goes_on t no_events u v w a b bridge in record { keeps = g.keeps; adds = adds_before t u v w a.adds b.adds; calm = g.calm; later = g.later }
 
 -- if the hand holds the same elements on one side
 pub left : (u v w : View) → v.own.held ≡ u.own.held → Bridges u v w
@@ -71,6 +75,7 @@ looks_none v up = (
     keeps = record { first = refl; serves = refl; on = refl; share = refl };
     adds = adds_more no_events v v [] (sym (append-nil v.own.made)) refl;
     calm = record { fresh = up; calm = λ _ e low may after. refl };
+    later = begins_refl v.seen.object;
   },
   refl,
 )
@@ -89,6 +94,7 @@ acts_goes more v w now entries l k grew is a = record {
   };
   adds = adds_more more v w l (ap (λ (z : View). z.own.made) a.has ∙ grew) is;
   calm = record { fresh = ap (λ (z : View). z.own.fresh) a.has; calm = a.calm };
+  later = a.later;
 }
 
 pub acts_held : (v w now : View) (entries : List Step) → PerformsEvents v entries now w → w.own.held ≡ now.own.held

@@ -19,7 +19,7 @@ raised_more call (x ∷ xs) a r v u w all s = (all.0, all.1, all.2, raised_more 
 pub raised_again : (call call' : ℕ) (alarms more : List Alarm) (a : Alarm) (r : Signalled) (v u w : View) → call' ≡ call → more ≡ alarms ++ a ∷ [] → RaisedAll call alarms v u → SignalAnswer call' u a.element a.signal r w → RaisedAll call more v w
 raised_again call call' alarms more a r v u w same is all s = subst (λ (xs : List Alarm). RaisedAll call xs v w) (sym is) (raised_more call alarms a r v u w all (subst (λ (c : ℕ). SignalAnswer c u a.element a.signal r w) same s))
 
-raised_goes : (call : ℕ) (alarms : List Alarm) (v w : View) → v.own.fresh ≡ true → RaisedAll call alarms v w → Goes (signals_for alarms) v w × (w.own.held ≡ v.own.held)
+pub raised_goes : (call : ℕ) (alarms : List Alarm) (v w : View) → v.own.fresh ≡ true → RaisedAll call alarms v w → Goes (signals_for alarms) v w × (w.own.held ≡ v.own.held)
 raised_goes call [] v w up same = subst (OnlyLoads v) (sym same) (looks_none v up)
 raised_goes call (a ∷ rest) v w up all =
     let u : View = all.0 in

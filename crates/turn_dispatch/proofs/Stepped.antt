@@ -28,8 +28,19 @@ pub record StepIs (call element number : ℕ) (v w : View) : Type 0 where
 done_more : (e call number : ℕ) (past : List Event) → steps_in e (past ++ events.Done call e ∷ []) ≡ steps_in e past + reported_steps e (one_step e number)
 done_more e call number past = sum_by-append (λ (event : Event). cond (is_done e event) 1 0) past (events.Done call e ∷ [])
 
-own_step : (e number : ℕ) → reported_steps e (one_step e number) ≡ 1
+pub own_step : (e number : ℕ) → reported_steps e (one_step e number) ≡ 1
 own_step e number = ⊎_elim (λ same. ap (λ (b : Bool). 0 + cond b 1 0) same.0) (λ other. absurd (other.1 refl)) (eqb_tells e e)
+
+-- the events after which the step was counted, and what it adds
+pub step_counts : (call element number : ℕ) (v w : View) → (c : DoneAnswer call v element (Ok number) w) → steps_in element w.seen.object ≡ c.0 + 1
+step_counts call element number v w c =
+    let s : steps_in element w.seen.object ≡ steps_in element c.2.object + reported_steps element (one_step element c.0) = ap (λ (z : Past). steps_in element z.object) c.6.seen ∙ done_more element call c.0 c.2.object in
+    let o = own_step element c.0 in
+    let k = c.5 in
+    omega arith
+
+pub step_goes : (call element number : ℕ) (v w : View) → (c : DoneAnswer call v element (Ok number) w) → Goes (one_step element c.0) v w
+step_goes call element number v w c = acts_goes (one_step element c.0) v w (with_step v (events.Done call element) c.0) _ _ record { first = refl; serves = refl; on = refl; share = refl } refl refl c.6
 
 -- the number of steps done that was found is that of all that were counted
 pub found_steps : (element found : ℕ) (v w : View) → ∥ IsValidHandView w ∥₁ → ReadPc element v found w → found ≡ done_at w.seen.object element
@@ -61,18 +72,13 @@ step_is call element number v w low up may before following c = record {
 }
   where
     goes : Goes (one_step element c.0) v w
-    goes = acts_goes (one_step element c.0) v w (with_step v (events.Done call element) c.0) _ _ record { first = refl; serves = refl; on = refl; share = refl } refl refl c.6
+    goes = step_goes call element number v w c
 
     still : MayStep w element
     still = same_may v w element (acts_held v w (with_step v (events.Done call element) c.0) _ c.6) goes.keeps.serves goes.keeps.on may
 
     now : done_at w.seen.object element ≡ c.0 + 1
-    now =
-        let s : steps_in element w.seen.object ≡ steps_in element c.2.object + reported_steps element (one_step element c.0) = ap (λ (z : Past). steps_in element z.object) c.6.seen ∙ done_more element call c.0 c.2.object in
-        let o = own_step element c.0 in
-        let k = c.5 in
-        let y = done_is w element following in
-        omega arith
+    now = done_is w element following ∙ step_counts call element number v w c
 
     known : c.0 ≡ done_at v.seen.object element
     known =

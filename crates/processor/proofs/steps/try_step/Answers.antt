@@ -3,21 +3,8 @@ use Rattle.std.specs.List.{All}
 use Rattle.turn_io.specs.EndLists.{AreSameChainEnds, IsIdle}
 use Rattle.turn_io.specs.Outcomes.{PokedAt}
 use Rattle.turn_io.proofs.Queues.{same_ends_still}
-use Rattle.processor.proofs.Acting.{acts_by, acts_only}
 use Rattle.processor.proofs.Placing.{of_same}
 use Rattle.processor.proofs.steps.try_step.Goals as goal
-
-pub returns-in-Wake-clause-hand : goal.returns-in-Wake-clause-hand
-returns-in-Wake-clause-hand g c = let e = c.wake.ensures in record { did = search rules; only = acts_by _ _ _ e.frame e.adds e.steady }
-
-pub returns-in-Start-clause-hand : goal.returns-in-Start-clause-hand
-returns-in-Start-clause-hand g c = let e = c.start.ensures in record { did = search rules; only = acts_by _ _ _ e.frame e.adds e.steady }
-
-pub returns-in-Signal-clause-hand : goal.returns-in-Signal-clause-hand
-returns-in-Signal-clause-hand g c = record { did = search rules; only = acts_only _ _ _ (c.calls_only_add.ensures.signals _ _ _ _ c.args.parts.now.hand c.signal.new.hand c.signal.ensures.trace) }
-
-pub returns-in-Stop-clause-hand : goal.returns-in-Stop-clause-hand
-returns-in-Stop-clause-hand g c = record { did = search rules; only = acts_only _ _ _ (c.calls_only_add.ensures.stops _ _ _ c.args.parts.now.hand c.stop.new.hand c.stop.ensures.trace) }
 
 pub returns-in-Tick-clause-ends : goal.returns-in-Tick-clause-ends
 returns-in-Tick-clause-ends g c = record {

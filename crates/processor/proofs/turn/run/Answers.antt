@@ -3,8 +3,7 @@ use Rattle.std.proofs.Math.Nat.{zero-add}
 use Rattle.std.proofs.lemmas.List.{length-append}
 use Rattle.processor.specs.Points.{calls}
 use Rattle.processor.proofs.Keeping.{stays_on, stays_still}
-use Rattle.processor.proofs.Logging.{ran_on, none_ran, leaves}
-use Rattle.processor.proofs.Ordering.{hooked_of, turns_more}
+use Rattle.processor.proofs.Ordering.{turns_more}
 use Rattle.processor.proofs.turn.run.Goals as goal
 
 pub loop-number-preserved : goal.loop-number-preserved
@@ -18,25 +17,13 @@ loop-number-preserved g c =
       log ++ entry ∷ [],
       length-append log (entry ∷ []) ∙ ap (λ n. n + 1) i.2,
       turns_more g.G.Watch.shown (calls g.G.Gate.observes g.G.TurnGate.learns) c.args.shared.now c.args.p 0 log entry c.args.station.parts c.loop-number.parts c.turn.new.parts c.args.gate.now c.loop-number.gate c.turn.new.gate i.3 e.turn.1
-          (c.between.new.self, subst (λ (n : ℕ). g.G.Gate.observes c.loop-number.gate c.args.p (Turn n) c.between.new.self) (sym (zero-add (length log) ∙ i.2)) said, e.turn.3),
-      ran_on c.args.shared.now.plan log (entry ∷ []) c.args.station.parts c.loop-number.parts c.turn.new.parts i.4 e.turn.2,
+          (c.between.new.self, subst (λ (n : ℕ). g.G.Gate.observes c.loop-number.gate c.args.p (Turn n) c.between.new.self) (sym (zero-add (length log) ∙ i.2)) said, e.turn.2),
     )
 
 pub loop-number-init : goal.loop-number-init
-loop-number-init g c = (stays_still c.args.shared.now c.args.p c.args.station.parts c.requires.station, [], refl, (refl, refl), none_ran c.args.shared.now.plan c.args.station.parts)
+loop-number-init g c = (stays_still c.args.shared.now c.args.p c.args.station.parts c.requires.station, [], refl, (refl, refl))
 
 pub returns-clause-turned : goal.returns-clause-turned
 returns-clause-turned g c =
     let i = c.loop-number.invariant in
-    let old = c.args.station.parts in
-    let new = c.loop-number.parts in
-    record {
-      turned = record {
-        log = i.1;
-        many = i.2 ∙ search rules;
-        reported = hooked_of g.G.Watch.shown (calls g.G.Gate.observes g.G.TurnGate.learns) c.args.shared.now c.args.p 0 i.1 old new c.args.gate.now c.loop-number.gate i.3;
-        ran = i.4;
-        leaves = λ fresh. leaves c.args.shared.now.plan i.1 old new fresh i.0.seat i.4;
-      };
-      order = i.3;
-    }
+    record { log = i.1; many = i.2 ∙ search rules; order = i.3 }

@@ -1,8 +1,8 @@
-use Rattle.processor.proofs.Common.{◌≡◌, List, length, LogEntry, Ran, KeepsStation}
+use Rattle.processor.proofs.Common.{◌≡◌, List, length, LogEntry, KeepsStation}
 use Rattle.processor.specs.Orders.{TurnsInOrder}
 use Rattle.processor.specs.Points.{calls}
 use Rattle.processor.proofs.turn.run.Given as goal
 
 abbrev pub invariant-loop-number : goal.invariant-loop-number
 invariant-loop-number g l = KeepsStation l.shared l.p l.fn.station.parts l.parts × (log : List LogEntry) × (length log ≡ l.number)
-    × TurnsInOrder g.G.Watch.shown (calls g.G.Gate.observes g.G.TurnGate.learns) l.shared l.p 0 log l.fn.station.parts l.parts l.fn.gate l.gate × Ran l.shared.plan log l.fn.station.parts l.parts
+    × TurnsInOrder g.G.Watch.shown (calls g.G.Gate.observes g.G.TurnGate.learns) l.shared l.p 0 log l.fn.station.parts l.parts l.fn.gate l.gate

@@ -1,4 +1,4 @@
-use Rattle.processor.proofs.Common.{◌≡◌, ◌<◌, ◌≤◌, ℕ, true, List, length, ◌++◌, map, rules, sym, ap, ◌∙◌, subst, arith, AllByRecursion, view_of, call_of, StepOutcome, Rescheduled, Parts, is_done, heard_by, is_heard, saw_shut, FollowsStep, trying, Went, Key, AreHears, hear_count, program, key_of, IsPast, Goes, is_last}
+use Rattle.processor.proofs.Common.{◌≡◌, ◌<◌, ◌≤◌, ℕ, true, List, length, ◌++◌, map, rules, sym, ap, ◌∙◌, subst, arith, AllByRecursion, view_of, call_of, StepOutcome, Rescheduled, Parts, is_done, heard_by, is_heard, Key, AreHears, hear_count, program, key_of, IsPast, Goes, is_last}
 use Rattle.std.proofs.lemmas.List.{length-map}
 use Rattle.boot_data.specs.Hearing.{Heard}
 use Rattle.turn_io.proofs.Queues.{shares_still}
@@ -11,9 +11,9 @@ use Rattle.processor.specs.Turns.{RanStep}
 use Rattle.processor.proofs.Keeping.{free_still, parts_still}
 use Rattle.processor.proofs.Longest.{heard_within}
 use Rattle.processor.proofs.Placing.{queues_worked, chains_worked, seat_worked}
-use Rattle.processor.proofs.Rising.{fallen, going, stepping}
+use Rattle.processor.proofs.Rising.{fallen}
 use Rattle.processor.proofs.Rooming.{key_in, hears_more, past_more, room_left, keys_more}
-use Rattle.processor.proofs.Trying.{tried_went}
+use Rattle.processor.proofs.Tallying.{moved_adds, step_adds}
 use Rattle.processor.proofs.turn.run_element.Goals as goal
 
 pub keep-requires-clause-room : goal.keep-requires-clause-room
@@ -41,6 +41,10 @@ keep-requires-clause-few g c is =
     let long : length text ≤ c.args.parts.now.heard.longest = let most = had.longest in omega arith in
     subst (λ (z : Heard). length c.as_slice.result.now ≤ z.longest) (sym r.ends.heard) (subst (λ (z : List ℕ). length z ≤ c.args.parts.now.heard.longest) (sym c.as_slice.ensures.value) long)
 
+pub send_on-requires-clause-held : goal.send_on-requires-clause-held
+send_on-requires-clause-held g c =
+    (step_adds _ _ c.args.p c.args.begun.now.element _ _ c.args.parts.now.hand c.run_step-tried.new.parts.hand c.requires.at_hand.is_one c.requires.at_hand.held c.requires.station.free c.run_step-tried.ensures.hand).held
+
 pub returns-clause-station : goal.returns-clause-station
 returns-clause-station g c =
     let plan = c.args.shared.now.plan in
@@ -55,15 +59,17 @@ returns-clause-station g c =
     let u = view_of c.run_step-tried.new.parts.hand in
     let w = view_of c.send_on.new.hand in
     let keys : List Key = map key_of heard.lines in
+    let adds = step_adds _ plan c.args.p e step_outcome c.run_step-tried.result.counted c.args.parts.now.hand c.run_step-tried.new.parts.hand c.requires.at_hand.is_one c.requires.at_hand.held c.requires.station.free r.hand in
+    let moved = moved_adds (call_of c.run_step-tried.new.parts.hand) step_outcome c.is_last-last.result e c.send_on.result.moved c.run_step-tried.new.parts.hand c.send_on.new.hand c.requires.at_hand.is_one adds.held s.goes in
     let more = hears_more e n plan c.args.step.now step_outcome _ v keys c.requires.at_hand.its r.step_outcome c.requires.at_hand.known had.hears had.past in
-    let past = past_more _ _ e n plan step_outcome c.run_step-tried.result.counted v u w keys r.hand.stepped r.hand.number c.requires.at_hand.known c.requires.at_hand.low
-    (fallen c.args.parts.now.hand c.run_step-tried.new.parts.hand (stepping _ _ _ _ _ _ _ _ r.hand.stepped)) (fallen c.run_step-tried.new.parts.hand c.send_on.new.hand (going (call_of c.run_step-tried.new.parts.hand) step_outcome c.is_last-last.result e c.send_on.result.moved u w s.goes)) had.past in
+    let past = past_more _ _ e n plan step_outcome c.run_step-tried.result.counted v u w keys r.hand adds.number c.requires.at_hand.known c.requires.at_hand.low
+    (fallen c.args.parts.now.hand c.run_step-tried.new.parts.hand adds.later) (fallen c.run_step-tried.new.parts.hand c.send_on.new.hand moved.later) had.past in
     let are : map key_of c.keep.new.lines.lines ≡ keys ++ key_in step_outcome e n =
     keys_more c.run_step-tried.new.parts.heard.lines c.keep.new.lines.lines step_outcome e n _
     (subst (λ (z : StepOutcome). c.keep.new.lines.lines ≡ c.run_step-tried.new.parts.heard.lines ++ heard_by z e n c.as_slice.result.now) c.step_outcome.ensures c.keep.ensures.effect) ∙ ap (λ z. map key_of z.lines ++ key_in step_outcome e n) r.ends.heard in
     let sized : c.keep.new.lines.room ≡ heard.room = c.keep.ensures.room ∙ ap (λ z. z.room) r.ends.heard in
-    let on = s.frame.on ∙ r.hand.keeps.on in
-    let serves = s.frame.serves ∙ r.hand.keeps.serves in
+    let on = moved.keeps.on ∙ adds.keeps.on in
+    let serves = moved.keeps.serves ∙ adds.keeps.serves in
     let same : AreSameParts c.args.parts.now (record c.run_step-tried.new.parts { hand = c.send_on.new.hand; heard = c.keep.new.lines }) = record { hand = search rules; queues = r.ends.same.queues; chains = r.ends.same.chains; meters = r.ends.same.meters } in
     let queues = queues_worked step_outcome _ _ _ r.ends.did.queues in
     let seat = (seat_worked step_outcome _ _ r.ends.did.seat).1 in
@@ -84,7 +90,7 @@ returns-clause-station g c =
       shares_are = λ i. record {
         queues = shares_still _ _ queues.sound i;
         chains = (chains_worked _ step_outcome _ _ r.ends.did.chains).1 i;
-        hand = (s.frame.share ∙ r.hand.keeps.share) i;
+        hand = (moved.keeps.share ∙ adds.keeps.share) i;
         meters = seat.share i;
       };
       seat = seat.parted;
@@ -111,21 +117,18 @@ returns-clause-ran g c =
     let goes = subst (λ k. Goes k tried.step_outcome (is_last (is_done tried.step_outcome) n (length (program shared.plan e))) e sent.moved (view_of mid.hand) (view_of new.hand)) r.ends.same.hand.1
     (subst (λ b. Goes (call_of mid.hand) tried.step_outcome b e sent.moved (view_of mid.hand) (view_of new.hand)) last s.goes) in
     subst (λ (z : StepCounted). RanStep shared c.args.p e n (record { tried = z; moved = c.send_on.result.moved }) line old new
-    × InOrder g.G.Watch.shown shared.plan (one_more (count_of old.hand)) z.step_outcome old new
-    × Went (FollowsStep shared.plan e n (record { tried = z; moved = c.send_on.result.moved }) line) (trying e n (record { tried = z; moved = c.send_on.result.moved }) line) (saw_shut z.step_outcome) old new)
+    × InOrder g.G.Watch.shown shared.plan (one_more (count_of old.hand)) z.step_outcome old new)
     (sym s.tried) (
       record {
         step = c.args.step.now;
         is = c.requires.at_hand.its;
         step_outcome = r.step_outcome;
-        stepped = view_of mid.hand;
-        ran = r.hand.stepped;
+        stepped = mid.hand;
+        ran = r.hand;
         goes = goes;
         ends = ends;
         lines = lines;
         signals = r.ends.signals;
       },
       record { queues = r.ends.order.queues; chains = r.ends.order.chains; seat = r.ends.order.seat },
-      tried_went shared _ _ c.args.p e n c.args.step.now sent line old mid new c.requires.at_hand.its r.step_outcome r.hand.stepped r.hand.number c.requires.at_hand.known c.requires.at_hand.low goes
-          r.hand.adds s.adds ends lines r.ends.signals,
     )

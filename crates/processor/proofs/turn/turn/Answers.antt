@@ -1,13 +1,14 @@
 use Rattle.processor.proofs.Common.{List, ℕ, LogEntry, subst}
 use Rattle.event_theory.specs.declared.alarm.Alarm.{Alarm}
 use Rattle.processor.specs.Entries.{entry_of}
-use Rattle.processor.proofs.Logging.{turn_ran}
+use Rattle.processor.proofs.Keeping.{stays_on}
 use Rattle.processor.proofs.turn.turn.Goals as goal
+
+pub returns-clause-station : goal.returns-clause-station
+returns-clause-station g c = stays_on c.args.shared.now c.args.p c.args.parts.now c.tend-advanced.new.parts c.dispatch-outcome.new.parts c.tend-advanced.ensures.station c.dispatch-outcome.ensures.station
 
 pub returns-clause-turn : goal.returns-clause-turn
 returns-clause-turn g c =
-    let tended = c.tend-advanced.ensures.tended in
-    let came = c.dispatch-outcome.ensures.came in
     let fired = c.tend-advanced.new.fired.items in
     let line = c.dispatch-outcome.new.room.line.items in
     let entry : LogEntry = entry_of c.tend-advanced.result fired c.dispatch-outcome.result line in
@@ -15,7 +16,6 @@ returns-clause-turn g c =
     (subst (λ (z : List Alarm). g.G.TurnGate.learns c.dispatch-outcome.new.gate c.number.result (entry_of c.tend-advanced.result z c.dispatch-outcome.result line) c.turned.new.self) c.as_slice.ensures.value
     (subst (λ (z : List ℕ). g.G.TurnGate.learns c.dispatch-outcome.new.gate c.number.result (entry_of c.tend-advanced.result c.as_slice.result.now c.dispatch-outcome.result z) c.turned.new.self) c.as_slice-2.ensures.value c.turned.ensures)) in (
       entry,
-      (c.tend-advanced.new.parts, tended.0, came.0),
-      turn_ran c.args.shared.now.plan entry c.args.parts.now c.tend-advanced.new.parts c.dispatch-outcome.new.parts tended.1 came.1,
+      (c.tend-advanced.new.parts, c.tend-advanced.ensures.tended, c.dispatch-outcome.ensures.came),
       (c.dispatch-outcome.new.gate, c.dispatch-outcome.ensures.hook, learned),
     )

@@ -1,6 +1,10 @@
 use Rattle.boot_threads.proofs.Common.{◌≡◌, get_or, rules, calls}
-use Rattle.boot_threads.proofs.Allowing.{served_so}
+use Rattle.boot_threads.proofs.Allowing.{processed_so, served_so}
 use Rattle.boot_threads.proofs.work.WorkJobSharedWorked.run.Goals as goal
+
+pub returns-in-Process : goal.returns-in-Process
+returns-in-Process g c = processed_so _ (calls g.G.Gate.observes g.G.TurnGate.learns) c.args.shared.now c.args.self c.in-Process.station c.run-station.result c.in-Process.p c.in-Process.turns c.in-Process.gate c.run-station.new.gate
+    c.in-Process.is c.requires c.run-station.ensures.station c.run-station.ensures.turned
 
 pub returns-in-Serve : goal.returns-in-Serve
 returns-in-Serve g c =

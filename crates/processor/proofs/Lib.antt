@@ -13,6 +13,5 @@ pub mod Placing
 pub mod Tallying
 pub mod Trying
 pub mod Signals
-pub mod Pointing
 pub mod Ordering
 pub mod Turning

@@ -56,12 +56,6 @@ heard_hears (steps.Hear queue) step_outcome line a h = refl
 heard_hears step (step_outcomes.Hear at answer) line a h = absurd a
 heard_hears step step_outcome line a h = cc
 
--- the answer to a count holds over a longer stretch, if no step of the element was counted before and after
-pub number_on : (answer : Counted) (e : ℕ) (v did after w : View) → done_at did.seen.object e ≡ done_at v.seen.object e → done_at w.seen.object e ≡ done_at after.seen.object e → IsNumber answer e did after → IsNumber answer e v w
-number_on (counted.Done number) e v did after w x y is = (is.0 ∙ ap (λ n. n + 1) x, y ∙ is.1)
-number_on counted.Spent e v did after w x y is = (sym x ∙ is.0, y ∙ is.1)
-number_on counted.Undone e v did after w x y is = y ∙ (is ∙ x)
-
 -- a step that is done is counted, if the number of steps is small enough
 counts_one : (call e : ℕ) (answer : Counted) (did after v w : View) → CountAnswer call e true did answer after → IsNumber answer e v w → done_at v.seen.object e < 64
     → done_at v.seen.object e < done_at w.seen.object e

@@ -1,5 +1,5 @@
 -- The signals of two lists of masks, in one.
-use Rattle.processor.proofs.Common.{◌≡◌, inl, inr, ℕ, ◌+◌, ◌<◌, ◌≤◌, ◌||◌, true, false, List, get_or, set, length, refl, sym, ap, ◌∙◌, arith, eqb_tells, is_in, HaveBoth}
+use Rattle.processor.proofs.Common.{◌≡◌, inl, inr, ℕ, ◌+◌, ◌<◌, ◌≤◌, ◌||◌, true, false, List, get_or, set, length, sym, ap, ◌∙◌, arith, eqb_tells, is_in, HaveBoth}
 use Rattle.std.proofs.Common.{◌≢◌, ◌⊎◌, eqb}
 use Rattle.std.specs.Int.Bits.{bit_or}
 use Rattle.std.proofs.lemmas.List.{get_or-set_same, get_or-set_other, length-set}
@@ -10,9 +10,6 @@ pub record BothUpTo (k : ℕ) (a b all : List ℕ) : Type 0 where
   pub long : length all ≡ 64
   pub below : (e s : ℕ) → e < k → is_in (get_or all e 0) s ≡ (is_in (get_or a e 0) s || is_in (get_or b e 0) s)
   pub above : (e : ℕ) → k ≤ e → get_or all e 0 ≡ get_or a e 0
-
-pub both_start : (a b : List ℕ) → length a ≡ 64 → BothUpTo 0 a b a
-both_start a b h = record { long = h; below = λ e s low. absurd (omega arith); above = λ e low. refl }
 
 pub both_next : (k : ℕ) (a b all : List ℕ) → k < 64 → BothUpTo k a b all → BothUpTo (k + 1) a b (set all k (bit_or (get_or all k 0) (get_or b k 0)))
 both_next k a b all low h = record {

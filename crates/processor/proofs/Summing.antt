@@ -1,5 +1,5 @@
 -- The accounts and the shares of stations add up.
-use Rattle.processor.proofs.Common.{◌≡◌, ◌||◌, ◌&&◌, ℕ, Bool, true, false, List, refl, sym, ap, ◌∙◌, append-nil, append_assoc, QueueIndex, both_queue, both_chain, idle_queue, idle_chain, at_each, queues_add, Shows, tally, no_events, followed_by, nothing_did, did_both, is_in, view_of, View, Parts, nothing, ◌⊕◌, shown_in, account, seat_parted, shares, HaveBoth}
+use Rattle.processor.proofs.Common.{◌≡◌, ◌||◌, ◌&&◌, ℕ, Bool, true, false, List, refl, sym, ap, ◌∙◌, append-nil, append_assoc, QueueIndex, both_queue, both_chain, idle_queue, idle_chain, at_each, queues_add, Shows, tally, nothing_did, did_both, is_in, view_of, View, Parts, nothing, ◌⊕◌, shown_in, account, seat_parted, shares, HaveBoth}
 use Rattle.std.specs.Prelude.{nat_lt, slice_index_or}
 use Rattle.std.proofs.Math.Bool.{or_assoc, or-false}
 use Rattle.std.proofs.Math.Nat.{add_comm}
@@ -24,9 +24,6 @@ queue_sums = each_adds queues_add
 
 pub chain_sums : AddsUp (λ (q : ℕ). idle_chain) (at_each both_chain)
 chain_sums = each_adds chains_add
-
-tallies_add : AddsUp no_events followed_by
-tallies_add = record { regroups = behind_more; none_first = λ a. refl; none_last = behind_none }
 
 pub dids_add : AddsUp nothing_did did_both
 dids_add = record {

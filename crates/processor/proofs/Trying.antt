@@ -1,5 +1,5 @@
 -- What a step comes to that was tried, by what was done: how it is counted, what its ends did, and what they know.
-use Rattle.processor.proofs.Common.{◌≡◌, ◌+◌, ◌==◌, ◌<◌, ⊎_elim, ℕ, Bool, true, false, cond, List, [], ◌∷◌, ◌++◌, map, length, Some, refl, sym, ap, subst, ◌∙◌, arith, eqb_tells, append-nil, QueueIndex, Step, Counted, CountAnswer, IsNumber, counted_step, Tally, AddsToTally, followed_by, call_of, view_of, View, done_at, Keeps, StepOutcome, Rescheduled, Shared, Parts, shown_in, IsOutcomeOf, is_done, heard_by, raised_by, saw_shut, FollowsStep, trying, Climbs, Went, numbers_of, Key, program, step_of, Stepped, Goes, is_last}
+use Rattle.processor.proofs.Common.{◌≡◌, ◌+◌, ◌<◌, ⊎_elim, ℕ, Bool, true, false, cond, List, [], ◌∷◌, ◌++◌, map, length, refl, sym, ap, subst, ◌∙◌, arith, eqb_tells, append-nil, QueueIndex, Counted, CountAnswer, IsNumber, counted_step, Tally, AddsToTally, followed_by, call_of, view_of, View, done_at, Keeps, StepOutcome, Rescheduled, Shared, Parts, shown_in, is_done, raised_by, saw_shut, FollowsStep, trying, Climbs, Went, numbers_of, Key, program, Goes, is_last}
 use Rattle.std.proofs.lemmas.Bool.{leb-true, and_parts as split}
 use Rattle.turn_io.specs.declared.queue_ends.QueueEnds.{QueueEnds}
 use Rattle.turn_io.specs.Accounts.{know_shut}

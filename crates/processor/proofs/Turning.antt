@@ -1,5 +1,5 @@
 -- What turns come to, by what each of them did.
-use Rattle.processor.proofs.Common.{◌≡◌, ◌<◌, ℕ, suc, true, List, [], ◌∷◌, Option, Some, None, Ok, Err, refl, sym, ap, subst, ◌∙◌, arith, Begun, tick_to, nothing_did, Rescheduled, Shared, Parts, view_of, call_of, done_at, Keeps, nothing, shown_in, beginning, saw_shut, FollowsStep, trying, LogEntry, HasDone, Ran, Went, KeepsStation, Calls, program}
+use Rattle.processor.proofs.Common.{◌≡◌, ◌<◌, ℕ, suc, true, List, [], ◌∷◌, Option, Some, None, Ok, Err, refl, sym, ap, subst, ◌∙◌, Begun, tick_to, nothing_did, Shared, Parts, view_of, call_of, done_at, Keeps, nothing, shown_in, beginning, LogEntry, HasDone, Ran, Went, KeepsStation, Calls}
 use Rattle.thread_table.specs.Rules.{has}
 use Rattle.meters.specs.Handles as seats
 use Rattle.turn_dispatch.specs.Holdings.{IsFree}
@@ -19,7 +19,7 @@ use Rattle.processor.specs.Logs.{RanTurns}
 use Rattle.processor.specs.Manning.{IsRunnable}
 use Rattle.processor.specs.Orders.{CameInOrder, RanTurnsInOrder, TurnInOrder, TurnsInOrder}
 use Rattle.processor.specs.Sights.{Sights}
-use Rattle.processor.specs.Turns.{BegunAt, HadTurn, TendedBy}
+use Rattle.processor.specs.Turns.{HadTurn, TendedBy}
 use Rattle.processor.proofs.Keeping.{free_still}
 use Rattle.processor.proofs.Logging.{begun_done, done_on, hand_done, leaves, none_done, none_ran, ran_on, retired_done, turn_ran}
 use Rattle.processor.proofs.Ordering.{hooked_of}

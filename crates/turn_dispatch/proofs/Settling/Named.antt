@@ -38,10 +38,7 @@ else_keeps said f same s = let P : State → Type 0 = λ t. AsMany s.elements t.
 change_long : {A : Type 0} (index : ℕ) (change : A → Result A Refusal) (list r : List A) → change_at index change list ≡ Ok r → length r ≡ length list
 change_long index change list r ok = let d = change_ok index change list r ok in ap length d.4 ∙ length-set list index d.1
 
--- one element queue changes
-ring_long : (s t : Elements) → length t.rings ≡ length s.rings → t.threads ≡ s.threads → t.processors ≡ s.processors → AsMany s t
-ring_long s t rings threads seats i = (length (threads i), rings i, length (seats i))
-
+-- one thread changes
 thread_keeps : (element : ℕ) (change : Elements → Thread → Result Thread Refusal) → Keeps (λ s. change_thread element (change s) s)
 thread_keeps element change s = then_gives (AsMany s) (change_at element (change s) s.threads) _
     (λ threads is. ok_gives (AsMany s) _ (λ i. (change_long element (change s) s.threads threads is i, length s.rings, length s.processors)))

@@ -1,6 +1,6 @@
 -- The consequences if a table's events settle: for the crates above, which know the events as those of a first hand and
 -- the rest.
-use Rattle.turn_dispatch.proofs.Common.{eq-eqb, dite, dec_lt, ◌==◌, ◌&&◌, ◌||◌, ELEMENTS, Place, is_in, ClosedNow, View, plus, many_cons, many_more, by_bool, any_is, is_less, same_pair, IsOnceWhere, is_free, place_of, has_done, Tally, tally, followed_by, is_delivered}
+use Rattle.turn_dispatch.proofs.Common.{eq-eqb, dite, dec_lt, ◌==◌, ◌&&◌, ◌||◌, ELEMENTS, Place, is_in, ClosedNow, View, plus, many_cons, many_more, by_bool, any_is, is_less, same_pair, IsOnceWhere, is_free, place_of, Tally, tally, followed_by, is_delivered}
 use Rattle.thread_table.proofs.Common.{◌≡◌, ⊎_elim, ℕ, ◌<◌, ◌≤◌, Bool, true, false, eqb_tells, List, [], ◌∷◌, ◌++◌, ◌∙◌, length, get_or, refl, sym, ap, arith, count_by, list_any}
 use Rattle.std.specs.Prelude.{if◌then◌else◌, nat_lt}
 use Rattle.turn_dispatch.specs.Settlings.{Settles}
@@ -36,15 +36,6 @@ module _ (x : ℕ) where
       (λ is. ap (λ z. z || list_any is_of rs) is)
       (λ isnt. let other : same_pair (x, n) r ≡ false = ⊎_elim (λ t. let z : true ≡ false = sym (eq-eqb r.0 x (sym t.1)) ∙ isnt in absurd (cc)) (λ f. ap (λ b. b && (n == r.1)) f.0) (eqb_tells x r.0) in
       ap (λ z. z || list_any is_of rs) isnt ∙ of_pair n rs (sym (ap (λ z. z || list_any (same_pair (x, n)) rs) other) ∙ any))
-
-module _ (first rest : Tally) (stands : List Place) (pcs pending : List ℕ) (s : Settles (followed_by first rest) stands pcs pending) where
-  -- no step of any element was counted twice
-  pub once_at_most : (x n : ℕ) → count_by (same_pair (x, n)) rest.done ≤ 1
-  once_at_most x n = let a = many_more (same_pair (x, n)) first.done rest.done in let b = s.steps x n in let c = most (has_done pcs x n) in omega arith
-    where
-      most : (b : Bool) → (if b then 1 else 0) ≤ 1
-      most true = omega arith
-      most false = omega arith
 
 -- The first hand counted no step, and raised and delivered no signal, and what it retired is not this element; the
 -- hands took what was free at first. So the element's steps, signals and retirement are those of the rest

@@ -1,7 +1,9 @@
 -- The calls of a gate during turns.
-use Rattle.processor.proofs.Common.{◌≡◌, ℕ, suc, List, [], ◌∷◌, ap, ◌∙◌, Turn, Shared, Parts, LogEntry, Calls, HookedTurns}
+use Rattle.processor.proofs.Common.{◌≡◌, ℕ, suc, List, [], ◌∷◌, ap, ◌∙◌, Turn, Shared, Parts, LogEntry, Calls}
 use Rattle.turn_io.specs.declared.gate.Point.{Point}
+use Rattle.processor.specs.Orders.{TurnsInOrder}
 use Rattle.processor.specs.Points.{GateSaw, points_out}
+use Rattle.processor.specs.Sights.{Sights}
 
 module _ {G A : Type 0} (T : Calls G) (f : G → A) (keeps : (old : G) (p : ℕ) (point : Point) (new : G) → T.observes old p point new → f new ≡ f old)
     (learns_keeps : (old : G) (p : ℕ) (entry : LogEntry) (new : G) → T.learns old p entry new → f new ≡ f old) where
@@ -9,9 +11,9 @@ module _ {G A : Type 0} (T : Calls G) (f : G → A) (keeps : (old : G) (p : ℕ)
   reported_keeps p [] old new t = ap f t
   reported_keeps p (point ∷ points) old new t = reported_keeps p points t.0 new t.2 ∙ keeps old p point t.0 t.1
 
-  pub turns_keep : (shared : Shared) (p number : ℕ) (log : List LogEntry) (old new : Parts) (g g' : G) → HookedTurns T shared p number log old new g g' → f g' ≡ f g
-  turns_keep shared p number [] old new g g' t = ap f t.1
-  turns_keep shared p number (entry ∷ log) old new g g' t =
-      turns_keep shared p (suc number) log t.0 new t.1 g' t.4
+  pub turns_keep : (S : Sights) (shared : Shared) (p number : ℕ) (log : List LogEntry) (old new : Parts) (g g' : G) → TurnsInOrder S T shared p number log old new g g' → f g' ≡ f g
+  turns_keep S shared p number [] old new g g' t = ap f t.1
+  turns_keep S shared p number (entry ∷ log) old new g g' t =
+      turns_keep S shared p (suc number) log t.0 new t.1 g' t.4
       ∙ (learns_keeps t.3.2.0 p entry t.1 t.3.2.2
       ∙ (reported_keeps p (points_out entry.outcome) t.3.0 t.3.2.0 t.3.2.1 ∙ keeps g p (Turn number) t.3.0 t.3.1))

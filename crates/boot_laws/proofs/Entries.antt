@@ -8,7 +8,8 @@ use Rattle.processor.specs.declared.step_outcome.StepOutcome.TheVariants as step
 use Rattle.processor.specs.declared.outcome.TurnResult.TheVariants as hads
 use Rattle.processor.specs.declared.outcome.TurnOutcome.TheVariants as outcomes
 use Rattle.processor.specs.Entries.{count_of, outcome_saw_shut}
-use Rattle.processor.proofs.Trying.{gone_done, raises_done}
+use Rattle.processor.proofs.Tallying.{raises_done}
+use Rattle.processor.proofs.Trying.{gone_done}
 
 -- what a turn did by its step: at the queues, the steps done and what was heard
 abbrev pub Tried : Type 0

@@ -80,7 +80,7 @@ pub processed_so : {G : Type 0} (S : Sights) (T : Calls G) (shared : Shared) (wo
     → KeepsStation shared p station.parts back.parts → RanTurnsInOrder S T shared p turns gate gate' station.parts back.parts → HasWorked T shared work (worked.Processed (record { station = back; gate = gate' }))
 processed_so {G} S T shared work station back p turns gate gate' is may keeps turned =
     subst (λ (w : Work G). HasWorked T shared w (worked.Processed (record { station = back; gate = gate' }))) (sym is)
-    (keeps, run_adds_up S T shared p turns gate gate' station.parts back.parts (subst (λ (w : Work G). MayWork shared w) is may) keeps turned).0)
+    (keeps, (run_adds_up S T shared p turns gate gate' station.parts back.parts (subst (λ (w : Work G). MayWork shared w) is may) keeps turned).0)
 
 pub served_so : {G : Type 0} (T : Calls G) (shared : Shared) (work : Work G) (chain count : ℕ) (line line' : LineOut) (tty tty' : RawTty) (its : ProcChain AnyQuaject Queues)
     → work ≡ works.Serve chain line tty count → MayWork shared work → its ≡ get_or shared.chains.items chain its

@@ -1,6 +1,8 @@
 -- The calls of a gate during turns.
-use Rattle.processor.proofs.Common.{◌≡◌, ℕ, suc, List, [], ◌∷◌, ap, ◌∙◌, Turn, Shared, Parts, LogEntry, Calls}
+use Rattle.processor.proofs.Common.{◌≡◌, ℕ, suc, List, [], ◌∷◌, ap, ◌∙◌, Turn, LogEntry, Calls}
 use Rattle.turn_io.specs.declared.gate.Point.{Point}
+use Rattle.processor.specs.declared.shared.Shared.{Shared}
+use Rattle.processor.specs.declared.station.Parts.{Parts}
 use Rattle.processor.specs.Orders.{TurnsInOrder}
 use Rattle.processor.specs.Points.{GateSaw, points_out}
 use Rattle.processor.specs.Sights.{Sights}

@@ -6,6 +6,7 @@ pub mod Turns
 pub mod Undone
 pub mod Joined
 pub mod Queues
+pub mod Settling
 pub mod Threads
 pub mod Meters
 pub mod Boots

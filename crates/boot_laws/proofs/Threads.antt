@@ -4,9 +4,9 @@ use Rattle.std.proofs.Common.{slice_get, cond}
 use Rattle.std.specs.List.{list_any, filter}
 use Rattle.std.proofs.lemmas.Bool.{and_parts as both, eqb-true as eqb_is}
 use Rattle.std.proofs.lemmas.Option.{slice_get_within as within}
-use Rattle.turn_dispatch.specs.Settlings.{Settles, is_free}
+use Rattle.boot_laws.specs.Settlings.{Settles, is_free}
 use Rattle.turn_dispatch.specs.Tallies.{followed_by}
-use Rattle.turn_dispatch.proofs.Settling.Reading.{is_of, steps_of_rest, signals_of_rest, retired_where_free, retired_last}
+use Rattle.boot_laws.proofs.Settling.Reading.{is_of, steps_of_rest, signals_of_rest, retired_where_free, retired_last}
 use Rattle.thread_table.specs.declared.places.Place.TheVariants as places
 use Rattle.thread_table.specs.Answers.{is_in}
 use Rattle.processor.specs.Logs.{numbers_done, Climbs}

@@ -12,7 +12,7 @@ use Rattle.claim_queue.specs.Lines.{lines_put, lines_taken, line_of}
 use Rattle.event_theory.specs.declared.alarm.Alarm.{Alarm}
 use Rattle.event_theory.specs.Numbers.{u64_values}
 use Rattle.turn_io.specs.Accounts.{at_one, room_of}
-use Rattle.turn_dispatch.specs.Settlings.{Settles, NoneOn}
+use Rattle.boot_laws.specs.Settlings.{Settles, NoneOn}
 use Rattle.meters.specs.Views.{amount_on, times}
 use Rattle.quajects.specs.declared.home.Home.{Home}
 use Rattle.quajects.specs.declared.ports.Port.{Port}

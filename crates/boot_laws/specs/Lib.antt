@@ -7,3 +7,4 @@ pub mod Reports
 pub mod Endings
 pub mod Boots
 pub mod Closings
+pub mod Settlings

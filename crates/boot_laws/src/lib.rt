@@ -1,4 +1,5 @@
-//! The report of a boot, and its agreement with the plan, the closed tables and the work of the processors.
+//! The report of a boot, and its agreement with the plan, the closed tables and the work of the processors. Also what all
+//! events of a closed thread table come to.
 //!
 //! The code consists of laws: functions with empty bodies, whose contracts name what is proved.
 #![tactic(auto)]
@@ -10,6 +11,12 @@ ghost use Rattle.boot_data.specs.declared.plan.PlannedMover.{PlannedMover};
 ghost use Rattle.boot_data.specs.declared.plan.QueueIndex.{QueueIndex};
 ghost use Rattle.boot_data.specs.declared.report.Report.{Report};
 ghost use Rattle.claim_queue.specs.declared.ends.QueueEnd.{QueueEnd};
+ghost use Rattle.thread_table.specs.declared.layout.TheConstants.{ELEMENTS, PROCESSORS};
+ghost use Rattle.thread_table.specs.declared.places.Place.{Place};
+ghost use Rattle.thread_table.specs.Closings.{ClosedNow};
+ghost use Rattle.thread_table.specs.Own.{View};
+ghost use Rattle.turn_dispatch.specs.Holdings.{IsFree};
+ghost use Rattle.turn_dispatch.specs.Tallies.{tally};
 ghost use Rattle.turn_io.specs.Accounts.{room_of};
 ghost use Rattle.quajects.specs.declared.home.Home.{Home};
 ghost use Rattle.processor.specs.Entries.{LogEntry};
@@ -22,6 +29,19 @@ ghost use Rattle.boot_laws.specs.Endings.{Done, WorkedTogether, FreedSpare, Queu
 ghost use Rattle.boot_laws.specs.Endings.{ChainEnded, MoverEnded};
 ghost use Rattle.boot_laws.specs.Reports.{IsReport};
 ghost use Rattle.boot_laws.specs.Saying.{AllEnded, IsNeverClosed, IsNeverShut, IsSaid};
+ghost use Rattle.boot_laws.specs.Settlings.{Settles, IsNamed, NoneOn, place_of};
+
+/// The hand that closed a table lists all its events, and what they come to is what the closing reports of each
+/// element: its steps, its signals, and whether it is among the free. It names only processors and wait queues that
+/// exist. It names no processor if the hand serves them all and has no element on one.
+pub fn hands_settle()
+    ensures settles { (call : ℕ) (v : View) (stands : List Place) (pcs pending : List ℕ) (stops : ℕ)
+        → ClosedNow call v stands pcs pending stops → Settles (tally v.own.made) stands pcs pending }
+    ensures named { (call : ℕ) (v : View) (stands : List Place) (pcs pending : List ℕ) (stops element : ℕ)
+        → ClosedNow call v stands pcs pending stops → element < ELEMENTS → IsNamed (place_of stands element) }
+    ensures off { (call : ℕ) (v : View) (stands : List Place) (pcs pending : List ℕ) (stops : ℕ)
+        → ClosedNow call v stands pcs pending stops → ((p : ℕ) → p < PROCESSORS → IsFree p v) → NoneOn stands }
+{}
 
 /// A queue that was closed by all its ends has the lines that the processors' logs say, in their order. Cut by claim,
 /// and by taking, its items are the lines of the processors and of the others, each once.

@@ -18,7 +18,7 @@ pub use Rattle.processor.specs.Programs.{hear_count, program}
 pub use Rattle.processor.specs.Turns.{heard_lines}
 pub use Rattle.processor.specs.declared.station.Parts.{Parts}
 pub use Rattle.quajects.specs.declared.came.Came.{Came}
-pub use Rattle.turn_dispatch.specs.Settlings.{IsNamed}
+pub use Rattle.boot_laws.specs.Settlings.{IsNamed}
 pub use Rattle.boot_report.specs.Made.{gauge_line, heard_line, left_in, mover_line, numbered, queue_line, thread_line, tty_lines}
 pub use Rattle.boot_report.specs.Shown.{Shows, ShowsChains, ShowsDevices, ShowsQueue, ShowsQueues}
 pub use Rattle.boot_report.specs.declared.ttys.Typed.{Typed}

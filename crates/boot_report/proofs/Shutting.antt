@@ -14,7 +14,7 @@ use Rattle.proc_chain.specs.declared.ends.ChainEnd.{ChainEnd}
 use Rattle.proc_chain.specs.declared.ends.ProcChain.{ProcChain}
 use Rattle.proc_chain.specs.declared.quaject.Quaject.{Ghosts}
 use Rattle.turn_io.specs.Accounts.{room_of}
-use Rattle.turn_dispatch.proofs.Settling.Named.{all_named}
+use Rattle.boot_laws.proofs.Settling.Named.{all_named}
 use Rattle.quajects.specs.declared.any.AnyQuaject.{AnyQuaject}
 use Rattle.quajects.specs.declared.world.Queues.{Queues}
 use Rattle.quajects.specs.Homes.{home_in, homes_in}

@@ -3,7 +3,7 @@ use Rattle.std.specs.Prelude.{◌≡◌, ◌+◌, ◌-◌, ◌*◌, ◌≤◌, �
 use Rattle.std.specs.List.{slice_get}
 use Rattle.claim_queue.specs.declared.close.Closed.{Closed as ClosedQueue}
 use Rattle.boot_objects.specs.declared.closing.all.TornDown.{TornDown}
-use Rattle.turn_dispatch.specs.Settlings.{IsNamed}
+use Rattle.boot_laws.specs.Settlings.{IsNamed}
 use Rattle.quajects.specs.declared.came.Came.{Came}
 use Rattle.quajects.specs.Anys.{notes_of, all_taken, all_puts, held_of}
 use Rattle.quajects.specs.Lines.{counted}

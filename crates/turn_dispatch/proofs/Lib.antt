@@ -10,4 +10,3 @@ pub mod Delivered
 pub mod Wakes
 pub mod Raised
 pub mod Placed
-pub mod Settling

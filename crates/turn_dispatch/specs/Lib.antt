@@ -5,4 +5,3 @@ pub mod Dispatches
 pub mod Countings
 pub mod Wakings
 pub mod Tendings
-pub mod Settlings

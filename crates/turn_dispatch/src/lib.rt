@@ -18,7 +18,7 @@ mod waking;
 pub use alarms::tend_alarms;
 pub use counting::{Counted, count};
 pub use dispatch::{Begun, Idle, begin};
-pub use laws::{calls_only_add, hands_settle};
+pub use laws::calls_only_add;
 pub use moving::{Waited, make_ready, retire, wait_at, wait_in};
 pub use placing::{put_on, take_off};
 pub use waking::{Resumed, Woken, start, wake};

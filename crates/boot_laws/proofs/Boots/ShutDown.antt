@@ -22,8 +22,8 @@ use Rattle.turn_io.specs.EndLists.{end_table, queue_table}
 use Rattle.turn_io.proofs.Places.{as_long}
 use Rattle.turn_io.specs.Accounts.{AtChain, chain_stake, idle_chain}
 use Rattle.turn_dispatch.specs.Holdings.{IsFree}
-use Rattle.turn_dispatch.proofs.Settling.Named.{none_on}
-use Rattle.turn_dispatch.proofs.Settling.Reading.{closed_settles}
+use Rattle.boot_laws.proofs.Settling.Named.{none_on}
+use Rattle.boot_laws.proofs.Settling.Reading.{closed_settles}
 use Rattle.meters.specs.Closings as seats
 use Rattle.meters.specs.Handles as meters
 use Rattle.proc_chain.specs.declared.ends.ChainEnd.{ChainEnd}

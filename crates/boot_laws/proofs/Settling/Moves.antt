@@ -1,5 +1,6 @@
 -- The sum of the only hand's list, by the events of the schedule and the states that they found.
-use Rattle.turn_dispatch.proofs.Common.{map, sum_by, result_unwrap_or, step, first_state, Reaches, ELEMENTS, MadeEvent, moves, made_in, AreMade, plus, many_cons, many_more}
+use Rattle.turn_dispatch.proofs.Common.{MadeEvent, made_in}
+use Rattle.boot_laws.proofs.Settling.Common.{map, sum_by, result_unwrap_or, step, first_state, Reaches, ELEMENTS, moves, AreMade, plus, many_cons, many_more}
 use Rattle.thread_table.proofs.Common.{◌≡◌, ℕ, Bool, List, [], ◌∷◌, ◌++◌, ◌∙◌, refl, sym, ap, arith, flat_map, count_by, sum_by-cons, sum_by-IsPermutation, State, Result, Event}
 use Rattle.event_theory.specs.declared.event.Event.TheVariants as events
 use Rattle.table_theory.specs.Filing.{entry_of}

@@ -1,5 +1,7 @@
 -- Each step that an element has done is counted once.
-use Rattle.turn_dispatch.proofs.Common.{cases_lt, eq-eqb, map, Thread, new_thread, get_or-eq_default, ◌==◌, ◌&&◌, le-ltb, moves, is_done, Place, ClosedNow, made_in, View, done_at, elements_after, thread_at, plus, many_cons, by_bool, is_less, range_in, elements_of, same_pair, IsOnceWhere, has_done, tally}
+use Rattle.turn_dispatch.proofs.Common.{◌==◌, ◌&&◌, is_done, made_in, View, done_at, thread_at, elements_of, tally}
+use Rattle.boot_laws.specs.Settlings.{same_pair, IsOnceWhere, has_done}
+use Rattle.boot_laws.proofs.Settling.Common.{cases_lt, eq-eqb, map, Thread, new_thread, get_or-eq_default, le-ltb, moves, Place, ClosedNow, elements_after, plus, many_cons, by_bool, is_less, range_in}
 use Rattle.thread_table.proofs.Common.{◌≡◌, get_or, ⊎_elim, ℕ, ◌+◌, Bool, false, eqb, ne_eqb, eqb_tells, List, [], ◌∷◌, ◌∙◌, refl, sym, ap, arith, count_by, State, Event, range_with_len}
 use Rattle.std.specs.Prelude.{if◌then◌else◌, nat_lt}
 use Rattle.event_theory.specs.Accounts.{done_of, done_numbers}
@@ -8,8 +10,8 @@ use Rattle.thread_table.specs.Schedules.{state_after}
 use Rattle.thread_table.proofs.Lists.Counts.{range_far}
 use Rattle.thread_table.proofs.Schedule.Once.{thread_done, drop_it, keep_it}
 use Rattle.turn_dispatch.proofs.MadeBy.{done_by}
-use Rattle.turn_dispatch.proofs.Settling.Moves.{Move, of_schedule, each_one}
-use Rattle.turn_dispatch.proofs.Settling.Named.{sizes_are}
+use Rattle.boot_laws.proofs.Settling.Moves.{Move, of_schedule, each_one}
+use Rattle.boot_laws.proofs.Settling.Named.{sizes_are}
 
 pub turned : (m n : ℕ) → (m == n) ≡ (n == m)
 turned m n = ⊎_elim (λ t. t.0 ∙ sym (eq-eqb n m (sym t.1))) (λ f. f.0 ∙ sym (ne_eqb n m (λ e. f.1 (sym e)))) (eqb_tells m n)

@@ -1,6 +1,6 @@
-use Rattle.turn_dispatch.proofs.Settling.Named.{all_named, none_on}
-use Rattle.turn_dispatch.proofs.Settling.Reading.{closed_settles}
-use Rattle.turn_dispatch.proofs.laws.hands_settle.Goals as goal
+use Rattle.boot_laws.proofs.Settling.Named.{all_named, none_on}
+use Rattle.boot_laws.proofs.Settling.Reading.{closed_settles}
+use Rattle.boot_laws.proofs.hands_settle.Goals as goal
 
 pub returns-clause-settles : goal.returns-clause-settles
 returns-clause-settles c = closed_settles

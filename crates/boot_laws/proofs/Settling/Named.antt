@@ -1,6 +1,8 @@
 -- There are as many elements, element queues and processors after a schedule as before: so each place that is reported
 -- exists.
-use Rattle.turn_dispatch.proofs.Common.{dite, dec_lt, get_or-eq_default, Reaches, effect, first_state, is_on, claim_element, done, claim, change_at, Refusal, empty_queue, Thread, ◌==◌, ◌||◌, wait_ring, TooLong, Full, then_ok, change_ok, ELEMENTS, Place, ClosedNow, StandsAt, is_left, View, elements_after, elements_of, reached, IsFree, place_of}
+use Rattle.turn_dispatch.proofs.Common.{◌==◌, ◌||◌, View, elements_of, IsFree}
+use Rattle.boot_laws.specs.Settlings.{place_of, IsNamed, NoneOn}
+use Rattle.boot_laws.proofs.Settling.Common.{dite, dec_lt, get_or-eq_default, Reaches, effect, first_state, is_on, claim_element, done, claim, change_at, Refusal, empty_queue, Thread, wait_ring, TooLong, Full, then_ok, change_ok, ELEMENTS, Place, ClosedNow, StandsAt, is_left, elements_after, reached}
 use Rattle.thread_table.proofs.Common.{◌≡◌, ℕ, ◌<◌, true, List, [], ◌∷◌, ◌++◌, ◌∙◌, length, get_or, refl, sym, ap, subst, arith, Some, None, option_map, Result, Ok, length-set, length-map, get_or_from_slice_get, State, in_elements, counted, Event, hold, Elements, let_go, raise_element, take_element, deliver, take_first, at, ◌>>=◌, join_queue, raise, false}
 use Rattle.std.specs.Prelude.{nat_le, nat_lt}
 use Rattle.event_theory.specs.Chains.{empty_chain}
@@ -13,7 +15,6 @@ use Rattle.thread_table.proofs.Closing.Retiring.{Gives, then_gives, test_gives, 
 use Rattle.thread_table.specs.declared.layout.TheConstants.{PROCESSORS}
 use Rattle.thread_table.specs.declared.places.Place.TheVariants as places
 use Rattle.thread_table.specs.Schedules.{state_after, IsAllowed}
-use Rattle.turn_dispatch.specs.Settlings.{IsNamed, NoneOn}
 
 -- how many elements, element queues and processors there are
 abbrev sizes : Elements → ℕ × ℕ × ℕ

@@ -1,4 +1,5 @@
 -- The sum of all events of a closed table.
+pub mod Common
 pub mod Moves
 pub mod Steps
 pub mod Signals

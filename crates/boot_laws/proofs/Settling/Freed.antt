@@ -1,6 +1,7 @@
 -- The free elements, if no more were taken than there were at first: those that events put there are left, once each,
 -- and do no step.
-use Rattle.turn_dispatch.proofs.Common.{eq-eqb, map, drop, sum_by, AllByRecursion, result_unwrap_or, dite, dec_lt, Reaches, step, effect, empty_queue, left, claim, claim_element, done, is_on, in_list, Refusal, change_at, Thread, new_thread, slice_get, wait_ring, Place, StandsAt, is_left, ◌==◌, ◌&&◌, ◌||◌, concat, flat_map-append, is_done, TooLong, Full, then_ok, test_ok, change_ok, all_append, taking_by, done_at, elements_after, ring_at, first_runs, takings_in, plus, many_cons, many_more, find_it, some_count, range_in, counted_done, elements_of, lawful_after}
+use Rattle.turn_dispatch.proofs.Common.{◌==◌, ◌&&◌, ◌||◌, flat_map-append, is_done, taking_by, done_at, counted_done, elements_of}
+use Rattle.boot_laws.proofs.Settling.Common.{eq-eqb, map, drop, sum_by, AllByRecursion, result_unwrap_or, dite, dec_lt, Reaches, step, effect, empty_queue, left, claim, claim_element, done, is_on, in_list, Refusal, change_at, Thread, new_thread, slice_get, wait_ring, Place, StandsAt, is_left, concat, TooLong, Full, then_ok, test_ok, change_ok, all_append, elements_after, ring_at, first_runs, takings_in, plus, many_cons, many_more, find_it, some_count, range_in, lawful_after}
 use Rattle.thread_table.proofs.Common.{◌≡◌, ⊎_elim, ℕ, ◌+◌, ◌≤◌, Bool, true, false, not, eqb_tells, List, [], ◌∷◌, ◌++◌, ◌∙◌, length, get_or, refl, sym, ap, subst, arith, Option, None, Some, Ok, Result, count_by, flat_map, list_any, append_assoc, map-append, length-append, State, Event, Hold, Elements, IsLawfulElements, Queue, Run, flat, holds, is_put, appearances, UnknownName, eqb, nat_tests, nat_lt, ◌≢◌, suc, zero, in_cell, sum_by-cons, if◌then◌else◌, ◌-◌, range_with_len, ◌<◌}
 use Rattle.thread_table.specs.declared.places.Place.TheVariants as places
 use Rattle.std.proofs.lemmas.Bool.{not-false, or_cases}
@@ -15,7 +16,7 @@ use Rattle.thread_table.specs.Schedules.{after, begun, state_after, IsAllowed}
 use Rattle.thread_table.proofs.Closing.Retiring.{are_reported}
 use Rattle.thread_table.proofs.Hands.Releases.{held_counts}
 use Rattle.thread_table.proofs.Lists.Counts.{range_out}
-use Rattle.turn_dispatch.proofs.Settling.Steps.{turned}
+use Rattle.boot_laws.proofs.Settling.Steps.{turned}
 use Rattle.thread_table.proofs.Schedule.Schedules.{allowed_before}
 
 -- WHAT EVENTS PUT THERE

@@ -1,13 +1,9 @@
 -- What a turn did, by its step, if it tried one.
-use Rattle.boot_laws.proofs.Common.{Line, subst, ◌≡◌, inl, inr, ℕ, ◌+◌, Bool, true, false, List, [], ◌∷◌, ◌++◌, refl, sym, ap, ◌∙◌, Option, Some, None, if◌then◌else◌, BootPlan, QueueIndex, Step, AtQueue, idle_queue, queues_add, Tended, Begun, counted_step, retired, StepOutcome, TurnResult, TurnOutcome, SayAnswer, Woken, Account, ◌⊕◌, is_done, IsOutcomeOf, queues_by, heard_by, saw_shut, LogEntry, entry_account, tending, outcome_account, FollowsPlan, OutcomeFollows, turn_saw_shut, Key, step_of, said_line}
-use Rattle.std.proofs.Common.{◌⊎◌}
+use Rattle.boot_laws.proofs.Common.{Line, subst, ◌≡◌, inl, inr, ℕ, ◌+◌, Bool, true, false, List, [], ◌∷◌, ◌++◌, refl, sym, ap, ◌∙◌, Option, Some, None, if◌then◌else◌, BootPlan, QueueIndex, Step, AtQueue, idle_queue, queues_add, Tended, Begun, counted_step, retired, StepOutcome, TurnResult, TurnOutcome, SayAnswer, Woken, Account, ◌⊕◌, is_done, IsOutcomeOf, queues_by, heard_by, saw_shut, LogEntry, entry_account, tending, outcome_account, FollowsPlan, OutcomeFollows, turn_saw_shut, Key, step_of, said_line, ◌⊎◌, at_each, both_queue, each_adds, count_of, outcome_saw_shut}
 use Rattle.boot_data.specs.declared.plan.Step.TheVariants as steps
-use Rattle.turn_io.specs.Accounts.{at_each, both_queue}
-use Rattle.turn_io.proofs.Adding.{each_adds}
 use Rattle.processor.specs.declared.step_outcome.StepOutcome.TheVariants as step_outcomes
 use Rattle.processor.specs.declared.outcome.TurnResult.TheVariants as hads
 use Rattle.processor.specs.declared.outcome.TurnOutcome.TheVariants as outcomes
-use Rattle.processor.specs.Entries.{count_of, outcome_saw_shut}
 use Rattle.processor.proofs.Tallying.{raises_done}
 use Rattle.processor.proofs.Trying.{gone_done}
 

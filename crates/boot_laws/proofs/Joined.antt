@@ -1,14 +1,11 @@
 -- The shares and the work of stations that were joined, one after the other.
-use Rattle.boot_laws.proofs.Common.{◌≡◌, ℕ, zero, suc, List, [], ◌∷◌, ◌++◌, map, refl, sym, ap, ◌∙◌, append_assoc, append-nil, flat_map, subst, slice_index_or, Some, AllZip, AllByRecursion, BootPlan, Parts, Account, account, ◌⊕◌, LogEntry, FollowsPlan, Leaves, sum_of, AreJoined, AllJoined, heard_lines, Done, WorkedTogether, total_of}
+use Rattle.boot_laws.proofs.Common.{◌≡◌, ℕ, zero, suc, List, [], ◌∷◌, ◌++◌, map, refl, sym, ap, ◌∙◌, append_assoc, append-nil, flat_map, subst, slice_index_or, Some, AllZip, AllByRecursion, BootPlan, Parts, Account, account, ◌⊕◌, LogEntry, FollowsPlan, Leaves, sum_of, AreJoined, AllJoined, heard_lines, Done, WorkedTogether, total_of, unheard, Climbs, numbers_done, IsPrepared, sum_on}
 use Rattle.std.specs.List.{slice_get}
 use Rattle.thread_table.specs.Handles.{view_of}
 use Rattle.thread_table.specs.Rules.{done_at}
-use Rattle.processor.specs.Accounts.{unheard}
-use Rattle.processor.specs.Logs.{Climbs, numbers_done}
-use Rattle.processor.specs.Preparing.{IsPrepared}
-use Rattle.processor.proofs.Summing.{accounts_add, joined_account}
+use Rattle.processor.proofs.Summing.{accounts_add}
+use Rattle.stations.proofs.Summing.{joined_account}
 use Rattle.boot_laws.proofs.Totals.{all_of}
-use Rattle.processor.proofs.Logging.{sum_on}
 
 -- LISTS
 

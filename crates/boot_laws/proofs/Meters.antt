@@ -1,11 +1,9 @@
 -- The closed meters by the logs.
-use Rattle.boot_laws.proofs.Common.{Done, ◌≡◌, List, ◌++◌, sym, ap, ◌∙◌, arith, append-nil, BootPlan, Account, LogEntry, ClosedTables, WorkedTogether, MetersEnded, total_of}
-use Rattle.std.proofs.Common.{◌%◌}
+use Rattle.boot_laws.proofs.Common.{Done, ◌≡◌, List, ◌++◌, sym, ap, ◌∙◌, arith, append-nil, BootPlan, Account, LogEntry, ClosedTables, WorkedTogether, MetersEnded, total_of, ◌%◌, GaugesAgree, AlarmsAgree}
 use Rattle.meters.specs.declared.rule.MeterOps.{MeterOps}
 use Rattle.meters.specs.Own.{nothing_did, did_both}
 use Rattle.event_theory.specs.Numbers.{u64_values}
 use Rattle.meters.specs.Views.{amount_on, times}
-use Rattle.boot_laws.specs.Agreements.{GaugesAgree, AlarmsAgree}
 use Rattle.boot_laws.proofs.Totals.{all_of, all_did}
 use Rattle.boot_laws.proofs.Turns.{all_work}
 

@@ -1,20 +1,13 @@
 -- The closed threads by the logs.
-use Rattle.boot_laws.proofs.Common.{Done, ◌≡◌, ◌≢◌, ⊎_elim, ℕ, suc, ◌+◌, ◌<◌, ◌≤◌, Bool, true, false, List, [], ◌∷◌, ◌++◌, map, length, refl, sym, ap, ◌∙◌, subst, arith, Some, None, count_by, eqb, eq-eqb, append-nil, if◌then◌else◌, ◌||◌, ◌==◌, ◌&&◌, nat_lt, slice_index_or, AllByRecursion, leb_tells, dite, dec_lt, BootPlan, Step, Tally, Place, Account, LogEntry, sum_of, HasDoneAll, preparing, Key, program, same_key, plus, many_cons, many_more, by_bool, is_less, PlaceAgrees, ClosedTables, WorkedTogether, ThreadsEnded, thread_of, total_of}
-use Rattle.std.proofs.Common.{slice_get, cond}
+use Rattle.boot_laws.proofs.Common.{Done, ◌≡◌, ◌≢◌, ⊎_elim, ℕ, suc, ◌+◌, ◌<◌, ◌≤◌, Bool, true, false, List, [], ◌∷◌, ◌++◌, map, length, refl, sym, ap, ◌∙◌, subst, arith, Some, None, count_by, eqb, eq-eqb, append-nil, if◌then◌else◌, ◌||◌, ◌==◌, ◌&&◌, nat_lt, slice_index_or, AllByRecursion, leb_tells, dite, dec_lt, BootPlan, Step, Tally, Place, Account, LogEntry, sum_of, HasDoneAll, preparing, Key, program, same_key, plus, many_cons, many_more, by_bool, is_less, PlaceAgrees, ClosedTables, WorkedTogether, ThreadsEnded, thread_of, total_of, slice_get, cond, Settles, is_free, followed_by, numbers_done, Climbs, ThreadAgrees, StepsAgree, was_retired, FreedSpare, sum_on}
 use Rattle.std.specs.List.{list_any, filter}
 use Rattle.std.proofs.lemmas.Bool.{and_parts as both, eqb-true as eqb_is}
 use Rattle.std.proofs.lemmas.Option.{slice_get_within as within}
-use Rattle.boot_laws.specs.Settlings.{Settles, is_free}
-use Rattle.turn_dispatch.specs.Tallies.{followed_by}
 use Rattle.boot_laws.proofs.Settling.Reading.{is_of, steps_of_rest, signals_of_rest, retired_where_free, retired_last}
 use Rattle.thread_table.specs.declared.places.Place.TheVariants as places
 use Rattle.thread_table.specs.Answers.{is_in}
-use Rattle.processor.specs.Logs.{numbers_done, Climbs}
-use Rattle.boot_laws.specs.Agreements.{ThreadAgrees, StepsAgree, was_retired}
 use Rattle.boot_laws.specs.ClosedTables as closed
-use Rattle.boot_laws.specs.Endings.{FreedSpare}
 use Rattle.boot_laws.proofs.Totals.{all_of, all_did, all_planned}
-use Rattle.processor.proofs.Logging.{sum_on}
 use Rattle.boot_laws.proofs.Turns.{all_work, all_over}
 use Rattle.boot_laws.proofs.Undone.{none_in}
 

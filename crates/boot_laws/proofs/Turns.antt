@@ -1,9 +1,7 @@
 -- What is true of all that turns come to.
-use Rattle.boot_laws.proofs.Common.{◌≡◌, ℕ, ◌+◌, ◌≤◌, Bool, true, false, List, [], ◌∷◌, ◌++◌, length, refl, sym, ap, ◌∙◌, subst, length-append, Option, Some, None, if◌then◌else◌, ◌||◌, ◌&&◌, ◌==◌, nat_lt, AllByRecursion, concat, list_any-append, BootPlan, all_append, Tended, Begun, counted_step, retired, Tally, StepOutcome, TurnResult, TurnOutcome, Moved, Account, ◌⊕◌, raised_by, LogEntry, entry_account, tending, outcome_account, gone, FollowsPlan, OutcomeFollows, sum_of, HasDoneAll, program}
+use Rattle.boot_laws.proofs.Common.{◌≡◌, ℕ, ◌+◌, ◌≤◌, Bool, true, false, List, [], ◌∷◌, ◌++◌, length, refl, sym, ap, ◌∙◌, subst, length-append, Option, Some, None, if◌then◌else◌, ◌||◌, ◌&&◌, ◌==◌, nat_lt, AllByRecursion, concat, list_any-append, BootPlan, all_append, Tended, Begun, counted_step, retired, Tally, StepOutcome, TurnResult, TurnOutcome, Moved, Account, ◌⊕◌, raised_by, LogEntry, entry_account, tending, outcome_account, gone, FollowsPlan, OutcomeFollows, sum_of, HasDoneAll, program, concat-append, chained_if, nothing, chains_by, ticks_by, beginning, having, IsOver}
 use Rattle.std.specs.Prelude.{Result, Ok, Err}
-use Rattle.std.proofs.lemmas.List.Folds.{concat-append}
 use Rattle.turn_io.specs.declared.poking.Poked.{Poked}
-use Rattle.turn_io.specs.Accounts.{chained_if}
 use Rattle.turn_dispatch.specs.declared.counting.Counted.{Counted}
 use Rattle.turn_dispatch.specs.declared.counting.Counted.TheVariants as counted
 use Rattle.turn_dispatch.specs.Dispatches.{mask_of}
@@ -13,9 +11,6 @@ use Rattle.processor.specs.declared.step_outcome.StepOutcome.TheVariants as step
 use Rattle.processor.specs.declared.outcome.TurnResult.TheVariants as hads
 use Rattle.processor.specs.declared.outcome.TurnOutcome.TheVariants as outcomes
 use Rattle.processor.specs.declared.phases.Moved.TheVariants as moveds
-use Rattle.processor.specs.Accounts.{nothing}
-use Rattle.processor.specs.Doings.{chains_by, ticks_by}
-use Rattle.processor.specs.Entries.{beginning, having, IsOver}
 
 -- No free element was taken; what was shown of an element is what was delivered to it; no alarm was set or cancelled;
 -- and each note is in a list of its own

@@ -1,6 +1,5 @@
 -- A step that the plan hasn't was never done.
-use Rattle.boot_laws.proofs.Common.{◌≡◌, ⊎_elim, ℕ, zero, suc, ◌≤◌, length, Bool, true, false, List, [], ◌∷◌, refl, sym, ap, ◌∙◌, arith, Some, None, count_by, if◌then◌else◌, ◌==◌, AllByRecursion, BootPlan, PlannedThread, Step, steps_at, is_done, LogEntry, FollowsPlan, entry_account, sum_of, program, same_key, plus, many_cons, many_more, by_bool}
-use Rattle.std.proofs.Common.{slice_get}
+use Rattle.boot_laws.proofs.Common.{◌≡◌, ⊎_elim, ℕ, zero, suc, ◌≤◌, length, Bool, true, false, List, [], ◌∷◌, refl, sym, ap, ◌∙◌, arith, Some, None, count_by, if◌then◌else◌, ◌==◌, AllByRecursion, BootPlan, PlannedThread, Step, steps_at, is_done, LogEntry, FollowsPlan, entry_account, sum_of, program, same_key, plus, many_cons, many_more, by_bool, slice_get}
 use Rattle.std.proofs.lemmas.Bool.{and_parts as both, eqb-true as eqb_is}
 use Rattle.boot_laws.proofs.Entries.{turn_is}
 

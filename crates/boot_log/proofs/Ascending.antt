@@ -1,17 +1,7 @@
 -- The turns of lines are in the order of their processors and their numbers.
-use Rattle.std.proofs.Common.{◌≡◌, ◌<◌, ◌≤◌, ◌+◌, ◌∙◌, ℕ, Bool, true, false, cond, List, [], ◌∷◌, ◌++◌, ◌⊎◌, inl, inr, Option, Some, None, IfSome, refl, sym, arith}
-use Rattle.std.specs.List.{AllByRecursion, cons_option, filter}
-use Rattle.std.specs.Prelude.{option_map}
-use Rattle.boot_data.specs.declared.plan.QueueIndex.{QueueIndex}
+use Rattle.boot_log.proofs.Common.{◌≡◌, ◌<◌, ◌≤◌, ◌+◌, ◌∙◌, ℕ, Bool, true, false, cond, List, [], ◌∷◌, ◌++◌, ◌⊎◌, inl, inr, Option, Some, None, IfSome, refl, sym, arith, AllByRecursion, cons_option, filter, option_map, QueueIndex, Entry, LineTurn, Way, BootPlan, is_counted, Kept, all_line_turns, counted_turns, line_turn_in, line_turn_of, line_turns, queue_of}
 use Rattle.boot_log.specs.declared.entry.Did.{Did}
 use Rattle.boot_log.specs.declared.entry.Did.TheVariants as did
-use Rattle.boot_log.specs.declared.entry.Entry.{Entry}
-use Rattle.boot_log.specs.declared.line_turn.LineTurn.{LineTurn}
-use Rattle.boot_log.specs.declared.line_turn.Way.{Way}
-use Rattle.boot_data.specs.declared.boot_plan.BootPlan.{BootPlan}
-use Rattle.boot_log.specs.Counting.{is_counted}
-use Rattle.boot_log.specs.Kept.{Kept}
-use Rattle.boot_log.specs.Lines.{all_line_turns, counted_turns, line_turn_in, line_turn_of, line_turns, queue_of}
 
 -- one turn comes before another in the lists: on a lower processor, or earlier on the same
 abbrev pub Before : LineTurn → LineTurn → Type 0

@@ -1,17 +1,10 @@
 -- Entries whose parts lie within the log: they stay what they are when the log grows.
-use Rattle.std.proofs.Common.{◌≡◌, ◌≤◌, ◌+◌, ◌%◌, ℕ, List, [], ◌∷◌, ◌++◌, length, drop, refl, arith}
-use Rattle.std.proofs.lemmas.List.{drop-append-le, length-append, length-drop, length-map, take-append-le}
+use Rattle.boot_log.proofs.Common.{◌≡◌, ◌≤◌, ◌+◌, ◌%◌, ℕ, List, [], ◌∷◌, ◌++◌, length, drop, refl, arith, drop-append-le, length-append, length-drop, length-map, take-append-le, bytes_of, LogEntry, Entry, AreEntriesOf, IsEntryOf, entry_at, with_turn, Kept, part_after, part_of}
 use Rattle.std.proofs.Math.Seq.{drop-append_seam, take-length}
-use Rattle.boot_data.specs.Hearing.{bytes_of}
 use Rattle.processor.specs.declared.outcome.TurnOutcome.{TurnOutcome}
 use Rattle.processor.specs.declared.outcome.TurnOutcome.TheVariants as outcomes
 use Rattle.processor.specs.declared.outcome.TurnResult.TheVariants as results
-use Rattle.processor.specs.Entries.{LogEntry}
-use Rattle.boot_log.specs.declared.entry.Entry.{Entry}
 use Rattle.boot_log.specs.declared.entry.Part.{Part}
-use Rattle.boot_log.specs.Fronts.{AreEntriesOf, IsEntryOf}
-use Rattle.boot_log.specs.Growing.{entry_at, with_turn}
-use Rattle.boot_log.specs.Kept.{Kept, part_after, part_of}
 use Rattle.boot_log.specs.Values.{did_of, fired_of, line_part, step_line}
 
 -- the part lies within a list of this length

@@ -1,13 +1,6 @@
 -- A log that has the front of some turns has the front of these and one more after it has grown by this one.
-use Rattle.std.proofs.Common.{◌≡◌, ◌<◌, ◌≤◌, ◌+◌, ◌^◌, ℕ, zero, suc, Bool, true, false, List, [], ◌∷◌, ◌++◌, ◌∙◌, length, take, slice_get, Some, None, IfSome, ◌⊎◌, inl, inr, nat_eq, ◌&&◌, refl, sym, ap, arith, append_assoc}
-use Rattle.std.proofs.lemmas.List.{append-nil, length-append, take-append-le, take_all}
-use Rattle.std.proofs.lemmas.Bool.{eqb-true}
+use Rattle.boot_log.proofs.Common.{◌≡◌, ◌<◌, ◌≤◌, ◌+◌, ◌^◌, ℕ, zero, suc, Bool, true, false, List, [], ◌∷◌, ◌++◌, ◌∙◌, length, take, slice_get, Some, None, IfSome, ◌⊎◌, inl, inr, nat_eq, ◌&&◌, refl, sym, ap, arith, append_assoc, append-nil, length-append, take-append-le, take_all, eqb-true, LogEntry, Entry, AreTimes, IsRecordOf, GrowsIf, entry_at, has_room_for, is_kept, with_miss, with_turn, Kept, Room, end_of, nothing_kept}
 use Rattle.std.proofs.lemmas.Option.{slice_get_past}
-use Rattle.processor.specs.Entries.{LogEntry}
-use Rattle.boot_log.specs.declared.entry.Entry.{Entry}
-use Rattle.boot_log.specs.Fronts.{AreTimes, IsRecordOf}
-use Rattle.boot_log.specs.Growing.{GrowsIf, entry_at, has_room_for, is_kept, with_miss, with_turn}
-use Rattle.boot_log.specs.Kept.{Kept, Room, end_of, nothing_kept}
 use Rattle.boot_log.proofs.Fixed.{AreFixed, Extends, all_stay, fixed_are, new_fixed, one_more_fixed, turn_extends}
 
 -- the log grew by a turn, with a clock that had said this number before, and then another

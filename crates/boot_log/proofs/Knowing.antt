@@ -1,18 +1,6 @@
 -- A line that passed is known: only threads use its queue, line by line, its put began in time, and the logs have all
 -- turns up to both.
-use Rattle.std.proofs.Common.{◌≡◌, ◌<◌, ◌≤◌, ◌==◌, ◌&&◌, ◌||◌, ℕ, Bool, true, false, cond, List, [], ◌∷◌, ◌⊎◌, inl, inr, ⊎_elim, Option, Some, None, IfSome, max, nat_lt, refl, sym, subst, arith}
-use Rattle.std.proofs.lemmas.Bool.{and_parts, eqb-true, ltb-true, or_cases}
-use Rattle.std.specs.List.{AllByRecursion, filter, filter_map, find, list_all}
-use Rattle.std.specs.Prelude.{option_map}
-use Rattle.boot_data.specs.declared.boot_plan.BootPlan.{BootPlan}
-use Rattle.boot_log.specs.declared.line_turn.LineTurn.{LineTurn}
-use Rattle.boot_log.specs.declared.line_turn.Way.{Way}
-use Rattle.boot_log.specs.declared.line_turn.Way.TheVariants.{Put, Taken}
-use Rattle.boot_log.specs.declared.passing.Passing.{Passing}
-use Rattle.boot_log.specs.Counting.{has_all_until, is_counted, is_known}
-use Rattle.boot_log.specs.Kept.{Kept, end_of}
-use Rattle.boot_log.specs.Lines.{HaveAllUntil, IsKnownLine, all_line_turns, counted_turns, is_passed, passing_of, passings}
-use Rattle.boot_log.specs.Queues.{has_single_lines, is_of_threads}
+use Rattle.boot_log.proofs.Common.{◌≡◌, ◌<◌, ◌≤◌, ◌==◌, ◌&&◌, ◌||◌, ℕ, Bool, true, false, cond, List, [], ◌∷◌, ◌⊎◌, inl, inr, ⊎_elim, Option, Some, None, IfSome, max, nat_lt, refl, sym, subst, arith, and_parts, eqb-true, ltb-true, or_cases, AllByRecursion, filter, filter_map, find, list_all, option_map, BootPlan, LineTurn, Way, Put, Taken, Passing, has_all_until, is_counted, is_known, Kept, end_of, HaveAllUntil, IsKnownLine, all_line_turns, counted_turns, is_passed, passing_of, passings, has_single_lines, is_of_threads}
 use Rattle.boot_log.proofs.Ascending.{all_cons}
 use Rattle.boot_log.proofs.Passed.{IsPassed, passed}
 

@@ -1,3 +1,4 @@
+pub mod Common
 pub mod Ascending
 pub mod Fixed
 pub mod Growth

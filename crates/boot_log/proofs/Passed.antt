@@ -1,21 +1,11 @@
 -- A line passes between turns of its text and queue, and each line passes once.
-use Rattle.std.proofs.Common.{◌≡◌, ◌<◌, ◌≤◌, ◌+◌, ◌∙◌, ◌==◌, ◌&&◌, ℕ, Bool, true, false, cond, List, [], ◌∷◌, ◌⊎◌, inl, inr, ⊎_elim, Option, Some, None, IfSome, refl, sym, ap, subst, arith, nat_le, nat_lt}
-use Rattle.std.proofs.lemmas.Bool.{eqb-true, eq-eqb, leb-true, cases_Bool}
+use Rattle.boot_log.proofs.Common.{◌≡◌, ◌<◌, ◌≤◌, ◌+◌, ◌∙◌, ◌==◌, ◌&&◌, ℕ, Bool, true, false, cond, List, [], ◌∷◌, ◌⊎◌, inl, inr, ⊎_elim, Option, Some, None, IfSome, refl, sym, ap, subst, arith, nat_le, nat_lt, eqb-true, eq-eqb, leb-true, cases_Bool, AllByRecursion, cons_option, filter_map, find, BootPlan, QueueIndex, LineTurn, Put, Taken, Passing, Kept, AreApart, PassOnce, counted_turns, are_same, count_before, is_before, is_passed, passing_of, passings, text_of, is_same_queue}
 use Rattle.std.proofs.lemmas.Bool.Decides.{nat_tests}
 use Rattle.std.proofs.lemmas.List.Sums.{sum_by-cons}
 use Rattle.std.proofs.lemmas.Slice.Eq.{bytes_eq-Decides}
-use Rattle.std.specs.List.{AllByRecursion, cons_option, filter_map, find}
 use Rattle.std.specs.Prelude.{option_map, ◌||◌, count_by}
 use Rattle.std.specs.Str.{bytes_eq}
-use Rattle.boot_data.specs.declared.boot_plan.BootPlan.{BootPlan}
-use Rattle.boot_data.specs.declared.plan.QueueIndex.{QueueIndex}
 use Rattle.boot_data.specs.declared.plan.QueueIndex.TheVariants.{Small, Large}
-use Rattle.boot_log.specs.declared.line_turn.LineTurn.{LineTurn}
-use Rattle.boot_log.specs.declared.line_turn.Way.TheVariants.{Put, Taken}
-use Rattle.boot_log.specs.declared.passing.Passing.{Passing}
-use Rattle.boot_log.specs.Kept.{Kept}
-use Rattle.boot_log.specs.Lines.{AreApart, PassOnce, counted_turns, are_same, count_before, is_before, is_passed, passing_of, passings, text_of}
-use Rattle.boot_log.specs.Queues.{is_same_queue}
 use Rattle.boot_log.proofs.Ascending.{Ascends, Before, all_cons, all_weaker, counted_ascend}
 
 -- the order by the clock, on numbers

@@ -1,14 +1,10 @@
 -- A log grows by the turns of a run, one after the other.
-use Rattle.std.proofs.Common.{◌≡◌, ◌<◌, ◌^◌, ℕ, List, [], ◌∷◌, length, refl, ap, ◌∙◌}
+use Rattle.boot_log.proofs.Common.{◌≡◌, ◌<◌, ◌^◌, ℕ, List, [], ◌∷◌, length, refl, ap, ◌∙◌, LogEntry, IsRecordOf, Grows, is_kept, Kept, Room, nothing_kept}
 use Rattle.turn_io.specs.declared.gate.Point.{Point}
-use Rattle.processor.specs.Entries.{LogEntry}
 use Rattle.processor.specs.Points.{Calls, GateSaw, GateSawTurn, HookedTurns, calls, points_out}
 use Rattle.processor.specs.declared.shared.Shared.{Shared}
 use Rattle.processor.specs.declared.station.Parts.{Parts}
 use Rattle.boot_log.specs.declared.recorder.Recorder.{Recorder}
-use Rattle.boot_log.specs.Fronts.{IsRecordOf}
-use Rattle.boot_log.specs.Growing.{Grows, is_kept}
-use Rattle.boot_log.specs.Kept.{Kept, Room, nothing_kept}
 use Rattle.boot_log.proofs.Growth.{Grew, GrewBy, grew_if, record_of, room_stays}
 
 -- A gate that stays at each point, and whose log grows at the end of each turn. It has a clock, and the number that the

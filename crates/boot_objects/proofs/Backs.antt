@@ -1,15 +1,7 @@
 -- The shares of devices come back with their raw ttys.
-use Rattle.boot_objects.proofs.Common.{◌≡◌, ℕ, suc, ◌+◌, Bool, true, false, List, [], ◌∷◌, length, Some, refl, sym, ap, subst, ◌∙◌, arith, ◌==◌, if◌then◌else◌, slice_get, Small, Large, QueueOps, ChainEnd, Ghosts, Shared, Parts, Shares, no_shares, both_shares, shares_add, RawTty, AtQueue, Stake, no_stake, idle_queue, at_one, stake, stakes, chain_stake, chain_stakes, by_sizes, Device, opening_shares, device_shares, all_shares, AreWhole, port_stakes, note_stake, note_stakes, raw_ports, raw_notes, TookRaws, HasWholes}
-use Rattle.std.proofs.Math.Nat.{add-zero}
+use Rattle.boot_objects.proofs.Common.{◌≡◌, ℕ, suc, ◌+◌, Bool, true, false, List, [], ◌∷◌, length, Some, refl, sym, ap, subst, ◌∙◌, arith, ◌==◌, if◌then◌else◌, slice_get, Small, Large, QueueOps, ChainEnd, Ghosts, Shared, Parts, Shares, no_shares, both_shares, shares_add, RawTty, AtQueue, Stake, no_stake, idle_queue, at_one, stake, stakes, chain_stake, chain_stakes, by_sizes, Device, opening_shares, device_shares, all_shares, AreWhole, port_stakes, note_stake, note_stakes, raw_ports, raw_notes, TookRaws, HasWholes, add-zero, shares, shares_swap, end_of, by_index, AreDevicesOf, HaveAll, HaveBack, tty_shares}
 use Rattle.turn_io.proofs.Telling.{none_more}
-use Rattle.processor.specs.Accounts.{shares}
-use Rattle.processor.proofs.Summing.{shares_swap}
-use Rattle.quajects.specs.Raws.{end_of}
-use Rattle.turn_io.specs.Accounts.{by_index}
-use Rattle.boot_objects.specs.Devices.{AreDevicesOf}
-use Rattle.boot_objects.specs.Objects.{HaveAll}
 use Rattle.boot_objects.proofs.Summed.{at_map, chain_share_is, none_together}
-use Rattle.boot_objects.specs.Wholes.{HaveBack, tty_shares}
 use Rattle.boot_objects.proofs.Whole.{chosen_share}
 
 -- the shares of raw ttys, the first of which is at these indexes

@@ -1,12 +1,8 @@
 -- What a closed queue was put and taken, by its last end.
-use Rattle.boot_objects.proofs.Common.{◌≡◌, ◌-◌, ◌≤◌, ℕ, Bool, true, false, map, length, Some, sym, ap, ◌∙◌, arith, length-map, ClaimQueue, QueueEnd, view_of, IsClosed}
-use Rattle.std.proofs.Common.{drop}
-use Rattle.std.proofs.lemmas.List.{drop-map, length-drop}
+use Rattle.boot_objects.proofs.Common.{◌≡◌, ◌-◌, ◌≤◌, ℕ, Bool, true, false, map, length, Some, sym, ap, ◌∙◌, arith, length-map, ClaimQueue, QueueEnd, view_of, IsClosed, drop, drop-map, length-drop, item_of, first_of}
 use Rattle.table_theory.specs.declared.queues.Positions.{Positions}
-use Rattle.table_theory.specs.Positioned.{item_of}
 use Rattle.claim_queue.specs.declared.close.Closed.{Closed}
 use Rattle.claim_queue.specs.Closings.{ClosedNow, shown}
-use Rattle.claim_queue.specs.Handles.{first_of}
 use Rattle.claim_queue.specs.Rules.{times_shut}
 
 one_shut : (q : Positions) (b : Bool) → q.shut ≡ b → times_shut q ≤ 1

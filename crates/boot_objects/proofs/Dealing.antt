@@ -1,7 +1,5 @@
 -- Shares that are given away, one part after the other.
-use Rattle.boot_objects.proofs.Common.{◌≡◌, ℕ, ◌+◌, ◌≤◌, List, refl, ◌∙◌, arith, given, Gave, CanGive}
-use Rattle.std.proofs.Common.{◌/◌}
-use Rattle.std.proofs.Math.Nat.{min-le_right}
+use Rattle.boot_objects.proofs.Common.{◌≡◌, ℕ, ◌+◌, ◌≤◌, List, refl, ◌∙◌, arith, given, Gave, CanGive, ◌/◌, min-le_right}
 
 -- what a split gives is a part at most
 pub given_few : (share : ℕ) → given share ≤ 8796093022208

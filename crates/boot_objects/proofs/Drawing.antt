@@ -1,9 +1,5 @@
 -- Two lists are drawn from, one of each at a time, and a third grows by what each two give.
-use Rattle.boot_objects.proofs.Common.{◌≡◌, suc, ◌+◌, List, [], ◌∷◌, ◌++◌, map, length, refl, sym, ap, subst, ◌∙◌, arith, append_assoc, nil_from_length}
-use Rattle.std.proofs.Common.{length-append, append-nil}
-use Rattle.std.specs.List.{All}
-use Rattle.turn_io.specs.Splits.{AllThree}
-use Rattle.turn_io.proofs.Walking.{three_push}
+use Rattle.boot_objects.proofs.Common.{◌≡◌, suc, ◌+◌, List, [], ◌∷◌, ◌++◌, map, length, refl, sym, ap, subst, ◌∙◌, arith, append_assoc, nil_from_length, length-append, append-nil, All, AllThree, three_push}
 
 -- so much of each list is drawn, and these are left
 pub record Drawn {A B C : Type 0} (R : A → B → C → Type 0) (all : List A) (others : List B) (drawn left : List A) (rest : List B) (made : List C) : Type 0 where

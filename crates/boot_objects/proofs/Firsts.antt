@@ -1,6 +1,5 @@
 -- The first hand of a thread table, and the first seat of meters.
-use Rattle.boot_objects.proofs.Common.{◌≡◌, ℕ, zero, suc, ◌<◌, true, false, [], ◌∷◌, get_or, refl, ap, ◌∙◌, arith, None, Meters, MeterSeat, ThreadTable, Hand, get_or-copies, IsFirstHand, IsFirstSeat}
-use Rattle.std.specs.List.{repeat}
+use Rattle.boot_objects.proofs.Common.{◌≡◌, ℕ, zero, suc, ◌<◌, true, false, [], ◌∷◌, get_or, refl, ap, ◌∙◌, arith, None, Meters, MeterSeat, ThreadTable, Hand, get_or-copies, IsFirstHand, IsFirstSeat, repeat}
 use Rattle.meters.specs.Own.{SeatView}
 use Rattle.meters.specs.Handles as meters
 use Rattle.meters.specs.Rules as meter_rules

@@ -1,8 +1,5 @@
 -- New queues, each with its only end.
-use Rattle.boot_objects.proofs.Common.{◌≡◌, ℕ, zero, suc, ◌<◌, ◌≤◌, List, [], ◌∷◌, map, length, get_or, ap, arith, AllZip, length-map, All-head, All-tail, the_whole, ClaimQueue, QueueEnd, end_share, CanGive, IsIdleEnd, IsStock}
-use Rattle.std.specs.List.{All}
-use Rattle.claim_queue.specs.Own.{View}
-use Rattle.claim_queue.specs.Handles.{first_of}
+use Rattle.boot_objects.proofs.Common.{◌≡◌, ℕ, zero, suc, ◌<◌, ◌≤◌, List, [], ◌∷◌, map, length, get_or, ap, arith, AllZip, length-map, All-head, All-tail, the_whole, ClaimQueue, QueueEnd, end_share, CanGive, IsIdleEnd, IsStock, All, View, first_of}
 use Rattle.quajects.specs.Worlds.{IsFresh}
 use Rattle.boot_objects.proofs.Zips.{zip_weaker, zip_first, zip_second}
 

@@ -1,13 +1,10 @@
 -- One end of a list took in another.
-use Rattle.boot_objects.proofs.Common.{◌≡◌, ℕ, zero, suc, ◌<◌, true, false, List, [], ◌∷◌, ◌++◌, map, length, get_or, set, sym, ap, ◌∙◌, arith, Some, slice_get, map-append, slice_get-get_or, ∥∥₁_elim, fun_ext, QueueEnd, QueueOps, view_of, nothing_did, did_both, ChainEnd, Ghosts, idle_queue, both_queue, Stake, no_stake, both_stakes, stake, stakes, at_one, AddsUp, IsJoined, IsChainJoined, queues_add, dids_add, stakes_add, port, Gained, ChainsGained, note_stake}
+use Rattle.boot_objects.proofs.Common.{◌≡◌, ℕ, zero, suc, ◌<◌, true, false, List, [], ◌∷◌, ◌++◌, map, length, get_or, set, sym, ap, ◌∙◌, arith, Some, slice_get, map-append, slice_get-get_or, ∥∥₁_elim, fun_ext, QueueEnd, QueueOps, view_of, nothing_did, did_both, ChainEnd, Ghosts, idle_queue, both_queue, Stake, no_stake, both_stakes, stake, stakes, at_one, AddsUp, IsJoined, IsChainJoined, queues_add, dids_add, stakes_add, port, Gained, ChainsGained, note_stake, Grows, end_knows_shut, knows_shut_at, chain_end_puts, chain_end_takes, grown_at, known_still}
 use Rattle.std.proofs.Math.Bool.{Bool-set}
-use Rattle.table_theory.specs.Positioned.{Grows}
 use Rattle.claim_queue.proofs.Certain.{valid_end}
 use Rattle.claim_queue.proofs.Ordered.{join_grows, join_grows_other}
 use Rattle.proc_chain.specs.Handles as chains
 use Rattle.proc_chain.specs.Notes as notes
-use Rattle.turn_io.specs.EndLists.{end_knows_shut, knows_shut_at, chain_end_puts, chain_end_takes}
-use Rattle.turn_io.proofs.Places.{grown_at, known_still}
 
 -- a property of the element at a place, in the form of `slice_get`, holds in the form of `get_or` too
 pub its_own : {A : Type 0} (P : A → Type 0) (list : List A) (index : ℕ) (x : A) → index < length list → ((y : A) → slice_get list index ≡ Some y → P y) → x ≡ get_or list index x → P x

@@ -1,9 +1,6 @@
 -- Ends that have done nothing, beside their objects.
-use Rattle.boot_objects.proofs.Common.{◌≡◌, ℕ, List, length, ap, ◌∙◌, ClaimQueue, QueueEnd, QueueOps, nothing_did, Ghosts, ProcChain, ChainEnd, AnyQuaject, Queues, AtChain, Stake, no_stake, idle_queue, idle_chain, stake, chain_stake, AreEndsOf, AreChainEndsOf, queue_table, end_table, chain_end_table, chain_table, IsIdle, by_sizes, Meters, ThreadTable, Parts, IsFirstHand, IsFirstSeat, IsIdleEnd, IsIdleChainEnd, IsStock, IsChainStock}
-use Rattle.turn_io.specs.Accounts.{lines_of, queue_account, chain_account}
+use Rattle.boot_objects.proofs.Common.{◌≡◌, ℕ, List, length, ap, ◌∙◌, ClaimQueue, QueueEnd, QueueOps, nothing_did, Ghosts, ProcChain, ChainEnd, AnyQuaject, Queues, AtChain, Stake, no_stake, idle_queue, idle_chain, stake, chain_stake, AreEndsOf, AreChainEndsOf, queue_table, end_table, chain_end_table, chain_table, IsIdle, by_sizes, Meters, ThreadTable, Parts, IsFirstHand, IsFirstSeat, IsIdleEnd, IsIdleChainEnd, IsStock, IsChainStock, lines_of, queue_account, chain_account, account, nothing, shown_in, IsUnused}
 use Rattle.turn_dispatch.specs.Tallies.{tally}
-use Rattle.processor.specs.Accounts.{account, nothing, shown_in}
-use Rattle.processor.specs.Stations.{IsUnused}
 use Rattle.processor.proofs.Summing.{none_shown}
 use Rattle.boot_objects.proofs.Summed.{at_map}
 use Rattle.boot_objects.proofs.Zips.{zip_second, zip_same, zip_each}

@@ -1,8 +1,7 @@
 -- The ends of a quaject, by its kind.
-use Rattle.boot_objects.proofs.Common.{◌≡◌, ℕ, refl, Mover, AnyQuaject, quaject_shares, Large}
+use Rattle.boot_objects.proofs.Common.{◌≡◌, ℕ, refl, Mover, AnyQuaject, quaject_shares, Large, IsMover}
 use Rattle.boot_data.specs.declared.plan.Mover.TheVariants as mover
 use Rattle.quajects.specs.declared.any.AnyQuaject.TheVariants as any
-use Rattle.boot_objects.specs.Planned.{IsMover}
 
 -- a pump or switch has no end of a large queue
 pub no_large : (m : Mover) (x : AnyQuaject) → IsMover m x → (q : ℕ) → (quaject_shares x).queues (Large q) ≡ 0

@@ -1,6 +1,5 @@
 -- A list with one element more.
-use Rattle.boot_objects.proofs.Common.{◌≡◌, ℕ, zero, suc, ◌+◌, ◌≤◌, List, [], ◌∷◌, ◌++◌, map, length, sym, ap, subst, ◌∙◌, Some, slice_get, map-append, All-push, Shares, both_shares, all_shares, Gave}
-use Rattle.std.specs.List.{All}
+use Rattle.boot_objects.proofs.Common.{◌≡◌, ℕ, zero, suc, ◌+◌, ◌≤◌, List, [], ◌∷◌, ◌++◌, map, length, sym, ap, subst, ◌∙◌, Some, slice_get, map-append, All-push, Shares, both_shares, all_shares, Gave, All}
 use Rattle.std.proofs.lemmas.List.{length-append}
 use Rattle.boot_objects.proofs.Dealing.{gave_both}
 use Rattle.boot_objects.proofs.Summed.{shares_push}

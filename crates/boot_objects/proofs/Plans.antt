@@ -1,17 +1,12 @@
 -- What a plan names is there, and its quajects are few.
-use Rattle.boot_objects.proofs.Common.{◌≡◌, ℕ, zero, suc, ◌+◌, ◌≤◌, List, [], ◌∷◌, length, refl, sym, ap, subst, ◌∙◌, arith, Some, slice_get, ∥∥₁_elim, Mover, PlannedMover}
-use Rattle.std.proofs.Common.{◌≢◌}
-use Rattle.std.specs.List.{AllByRecursion}
+use Rattle.boot_objects.proofs.Common.{◌≡◌, ℕ, zero, suc, ◌+◌, ◌≤◌, List, [], ◌∷◌, length, refl, sym, ap, subst, ◌∙◌, arith, Some, slice_get, ∥∥₁_elim, Mover, PlannedMover, ◌≢◌, AllByRecursion, ∥∥₁_map, ℕ_set, IsThere}
 use Rattle.std.proofs.Math.Bridge.{le_prop}
-use Rattle.std.proofs.Math.Logic.{∥∥₁_map}
-use Rattle.std.proofs.Math.Nat.{ℕ_set}
 use Rattle.boot_data.specs.declared.boot_plan.BootPlan.{BootPlan}
 use Rattle.boot_data.specs.declared.plan.Mover.TheVariants as mover
 use Rattle.boot_data.specs.declared.plan.Way.{Way}
 use Rattle.boot_data.specs.BootPlans.{plan_of}
 use Rattle.boot_data.specs.PlanLimits.{IsPlan, IsMoverOf, IsWayOf, AreApart, many_of}
 use Rattle.event_theory.proofs.Lists.Placed.{all_at}
-use Rattle.boot_objects.specs.Makings.{IsThere}
 
 -- a way has none of the keys that are before it
 following : (keys : List ℕ) (ways : List Way) → AreApart keys ways → (i : ℕ) (a : Way) → slice_get ways i ≡ Some a → AllByRecursion (λ key. a.key ≢ key) keys

@@ -1,12 +1,7 @@
 -- The ends of ports are joined to a list of ends, one after the other.
-use Rattle.boot_objects.proofs.Common.{◌≡◌, ℕ, zero, suc, Bool, true, false, List, [], ◌∷◌, ◌++◌, Some, None, sym, ap, subst, ◌∙◌, arith, ◌==◌, if◌then◌else◌, Option, flat_map, flat_map-cons, ClaimQueue, QueueEnd, QueueOps, nothing_did, did_both, Stake, no_stake, both_stakes, stake, stakes, at_each, AddsUp, dids_add, stakes_add, each_adds, Port, AllUp, Home, Gained, port_stakes}
-use Rattle.std.specs.List.{All}
-use Rattle.std.proofs.lemmas.List.{flat_map_more}
-use Rattle.turn_io.specs.EndLists.{HasRaised}
+use Rattle.boot_objects.proofs.Common.{◌≡◌, ℕ, zero, suc, Bool, true, false, List, [], ◌∷◌, ◌++◌, Some, None, sym, ap, subst, ◌∙◌, arith, ◌==◌, if◌then◌else◌, Option, flat_map, flat_map-cons, ClaimQueue, QueueEnd, QueueOps, nothing_did, did_both, Stake, no_stake, both_stakes, stake, stakes, at_each, AddsUp, dids_add, stakes_add, each_adds, Port, AllUp, Home, Gained, port_stakes, All, flat_map_more, HasRaised, AllFit, port_stake}
 use Rattle.table_theory.specs.Listing.{AllRaised}
 use Rattle.quajects.proofs.Joining.{raised_both}
-use Rattle.quajects.specs.Ports.{AllFit}
-use Rattle.boot_objects.specs.Gains.{port_stake}
 
 adds : AddsUp (λ (q : ℕ). no_stake nothing_did) (at_each (both_stakes did_both))
 adds = each_adds (stakes_add dids_add)

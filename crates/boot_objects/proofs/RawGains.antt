@@ -1,8 +1,7 @@
 -- The ends of raw ttys are joined to the parts, one raw tty after the other.
-use Rattle.boot_objects.proofs.Common.{◌≡◌, ℕ, ◌+◌, ◌<◌, List, [], ◌∷◌, ◌++◌, length, refl, sym, ap, subst, ◌∙◌, arith, Some, Option, slice_get, QueueEnd, Stake, AtQueue, idle_queue, both_queue, no_stake, both_stakes, at_each, at_one, AddsUp, OnEnd, queues_add, stakes_add, each_adds, ChainEnd, Ghosts, Shared, Parts, Port, RawTty, port, Gained, ChainsGained, note_stake, note_stakes, raw_ports, raw_notes, TookRaws}
+use Rattle.boot_objects.proofs.Common.{◌≡◌, ℕ, ◌+◌, ◌<◌, List, [], ◌∷◌, ◌++◌, length, refl, sym, ap, subst, ◌∙◌, arith, Some, Option, slice_get, QueueEnd, Stake, AtQueue, idle_queue, both_queue, no_stake, both_stakes, at_each, at_one, AddsUp, OnEnd, queues_add, stakes_add, each_adds, ChainEnd, Ghosts, Shared, Parts, Port, RawTty, port, Gained, ChainsGained, note_stake, note_stakes, raw_ports, raw_notes, TookRaws, end_of}
 use Rattle.processor.specs.RawEnds.{IsRawAt}
 use Rattle.event_theory.proofs.Keeping.Places.{slice_get_set_other}
-use Rattle.quajects.specs.Raws.{end_of}
 use Rattle.boot_objects.proofs.PortGains.{gained_none, gained_both}
 
 adds : AddsUp (λ (k : ℕ). no_stake idle_queue) (at_each (both_stakes both_queue))

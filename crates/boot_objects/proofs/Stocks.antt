@@ -1,10 +1,7 @@
 -- An end that is split off the one in a stock.
-use Rattle.boot_objects.proofs.Common.{◌≡◌, ℕ, zero, suc, ◌+◌, ◌<◌, ◌≤◌, Bool, true, false, List, [], ◌∷◌, map, length, get_or, set, sym, ap, subst, ◌∙◌, arith, ◌==◌, if◌then◌else◌, Some, AllZip, slice_get, length-map, given, at_one, Gave, CanGive}
-use Rattle.std.proofs.Common.{⊎_elim}
+use Rattle.boot_objects.proofs.Common.{◌≡◌, ℕ, zero, suc, ◌+◌, ◌<◌, ◌≤◌, Bool, true, false, List, [], ◌∷◌, map, length, get_or, set, sym, ap, subst, ◌∙◌, arith, ◌==◌, if◌then◌else◌, Some, AllZip, slice_get, length-map, given, at_one, Gave, CanGive, ⊎_elim, get_or-set_same, get_or-set_other, length-set, map-set, kept}
 use Rattle.std.proofs.lemmas.Bool.Decides.{eqb_tells}
-use Rattle.std.proofs.lemmas.List.{get_or-set_same, get_or-set_other, length-set, map-set}
 use Rattle.table_theory.proofs.Counting.{given_kept}
-use Rattle.table_theory.specs.Sharing.{kept}
 use Rattle.boot_objects.proofs.Dealing.{given_few}
 
 module _ {A B : Type 0} (R : A → B → Type 0) where

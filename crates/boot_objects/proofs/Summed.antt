@@ -1,6 +1,5 @@
 -- The shares of many, summed.
-use Rattle.boot_objects.proofs.Common.{◌≡◌, ℕ, zero, suc, ◌+◌, ◌<◌, List, [], ◌∷◌, ◌++◌, map, length, get_or, refl, sym, ap, ◌∙◌, arith, QueueIndex, Small, Large, QueueEnd, QueueOps, nothing_did, Stake, AtChain, no_stake, idle_chain, stake, stakes, chain_stake, chain_stakes, share_at, chain_share_at, ChainEnd, ProcChain, Ghosts, IsOnlySeat, Shared, Parts, Shares, no_shares, both_shares, shares_add, AnyQuaject, Queues, IsWhole, IsOnlyHand, Device, quaject_shares, device_shares, all_shares, quajects_of, opening_shares, end_shares, AreAllEnds, AreWhole}
-use Rattle.processor.specs.Accounts.{shares}
+use Rattle.boot_objects.proofs.Common.{◌≡◌, ℕ, zero, suc, ◌+◌, ◌<◌, List, [], ◌∷◌, ◌++◌, map, length, get_or, refl, sym, ap, ◌∙◌, arith, QueueIndex, Small, Large, QueueEnd, QueueOps, nothing_did, Stake, AtChain, no_stake, idle_chain, stake, stakes, chain_stake, chain_stakes, share_at, chain_share_at, ChainEnd, ProcChain, Ghosts, IsOnlySeat, Shared, Parts, Shares, no_shares, both_shares, shares_add, AnyQuaject, Queues, IsWhole, IsOnlyHand, Device, quaject_shares, device_shares, all_shares, quajects_of, opening_shares, end_shares, AreAllEnds, AreWhole, shares}
 use Rattle.turn_io.specs.QueueEnds.{IsThere}
 
 module _ {A : Type 0} (of : A → Shares) where

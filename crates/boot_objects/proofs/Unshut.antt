@@ -1,9 +1,6 @@
 -- What comes home of quajects that had shut nothing.
-use Rattle.boot_objects.proofs.Common.{◌≡◌, ℕ, ◌+◌, Bool, true, false, List, [], ◌∷◌, map, Some, None, refl, sym, subst, ◌==◌, if◌then◌else◌, Option, All-nil, All-cons, All-head, All-tail, ChainEnd, ProcChain, Ghosts, opening_of, AnyQuaject, Home, Port, Queues, PostsOf, Post, NoneShut, post_at, QueueOps, nothing_did, Stake, no_stake, stake, port_stakes, HasRetired, HaveRetired}
-use Rattle.std.specs.List.{All}
+use Rattle.boot_objects.proofs.Common.{◌≡◌, ℕ, ◌+◌, Bool, true, false, List, [], ◌∷◌, map, Some, None, refl, sym, subst, ◌==◌, if◌then◌else◌, Option, All-nil, All-cons, All-head, All-tail, ChainEnd, ProcChain, Ghosts, opening_of, AnyQuaject, Home, Port, Queues, PostsOf, Post, NoneShut, post_at, QueueOps, nothing_did, Stake, no_stake, stake, port_stakes, HasRetired, HaveRetired, All, HasShutNothing, ShutNothing}
 use Rattle.quajects.specs.declared.any.AnyQuaject.TheVariants as any
-use Rattle.quajects.specs.Anys.{HasShutNothing}
-use Rattle.boot_objects.specs.Comings.{ShutNothing}
 
 -- the posts of a quaject that has shut nothing
 none_shut : (x : AnyQuaject) (posts : List (Option Post) × List (Option Post)) → PostsOf x posts → HasShutNothing x → NoneShut posts.0 × NoneShut posts.1

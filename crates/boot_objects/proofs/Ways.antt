@@ -1,9 +1,7 @@
 -- The ways of a switch: four at most, each with an end of its queue.
-use Rattle.boot_objects.proofs.Common.{◌≡◌, ℕ, ◌+◌, List, [], ◌∷◌, ◌++◌, map, refl, ap, ◌∙◌, arith, Option, Some, None, flat_map, All-nil, All-cons, All-head, All-tail, QueueEnd, view_of, line_of, lines_put, NoneShut, puts_of, IsGivenUnused, at_one, end_share, end_shuts, givens_share, IsGivenOpen, posts_share, Gave}
-use Rattle.std.specs.List.{All}
+use Rattle.boot_objects.proofs.Common.{◌≡◌, ℕ, ◌+◌, List, [], ◌∷◌, ◌++◌, map, refl, ap, ◌∙◌, arith, Option, Some, None, flat_map, All-nil, All-cons, All-head, All-tail, QueueEnd, view_of, line_of, lines_put, NoneShut, puts_of, IsGivenUnused, at_one, end_share, end_shuts, givens_share, IsGivenOpen, posts_share, Gave, All, given_share}
 use Rattle.quajects.specs.declared.ways.Way as ways
 use Rattle.quajects.specs.Routes.{Given, given_index, given_end, index_of, end_of, way_post}
-use Rattle.boot_objects.specs.Makings.{given_share}
 use Rattle.boot_objects.proofs.Dealing.{gave_both}
 
 pub all_four : {A : Type 0} (P : A → Type 0) (a b d e : A) → P a → P b → P d → P e → All P (a ∷ b ∷ d ∷ e ∷ [])

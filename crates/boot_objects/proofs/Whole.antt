@@ -1,16 +1,9 @@
 -- Ends that have the whole, and what comes home of chains over one world.
-use Rattle.boot_objects.proofs.Common.{◌≡◌, ℕ, zero, suc, ◌+◌, ◌<◌, Bool, true, false, List, [], ◌∷◌, map, length, get_or, Option, Some, None, refl, sym, ap, subst, ◌∙◌, arith, ◌==◌, if◌then◌else◌, flat_map, flat_map-cons, IsWhole, QueueIndex, Small, Large, QueueEnd, QueueOps, nothing_did, ChainEnd, ProcChain, Ghosts, Shared, Parts, Shares, no_shares, both_shares, IsOnlySeat, IsOnlyHand, AnyQuaject, Home, Port, Queues, AllUp, post_at, Stake, no_stake, stake, stakes, chain_end_share, chain_end_table, chain_table, chain_share_at, share_at, end_table, queue_table, as_long, posts_share, post_shares, quaject_shares, quajects_of, opening_shares, small_ports, large_ports, Gained, port_stakes, HasRetired, HaveRetired, HasWholes}
-use Rattle.std.specs.List.{All}
-use Rattle.claim_queue.specs.Handles.{IsOnlyEnd}
+use Rattle.boot_objects.proofs.Common.{◌≡◌, ℕ, zero, suc, ◌+◌, ◌<◌, Bool, true, false, List, [], ◌∷◌, map, length, get_or, Option, Some, None, refl, sym, ap, subst, ◌∙◌, arith, ◌==◌, if◌then◌else◌, flat_map, flat_map-cons, IsWhole, QueueIndex, Small, Large, QueueEnd, QueueOps, nothing_did, ChainEnd, ProcChain, Ghosts, Shared, Parts, Shares, no_shares, both_shares, IsOnlySeat, IsOnlyHand, AnyQuaject, Home, Port, Queues, AllUp, post_at, Stake, no_stake, stake, stakes, chain_end_share, chain_end_table, chain_table, chain_share_at, share_at, end_table, queue_table, as_long, posts_share, post_shares, quaject_shares, quajects_of, opening_shares, small_ports, large_ports, Gained, port_stakes, HasRetired, HaveRetired, HasWholes, All, IsOnlyEnd, shares, HasHome, AreChainsOver, all_third, FitsHome}
 use Rattle.proc_chain.specs.Handles as chains
-use Rattle.processor.specs.Accounts.{shares}
 use Rattle.quajects.specs.declared.came.Came.{Came}
-use Rattle.quajects.specs.Homes.{HasHome}
-use Rattle.turn_io.specs.EndLists.{AreChainsOver}
-use Rattle.turn_io.proofs.Walking.{all_third}
 use Rattle.boot_objects.proofs.Homes.{posts_are}
 use Rattle.boot_objects.proofs.Summed.{share_is, chain_share_is, none_together}
-use Rattle.boot_objects.specs.Comings.{FitsHome}
 use Rattle.boot_objects.proofs.PortGains.{stakes_append}
 
 pub only_by_share : {n : ℕ} (ends : List (QueueEnd n)) → ((q : ℕ) → q < length ends → IsWhole (share_at ends q)) → All IsOnlyEnd ends

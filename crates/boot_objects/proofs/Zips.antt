@@ -1,6 +1,5 @@
 -- What holds of two lists, place by place.
-use Rattle.boot_objects.proofs.Common.{◌≡◌, ℕ, zero, suc, List, [], ◌∷◌, map, get_or, refl, AllZip, All-nil, All-cons}
-use Rattle.std.specs.List.{All}
+use Rattle.boot_objects.proofs.Common.{◌≡◌, ℕ, zero, suc, List, [], ◌∷◌, map, get_or, refl, AllZip, All-nil, All-cons, All}
 
 module _ {A B : Type 0} (R : A → B → Type 0) where
   pub zip_weaker : (S : A → B → Type 0) → ((x : A) (y : B) → R x y → S x y) → (xs : List A) (ys : List B) → AllZip R xs ys → AllZip S xs ys

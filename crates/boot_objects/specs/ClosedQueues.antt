@@ -10,7 +10,7 @@ use Rattle.claim_queue.specs.Handles.{view_of, first_of}
 use Rattle.claim_queue.specs.Lines.{IsSettled}
 use Rattle.boot_objects.specs.Gains.{Gained}
 use Rattle.turn_io.specs.EndLists.{HasRaised, end_puts, end_takes, end_shuts}
-use Rattle.turn_io.specs.Splits.{AllThree}
+use Rattle.stations.specs.Splits.{AllThree}
 
 module _ {n : ℕ} where
   -- The queue is closed by its only end, which has the lines of all. The items put are the lines that the end put, each

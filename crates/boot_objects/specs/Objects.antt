@@ -22,7 +22,7 @@ use Rattle.turn_dispatch.specs.Holdings.{IsFree}
 use Rattle.turn_io.specs.EndLists.{AreChainsOver}
 use Rattle.processor.specs.declared.shared.Shared.{Shared}
 use Rattle.processor.specs.declared.station.Parts.{Parts}
-use Rattle.processor.specs.Accounts.{both_shares}
+use Rattle.stations.specs.Shares.{both_shares}
 use Rattle.processor.specs.Accounts as accounts
 use Rattle.boot_objects.specs.declared.device.Device.{Device}
 use Rattle.boot_objects.specs.Planned.{IsPlannedAt, IsReady}

@@ -1,7 +1,7 @@
 -- Chains that were closed, each by its only end.
 use Rattle.std.specs.Prelude.{◌<◌, List}
 use Rattle.table_theory.specs.declared.positions.TheConstants.{POSITIONS}
-use Rattle.turn_io.specs.Splits.{AllThree}
+use Rattle.stations.specs.Splits.{AllThree}
 use Rattle.proc_chain.specs.declared.ends.ChainEnd.{ChainEnd}
 use Rattle.proc_chain.specs.declared.ends.ProcChain.{ProcChain}
 use Rattle.proc_chain.specs.declared.quaject.Quaject.{Ghosts}

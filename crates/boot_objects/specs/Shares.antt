@@ -8,7 +8,8 @@ use Rattle.proc_chain.specs.declared.ends.ProcChain.{ProcChain}
 use Rattle.proc_chain.specs.declared.quaject.Quaject.{Ghosts}
 use Rattle.proc_chain.specs.Handles.{opening_of}
 use Rattle.processor.specs.declared.shared.Shared.{Shared}
-use Rattle.processor.specs.Accounts.{Shares, no_shares, both_shares}
+use Rattle.processor.specs.Accounts.{Shares}
+use Rattle.stations.specs.Shares.{no_shares, both_shares}
 use Rattle.turn_io.specs.QueueEnds.{IsThere}
 use Rattle.quajects.specs.declared.any.AnyQuaject.{AnyQuaject}
 use Rattle.quajects.specs.declared.any.AnyQuaject.TheVariants as any

@@ -5,7 +5,8 @@ use Rattle.boot_objects.specs.declared.device.Device.{Device}
 use Rattle.boot_objects.specs.Shares.{opening_shares, AreWhole}
 use Rattle.processor.specs.declared.shared.Shared.{Shared}
 use Rattle.processor.specs.declared.station.Parts.{Parts}
-use Rattle.processor.specs.Accounts.{both_shares, shares}
+use Rattle.stations.specs.Shares.{both_shares}
+use Rattle.processor.specs.Accounts.{shares}
 use Rattle.quajects.specs.declared.raw.RawTty.{RawTty}
 use Rattle.quajects.specs.Raws.{end_of}
 

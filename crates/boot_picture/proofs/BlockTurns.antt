@@ -1,11 +1,5 @@
 -- The turns of blocks, block by block.
-use Rattle.std.proofs.Common.{◌≡◌, ◌≤◌, ◌+◌, ◌∙◌, arith, ℕ, zero, suc, List, [], ◌∷◌, ◌++◌, Some, sym, ap, take, append-nil}
-use Rattle.std.proofs.Math.Seq.{take-add}
-use Rattle.std.proofs.lemmas.Grind.{flat_map-append}
-use Rattle.std.specs.List.{flat_map, slice_get}
-use Rattle.boot_log.specs.declared.entry.Entry.{Entry}
-use Rattle.boot_picture.specs.declared.blocks.Block.{Block}
-use Rattle.boot_picture.specs.Blocks.{AreInARow, turns_of}
+use Rattle.boot_picture.proofs.Common.{◌≡◌, ◌≤◌, ◌+◌, ◌∙◌, arith, ℕ, zero, suc, List, [], ◌∷◌, ◌++◌, Some, sym, ap, take, append-nil, take-add, flat_map-append, flat_map, slice_get, Entry, Block, AreInARow, turns_of}
 
 -- the turns of one more block, which begins where the others end
 pub more_turns : (entries : List Entry) (blocks : List Block) (block : Block) → flat_map (turns_of entries) blocks ≡ take block.first entries → flat_map (turns_of entries) (blocks ++ block ∷ []) ≡ take (block.first + block.turns) entries

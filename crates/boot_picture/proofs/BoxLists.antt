@@ -1,12 +1,5 @@
 -- The boxes of blocks, box by box.
-use Rattle.std.proofs.Common.{◌≡◌, ◌<◌, ◌+◌, ◌∙◌, ℕ, List, [], ◌∷◌, ◌++◌, sym, ap, subst, length, take, get_or, add-one, append_assoc}
-use Rattle.std.proofs.Math.Seq.{take-suc}
-use Rattle.std.proofs.lemmas.Slice.Zip.{all_zipped_more}
-use Rattle.std.specs.List.{AllZip}
-use Rattle.svg.specs.declared.shapes.Shape.{Shape}
-use Rattle.boot_picture.specs.declared.columns.Placed.{Placed}
-use Rattle.boot_picture.specs.declared.order.Track.{Track}
-use Rattle.boot_picture.specs.Lanes.{IsBoxOf, AreBoxesDrawn}
+use Rattle.boot_picture.proofs.Common.{◌≡◌, ◌<◌, ◌+◌, ◌∙◌, ℕ, List, [], ◌∷◌, ◌++◌, sym, ap, subst, length, take, get_or, add-one, append_assoc, take-suc, all_zipped_more, AllZip, Shape, Placed, Track, IsBoxOf, AreBoxesDrawn}
 
 -- the box of one more block
 pub boxes_more : (tracks : List Track) (top : ℕ) (all : List Placed) (i : ℕ) (placed : Placed) (old middle new : List Shape) → i < length all → placed ≡ get_or all i placed → AreBoxesDrawn tracks top (take i all) old middle → (shape : Shape) × (new ≡ middle ++ shape ∷ []) × IsBoxOf tracks top placed shape → AreBoxesDrawn tracks top (take (i + 1) all) old new

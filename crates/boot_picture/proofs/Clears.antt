@@ -1,12 +1,7 @@
 -- Parts that are drawn outside of the lanes.
-use Rattle.std.proofs.Common.{◌≡◌, ◌≤◌, ℕ, List, [], ◌∷◌, ◌++◌, Result, arith, sym, subst}
+use Rattle.boot_picture.proofs.Common.{◌≡◌, ◌≤◌, ℕ, List, [], ◌∷◌, ◌++◌, Result, arith, sym, subst, All, All-push, on_ok_weaker, Shape, DrawsAbove, DrawsBelow, DrawsGround, DrawsTexts, IsClear, IsGround}
 use Rattle.std.specs.Prelude.{OnOk}
-use Rattle.std.specs.List.{All}
-use Rattle.std.proofs.lemmas.List.Elements.{All-push}
-use Rattle.std.proofs.lemmas.Result.{on_ok_weaker}
 use Rattle.event_theory.specs.declared.refusal.OutOfMemory.{OutOfMemory}
-use Rattle.svg.specs.declared.shapes.Shape.{Shape}
-use Rattle.boot_picture.specs.Clear.{DrawsAbove, DrawsBelow, DrawsGround, DrawsTexts, IsClear, IsGround}
 
 -- one more part that is clear of the lanes
 clear_more : (top bottom : ℕ) (old new : List Shape) (shape : Shape) → new ≡ old ++ shape ∷ [] → IsClear top bottom shape → All (IsClear top bottom) old → All (IsClear top bottom) new

@@ -1,18 +1,5 @@
 -- Blocks in the order of the clock.
-use Rattle.std.proofs.Common.{◌≡◌, ◌<◌, ◌≤◌, ◌+◌, ◌-◌, ◌∙◌, ℕ, suc, List, [], ◌∷◌, ◌++◌, ⊎_elim, Option, Some, None, IfSome, refl, sym, ap, subst, length, take, set, get_or, true≢false, add-one, arith, length-drop, ◌==◌}
-use Rattle.std.proofs.lemmas.Bool.{cases_Bool, cases_lt, eqb-true, eq-eqb}
-use Rattle.std.proofs.lemmas.Grind.{get_or-set_at}
-use Rattle.std.proofs.Math.Seq.{get_or-append_seam}
-use Rattle.std.proofs.lemmas.List.{get_or-set_other, length-take-le, length_push, take_all}
-use Rattle.std.proofs.lemmas.Option.{slice_get_cases, slice_get_within, slice_get-get_or, get_or_from_slice_get}
-use Rattle.std.specs.List.{All, slice_get}
-use Rattle.std.specs.List.Sorted.{IsNonDecreasingBy}
-use Rattle.boot_log.specs.declared.entry.Entry.{Entry}
-use Rattle.boot_picture.specs.declared.blocks.Block.{Block}
-use Rattle.boot_picture.specs.declared.order.Ordered.{Ordered}
-use Rattle.boot_picture.specs.declared.order.Track.{Track}
-use Rattle.boot_picture.specs.Blocks.{IsBlock}
-use Rattle.boot_picture.specs.Orders.{AreInTime, AreUsed, IsLeast, IsNextIn, IsNotAfter, blocks_in, IsBeforeLeftOut, IsLeftOut, IsTimed, end_of, ended, time_of}
+use Rattle.boot_picture.proofs.Common.{◌≡◌, ◌<◌, ◌≤◌, ◌+◌, ◌-◌, ◌∙◌, ℕ, suc, List, [], ◌∷◌, ◌++◌, ⊎_elim, Option, Some, None, IfSome, refl, sym, ap, subst, length, take, set, get_or, true≢false, add-one, arith, length-drop, ◌==◌, cases_Bool, cases_lt, eqb-true, eq-eqb, get_or-set_at, get_or-append_seam, get_or-set_other, length-take-le, length_push, take_all, slice_get_cases, slice_get_within, slice_get-get_or, get_or_from_slice_get, All, slice_get, IsNonDecreasingBy, Entry, Block, Ordered, Track, IsBlock, AreInTime, AreUsed, IsLeast, IsNextIn, IsNotAfter, blocks_in, IsBeforeLeftOut, IsLeftOut, IsTimed, end_of, ended, time_of}
 use Rattle.boot_picture.proofs.BlockTurns.{starts_forward}
 use Rattle.boot_picture.proofs.Orders.{HasTaken, lt_or_same, next_within}
 

@@ -1,3 +1,4 @@
+pub mod Common
 pub mod BlockTurns
 pub mod BoxLists
 pub mod Clears

@@ -1,18 +1,5 @@
 -- The order of blocks, block by block.
-use Rattle.std.proofs.Common.{◌≡◌, ◌<◌, ◌≤◌, ◌+◌, ◌∙◌, ℕ, Bool, List, [], ◌∷◌, ◌++◌, ⊎_elim, ◌⊎◌, inl, inr, Option, IfSome, refl, sym, ap, subst, length, take, map, set, cond, get_or, replicate, true≢false, add-one, append-nil, arith, Some, ◌==◌, Bor}
-use Rattle.std.proofs.Math.Seq.{take-suc}
-use Rattle.std.proofs.lemmas.Bool.{cases_Bool, cases_lt, eqb-true, eq-eqb, ne_eqb}
-use Rattle.std.proofs.lemmas.List.{map-append, get_or-set_other, get_or-replicate, take_all}
-use Rattle.std.proofs.lemmas.List.Elements.{filter-append}
-use Rattle.std.proofs.lemmas.Grind.{get_or-set_at}
-use Rattle.std.proofs.lemmas.Option.{slice_get_within, slice_get_read, get_or_from_slice_get}
-use Rattle.std.proofs.lemmas.Slice.Zip.{all_zipped_more}
-use Rattle.std.specs.List.{slice_get, filter, AllZip}
-use Rattle.boot_log.specs.Kept.{Kept, kept_in}
-use Rattle.boot_picture.specs.declared.blocks.Block.{Block}
-use Rattle.boot_picture.specs.declared.order.Ordered.{Ordered}
-use Rattle.boot_picture.specs.declared.order.Track.{Track}
-use Rattle.boot_picture.specs.Orders.{blocks_in, IsTrackOf, IsNextIn, IsUsed, AreUsed, HasAll, HasFirst}
+use Rattle.boot_picture.proofs.Common.{◌≡◌, ◌<◌, ◌≤◌, ◌+◌, ◌∙◌, ℕ, Bool, List, [], ◌∷◌, ◌++◌, ⊎_elim, ◌⊎◌, inl, inr, Option, IfSome, refl, sym, ap, subst, length, take, map, set, cond, get_or, replicate, true≢false, add-one, append-nil, arith, Some, ◌==◌, Bor, take-suc, cases_Bool, cases_lt, eqb-true, eq-eqb, ne_eqb, map-append, get_or-set_other, get_or-replicate, take_all, filter-append, get_or-set_at, slice_get_within, slice_get_read, get_or_from_slice_get, all_zipped_more, slice_get, filter, AllZip, Kept, kept_in, Block, Ordered, Track, blocks_in, IsTrackOf, IsNextIn, IsUsed, AreUsed, HasAll, HasFirst}
 
 -- the blocks of each processor before its next one are in the order
 abbrev pub HasTaken : List Track → List ℕ → List Ordered → Type 0

@@ -1,15 +1,6 @@
 -- Blocks that get their places, one by one.
-use Rattle.std.proofs.Common.{◌≡◌, ◌≢◌, ◌<◌, ◌≤◌, ◌+◌, ◌∙◌, ℕ, List, [], ◌∷◌, ◌++◌, ⊎_elim, arith, sym, ap, subst, length, length-set, take, set, get_or}
-use Rattle.std.proofs.lemmas.Bool.{cases_eq}
-use Rattle.std.proofs.lemmas.List.{get_or-map, get_or-set_other, get_or-set_same, get_or_default, length-map, map-set, map_push, set-get_or, take_more}
-use Rattle.std.proofs.lemmas.List.Elements.{All-push, All-weaker}
+use Rattle.boot_picture.proofs.Common.{◌≡◌, ◌≢◌, ◌<◌, ◌≤◌, ◌+◌, ◌∙◌, ℕ, List, [], ◌∷◌, ◌++◌, ⊎_elim, arith, sym, ap, subst, length, length-set, take, set, get_or, cases_eq, get_or-map, get_or-set_other, get_or-set_same, get_or_default, length-map, map-set, map_push, set-get_or, take_more, All-push, All-weaker, All, AllPairs, Placed, Scale, Ordered, Track, IsAtTime, IsBefore, IsWide, blocks_of}
 use Rattle.std.proofs.lemmas.List.Quantifiers.{all_pairs_push}
-use Rattle.std.specs.List.{All, AllPairs}
-use Rattle.boot_picture.specs.declared.columns.Placed.{Placed}
-use Rattle.boot_picture.specs.declared.columns.Scale.{Scale}
-use Rattle.boot_picture.specs.declared.order.Ordered.{Ordered}
-use Rattle.boot_picture.specs.declared.order.Track.{Track}
-use Rattle.boot_picture.specs.Places.{IsAtTime, IsBefore, IsWide, blocks_of}
 
 -- one more block
 pub blocks_more : (order : List Ordered) (i : ℕ) (d : Ordered) (all new : List Placed) (one : Placed) → i < length order → blocks_of all ≡ take i order → one.ordered ≡ get_or order i d → new ≡ all ++ one ∷ [] → blocks_of new ≡ take (i + 1) order

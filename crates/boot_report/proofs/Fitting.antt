@@ -1,14 +1,11 @@
 -- What a boot knows at its end gives what a report of it needs besides the numbers.
-use Rattle.boot_report.proofs.Common.{◌≡◌, ℕ, ◌+◌, ◌≤◌, true, List, ◌++◌, length, refl, sym, ◌∙◌, subst, arith, Some, slice_get, length-append, length_permutation, slice_get_within, BootPlan, LogEntry, program, ClosedTables, WorkedTogether, ThreadsEnded}
-use Rattle.std.proofs.Common.{◌&&◌, eqb, eqb-true, eq-eqb}
+use Rattle.boot_report.proofs.Common.{◌≡◌, ℕ, ◌+◌, ◌≤◌, true, List, ◌++◌, length, refl, sym, ◌∙◌, subst, arith, Some, slice_get, length-append, length_permutation, slice_get_within, BootPlan, LogEntry, program, ClosedTables, WorkedTogether, ThreadsEnded, ◌&&◌, eqb, eqb-true, eq-eqb, Done, many_more}
 use Rattle.std.proofs.lemmas.Bool.{and_parts, and_from}
 use Rattle.event_theory.specs.declared.alarm.Alarm.{Alarm}
 use Rattle.event_theory.specs.Lawful.{is_alarm}
 use Rattle.boot_laws.specs.Agreements.{AlarmsAgree}
 use Rattle.boot_laws.specs.ClosedTables as closed
-use Rattle.boot_laws.specs.Endings.{Done}
 use Rattle.boot_laws.proofs.Threads.{prefix}
-use Rattle.thread_table.proofs.Lists.Counts.{many_more}
 use Rattle.thread_table.proofs.Lists.Shuffles.{same_counts}
 
 pub steps_fit : (plan : BootPlan) (logs : List (List LogEntry)) (done : Done) (c : ClosedTables) (thread : ℕ) (t : closed.Thread) → WorkedTogether plan logs done

@@ -1,8 +1,5 @@
 -- The lines that were heard are no more than the steps of the plan that hear.
-use Rattle.boot_report.proofs.Common.{◌≡◌, ℕ, ◌≤◌, true, List, [], ◌∷◌, ◌++◌, length, map, refl, sym, ap, subst, arith, Some, length-map, BootPlan, LogEntry, Key, hear_count, Line, ClosedTables, WorkedTogether, ThreadsEnded}
-use Rattle.std.proofs.Common.{Bool, false, Option, None, count_by}
-use Rattle.std.specs.List.{AllByRecursion, IsDistinct}
-use Rattle.std.proofs.lemmas.List.{map-append}
+use Rattle.boot_report.proofs.Common.{◌≡◌, ℕ, ◌≤◌, true, List, [], ◌∷◌, ◌++◌, length, map, refl, sym, ap, subst, arith, Some, length-map, BootPlan, LogEntry, Key, hear_count, Line, ClosedTables, WorkedTogether, ThreadsEnded, Bool, false, Option, None, count_by, AllByRecursion, IsDistinct, map-append, Tended, tending, having, outcome_account, entry_account, TurnResultFollows, OutcomeFollows, FollowsPlan, IsHear, same_key, is_hear, step_of, Done, plus, by_bool, many_cons}
 use Rattle.boot_data.specs.declared.plan.Step.{Step}
 use Rattle.boot_data.specs.declared.plan.Step.TheVariants as steps
 use Rattle.processor.specs.declared.step_outcome.StepOutcome.{StepOutcome}
@@ -16,14 +13,10 @@ use Rattle.processor.specs.declared.phases.HearAnswer.TheVariants as hears
 use Rattle.processor.specs.Accounts.{Account, ◌⊕◌}
 use Rattle.processor.specs.Outcomes.{IsOutcomeOf}
 use Rattle.processor.specs.Doings.{heard_by}
-use Rattle.processor.specs.Entries.{Tended, tending, having, outcome_account, entry_account, TurnResultFollows, OutcomeFollows, FollowsPlan}
 use Rattle.processor.specs.Logs.{sum_of}
-use Rattle.processor.specs.Programs.{IsHear, same_key, is_hear, step_of}
 use Rattle.processor.specs.Rooms.{key_of}
 use Rattle.processor.proofs.Rooms.{few, same_refl as itself}
-use Rattle.boot_laws.specs.Endings.{Done}
 use Rattle.boot_laws.specs.Totals.{total_of}
-use Rattle.thread_table.proofs.Lists.Counts.{plus, by_bool, many_cons}
 use Rattle.boot_laws.proofs.Boots.Sorting.{heard_few, once_most}
 use Rattle.boot_laws.proofs.Totals.{all_of, all_did, all_planned}
 use Rattle.event_theory.proofs.Lists.Placed.{all_append as both}

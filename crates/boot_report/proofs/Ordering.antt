@@ -1,17 +1,11 @@
 -- The order of places that were sorted by their keys, and of the lines there.
-use Rattle.boot_report.proofs.Common.{◌≡◌, ℕ, zero, suc, ◌<◌, ◌≤◌, List, [], ◌∷◌, get_or, map, refl, ap, subst, arith, Some, slice_get, slice_get_within, Key, Line, Ascend}
-use Rattle.std.proofs.Common.{◌⊎◌, inl, inr}
+use Rattle.boot_report.proofs.Common.{◌≡◌, ℕ, zero, suc, ◌<◌, ◌≤◌, List, [], ◌∷◌, get_or, map, refl, ap, subst, arith, Some, slice_get, slice_get_within, Key, Line, Ascend, ◌⊎◌, inl, inr, searchable_from_sorted, get_or_from_slice_get, HeardPlace, Heard, heard_at, IsUpTo}
 use Rattle.std.specs.Cmp.{IsTotalOrder, ranks}
 use Rattle.std.specs.declared.cmp.Ordering.{Ordering}
 use Rattle.std.specs.declared.cmp.Ordering.TheVariants.{Less, Equal, Greater}
 use Rattle.std.specs.Ordering.{MatchOrdering, nat_cmp, ordering_then, ordering_index}
 use Rattle.std.specs.List.Sorted.{IsSortedByKey}
 use Rattle.std.proofs.lemmas.Cmp.{then_total, on_total, nat_cmp_total, tied_itself}
-use Rattle.std.proofs.lemmas.List.Sorted.{searchable_from_sorted}
-use Rattle.std.proofs.lemmas.Option.{get_or_from_slice_get}
-use Rattle.boot_data.specs.declared.heard.HeardPlace.{HeardPlace}
-use Rattle.boot_data.specs.Hearing.{Heard, heard_at}
-use Rattle.boot_laws.specs.Reports.{IsUpTo}
 
 abbrev pub key_cmp : Key → Key → Ordering
 key_cmp a b = ordering_then (nat_cmp a.0 b.0) (nat_cmp a.1 b.1)

@@ -1,12 +1,6 @@
 -- The places of all that the processors heard: each line once, in the order of the processors.
-use Rattle.boot_report.proofs.Common.{◌≡◌, ℕ, zero, suc, ◌+◌, ◌<◌, List, [], ◌∷◌, ◌++◌, length, map, flat_map, drop, get_or, refl, sym, ap, ◌∙◌, subst, arith, Some, slice_get, length-append, numbered, Line}
-use Rattle.std.proofs.Common.{IfSome}
-use Rattle.std.specs.List.{AllByRecursion}
-use Rattle.std.proofs.lemmas.List.{map-append}
+use Rattle.boot_report.proofs.Common.{◌≡◌, ℕ, zero, suc, ◌+◌, ◌<◌, List, [], ◌∷◌, ◌++◌, length, map, flat_map, drop, get_or, refl, sym, ap, ◌∙◌, subst, arith, Some, slice_get, length-append, numbered, Line, IfSome, AllByRecursion, map-append, HeardPlace, Heard, IsPlace, heard_at, bytes_in, nothing_heard, lines_of, place_of}
 use Rattle.event_theory.proofs.Lists.Placed.{all_append as both}
-use Rattle.boot_data.specs.declared.heard.HeardPlace.{HeardPlace}
-use Rattle.boot_data.specs.Hearing.{Heard, IsPlace, heard_at, bytes_in, nothing_heard}
-use Rattle.boot_report.specs.Reported.{lines_of, place_of}
 use Rattle.boot_report.proofs.Numbering.{as_many}
 
 -- the places of what these processors heard, from one processor on

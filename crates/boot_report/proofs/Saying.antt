@@ -1,5 +1,5 @@
 -- Lines that are made of what was closed say the numbers of the closed tables that it shows.
-use Rattle.boot_report.proofs.Common.{◌≡◌, ℕ, zero, suc, ◌+◌, List, [], ◌∷◌, ◌++◌, length, map, take, get_or, refl, sym, ap, ◌∙◌, subst, arith, Some, slice_get, length-take-le, length-map, PlannedTty, Report, Line, ClosedTables, Says, Typed, queue_line, gauge_line, mover_line, tty_lines, thread_line, heard_line, Shows}
+use Rattle.boot_report.proofs.Common.{◌≡◌, ℕ, zero, suc, ◌+◌, List, [], ◌∷◌, ◌++◌, length, map, take, get_or, refl, sym, ap, ◌∙◌, subst, arith, Some, slice_get, length-take-le, length-map, PlannedTty, Report, Line, ClosedTables, Says, Typed, queue_line, gauge_line, mover_line, tty_lines, thread_line, heard_line, Shows, NamedLine, AreWhole, QueueSaid, TtySaid, TtyQueuesSaid, MoverSaid, GaugeSaid, AlarmsSaid, ThreadSaid, HeardSaid, name_in, IsMade, name_of, few_ttys}
 use Rattle.boot_data.specs.declared.plan.PlannedMover.{PlannedMover}
 use Rattle.boot_data.specs.declared.plan.PlannedQueue.{PlannedQueue}
 use Rattle.boot_data.specs.declared.plan.PlannedThread.{PlannedThread}
@@ -8,15 +8,11 @@ use Rattle.boot_data.specs.declared.report.MoverLine.{MoverLine}
 use Rattle.boot_data.specs.declared.report.QueueLine.{QueueLine}
 use Rattle.boot_data.specs.declared.report.ThreadLine.{ThreadLine}
 use Rattle.boot_data.specs.declared.report.TtyLines.{TtyLines}
-use Rattle.boot_data.specs.Hearing.{NamedLine}
 use Rattle.boot_data.specs.QueueLists.{raw_queue, line_queue, screen_queue}
 use Rattle.boot_objects.specs.declared.closing.all.TornDown.{TornDown}
 use Rattle.processor.proofs.Fitted.{few_steps}
 use Rattle.boot_laws.specs.ClosedTables as closed
-use Rattle.boot_laws.specs.Lines.{AreWhole, QueueSaid, TtySaid, TtyQueuesSaid, MoverSaid, GaugeSaid, AlarmsSaid, ThreadSaid, HeardSaid, name_in}
-use Rattle.boot_report.specs.Made.{IsMade, name_of}
 use Rattle.boot_report.proofs.Limits.{few_movers, few_gauges}
-use Rattle.boot_objects.proofs.Plans.{few_ttys}
 use Rattle.boot_report.proofs.Numbering.{as_many, made_at, mapped_at}
 use Rattle.boot_report.proofs.Shown.{got_left, got_right, counts_are, chain_is, device_is, all_left, said_at, few_is}
 

@@ -1,17 +1,13 @@
 -- What was closed shows what a report says.
-use Rattle.boot_report.proofs.Common.{◌≡◌, ℕ, zero, suc, ◌+◌, ◌*◌, ◌<◌, ◌≤◌, ◌%◌, ◌^◌, List, [], ◌∷◌, ◌++◌, length, get_or, refl, sym, ap, ◌∙◌, subst, arith, Some, slice_get, sum_by, length-drop, length-append, slice_get_within, IsNamed, Came, Typed, left_in, ShowsQueue, ShowsQueues, ShowsChains, ShowsDevices}
-use Rattle.std.proofs.lemmas.List.{length-take}
+use Rattle.boot_report.proofs.Common.{◌≡◌, ℕ, zero, suc, ◌+◌, ◌*◌, ◌<◌, ◌≤◌, ◌%◌, ◌^◌, List, [], ◌∷◌, ◌++◌, length, get_or, refl, sym, ap, ◌∙◌, subst, arith, Some, slice_get, sum_by, length-drop, length-append, slice_get_within, IsNamed, Came, Typed, left_in, ShowsQueue, ShowsQueues, ShowsChains, ShowsDevices, length-take, state_for, reported, state_at, few, typed_of, typed_at, ShowsNumbers, ShowsDevice}
 use Rattle.std.proofs.lemmas.List.Sums.{sum_by-cons, sum_by-append}
 use Rattle.claim_queue.specs.declared.close.Closed.{Closed as ClosedQueue}
 use Rattle.thread_table.specs.declared.places.Place.{Place}
 use Rattle.thread_table.specs.declared.places.Place.TheVariants as places
 use Rattle.boot_laws.specs.ClosedTables as closed
 use Rattle.boot_laws.specs.Lines as lines
-use Rattle.boot_laws.specs.Lines.{state_for}
 use Rattle.boot_laws.proofs.Boots.Booting.{left_of}
 use Rattle.boot_report.specs.Amounts.{item_counts, counts_at, numbers_of, numbers_at}
-use Rattle.boot_report.specs.Made.{reported, state_at, few, typed_of, typed_at}
-use Rattle.boot_report.specs.Shown.{ShowsNumbers, ShowsDevice}
 
 module _ {A : Type 0} where
   -- what is at a place within

@@ -1,6 +1,5 @@
 -- What was closed when a boot was shut down shows the numbers of its closed tables.
-use Rattle.boot_report.proofs.Common.{◌≡◌, ℕ, zero, suc, ◌+◌, ◌*◌, ◌≤◌, List, [], ◌∷◌, ◌++◌, length, take, refl, sym, ap, ◌∙◌, subst, arith, Some, slice_get, flat_map, Report, length-map, length-drop, length-take-le, slice_get_within, BootPlan, IsNamed, program, hear_count, heard_lines, Came, ClosedTables, ThreadsEnded, Says, Typed, Shows, ShowsQueue, ShowsQueues, ShowsChains, ShowsDevices}
-use Rattle.std.proofs.lemmas.List.{take-append-drop}
+use Rattle.boot_report.proofs.Common.{◌≡◌, ℕ, zero, suc, ◌+◌, ◌*◌, ◌≤◌, List, [], ◌∷◌, ◌++◌, length, take, refl, sym, ap, ◌∙◌, subst, arith, Some, slice_get, flat_map, Report, length-map, length-drop, length-take-le, slice_get_within, BootPlan, IsNamed, program, hear_count, heard_lines, Came, ClosedTables, ThreadsEnded, Says, Typed, Shows, ShowsQueue, ShowsQueues, ShowsChains, ShowsDevices, take-append-drop, thread_of, IsReported, AreAll, ShowsChain, ShowsThread}
 use Rattle.boot_data.specs.declared.plan.QueueIndex.{QueueIndex}
 use Rattle.boot_data.specs.declared.plan.QueueIndex.TheVariants.{Small, Large}
 use Rattle.claim_queue.specs.declared.close.Closed.{Closed as Shut}
@@ -23,11 +22,8 @@ use Rattle.table_theory.specs.declared.queues.Batch.{Batch}
 use Rattle.boot_laws.specs.Boots.{Boot, BootEnded}
 use Rattle.boot_laws.specs.ClosedTables as closed
 use Rattle.boot_laws.specs.Closings.{items_from, queue_of, queues_from, chains_of}
-use Rattle.boot_laws.specs.Endings.{thread_of}
 use Rattle.boot_laws.proofs.Meters.{alarms_agree}
 use Rattle.boot_laws.proofs.Boots.ShutDown.{of_range, range_long, came_home, chains_long, Shutdown, IsShutDown, boot_shut, closed_shut, worked, threads_ended, meters_ended, boot_ended}
-use Rattle.boot_report.specs.Reported.{IsReported}
-use Rattle.boot_report.specs.Shown.{AreAll, ShowsChain, ShowsThread}
 use Rattle.boot_report.proofs.Fitting.{steps_fit, all_alarms}
 use Rattle.boot_report.proofs.Hearings.{few_heard}
 

@@ -1,15 +1,8 @@
 -- The works of a boot: they may be done, one device more has its work, and what a device gives back keeps what its work
 -- promises.
-use Rattle.boot_threads.proofs.Common.{◌≡◌, ℕ, suc, ◌+◌, List, [], ◌∷◌, ◌∙◌, length, refl, sym, ap, subst, arith, Some, slice_get, ◌++◌, false, get_or, Option, PlannedTty, AllThree, Device, AreDevicesOf, Shared, Parts, Work, IsServing, AreServing, ArePosted, HasWorked, HasServed, Calls, ProcChain, IsEndOf, AnyQuaject, RawTty, Queues, IsEndAt, end_of, LineOut, SameOut, Served}
-use Rattle.std.specs.List.{All}
-use Rattle.std.proofs.lemmas.List.Elements.{All-nil, All-cons}
-use Rattle.boot_objects.specs.Devices.{IsAtWork}
-use Rattle.event_theory.proofs.Lists.Placed.{there}
-use Rattle.boot_threads.specs.Works.{MayWork, IsServable}
-use Rattle.turn_io.proofs.Walking.{three_push}
+use Rattle.boot_threads.proofs.Common.{◌≡◌, ℕ, suc, ◌+◌, List, [], ◌∷◌, ◌∙◌, length, refl, sym, ap, subst, arith, Some, slice_get, ◌++◌, false, get_or, Option, PlannedTty, AllThree, Device, AreDevicesOf, Shared, Parts, Work, IsServing, AreServing, ArePosted, HasWorked, HasServed, Calls, ProcChain, IsEndOf, AnyQuaject, RawTty, Queues, IsEndAt, end_of, LineOut, SameOut, Served, All, All-nil, All-cons, IsAtWork, there, MayWork, IsServable, unwrap_or-slice_get, turn_of}
+use Rattle.stations.proofs.Walking.{three_push}
 use Rattle.std.specs.Option.{unwrap_or}
-use Rattle.std.proofs.lemmas.Option.{unwrap_or-slice_get}
-use Rattle.proc_chain.specs.Handles.{turn_of}
 use Rattle.processor.specs.declared.station.Station.{Station}
 use Rattle.processor.specs.Manning.{KeepsStation}
 use Rattle.processor.specs.Orders.{RanTurnsInOrder}

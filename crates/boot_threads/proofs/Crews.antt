@@ -1,10 +1,7 @@
 -- Threads that are started together, what they gave back, and what is typed while they run.
-use Rattle.boot_threads.proofs.Common.{List, [], ◌∷◌, Result, Ok, Err, subst, ◌≡◌, ℕ, zero, suc, ◌+◌, ◌<◌, ◌++◌, take, drop, length, get_or, sym, ◌∙◌, ap, AllZip, StartReports, WasJoined, GaveBack, PlannedTty, LineIn, IsTyped, AreTyped}
+use Rattle.boot_threads.proofs.Common.{List, [], ◌∷◌, Result, Ok, Err, subst, ◌≡◌, ℕ, zero, suc, ◌+◌, ◌<◌, ◌++◌, take, drop, length, get_or, sym, ◌∙◌, ap, AllZip, StartReports, WasJoined, GaveBack, PlannedTty, LineIn, IsTyped, AreTyped, Carries, Runs, Refusals, NotStarted, take_more}
 use Rattle.std.specs.declared.thread.PromisedHandle.{PromisedHandle}
-use Rattle.boot_threads.specs.Crews.{Carries, Runs, Refusals}
 use Rattle.boot_threads.specs.declared.starting.JobPromise.{JobPromise}
-use Rattle.boot_threads.specs.declared.starting.NotStarted.{NotStarted}
-use Rattle.std.proofs.lemmas.List.{take_more}
 
 module _ {S J B : Type 0} (ran : Runs S J B) (refused : Refusals S J) (gives : S → J → B → Type 0) (shared : S) where
   gave_one : (job : J) (handle : Result (PromisedHandle B (JobPromise S J)) (NotStarted S J)) (back : Result B (NotStarted S J)) → StartReports refused shared job handle → WasJoined ran gives handle back → GaveBack ran refused gives shared job back

@@ -1,12 +1,8 @@
 -- The first station of new objects, once it is prepared: its shares, and the processors that it serves.
-use Rattle.boot_threads.proofs.Common.{◌≡◌, ℕ, zero, suc, ◌+◌, ◌*◌, ◌<◌, ◌≤◌, Bool, false, List, [], ◌∷◌, ◌∙◌, map, length, get_or, refl, ap, arith, Option, None, length-map, BootPlan, Small, Large, nothing_did, Stake, no_stake, stake, chain_stake, idle_chain, IsFree, IsFirstHand, Parts, shares, ThreadTable, HasPrepared, IsAmple, CanSplit, NoneOn}
+use Rattle.boot_threads.proofs.Common.{◌≡◌, ℕ, zero, suc, ◌+◌, ◌*◌, ◌<◌, ◌≤◌, Bool, false, List, [], ◌∷◌, ◌∙◌, map, length, get_or, refl, ap, arith, Option, None, length-map, BootPlan, Small, Large, nothing_did, Stake, no_stake, stake, chain_stake, idle_chain, IsFree, IsFirstHand, Parts, shares, ThreadTable, HasPrepared, IsAmple, CanSplit, NoneOn, IsOnlySeat, IsFirstSeat, View, view_of, IsOnlyHand}
 use Rattle.meters.specs.declared.ends.Meters.{Meters}
-use Rattle.meters.specs.Handles.{IsOnlySeat}
-use Rattle.boot_objects.specs.Objects.{IsFirstSeat}
 use Rattle.boot_objects.specs.Stocks as stocks
 use Rattle.boot_objects.specs.Stocks.{CanGive}
-use Rattle.thread_table.specs.Own.{View}
-use Rattle.thread_table.specs.Handles.{view_of, IsOnlyHand}
 
 pub prepared_shares : (plan : BootPlan) (old new : Parts) → HasPrepared plan old new → shares new ≡ shares old
 prepared_shares plan old new p = ap shares p.rest ∙ (λ i. record (shares old) { hand = p.hand.moved.keeps.share i; meters = (p.alarms i).share })

@@ -1,15 +1,10 @@
 -- Takings and moves of elements: their events in the hand's own list; the number of takings of free elements that the
 -- hand has seen; and the number of elements that it holds.
-use Rattle.boot_threads.proofs.Common.{◌≡◌, ℕ, zero, suc, ◌+◌, ◌<◌, ◌≤◌, Bool, true, false, List, [], ◌∷◌, ◌++◌, length, get_or, Ok, refl, ap, arith, ◌≢◌, ◌-◌, sym, subst, ◌∙◌, true≢false, eq-eqb, or_left, or_right, le_prop, ∥∥₁_elim, filter, if◌then◌else◌, Result, Err, Event, MoveAnswer, claim_event, free_taken, ring_of, move_by, moves_in, claims, own_takings, many_held, Moved, TookFree, PutInto, HoldsFrom, range_with_len, eqb_tells, append_assoc, append-nil, map-append, flat_map-append, MadeEvent, has, HoldsSame}
-use Rattle.std.proofs.Common.{set, ⊎_elim}
-use Rattle.std.specs.Prelude.{◌==◌}
+use Rattle.boot_threads.proofs.Common.{◌≡◌, ℕ, zero, suc, ◌+◌, ◌<◌, ◌≤◌, Bool, true, false, List, [], ◌∷◌, ◌++◌, length, get_or, Ok, refl, ap, arith, ◌≢◌, ◌-◌, sym, subst, ◌∙◌, true≢false, eq-eqb, or_left, or_right, le_prop, ∥∥₁_elim, filter, if◌then◌else◌, Result, Err, Event, MoveAnswer, claim_event, free_taken, ring_of, move_by, moves_in, claims, own_takings, many_held, Moved, TookFree, PutInto, HoldsFrom, range_with_len, eqb_tells, append_assoc, append-nil, map-append, flat_map-append, MadeEvent, has, HoldsSame, set, ⊎_elim, ◌==◌, View, TakeAnswer, raise_event, head_in, take_event, Step, PerformsEvents, HoldsLess, Prepared, length-append, length-set}
 use Rattle.event_theory.specs.Elements.{Elements}
 use Rattle.event_theory.specs.Queues.{Queue, empty_queue}
 use Rattle.event_theory.specs.States.{step}
 use Rattle.table_theory.specs.Ends.{Begins}
-use Rattle.thread_table.specs.Own.{View}
-use Rattle.thread_table.specs.Answers.{TakeAnswer, raise_event, head_in}
-use Rattle.thread_table.specs.Entries.{take_event, Step, PerformsEvents, HoldsLess}
 use Rattle.thread_table.specs.Retiring.{taking_by, free_takings}
 use Rattle.thread_table.specs.Schedules.{Past, state_after, elements_after, ring_at}
 use Rattle.thread_table.specs.Telling.{IsValidHandView}
@@ -17,8 +12,6 @@ use Rattle.thread_table.proofs.Closing.Retiring.{step_takes}
 use Rattle.thread_table.proofs.Events.Saying.{change_says}
 use Rattle.thread_table.proofs.Schedule.Orders.{adds_real, adds_in_order, valid_grows}
 use Rattle.thread_table.proofs.Schedule.Schedules.{elements_of}
-use Rattle.boot_threads.specs.Elements.{Prepared}
-use Rattle.std.proofs.lemmas.List.{length-append, length-set}
 use Rattle.thread_table.specs.declared.takings.NextRefusal.{NextRefusal}
 use Rattle.thread_table.specs.declared.takings.NextRefusal.TheVariants as nexts
 use Rattle.thread_table.specs.declared.moves.MoveRefusal.{MoveRefusal}

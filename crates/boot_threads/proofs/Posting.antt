@@ -1,20 +1,9 @@
 -- A station that gives a part of each end to another processor's.
-use Rattle.boot_threads.proofs.Common.{◌≡◌, ◌≢◌, inl, inr, ℕ, ◌+◌, ◌*◌, ◌%◌, ◌^◌, ◌<◌, ◌≤◌, not, true, false, None, List, [], ◌∷◌, ◌++◌, map, length, get_or, refl, sym, ap, subst, ◌∙◌, arith, eq-eqb, true≢false, eqb_tells, length-map, AllByRecursion, Small, Large, Stake, no_stake, stake, chain_stake, idle_chain, nothing_did, IsFree, Shared, Parts, account, shares, AreSplit, IsPrepared, HasDoneAll, BootPlan, get_or-copies, is_in, Work, free_taken, IsAmple, CanSplit, IsPosted, ArePosted}
-use Rattle.std.proofs.Common.{◌⊎◌, ◌/◌, ◌&&◌, eqb}
-use Rattle.std.proofs.Math.Nat.{min-le_right}
+use Rattle.boot_threads.proofs.Common.{◌≡◌, ◌≢◌, inl, inr, ℕ, ◌+◌, ◌*◌, ◌%◌, ◌^◌, ◌<◌, ◌≤◌, not, true, false, None, List, [], ◌∷◌, ◌++◌, map, length, get_or, refl, sym, ap, subst, ◌∙◌, arith, eq-eqb, true≢false, eqb_tells, length-map, AllByRecursion, Small, Large, Stake, no_stake, stake, chain_stake, idle_chain, nothing_did, IsFree, Shared, Parts, account, shares, AreSplit, IsPrepared, HasDoneAll, BootPlan, get_or-copies, is_in, Work, free_taken, IsAmple, CanSplit, IsPosted, ArePosted, ◌⊎◌, ◌/◌, ◌&&◌, eqb, min-le_right, get_or-map, All, each_share, AreDivisible, preparing, AreSameParts, View, view_of, running}
 use Rattle.std.proofs.Math.Pow.{pow-lt}
-use Rattle.std.proofs.lemmas.List.{get_or-map}
 use Rattle.std.proofs.lemmas.Nat.Bits.{bit_at-pow_same, bit_at-pow_other}
-use Rattle.std.specs.List.{All}
 use Rattle.turn_io.specs.EndLists.{end_table, chain_end_table}
-use Rattle.processor.specs.Accounts.{each_share}
-use Rattle.processor.specs.Partings.{AreDivisible}
-use Rattle.processor.specs.Preparing.{preparing}
-use Rattle.processor.specs.Stations.{AreSameParts}
 use Rattle.table_theory.specs.Sharing.{kept}
-use Rattle.thread_table.specs.Own.{View}
-use Rattle.thread_table.specs.Handles.{view_of}
-use Rattle.thread_table.specs.Rules.{running}
 use Rattle.boot_threads.proofs.Handling.{free_later}
 
 -- THE PROCESSOR OF A MASK

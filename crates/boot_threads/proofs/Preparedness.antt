@@ -1,21 +1,12 @@
 -- What the first station did, once it is prepared.
-use Rattle.boot_threads.proofs.Common.{◌≡◌, ℕ, zero, suc, ◌+◌, ◌-◌, ◌≤◌, List, [], ◌∷◌, ◌++◌, ◌∙◌, map, length, drop, get_or, refl, sym, ap, subst, arith, AllByRecursion, range_with_len, length-map, map-append, flat_map-append, BootPlan, Event, IsFirstHand, Parts, account, HasDoneAll, IsPrepared, ThreadTable, MadeEvent, claim_event, call_of, move_by, moves_in, claims, many_held, own_takings, HasPrepared}
-use Rattle.std.proofs.Common.{flat_map}
-use Rattle.std.proofs.lemmas.List.{length-append}
+use Rattle.boot_threads.proofs.Common.{◌≡◌, ℕ, zero, suc, ◌+◌, ◌-◌, ◌≤◌, List, [], ◌∷◌, ◌++◌, ◌∙◌, map, length, drop, get_or, refl, sym, ap, subst, arith, AllByRecursion, range_with_len, length-map, map-append, flat_map-append, BootPlan, Event, IsFirstHand, Parts, account, HasDoneAll, IsPrepared, ThreadTable, MadeEvent, claim_event, call_of, move_by, moves_in, claims, many_held, own_takings, HasPrepared, flat_map, length-append, slice_get_past, all_append, nothing, IsUnused, View, view_of, placing}
 use Rattle.std.proofs.lemmas.List.FromFn.{length-range_with_len}
-use Rattle.std.proofs.lemmas.Option.{slice_get_past}
 use Rattle.boot_data.specs.Hearing.{Key}
 use Rattle.boot_data.specs.Plans.{steps_in}
-use Rattle.event_theory.proofs.Lists.Placed.{all_append}
 use Rattle.event_theory.specs.declared.event.Event.TheVariants as events
 use Rattle.event_theory.specs.declared.names.QueueName.TheVariants as names
 use Rattle.turn_dispatch.specs.Tallies.{tally, no_events}
 use Rattle.turn_dispatch.proofs.MadeBy.{done_by, signalled_by, delivered_by, retired_by}
-use Rattle.processor.specs.Accounts.{nothing}
-use Rattle.processor.specs.Stations.{IsUnused}
-use Rattle.thread_table.specs.Own.{View}
-use Rattle.thread_table.specs.Handles.{view_of}
-use Rattle.boot_threads.specs.Elements.{placing}
 use Rattle.boot_threads.proofs.Handling.{none_marked}
 
 -- EVENTS

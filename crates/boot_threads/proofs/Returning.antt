@@ -1,20 +1,14 @@
 -- The results of the processors and the devices, by their works.
-use Rattle.boot_threads.proofs.Common.{◌≡◌, ℕ, zero, suc, ◌+◌, ◌<◌, ◌≤◌, ◌^◌, List, [], ◌∷◌, ◌∙◌, map, take, drop, length, refl, sym, ap, subst, arith, Option, Some, None, Result, Ok, slice_get, AllZip, le_prop, ∥∥₁_elim, BootPlan, PlannedTty, Calls, ProcChain, IsEndOf, AnyQuaject, Queues, IsEndAt, end_of, AllThree, Device, AreDevicesOf, Shared, RawTty, LineIn, LineOut, SameIn, SameOut, Work, Worked, GaveBack, IsServing, AreServing, input_of, IsTyped, AreTyped, Back, HasWorked, HasServed}
-use Rattle.std.proofs.lemmas.Option.{same_Some}
+use Rattle.boot_threads.proofs.Common.{◌≡◌, ℕ, zero, suc, ◌+◌, ◌<◌, ◌≤◌, ◌^◌, List, [], ◌∷◌, ◌∙◌, map, take, drop, length, refl, sym, ap, subst, arith, Option, Some, None, Result, Ok, slice_get, AllZip, le_prop, ∥∥₁_elim, BootPlan, PlannedTty, Calls, ProcChain, IsEndOf, AnyQuaject, Queues, IsEndAt, end_of, AllThree, Device, AreDevicesOf, Shared, RawTty, LineIn, LineOut, SameIn, SameOut, Work, Worked, GaveBack, IsServing, AreServing, input_of, IsTyped, AreTyped, Back, HasWorked, HasServed, same_Some, IsDeviceOf, IsLine, NotStarted, IsDeviceBack, RunsOf, RefusalsOf}
 use Rattle.boot_data.specs.QueueLists.{raw_queue}
 use Rattle.boot_data.specs.BootPlans.{plan_of}
 use Rattle.boot_data.specs.PlanLimits.{IsPlan, IsTyped as IsShort}
-use Rattle.boot_objects.specs.Devices.{IsDeviceOf}
 use Rattle.processor.specs.RawEnds.{IsRawAt}
-use Rattle.spsc_line.specs.Lines.{IsLine}
 use Rattle.event_theory.proofs.Lists.Placed.{all_at as all_here}
 use Rattle.event_theory.proofs.Lists.Histories.{slice_get-drop as get_dropped}
-use Rattle.boot_threads.specs.declared.starting.NotStarted.{NotStarted}
 use Rattle.boot_threads.specs.declared.work.Work.TheVariants as works
 use Rattle.boot_threads.specs.declared.work.Worked.TheVariants as worked
-use Rattle.boot_threads.specs.Backs.{IsDeviceBack}
 use Rattle.boot_threads.proofs.Typeds.{served_all}
-use Rattle.boot_threads.specs.Works.{RunsOf, RefusalsOf}
 
 -- LISTS
 

@@ -1,18 +1,12 @@
 -- The stations of the processors come together again.
-use Rattle.boot_threads.proofs.Common.{◌≡◌, ℕ, ◌+◌, ◌<◌, ◌≤◌, true, List, [], ◌∷◌, ◌∙◌, map, length, get_or, sym, ap, subst, arith, Option, None, AllZip, or_left, or_right, Calls, IsFree, Shared, Parts, account, shares, get_or-copies, Work, GaveBack, NoneOn, ArePosted, HasWorked}
+use Rattle.boot_threads.proofs.Common.{◌≡◌, ℕ, ◌+◌, ◌<◌, ◌≤◌, true, List, [], ◌∷◌, ◌∙◌, map, length, get_or, sym, ap, subst, arith, Option, None, AllZip, or_left, or_right, Calls, IsFree, Shared, Parts, account, shares, get_or-copies, Work, GaveBack, NoneOn, ArePosted, HasWorked, ◌⊕◌, unheard, Shares, no_shares, both_shares, AllJoined, View, view_of, serves, nothing_on, back_of, parts_of, all_done, AllTurned, CameTogether, HasRun, RunsOf, RefusalsOf}
 use mathlib.Core.Logic.{dite}
 use native.Mathlib.Decide.{dec_lt}
-use Rattle.processor.specs.Accounts.{◌⊕◌, unheard, Shares, no_shares, both_shares}
-use Rattle.processor.specs.Partings.{AllJoined}
-use Rattle.processor.proofs.Summing.{accounts_add, shares_add, shares_swap, shares_parted, joined_account, joined_shares}
-use Rattle.thread_table.specs.Own.{View}
-use Rattle.thread_table.specs.Handles.{view_of}
-use Rattle.thread_table.specs.Rules.{serves, nothing_on}
+use Rattle.processor.proofs.Summing.{accounts_add}
+use Rattle.stations.proofs.Summing.{shares_add, shares_swap, shares_parted, joined_account, joined_shares}
 use Rattle.thread_table.specs.Steps.{either_on}
 use Rattle.boot_threads.specs.declared.work.Processed.{Processed}
 use Rattle.boot_threads.specs.declared.work.Work.TheVariants as works
-use Rattle.boot_threads.specs.Backs.{back_of, parts_of, all_done, AllTurned, CameTogether}
-use Rattle.boot_threads.specs.Works.{HasRun, RunsOf, RefusalsOf}
 
 -- JOINS
 

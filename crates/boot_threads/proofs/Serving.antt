@@ -1,18 +1,11 @@
 -- A device that served a byte more.
-use Rattle.boot_threads.proofs.Common.{◌≡◌, ℕ, zero, suc, ◌+◌, ◌<◌, ◌≤◌, ◌%◌, ◌^◌, Bool, true, false, List, [], ◌∷◌, ◌++◌, refl, sym, ap, subst, ◌∙◌, arith, if◌then◌else◌, not, map, filter, length, Result, Ok, Err, mod-eq_of_lt, append_assoc, append-nil, map-append, LineOut, bytes_received, lines_put, ProcChain, AnyQuaject, Queues, RawTty, end_of, overruns_of, PutByte, Try, bytes_of, lines_of, refused, PutEach, Served}
-use Rattle.std.specs.Prelude.{MatchBool, is_ok}
-use Rattle.std.proofs.Math.Nat.{mod-add-mod, add-zero}
-use Rattle.std.proofs.lemmas.List.{length-append}
-use Rattle.std.proofs.lemmas.List.Elements.{filter-append}
+use Rattle.boot_threads.proofs.Common.{◌≡◌, ℕ, zero, suc, ◌+◌, ◌<◌, ◌≤◌, ◌%◌, ◌^◌, Bool, true, false, List, [], ◌∷◌, ◌++◌, refl, sym, ap, subst, ◌∙◌, arith, if◌then◌else◌, not, map, filter, length, Result, Ok, Err, mod-eq_of_lt, append_assoc, append-nil, map-append, LineOut, bytes_received, lines_put, ProcChain, AnyQuaject, Queues, RawTty, end_of, overruns_of, PutByte, Try, bytes_of, lines_of, refused, PutEach, Served, MatchBool, is_ok, mod-add-mod, add-zero, length-append, filter-append, PutLine, SameLines, pact_of, me_of, IsSameEnd, NotedTimes, zeros}
 use Rattle.claim_queue.specs.Handles as claims
 use Rattle.claim_queue.specs.Own.{View}
-use Rattle.claim_queue.specs.Lines.{PutLine, SameLines}
-use Rattle.proc_chain.specs.Handles.{pact_of, me_of, IsSameEnd}
 use Rattle.proc_chain.specs.Notes.{notes_put, alone}
 use Rattle.proc_chain.specs.Rules.{suits, makes}
 use Rattle.quajects.specs.Anys.{MadeOf, Fits}
 use Rattle.quajects.specs.Notings.{Noted}
-use Rattle.boot_threads.specs.Devices.{NotedTimes, zeros}
 
 put_more : (tries : List Try) (one : Try) (v u w : View) → PutEach v tries u → PutByte u one.byte one.put w → PutEach v (tries ++ one ∷ []) w
 put_more [] one v u w e h = (w, subst (λ (z : View). PutByte z one.byte one.put w) e h, refl)

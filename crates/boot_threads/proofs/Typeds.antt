@@ -1,7 +1,5 @@
 -- A device that served as many bytes as were typed served those: its runs are in order, and it shut nothing.
-use Rattle.boot_threads.proofs.Common.{◌≡◌, inl, inr, ℕ, Bool, true, false, List, [], ◌∷◌, ◌++◌, ◌∙◌, length, refl, sym, ap, subst, arith, ◌+◌, ◌<◌, ◌%◌, ◌^◌, map, Ok, Err, not, append-nil, length-map, PutByte, end_of, overruns_of, Try, bytes_of, lines_of, refused, PutEach, Served, mod-eq_of_lt, PlannedTty, lines_put, Device, ProcChain, AnyQuaject, RawTty, Queues, LineIn, LineOut, bytes_sent, bytes_received}
-use Rattle.std.specs.List.{concat}
-use Rattle.std.proofs.lemmas.List.{length-append, nil_from_length}
+use Rattle.boot_threads.proofs.Common.{◌≡◌, inl, inr, ℕ, Bool, true, false, List, [], ◌∷◌, ◌++◌, ◌∙◌, length, refl, sym, ap, subst, arith, ◌+◌, ◌<◌, ◌%◌, ◌^◌, map, Ok, Err, not, append-nil, length-map, PutByte, end_of, overruns_of, Try, bytes_of, lines_of, refused, PutEach, Served, mod-eq_of_lt, PlannedTty, lines_put, Device, ProcChain, AnyQuaject, RawTty, Queues, LineIn, LineOut, bytes_sent, bytes_received, concat, length-append, nil_from_length, line_of, IsDevice, bytes_left, device_of}
 use Rattle.boot_objects.specs.DeviceEndings.{AreWithout, DeviceEnded}
 use Rattle.table_theory.specs.Interleaving.{Ascending, InOrder}
 use Rattle.table_theory.proofs.Ordering.{order_none}
@@ -12,11 +10,7 @@ use Rattle.quajects.specs.Settled.{runs_of}
 use Rattle.std.proofs.lemmas.List.Sums.{length-filter, count_by-le-length}
 use Rattle.claim_queue.specs.Plain.{ClaimQueue}
 use Rattle.claim_queue.specs.Handles.{view_of}
-use Rattle.claim_queue.specs.Lines.{line_of}
-use Rattle.boot_objects.specs.Devices.{IsDevice}
-use Rattle.spsc_line.specs.Lines.{bytes_left}
 use Rattle.table_theory.specs.declared.queues.Batch.{Batch}
-use Rattle.boot_threads.specs.Backs.{device_of}
 
 -- PUTS
 

@@ -2,7 +2,7 @@
 use Rattle.std.specs.Prelude.{◌≡◌, List, [], ◌∷◌, length}
 use Rattle.boot_data.specs.declared.boot_plan.BootPlan.{BootPlan}
 use Rattle.boot_data.specs.declared.plan.PlannedTty.{PlannedTty}
-use Rattle.turn_io.specs.Splits.{AllThree}
+use Rattle.stations.specs.Splits.{AllThree}
 use Rattle.meters.specs.Handles as seats
 use Rattle.boot_objects.specs.declared.device.Device.{Device}
 use Rattle.processor.specs.declared.station.Parts.{Parts}

@@ -6,10 +6,11 @@ use Rattle.table_theory.specs.Sharing.{given, kept}
 use Rattle.processor.specs.declared.shared.Shared.{Shared}
 use Rattle.processor.specs.declared.station.Parts.{Parts}
 use Rattle.processor.specs.declared.station.Station.{Station}
-use Rattle.processor.specs.Accounts.{account, shares, each_share}
+use Rattle.processor.specs.Accounts.{account, shares}
+use Rattle.stations.specs.Shares.{each_share}
 use Rattle.processor.specs.Logs.{IsFresh}
 use Rattle.processor.specs.Manning.{IsRunnable}
-use Rattle.processor.specs.Partings.{AreSplit}
+use Rattle.stations.specs.Partings.{AreSplit}
 use Rattle.thread_table.specs.Handles.{view_of}
 use Rattle.thread_table.specs.Rules.{nothing_on}
 use Rattle.boot_threads.specs.declared.work.Work.{Work}

@@ -19,7 +19,7 @@ ghost use Rattle.processor.specs.declared.shared.Shared.{Shared};
 ghost use Rattle.processor.specs.declared.station.Parts.{Parts};
 ghost use Rattle.processor.specs.Accounts.{account, nothing, shares};
 ghost use Rattle.processor.specs.Stations.{IsUnused};
-ghost use Rattle.processor.specs.Partings.{AllJoined};
+ghost use Rattle.stations.specs.Partings.{AllJoined};
 ghost use Rattle.processor.specs.Preparing.{IsPrepared};
 ghost use Rattle.quajects.specs.declared.any.AnyQuaject.{AnyQuaject};
 ghost use Rattle.quajects.specs.declared.raw.RawTty.{RawTty};

@@ -10,6 +10,7 @@ ghost use Rattle.boot_threads.specs.Stationings.{CanSplit, NoneOn, IsPosted, Are
 use crate::work::Work;
 use event_theory::{OutOfMemory, Processor};
 use processor::{Shared, Station};
+use stations::split_station;
 use std::alloc::Global;
 use turn_io::Gate;
 
@@ -29,7 +30,7 @@ fn post<G: Gate + Drop>(
     ensures handle { AreSameParts station.old.parts station.new.parts }
     ensures posted { IfOk result (λ work. IsPosted shared.now p turns gate station.old.parts station.new.parts work) }
 {
-    let born = station.split(alloc, shared, 1 << p.number())?;
+    let born = split_station(alloc, shared, station, 1 << p.number())?;
     Ok(Work::Process {
         station: born,
         p,

@@ -1,19 +1,12 @@
 -- The view of a boot of the script that was read.
-use Rattle.std.proofs.Common.{◌≡◌, ◌∙◌, ◌+◌, ℕ, suc, refl, ap, length, [], ◌∷◌, sym, subst, List, Option, Some, None, Ok, IfSome}
+use Rattle.boot_view.proofs.Common.{◌≡◌, ◌∙◌, ◌+◌, ℕ, suc, refl, ap, length, [], ◌∷◌, sym, subst, List, Option, Some, None, Ok, IfSome, Recorder, text_plan, LogEntry, Calls, Shared, HooksSaw, IsBootFault, RunsOf, Says, HasBooted, IsViewed}
 use Rattle.boot_data.specs.declared.boot_plan.BootPlan.{BootPlan}
 use Rattle.boot_objects.specs.declared.closing.all.TornDown.{TornDown}
-use Rattle.boot_log.specs.declared.recorder.Recorder.{Recorder}
-use Rattle.boot_script.specs.Plans.{text_plan}
-use Rattle.processor.specs.Entries.{LogEntry}
-use Rattle.processor.specs.Points.{Calls}
-use Rattle.processor.specs.declared.shared.Shared.{Shared}
 use Rattle.synth_kernel.specs.declared.outcome.Ended.{Ended}
 use Rattle.synth_kernel.specs.declared.outcome.BootFault.{BootFault}
 use Rattle.synth_kernel.specs.declared.printing.Booted.{Booted}
-use Rattle.synth_kernel.specs.Boots.{HooksSaw, IsBootFault, RunsOf, Says}
 use Rattle.boot_view.specs.declared.command.Command.{Command}
 use Rattle.boot_data.specs.BootPlans.{plan_of}
-use Rattle.boot_view.specs.Views.{HasBooted, IsViewed}
 
 says_read : (read : Option (List ℕ)) (script : List ℕ) (plan : BootPlan) → IfSome read (λ bytes. text_plan bytes ≡ text_plan script) → Says (Some script) plan → Says read plan
 says_read None script plan same says = same

@@ -1,16 +1,8 @@
 -- Each recorder of a boot has the front of the turns of its processor.
-use Rattle.std.proofs.Common.{◌<◌, ◌^◌, ◌+◌, ◌∙◌, ℕ, List, [], ◌∷◌, length, ap, subst}
+use Rattle.boot_view.proofs.Common.{◌<◌, ◌^◌, ◌+◌, ◌∙◌, ℕ, List, [], ◌∷◌, length, ap, subst, All, AllZip, Recorder, Kept, LogEntry, HookedTurns, Shared, HookSaw, HooksSaw, RunsOf, HasFrontOf, IsEmpty, room_for}
 use Rattle.std.proofs.lemmas.List.Elements.{All-head, All-tail}
-use Rattle.std.specs.List.{All, AllZip}
-use Rattle.boot_log.specs.declared.recorder.Recorder.{Recorder}
-use Rattle.boot_log.specs.Kept.{Kept}
 use Rattle.boot_log.proofs.Runs.{keeps_room, recorded, recorder_calls}
-use Rattle.processor.specs.Entries.{LogEntry}
-use Rattle.processor.specs.Points.{HookedTurns}
-use Rattle.processor.specs.declared.shared.Shared.{Shared}
 use Rattle.processor.specs.declared.station.Parts.{Parts}
-use Rattle.synth_kernel.specs.Boots.{HookSaw, HooksSaw, RunsOf}
-use Rattle.boot_view.specs.Views.{HasFrontOf, IsEmpty, room_for}
 
 -- the recorder of a processor has the front of its turns
 has : {C : Type 0} (says : C → ℕ → ℕ → Type 0) (clock : C) (from turns : ℕ) (shared : Shared) (p : ℕ) (log : List LogEntry) (old new : Parts) (gate gate' : Recorder C) → length log < 2 ^ 64 → IsEmpty clock from turns gate → HookedTurns (recorder_calls says) shared p 0 log old new gate gate' → HasFrontOf (says clock) from (room_for turns) log gate'

@@ -1,13 +1,6 @@
 -- What a try to take leaves of a holder.
-use Rattle.std.proofs.Common.{◌≡◌, ℕ, ◌≤◌, List, ◌++◌, ◌∙◌, length, take, drop, sym, ap, subst, arith}
-use Rattle.std.specs.Prelude.{MatchResult, IfOk, Result, Ok, Err}
+use Rattle.pool.proofs.Common.{◌≡◌, ℕ, ◌≤◌, List, ◌++◌, ◌∙◌, length, take, drop, sym, ap, subst, arith, MatchResult, IfOk, Result, Ok, Err, TakeRefusal, TookLine, lines_put, lines_taken, View, FilledSome, RefusedTakeSome, SameSome, TookSome, Acquired, IsFair, HoldsSame, HoldsMore, Holds}
 use Rattle.std.proofs.Math.Seq.{drop-append_seam, take-append_seam}
-use Rattle.batch_queue.specs.declared.refusals.TakeRefusal.{TakeRefusal}
-use Rattle.table_theory.specs.Lines.{TookLine}
-use Rattle.batch_queue.specs.Lines.{lines_put, lines_taken}
-use Rattle.batch_queue.specs.Own.{View}
-use Rattle.batch_queue.specs.Parts.{FilledSome, RefusedTakeSome, SameSome, TookSome}
-use Rattle.pool.specs.Holdings.{Acquired, IsFair, HoldsSame, HoldsMore, Holds}
 use Rattle.pool.proofs.Steps.{Took, refused_some, took_some}
 use Rattle.pool.proofs.Holding.{more_holds, same_fair, same_held, took_fair, took_held}
 

@@ -1,36 +1,9 @@
 -- The first put of a new queue is not refused, and it is the queue's first batch.
-use Rattle.std.proofs.Common.{◌≡◌, ℕ, zero, suc, ◌+◌, ◌/◌, ◌^◌, ◌<◌, ◌≤◌, Bool, true, false, List, [], ◌∷◌, ◌++◌, ◌∙◌, map, length, refl, sym, ap, subst, arith, ⊎_elim, eq-eqb, append_assoc}
-use Rattle.std.specs.Prelude.{max}
-use Rattle.std.proofs.lemmas.List.FromFn.{length-range_with_len}
-use mathlib.Core.Bool.{cond, not}
-use Rattle.std.specs.List.{AllByRecursion, concat}
-use mathlib.Core.Logic.{dite}
-use mathlib.Core.Option.{some, some-injective, some-ne-none}
-use lib.ListN.{get_elem?}
-use native.Mathlib.Decide.{dec_lt}
+use Rattle.pool.proofs.Common.{◌≡◌, ℕ, zero, suc, ◌+◌, ◌/◌, ◌^◌, ◌<◌, ◌≤◌, Bool, true, false, List, [], ◌∷◌, ◌++◌, ◌∙◌, map, length, refl, sym, ap, subst, arith, ⊎_elim, eq-eqb, append_assoc, max, length-range_with_len, cond, not, AllByRecursion, concat, dite, some, some-injective, some-ne-none, get_elem?, dec_lt, ∥∥₁_elim, ℕ_set, Batch, AbsState, line_of, ExtendsTrace, IsValidView, IsValidStep, Step, change, load, IsWhole, all_after, alone_since, PutRefusal, BatchState, Shape, head_word, mark, mark_word, items_of, with_batch, with_up, OnlyLoads, View, of_batches, FoundOther, FoundShut, IsPut, LackedRoom, RefusedPut, WasSpent, published, newcomer, all_buffers, times, acquired, released, held, is_later, IsFair, IsStocked, ListsFirst, in_batch}
 use Rattle.std.proofs.Math.Pow.{pow_mono}
-use Rattle.std.proofs.Math.Logic.{∥∥₁_elim}
-use Rattle.std.proofs.Math.Nat.{ℕ_set}
-use Rattle.table_theory.specs.declared.queues.Batch.{Batch}
-use Rattle.table_theory.specs.declared.views.AbsState.{AbsState}
-use Rattle.table_theory.specs.Batches.{line_of}
 use Rattle.table_theory.specs.Courses.{Continues}
-use Rattle.table_theory.specs.Ledgers.{ExtendsTrace, IsValidView, IsValidStep, Step, change, load}
-use Rattle.table_theory.specs.Sharing.{IsWhole}
-use Rattle.table_theory.proofs.Reaching.{all_after, alone_since}
-use Rattle.batch_queue.specs.declared.refusals.PutRefusal.{PutRefusal}
 use Rattle.batch_queue.specs.declared.refusals.PutRefusal.TheVariants as not_put
-use Rattle.batch_queue.specs.declared.rule.BatchState.{BatchState}
-use Rattle.batch_queue.specs.declared.rule.Shape.{Shape}
-use Rattle.batch_queue.specs.Layout.{head_word, mark, mark_word}
-use Rattle.batch_queue.specs.Object.{items_of, with_batch, with_up}
-use Rattle.batch_queue.specs.Own.{OnlyLoads, View, of_batches}
-use Rattle.batch_queue.specs.Puts.{FoundOther, FoundShut, IsPut, LackedRoom, RefusedPut, WasSpent, published}
-use Rattle.batch_queue.specs.Rules.{newcomer}
 use Rattle.batch_queue.specs.Walks.{FreeBy, at_once, by_help}
-use Rattle.pool.specs.Buffers.{all_buffers, times}
-use Rattle.pool.specs.Holdings.{acquired, released, held, is_later, IsFair, IsStocked, ListsFirst}
-use Rattle.table_theory.proofs.Holding.{in_batch}
 use Rattle.pool.proofs.Owners.{in_later, released_of, times_released}
 use Rattle.pool.proofs.Releasing.{line_is}
 use Rattle.pool.proofs.Steps.{Did, is_put}

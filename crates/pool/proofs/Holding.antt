@@ -1,28 +1,7 @@
 -- What an end holds after a call of the queue.
-use Rattle.std.proofs.Common.{◌≡◌, ℕ, ◌+◌, ◌<◌, ◌≤◌, Bool, true, List, [], ◌∷◌, ◌++◌, ◌∙◌, length, sym, ap, subst, arith, ⊎_elim}
-use Rattle.std.proofs.Math.Logic.{∥∥₁_elim, ∥∥₁_map}
-use Rattle.std.proofs.Math.Bridge.{le_prop}
+use Rattle.pool.proofs.Common.{◌≡◌, ℕ, ◌+◌, ◌<◌, ◌≤◌, Bool, true, List, [], ◌∷◌, ◌++◌, ◌∙◌, length, sym, ap, subst, arith, ⊎_elim, ∥∥₁_elim, ∥∥₁_map, le_prop, length-range_with_len, concat, cond, not, some, get_elem?, Batch, line_of, at_joined, at_push, total_push, lines_taken, Grows, items_of, BatchState, View, of_batches, AbsState, ExtendsTrace, Reaches, Step, all_buffers, times, acquired, released, held, is_later, IsFair, HoldsSame, HoldsMore, HoldsLess, Holds, IsStocked, ListsFirst, in_batch, times_concat, total_joined}
 use Rattle.std.proofs.lemmas.Bool.{ne_eqb}
 use Rattle.std.proofs.lemmas.List.{length-append}
-use Rattle.std.proofs.lemmas.List.FromFn.{length-range_with_len}
-use Rattle.std.specs.List.{concat}
-use mathlib.Core.Bool.{cond, not}
-use mathlib.Core.Option.{some}
-use lib.ListN.{get_elem?}
-use Rattle.table_theory.specs.declared.queues.Batch.{Batch}
-use Rattle.table_theory.specs.Batches.{line_of}
-use Rattle.table_theory.proofs.Owned.{at_joined, at_push}
-use Rattle.table_theory.proofs.Totals.{total_push}
-use Rattle.batch_queue.specs.Lines.{lines_taken}
-use Rattle.batch_queue.specs.Object.{Grows, items_of}
-use Rattle.batch_queue.specs.declared.rule.BatchState.{BatchState}
-use Rattle.batch_queue.specs.Own.{View, of_batches}
-use Rattle.table_theory.specs.declared.views.AbsState.{AbsState}
-use Rattle.table_theory.specs.Ledgers.{ExtendsTrace, Reaches, Step}
-use Rattle.pool.specs.Buffers.{all_buffers, times}
-use Rattle.pool.specs.Holdings.{acquired, released, held, is_later, IsFair, HoldsSame, HoldsMore, HoldsLess, Holds, IsStocked, ListsFirst}
-use Rattle.table_theory.proofs.Holding.{in_batch}
-use Rattle.table_theory.proofs.Times.{times_concat, total_joined}
 use Rattle.pool.proofs.Owners.{in_later, released_of, times_released}
 
 -- LISTS

@@ -1,33 +1,12 @@
 -- What splitting, joining and closing leave of holders.
-use Rattle.std.proofs.Common.{◌≡◌, ℕ, zero, suc, ◌+◌, ◌<◌, List, [], ◌∷◌, map, take, refl, sym, ap, subst, arith}
-use Rattle.std.proofs.Math.Logic.{∥∥₁_elim}
-use Rattle.std.proofs.Math.Bridge.{le_prop}
-use Rattle.std.specs.List.{concat}
-use mathlib.Core.Option.{some, some-injective, some-ne-none}
-use lib.ListN.{get_elem?}
-use Rattle.table_theory.specs.declared.queues.Batch.{Batch}
-use Rattle.table_theory.specs.Batches.{line_of}
-use Rattle.table_theory.specs.Filing.{Owned, entry_of}
-use Rattle.table_theory.specs.Ledgers.{WereOpen}
-use Rattle.table_theory.specs.Listing.{IsListed}
-use Rattle.table_theory.specs.Lines.{IsCut}
-use Rattle.table_theory.specs.Sharing.{given, kept}
+use Rattle.pool.proofs.Common.{◌≡◌, ℕ, zero, suc, ◌+◌, ◌<◌, List, [], ◌∷◌, map, take, refl, sym, ap, subst, arith, ∥∥₁_elim, le_prop, concat, some, some-injective, some-ne-none, get_elem?, Batch, line_of, Owned, entry_of, WereOpen, IsListed, IsCut, given, kept, ends_word, lines_put, lines_taken, items_of, EndRecord, View, nothing_did, all_buffers, times, released, held, IsFair, IsStocked, ListsFirst, all_once, times_append, times_concat, times_split, total_map, first_apart, in_batch, times_lines}
 use Rattle.batch_queue.specs.declared.ends.BatchQueue.{BatchQueue}
 use Rattle.batch_queue.specs.Closings.{ClosedNow}
 use Rattle.batch_queue.specs.Endings.{SplitBy, IsNewEnd}
-use Rattle.batch_queue.specs.Layout.{ends_word}
-use Rattle.batch_queue.specs.Lines.{lines_put, lines_taken}
-use Rattle.batch_queue.specs.Object.{items_of}
-use Rattle.batch_queue.specs.declared.rule.EndRecord.{EndRecord}
-use Rattle.batch_queue.specs.Own.{View, nothing_did}
 use Rattle.batch_queue.specs.Placed.{positions_of}
 use Rattle.pool.specs.declared.lending.Lending.{Lending}
 use Rattle.pool.specs.declared.pool.Pool.{Pool}
-use Rattle.pool.specs.Buffers.{all_buffers, times}
-use Rattle.pool.specs.Holdings.{released, held, IsFair, IsStocked, ListsFirst}
-use Rattle.table_theory.proofs.Times.{all_once, times_append, times_concat, times_split, total_map}
 use Rattle.table_theory.proofs.Weighing.{filed_total}
-use Rattle.table_theory.proofs.Holding.{first_apart, in_batch, times_lines}
 use Rattle.pool.proofs.Owners.{released_of, times_released}
 use Rattle.pool.proofs.Steps.{DidNothing, looked}
 

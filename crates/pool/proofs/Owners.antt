@@ -1,38 +1,12 @@
 -- Each buffer has one owner, by counting over all runs and takings of the queue.
-use Rattle.std.proofs.Common.{◌≡◌, ℕ, suc, ◌+◌, ◌-◌, ◌<◌, ◌≤◌, Bool, true, false, List, [], ◌∷◌, ◌++◌, ◌∙◌, map, length, refl, sym, ap, subst, arith}
-use Rattle.std.proofs.Math.Logic.{∥∥₁_elim}
-use Rattle.std.proofs.Math.Nat.{ℕ_set}
-use Rattle.std.proofs.lemmas.List.FromFn.{length-range_with_len}
-use Rattle.std.specs.List.{concat, filter}
-use Rattle.std.specs.Prelude.{if◌then◌else◌}
-use mathlib.Core.Logic.{dite}
-use mathlib.Core.Option.{some}
-use native.Mathlib.Decide.{ℕ_discrete}
-use lib.ListN.{get_elem?}
+use Rattle.pool.proofs.Common.{◌≡◌, ℕ, suc, ◌+◌, ◌-◌, ◌<◌, ◌≤◌, Bool, true, false, List, [], ◌∷◌, ◌++◌, ◌∙◌, map, length, refl, sym, ap, subst, arith, ∥∥₁_elim, ℕ_set, length-range_with_len, concat, filter, if◌then◌else◌, dite, some, ℕ_discrete, get_elem?, Batch, line_of, Owned, ListedOnce, entry_of, Adjacent, total, batch_given, batch_items, placed, Accounts, held_sum, in_batch, times_kept, times_lines, at_map_back, all_once, all_other, one_alone, total_alike, total_none, one_of, Shape, View, KeepsTo, shuts_of, EachOnce, HasOneOwner, NoneHolds, NoneShut, the_queue, the_end, count_in, waiting, all_buffers, times, held, is_later, IsStocked, Lends}
 use Rattle.atomic_table.proofs.Lists.{at_map}
 use Rattle.atomic_table.specs.Table.{State}
 use Rattle.event_theory.specs.Queues.{Queue}
-use Rattle.table_theory.specs.declared.queues.Batch.{Batch}
-use Rattle.table_theory.specs.Batches.{line_of}
-use Rattle.table_theory.specs.Filing.{Owned, ListedOnce, entry_of}
-use Rattle.table_theory.specs.Listing.{Adjacent}
 use Rattle.table_theory.specs.QueueOf.{run_in}
-use Rattle.table_theory.specs.Sharing.{total}
 use Rattle.table_theory.specs.Times.{first_items}
-use Rattle.table_theory.proofs.Giving.{batch_given, batch_items, placed}
 use Rattle.table_theory.proofs.Holding as theory
-use Rattle.table_theory.proofs.Holding.{Accounts, held_sum, in_batch, times_kept, times_lines}
-use Rattle.table_theory.proofs.Owned.{at_map_back}
-use Rattle.table_theory.proofs.Times.{all_once, all_other, one_alone, total_alike, total_none}
-use Rattle.table_theory.proofs.Totals.{one_of}
 use Rattle.batch_queue.specs.Between.{ShowsQueue}
-use Rattle.batch_queue.specs.declared.rule.Shape.{Shape}
-use Rattle.batch_queue.specs.Own.{View}
-use Rattle.batch_queue.specs.Rules.{KeepsTo, shuts_of}
-use Rattle.pool.specs.Between.{EachOnce, HasOneOwner, NoneHolds, NoneShut, the_queue, the_end, count_in, waiting}
-use Rattle.pool.specs.Buffers.{all_buffers, times}
-use Rattle.pool.specs.Holdings.{held, is_later, IsStocked}
-use Rattle.pool.specs.Lending.{Lends}
 
 -- ONE END
 

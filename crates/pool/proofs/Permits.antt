@@ -1,27 +1,9 @@
 -- What the protocol of a pool's queue allows a holder to put, and what it says of the buffers that a holder acquired.
-use Rattle.std.proofs.Common.{◌≡◌, ℕ, zero, suc, ◌<◌, ◌≤◌, Bool, true, false, List, [], ◌∷◌, ◌++◌, ◌∙◌, take, sym, ap, subst, arith, ⊎_elim, eq-eqb}
-use Rattle.std.specs.Prelude.{IfOk, Result, Ok, Err}
-use mathlib.Core.Bool.{cond, not}
-use mathlib.Core.Logic.{dite}
-use mathlib.Core.Option.{some, some-injective, some-ne-none}
-use native.Mathlib.Decide.{dec_lt}
-use lib.ListN.{get_elem?}
+use Rattle.pool.proofs.Common.{◌≡◌, ℕ, zero, suc, ◌<◌, ◌≤◌, Bool, true, false, List, [], ◌∷◌, ◌++◌, ◌∙◌, take, sym, ap, subst, arith, ⊎_elim, eq-eqb, IfOk, Result, Ok, Err, cond, not, dite, some, some-injective, some-ne-none, dec_lt, get_elem?, batch_given, batch_items, given_in, given_joined, given_one, placed, times_lines, at_map_back, at_push, times_at, TakeRefusal, Shape, View, newcomer, count_in, AreBuffers, all_buffers, times, Holds, IsFair, IsStocked, ListsFirst, held, Lends}
 use Rattle.table_theory.specs.Protocols.{Placed, placed_lines}
 use Rattle.table_theory.specs.Times.{is_later}
-use Rattle.table_theory.proofs.Giving.{batch_given, batch_items, given_in, given_joined, given_one, placed}
-use Rattle.table_theory.proofs.Holding.{times_lines}
-use Rattle.table_theory.proofs.Owned.{at_map_back, at_push}
-use Rattle.table_theory.proofs.Times.{times_at}
 use Rattle.batch_queue.specs.Client.{EachEndKeeps, MayPut}
-use Rattle.batch_queue.specs.declared.refusals.TakeRefusal.{TakeRefusal}
-use Rattle.batch_queue.specs.declared.rule.Shape.{Shape}
 use Rattle.batch_queue.specs.Moments.{claimed}
-use Rattle.batch_queue.specs.Own.{View}
-use Rattle.batch_queue.specs.Rules.{newcomer}
-use Rattle.pool.specs.Between.{count_in}
-use Rattle.pool.specs.Buffers.{AreBuffers, all_buffers, times}
-use Rattle.pool.specs.Holdings.{Holds, IsFair, IsStocked, ListsFirst, held}
-use Rattle.pool.specs.Lending.{Lends}
 use Rattle.pool.proofs.Acquiring.{Effect, Trace, acquire_holds}
 use Rattle.pool.proofs.Holding.{stocked_long}
 use Rattle.pool.proofs.Owners.{each_once, times_released}

@@ -1,19 +1,6 @@
 -- What a try to put leaves of a holder.
-use Rattle.std.proofs.Common.{◌≡◌, ℕ, ◌%◌, ◌<◌, ◌≤◌, List, [], ◌∷◌, ◌++◌, map, length, refl, ap, subst, arith}
-use Rattle.std.specs.Prelude.{MatchResult, Result, Ok, Err}
-use mathlib.Core.Logic.{dite}
-use native.Mathlib.Decide.{ℕ_discrete}
-use Rattle.table_theory.specs.declared.queues.Batch.{Batch}
-use Rattle.table_theory.specs.Ledgers.{ExtendsTrace, Step}
+use Rattle.pool.proofs.Common.{◌≡◌, ℕ, ◌%◌, ◌<◌, ◌≤◌, List, [], ◌∷◌, ◌++◌, map, length, refl, ap, subst, arith, MatchResult, Result, Ok, Err, dite, ℕ_discrete, Batch, ExtendsTrace, Step, PutRefusal, BatchState, head_word, PutLine, SameLines, items_of, View, IsPut, RefusedPut, published, IsFair, HoldsSame, Holds, Released, IsStocked, ListsFirst}
 use Rattle.table_theory.specs.Positioned.{item_of}
-use Rattle.batch_queue.specs.declared.refusals.PutRefusal.{PutRefusal}
-use Rattle.batch_queue.specs.declared.rule.BatchState.{BatchState}
-use Rattle.batch_queue.specs.Layout.{head_word}
-use Rattle.batch_queue.specs.Lines.{PutLine, SameLines}
-use Rattle.batch_queue.specs.Object.{items_of}
-use Rattle.batch_queue.specs.Own.{View}
-use Rattle.batch_queue.specs.Puts.{IsPut, RefusedPut, published}
-use Rattle.pool.specs.Holdings.{IsFair, HoldsSame, Holds, Released, IsStocked, ListsFirst}
 use Rattle.pool.proofs.Steps.{Put, is_put, refused_put}
 use Rattle.pool.proofs.Holding.{Rises, Since, lists_same, put_fair, put_held, put_lists, same_fair, same_held, stocked_long, stocked_since}
 

@@ -1,21 +1,8 @@
 -- What a call of the queue leaves of an end's runs and takings, and which steps it added.
-use Rattle.std.proofs.Common.{◌≡◌, ℕ, List, [], ◌∷◌, ◌++◌, ◌∙◌, ap, ◌<◌, map, length, refl, sym, subst}
-use Rattle.table_theory.specs.declared.queues.Batch.{Batch}
-use Rattle.table_theory.specs.declared.views.AbsState.{AbsState}
-use Rattle.table_theory.specs.Ledgers.{ExtendsTrace, Performed, Step, load}
-use Rattle.table_theory.proofs.Reaching.{adds_none}
-use Rattle.batch_queue.specs.declared.refusals.PutRefusal.{PutRefusal}
+use Rattle.pool.proofs.Common.{◌≡◌, ℕ, List, [], ◌∷◌, ◌++◌, ◌∙◌, ap, ◌<◌, map, length, refl, sym, subst, Batch, AbsState, ExtendsTrace, Performed, Step, load, adds_none, PutRefusal, TakeRefusal, BatchState, EndRecord, head_word, View, FoundOther, IsPut, LackedRoom, RefusedPut, published, RefusedSomeBy, RefusedTakeSome, TookSome, with_parts, ⊎_elim}
 use Rattle.batch_queue.specs.declared.refusals.PutRefusal.TheVariants as not_put
-use Rattle.batch_queue.specs.declared.refusals.TakeRefusal.{TakeRefusal}
 use Rattle.batch_queue.specs.declared.refusals.TakeRefusal.TheVariants as not_taken
-use Rattle.batch_queue.specs.declared.rule.BatchState.{BatchState}
-use Rattle.batch_queue.specs.declared.rule.EndRecord.{EndRecord}
-use Rattle.batch_queue.specs.Layout.{head_word}
-use Rattle.batch_queue.specs.Own.{View}
-use Rattle.batch_queue.specs.Puts.{FoundOther, IsPut, LackedRoom, RefusedPut, published}
-use Rattle.batch_queue.specs.Parts.{RefusedSomeBy, RefusedTakeSome, TookSome, with_parts}
 use Rattle.batch_queue.specs.Takings.{RefusedTake}
-use Rattle.std.proofs.Common.{⊎_elim}
 
 -- the end has these runs and takings then, and added these entries
 pub record Did (v w : View) (runs takes : List Batch) : Type 0 where

@@ -1,8 +1,5 @@
 -- What holders hold through several calls.
-use Rattle.std.proofs.Common.{◌≡◌, ℕ, ◌+◌, List, ◌∙◌, ap, arith}
-use Rattle.batch_queue.specs.Own.{View}
-use Rattle.pool.specs.Buffers.{AreAll, all_buffers, times}
-use Rattle.pool.specs.Holdings.{Holds, HoldsSame, HoldsMore, HoldsLess}
+use Rattle.pool.proofs.Common.{◌≡◌, ℕ, ◌+◌, List, ◌∙◌, ap, arith, View, AreAll, all_buffers, times, Holds, HoldsSame, HoldsMore, HoldsLess}
 
 pub same_on : (u v w : View) → HoldsSame u v → HoldsSame v w → HoldsSame u w
 same_on u v w a b x = b x ∙ a x

@@ -1,9 +1,7 @@
 -- The objects that the steps of a plan name are among the shared objects.
-use Rattle.processor.proofs.Common.{◌≡◌, ℕ, zero, suc, ◌≤◌, List, [], ◌∷◌, length, Some, arith, le_prop, ∥∥₁_elim, AllByRecursion, BootPlan, PlannedThread, QueueIndex, Small, Large, Step, plan_of, Plan, steps_at, IsPlan, IsProgramOf, many_of, Shared, program, step_of}
+use Rattle.processor.proofs.Common.{◌≡◌, ℕ, zero, suc, ◌≤◌, List, [], ◌∷◌, length, Some, arith, le_prop, ∥∥₁_elim, AllByRecursion, BootPlan, PlannedThread, QueueIndex, Small, Large, Step, plan_of, Plan, steps_at, IsPlan, IsProgramOf, many_of, Shared, program, step_of, IsStepOf, Fits}
 use Rattle.boot_data.specs.declared.plan.Step.TheVariants as steps
-use Rattle.boot_data.specs.PlanLimits.{IsStepOf}
 use Rattle.event_theory.proofs.Lists.Placed.{all_at}
-use Rattle.processor.specs.Steps.{Fits}
 
 its_steps : (plan : Plan) (threads : List PlannedThread) (e : ℕ) → AllByRecursion (IsProgramOf (many_of plan)) threads
     → (length (steps_at threads e) ≤ 64) × AllByRecursion (IsStepOf (many_of plan)) (steps_at threads e)

@@ -1,7 +1,5 @@
 -- How many lines the threads of a plan can hear.
-use Rattle.processor.proofs.Common.{◌≤◌, List, [], ◌∷◌, length, arith, le_prop, ∥∥₁_elim, sum_by-cons, sum_by, AllByRecursion, BootPlan, PlannedThread, Plan, IsPlan, IsProgramOf, many_of, plan_of, is_hear, hears_in, hear_count}
-use Rattle.std.proofs.Common.{◌*◌}
-use Rattle.std.proofs.lemmas.List.Sums.{count_by-le-length}
+use Rattle.processor.proofs.Common.{◌≤◌, List, [], ◌∷◌, length, arith, le_prop, ∥∥₁_elim, sum_by-cons, sum_by, AllByRecursion, BootPlan, PlannedThread, Plan, IsPlan, IsProgramOf, many_of, plan_of, is_hear, hears_in, hear_count, ◌*◌, count_by-le-length}
 
 hears_in_few : (plan : Plan) (threads : List PlannedThread) → AllByRecursion (IsProgramOf (many_of plan)) threads → sum_by hears_in threads ≤ 64 * length threads
 hears_in_few plan [] h = omega arith

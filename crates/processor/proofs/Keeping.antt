@@ -1,15 +1,6 @@
 -- A station that a processor can use stays one.
-use Rattle.processor.proofs.Common.{◌≡◌, ℕ, false, None, get_or, refl, sym, ap, subst, ◌∙◌, chain_shares, view_of, Keeps, View, Shared, Parts, shares, seat_parted, KeepsStation, AreAtRest}
-use Rattle.turn_io.specs.Accounts.{shares_of}
-use Rattle.turn_io.specs.EndLists.{AreChainEndsOf, AreSameChainEnds, IsIdle}
-use Rattle.turn_io.specs.QueueEnds.{AreQueueEndsOf, AreSameQueueEnds}
-use Rattle.turn_io.proofs.Queues.{same_ends_on, same_ends_still}
-use Rattle.turn_dispatch.specs.Holdings.{IsFree}
+use Rattle.processor.proofs.Common.{◌≡◌, ℕ, false, None, get_or, refl, sym, ap, subst, ◌∙◌, chain_shares, view_of, Keeps, View, Shared, Parts, shares, seat_parted, KeepsStation, AreAtRest, shares_of, AreChainEndsOf, AreSameChainEnds, IsIdle, AreQueueEndsOf, AreSameQueueEnds, same_ends_on, same_ends_still, IsFree, IsSameHand, IsRunnable, All, ArePartsOf, AreSameParts}
 use Rattle.meters.specs.Handles as meters
-use Rattle.thread_table.specs.Handles.{IsSameHand}
-use Rattle.processor.specs.Manning.{IsRunnable}
-use Rattle.std.specs.List.{All}
-use Rattle.processor.specs.Stations.{ArePartsOf, AreSameParts}
 use Rattle.processor.proofs.Rising.{NeverFalls}
 use Rattle.processor.proofs.Rooming.{room_kept}
 

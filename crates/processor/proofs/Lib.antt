@@ -12,6 +12,5 @@ pub mod Keeping
 pub mod Placing
 pub mod Tallying
 pub mod Trying
-pub mod Signals
 pub mod Ordering
 pub mod Turning

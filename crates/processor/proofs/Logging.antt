@@ -1,20 +1,9 @@
 -- The account of several pieces of a processor's work, one after the other.
-use Rattle.processor.proofs.Common.{◌≡◌, ◌||◌, ◌+◌, ◌≤◌, ◌==◌, ℕ, Bool, true, false, List, [], ◌∷◌, ◌++◌, map, refl, sym, ap, subst, ◌∙◌, ⊎_elim, Result, Ok, Err, MatchResult, arith, append-nil, list_any-append, BootPlan, chain_account, Begun, Idle, Shows, Tally, AddsToTally, no_events, nothing_did, did_both, view_of, done_at, Parts, nothing, ◌⊕◌, account, shown_in, seat_parted, LogEntry, beginning, Climbs, HasDone, Ran, Went, numbers_of, Key, AreAtRest}
-use Rattle.std.proofs.Math.Bool.{or-false}
-use Rattle.std.proofs.lemmas.Bool.{or_cases}
-use Rattle.std.proofs.lemmas.List.{map-append}
+use Rattle.processor.proofs.Common.{◌≡◌, ◌||◌, ◌+◌, ◌≤◌, ◌==◌, ℕ, Bool, true, false, List, [], ◌∷◌, ◌++◌, map, refl, sym, ap, subst, ◌∙◌, ⊎_elim, Result, Ok, Err, MatchResult, arith, append-nil, list_any-append, BootPlan, chain_account, Begun, Idle, Shows, Tally, AddsToTally, no_events, nothing_did, did_both, view_of, done_at, Parts, nothing, ◌⊕◌, account, shown_in, seat_parted, LogEntry, beginning, Climbs, HasDone, Ran, Went, numbers_of, Key, AreAtRest, or-false, or_cases, map-append, work_of, all_sound_on, all_sound_still, idle_in_order, in_order_on, still_know, retired, mask_of, one_delivery, delivery, Account, FollowsPlan, OutcomeFollows, entry_account, outcome_account, outcome_saw_shut, tending, turn_saw_shut, IsFresh, Leaves, sum_of, was_shut}
 use Rattle.std.proofs.lemmas.List.Elements.{filter-append}
-use Rattle.turn_io.specs.Accounts.{work_of}
-use Rattle.turn_io.proofs.Queues.{all_sound_on, all_sound_still, idle_in_order, in_order_on, still_know}
 use Rattle.event_theory.proofs.Lists.Placed.{all_append as all_on}
-use Rattle.turn_dispatch.specs.Sendings.{retired}
-use Rattle.turn_dispatch.specs.Dispatches.{mask_of}
-use Rattle.turn_dispatch.specs.Tallies.{one_delivery, delivery}
 use Rattle.meters.specs.declared.rule.MeterOps.{MeterOps}
 use Rattle.meters.specs.Handles as seats
-use Rattle.processor.specs.Accounts.{Account}
-use Rattle.processor.specs.Entries.{FollowsPlan, OutcomeFollows, entry_account, outcome_account, outcome_saw_shut, tending, turn_saw_shut}
-use Rattle.processor.specs.Logs.{IsFresh, Leaves, sum_of, was_shut}
 use Rattle.processor.proofs.Rising.{NeverFalls}
 use Rattle.processor.proofs.Summing.{accounts_add, dids_add, queue_sums, chain_sums, none_shows, more_shows}
 

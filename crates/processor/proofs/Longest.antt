@@ -1,15 +1,9 @@
 -- A line that was heard is no longer than the longest that a plan's steps can hear.
-use Rattle.processor.proofs.Common.{◌≡◌, ◌≤◌, ℕ, zero, suc, ◌||◌, Bool, true, false, if◌then◌else◌, List, [], ◌∷◌, length, Some, sym, ap, ◌∙◌, arith, BootPlan, PlannedThread, Small, Large, Step, steps_at, step_of, StepOutcome, IsOutcomeOf, is_heard}
+use Rattle.processor.proofs.Common.{◌≡◌, ◌≤◌, ℕ, zero, suc, ◌||◌, Bool, true, false, if◌then◌else◌, List, [], ◌∷◌, length, Some, sym, ap, ◌∙◌, arith, BootPlan, PlannedThread, Small, Large, Step, steps_at, step_of, StepOutcome, IsOutcomeOf, is_heard, same_Some, slice_get, list_any, QueueEnds, heard_few, hears_large, one_hears_large, longest_line, QueuesDid}
 use Rattle.std.proofs.Math.Bool.{or-true as or_true}
-use Rattle.std.proofs.lemmas.Option.{same_Some}
-use Rattle.std.specs.List.{slice_get, list_any}
 use Rattle.boot_data.specs.declared.plan.Step.TheVariants as steps
-use Rattle.turn_io.specs.declared.queue_ends.QueueEnds.{QueueEnds}
-use Rattle.turn_io.proofs.Queues.{heard_few}
 use Rattle.processor.specs.declared.step_outcome.StepOutcome.TheVariants as step_outcomes
 use Rattle.processor.specs.declared.phases.HearAnswer.TheVariants as answers
-use Rattle.processor.specs.Programs.{hears_large, one_hears_large, longest_line}
-use Rattle.processor.specs.Steps.{QueuesDid}
 
 in_steps : (steps : List Step) (n : ℕ) (step : Step) → slice_get steps n ≡ Some step → hears_large step ≡ true → list_any hears_large steps ≡ true
 in_steps [] n step is h = cc

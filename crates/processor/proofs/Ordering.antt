@@ -1,21 +1,8 @@
 -- The sights of the gate around a try, and turn by turn.
-use Rattle.processor.proofs.Common.{◌≡◌, ◌+◌, ℕ, suc, List, [], ◌∷◌, ◌++◌, Option, length, refl, ap, arith, subst, ◌∙◌, LogEntry, Parts, Shared, Calls, GateSawTurn, HookedTurns, StepOutcome, view_of}
+use Rattle.processor.proofs.Common.{◌≡◌, ◌+◌, ℕ, suc, List, [], ◌∷◌, ◌++◌, Option, length, refl, ap, arith, subst, ◌∙◌, LogEntry, Parts, Shared, Calls, GateSawTurn, HookedTurns, StepOutcome, view_of, length-append, Hand, PutsOn, IsSameHand, All, QueueEnds, IsIdle, AreSameQueueEnds, TurnOutcome, CameInOrder, ChainsInOrder, Count, QueuesInOrder, SeatInOrder, Stood, TriedAtEnds, TurnInOrder, TurnsInOrder, after_ticket, count_of, one_more, Sights, ChainsDid, QueuesDid, SeatDid, CameOf}
 use Rattle.std.proofs.Math.Nat.{add-zero}
-use Rattle.std.proofs.lemmas.List.{length-append}
-use Rattle.thread_table.specs.declared.hand.Hand.{Hand}
-use Rattle.thread_table.specs.Answers.{PutsOn}
-use Rattle.thread_table.specs.Handles.{IsSameHand}
 use Rattle.meters.specs.Handles as seats
-use Rattle.std.specs.List.{All}
-use Rattle.turn_io.specs.declared.queue_ends.QueueEnds.{QueueEnds}
-use Rattle.turn_io.specs.EndLists.{IsIdle}
-use Rattle.turn_io.specs.QueueEnds.{AreSameQueueEnds}
-use Rattle.processor.specs.declared.outcome.TurnOutcome.{TurnOutcome}
 use Rattle.processor.specs.declared.outcome.TurnOutcome.TheVariants as outcomes
-use Rattle.processor.specs.Orders.{CameInOrder, ChainsInOrder, Count, QueuesInOrder, SeatInOrder, Stood, TriedAtEnds, TurnInOrder, TurnsInOrder, after_ticket, count_of, one_more}
-use Rattle.processor.specs.Sights.{Sights}
-use Rattle.processor.specs.Steps.{ChainsDid, QueuesDid, SeatDid}
-use Rattle.processor.specs.Turns.{CameOf}
 
 -- a try between two looks at the queues, after the reading of a ticket of the wait queue
 pub tried_between : (shown : Hand → QueueEnds → Type 0) (wait wait' : Option ℕ) (old hand : Hand) (ends ends' : QueueEnds) → wait ≡ wait' → count_of hand ≡ after_ticket wait (count_of old)

@@ -1,15 +1,10 @@
 -- The sum of a step at the queues, at the chains and at the seat of the meters, by its evidence there.
-use Rattle.processor.proofs.Common.{◌≡◌, ℕ, List, sym, ap, subst, ◌∙◌, Small, both_chain, at_each, chain_account, chain_shares, did_both, StepOutcome}
-use Rattle.meters.specs.Own.{SeatView}
+use Rattle.processor.proofs.Common.{◌≡◌, ℕ, List, sym, ap, subst, ◌∙◌, Small, both_chain, at_each, chain_account, chain_shares, did_both, StepOutcome, SeatView, QueueEnds, EndsWorked, heard_on, none_worked, said_on, shut_on, queues_by, chains_by, ticks_by, QueuesDid, ChainsDid, SeatDid}
 use Rattle.proc_chain.specs.declared.ends.ChainEnd.{ChainEnd}
 use Rattle.proc_chain.specs.declared.ends.ProcChain.{ProcChain}
 use Rattle.proc_chain.specs.declared.quaject.Quaject.{Ghosts}
-use Rattle.turn_io.specs.declared.queue_ends.QueueEnds.{QueueEnds}
 use Rattle.turn_io.proofs.Accounting.{poked_at}
-use Rattle.turn_io.proofs.Queues.{EndsWorked, heard_on, none_worked, said_on, shut_on}
 use Rattle.processor.specs.declared.step_outcome.StepOutcome.TheVariants as step_outcomes
-use Rattle.processor.specs.Doings.{queues_by, chains_by, ticks_by}
-use Rattle.processor.specs.Steps.{QueuesDid, ChainsDid, SeatDid}
 use Rattle.processor.specs.Tries.{said, heard}
 use Rattle.processor.proofs.Summing.{chain_sums}
 use Rattle.processor.proofs.Ticking.{Remains, did_none, did_tick}

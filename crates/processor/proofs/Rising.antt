@@ -1,11 +1,7 @@
 -- No step of a hand undoes a step of a thread.
-use Rattle.processor.proofs.Common.{◌≤◌, ℕ, Result, Ok, Err, arith, le_prop, ∥∥₁_elim, MatchResult, View, view_of, done_at, Begun, Idle}
-use Rattle.table_theory.specs.Ends.{Begins}
-use Rattle.thread_table.specs.declared.hand.Hand.{Hand}
+use Rattle.processor.proofs.Common.{◌≤◌, ℕ, Result, Ok, Err, arith, le_prop, ∥∥₁_elim, MatchResult, View, view_of, done_at, Begun, Idle, Begins, Hand, Began, WasIdle, began_is, idle_is}
 use Rattle.thread_table.specs.Telling.{IsValidHandView}
 use Rattle.thread_table.proofs.Schedule.Once.{done_grows}
-use Rattle.turn_dispatch.specs.Dispatches.{Began, WasIdle}
-use Rattle.turn_dispatch.proofs.Beginnings.{began_is, idle_is}
 
 -- no element's number of steps done is lower than before
 abbrev pub NeverFalls : View → View → Type 0

@@ -1,15 +1,11 @@
 -- There is room for each line that is heard.
-use Rattle.processor.proofs.Common.{◌≡◌, ◌+◌, ℕ, ◌<◌, ◌≤◌, ◌==◌, Bool, true, false, List, [], ◌∷◌, ◌++◌, map, length, Some, refl, sym, ap, ◌∙◌, subst, arith, eqb-true, append-nil, AllByRecursion, BootPlan, Step, Counted, CountAnswer, IsNumber, View, done_at, StepOutcome, IsOutcomeOf, heard_by, is_heard, Key, same_key, is_hear, IsHear, AreHears, hear_count, step_of, key_of, IsPast, Parts, view_of, Stepped, Line}
+use Rattle.processor.proofs.Common.{◌≡◌, ◌+◌, ℕ, ◌<◌, ◌≤◌, ◌==◌, Bool, true, false, List, [], ◌∷◌, ◌++◌, map, length, Some, refl, sym, ap, ◌∙◌, subst, arith, eqb-true, append-nil, AllByRecursion, BootPlan, Step, Counted, CountAnswer, IsNumber, View, done_at, StepOutcome, IsOutcomeOf, heard_by, is_heard, Key, same_key, is_hear, IsHear, AreHears, hear_count, step_of, key_of, IsPast, Parts, view_of, Stepped, Line, map-append, IsDistinct, longest_line, HasRoom}
 use Rattle.std.proofs.Common.{length-append}
 use Rattle.std.proofs.lemmas.Bool.{and_parts as split}
-use Rattle.std.proofs.lemmas.List.{map-append}
-use Rattle.std.specs.List.{IsDistinct}
 use Rattle.boot_data.specs.declared.plan.Step.TheVariants as steps
 use Rattle.turn_dispatch.specs.declared.counting.Counted.TheVariants as counted
 use Rattle.processor.specs.declared.step_outcome.StepOutcome.TheVariants as step_outcomes
 use Rattle.processor.specs.declared.phases.HearAnswer.TheVariants as answers
-use Rattle.processor.specs.Programs.{longest_line}
-use Rattle.processor.specs.Rooms.{HasRoom}
 use Rattle.processor.proofs.Rising.{NeverFalls}
 use Rattle.processor.proofs.Rooms.{few}
 

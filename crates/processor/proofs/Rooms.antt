@@ -1,12 +1,10 @@
 -- Steps of a plan that hear, none of them twice, are no more than the plan has.
-use Rattle.processor.proofs.Common.{◌≡◌, inl, inr, ℕ, zero, suc, ◌+◌, ◌≤◌, ◌==◌, ◌&&◌, ◌||◌, Bool, true, false, cond, if◌then◌else◌, List, [], ◌∷◌, ◌++◌, length, Some, refl, sym, ◌∙◌, ap, subst, arith, eqb-true, nat_tests, list_any-append, sum_by-cons, count_by, sum_by, AllByRecursion, BootPlan, PlannedThread, Step, steps_at, Key, same_key, is_hear, hears_in, hear_count, IsHear, AreHears}
+use Rattle.processor.proofs.Common.{◌≡◌, inl, inr, ℕ, zero, suc, ◌+◌, ◌≤◌, ◌==◌, ◌&&◌, ◌||◌, Bool, true, false, cond, if◌then◌else◌, List, [], ◌∷◌, ◌++◌, length, Some, refl, sym, ◌∙◌, ap, subst, arith, eqb-true, nat_tests, list_any-append, sum_by-cons, count_by, sum_by, AllByRecursion, BootPlan, PlannedThread, Step, steps_at, Key, same_key, is_hear, hears_in, hear_count, IsHear, AreHears, slice_get, list_any, same_Some}
 use Rattle.std.proofs.Common.{length-append, zero-add}
 use Rattle.std.proofs.lemmas.Bool.{eq-eqb, and_parts as split, or_cases as either}
 use Rattle.std.proofs.lemmas.Map.Made.{length-le_from_is_member}
 use Rattle.std.specs.Cmp.{IsEquivalence}
-use Rattle.std.specs.List.{slice_get, list_any}
 use Rattle.std.proofs.Math.Bool.{or-true as or_true}
-use Rattle.std.proofs.lemmas.Option.{same_Some}
 
 same_is : (a b : Key) → same_key a b ≡ true → (a.0 ≡ b.0) × (a.1 ≡ b.1)
 same_is a b h = let p = split (a.0 == b.0) (a.1 == b.1) h in (eqb-true a.0 b.0 p.0, eqb-true a.1 b.1 p.1)

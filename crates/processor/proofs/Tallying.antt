@@ -1,27 +1,16 @@
 -- What a step adds to the tally of its hand, by what the hand did. The views in between are not those of hands.
-use Rattle.processor.proofs.Common.{◌≡◌, ◌==◌, ◌+◌, ◌<◌, ◌||◌, ◌&&◌, inl, inr, ℕ, Bool, true, false, List, [], ◌∷◌, Option, Some, None, get_or, set, zero, suc, refl, sym, ap, subst, ◌∙◌, arith, count_by, Keeps, BootPlan, View, view_of, done_at, serves, is_in, CountAnswer, IsNumber, counted_step, Counted, AddsToTally, followed_by, no_events, StepOutcome, is_done, raised_by, Stepped, Goes}
-use Rattle.std.specs.Prelude.{not}
+use Rattle.processor.proofs.Common.{◌≡◌, ◌==◌, ◌+◌, ◌<◌, ◌||◌, ◌&&◌, inl, inr, ℕ, Bool, true, false, List, [], ◌∷◌, Option, Some, None, get_or, set, zero, suc, refl, sym, ap, subst, ◌∙◌, arith, count_by, Keeps, BootPlan, View, view_of, done_at, serves, is_in, CountAnswer, IsNumber, counted_step, Counted, AddsToTally, followed_by, no_events, StepOutcome, is_done, raised_by, Stepped, Goes, not, Begins, Hand, has, IsFree, IsOn, one_step, more_has, retired_goes, sent_goes, waited_goes, own_step, step_counts, step_goes, adds_after, adds_before, adds_more, adds_on, reported_steps, Moved, gone, HandDid, WokeBySay, WokeByHear}
 use Rattle.event_theory.specs.declared.event.Event.TheVariants as events
-use Rattle.table_theory.specs.Ends.{Begins}
 use Rattle.table_theory.proofs.Ends.{begins_trans}
-use Rattle.thread_table.specs.declared.hand.Hand.{Hand}
 use Rattle.thread_table.specs.Entries.{steps_in, with_event}
 use Rattle.thread_table.specs.Layout.{most_done}
-use Rattle.thread_table.specs.Rules.{has}
 use Rattle.thread_table.specs.Schedules.{Past}
 use Rattle.thread_table.specs.Views.{quiet}
 use Rattle.turn_dispatch.specs.declared.counting.Counted.TheVariants as counted
 use Rattle.turn_dispatch.specs.declared.waking.Woken.{Woken}
-use Rattle.turn_dispatch.specs.Holdings.{IsFree, IsOn}
-use Rattle.turn_dispatch.specs.Tallies.{one_step}
-use Rattle.turn_dispatch.proofs.Beginnings.{more_has}
 use Rattle.turn_dispatch.proofs.Calm as calm
 use Rattle.turn_dispatch.proofs.OnlyLoads.{counts_looks, signal_goes}
-use Rattle.turn_dispatch.proofs.Sends.{retired_goes, sent_goes, waited_goes}
-use Rattle.turn_dispatch.proofs.Stepped.{own_step, step_counts, step_goes}
-use Rattle.turn_dispatch.proofs.Tallies.{adds_after, adds_before, adds_more, adds_on, reported_steps}
 use Rattle.turn_dispatch.proofs.Wakes.{woken_is, resumed_is}
-use Rattle.processor.specs.declared.phases.Moved.{Moved}
 use Rattle.processor.specs.declared.phases.Moved.TheVariants as moveds
 use Rattle.processor.specs.declared.step_outcome.StepOutcome.TheVariants as step_outcomes
 use Rattle.processor.specs.declared.phases.Ticket.{Ticket}
@@ -29,9 +18,7 @@ use Rattle.processor.specs.declared.phases.HearAnswer.{HearAnswer}
 use Rattle.processor.specs.declared.phases.HearAnswer.TheVariants as hears
 use Rattle.processor.specs.declared.phases.SayAnswer.{SayAnswer}
 use Rattle.processor.specs.declared.phases.SayAnswer.TheVariants as says
-use Rattle.processor.specs.Entries.{gone}
 use Rattle.processor.specs.Pipes.{TicketFor, WokeFor}
-use Rattle.processor.specs.Steps.{HandDid, WokeBySay, WokeByHear}
 
 -- nothing was done
 still : (v w : View) → v.own.fresh ≡ true → w ≡ v → calm.Goes no_events v w

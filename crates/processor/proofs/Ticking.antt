@@ -1,8 +1,6 @@
 -- The work of a seat of the meters.
-use Rattle.processor.proofs.Common.{◌≡◌, ℕ, List, [], ◌∷◌, Result, sym, ap, ◌∙◌, append-nil, Alarm, tick_to, nothing_did, did_both}
-use Rattle.turn_dispatch.specs.Tendings.{DidTend}
+use Rattle.processor.proofs.Common.{◌≡◌, ℕ, List, [], ◌∷◌, Result, sym, ap, ◌∙◌, append-nil, Alarm, tick_to, nothing_did, did_both, DidTend, SeatView, Own, DidTick}
 use Rattle.meters.specs.declared.gauges.AdvanceRefusal.{AdvanceRefusal}
-use Rattle.meters.specs.Own.{SeatView, Own, DidTick}
 use Rattle.processor.proofs.Summing.{dids_add}
 
 -- the alarms were tended

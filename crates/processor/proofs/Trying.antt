@@ -1,25 +1,14 @@
 -- What a step comes to that was tried, by what was done: how it is counted, what its ends did, and what they know.
-use Rattle.processor.proofs.Common.{◌≡◌, ◌+◌, ◌<◌, ⊎_elim, ℕ, Bool, true, false, cond, List, [], ◌∷◌, ◌++◌, map, length, refl, sym, ap, subst, ◌∙◌, arith, eqb_tells, append-nil, QueueIndex, Counted, CountAnswer, IsNumber, counted_step, Tally, AddsToTally, followed_by, call_of, view_of, View, done_at, Keeps, StepOutcome, Rescheduled, Shared, Parts, shown_in, is_done, raised_by, saw_shut, FollowsStep, trying, Climbs, Went, numbers_of, Key, program, Goes, is_last}
+use Rattle.processor.proofs.Common.{◌≡◌, ◌+◌, ◌<◌, ⊎_elim, ℕ, Bool, true, false, cond, List, [], ◌∷◌, ◌++◌, map, length, refl, sym, ap, subst, ◌∙◌, arith, eqb_tells, append-nil, QueueIndex, Counted, CountAnswer, IsNumber, counted_step, Tally, AddsToTally, followed_by, call_of, view_of, View, done_at, Keeps, StepOutcome, Rescheduled, Shared, Parts, shown_in, is_done, raised_by, saw_shut, FollowsStep, trying, Climbs, Went, numbers_of, Key, program, Goes, is_last, QueueEnds, know_shut, EndsWorked, heard_shut, said_shut, slice_get_within, has, IsFree, Moved, queues_by, QueuesDid, RanStep, adds_on}
 use Rattle.std.proofs.lemmas.Bool.{leb-true, and_parts as split}
-use Rattle.turn_io.specs.declared.queue_ends.QueueEnds.{QueueEnds}
-use Rattle.turn_io.specs.Accounts.{know_shut}
-use Rattle.turn_io.proofs.Queues.{EndsWorked, heard_shut, said_shut}
-use Rattle.std.proofs.lemmas.Option.{slice_get_within}
-use Rattle.thread_table.specs.Rules.{has}
-use Rattle.turn_dispatch.specs.Holdings.{IsFree}
 use Rattle.turn_dispatch.proofs.Calm as calm
 use Rattle.turn_dispatch.specs.declared.counting.Counted.TheVariants as counted
 use Rattle.processor.specs.declared.step_outcome.StepOutcome.TheVariants as step_outcomes
-use Rattle.processor.specs.declared.phases.Moved.{Moved}
 use Rattle.processor.specs.declared.phases.Moved.TheVariants as moveds
 use Rattle.processor.specs.declared.phases.HearAnswer.TheVariants as hears
 use Rattle.processor.specs.declared.phases.SayAnswer.TheVariants as says
-use Rattle.processor.specs.Doings.{queues_by}
 use Rattle.processor.specs.Entries.{IsOver, count_of, gone}
-use Rattle.processor.specs.Steps.{QueuesDid}
-use Rattle.processor.specs.Turns.{RanStep}
 use Rattle.meters.specs.Handles as seats
-use Rattle.turn_dispatch.proofs.Tallies.{adds_on}
 use Rattle.processor.proofs.Logging.{known_done}
 use Rattle.processor.proofs.Placing.{queues_worked, chains_worked, seat_worked}
 use Rattle.processor.proofs.Fitted.{few_steps}

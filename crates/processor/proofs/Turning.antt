@@ -1,25 +1,10 @@
 -- What turns come to, by what each of them did.
-use Rattle.processor.proofs.Common.{◌≡◌, ◌<◌, ℕ, suc, true, List, [], ◌∷◌, Option, Some, None, Ok, Err, refl, sym, ap, subst, ◌∙◌, Begun, tick_to, nothing_did, Shared, Parts, view_of, call_of, done_at, Keeps, nothing, shown_in, beginning, LogEntry, HasDone, Ran, Went, KeepsStation, Calls}
-use Rattle.thread_table.specs.Rules.{has}
+use Rattle.processor.proofs.Common.{◌≡◌, ◌<◌, ℕ, suc, true, List, [], ◌∷◌, Option, Some, None, Ok, Err, refl, sym, ap, subst, ◌∙◌, Begun, tick_to, nothing_did, Shared, Parts, view_of, call_of, done_at, Keeps, nothing, shown_in, beginning, LogEntry, HasDone, Ran, Went, KeepsStation, Calls, has, IsFree, retired, signals_for, began_is, idle_is, more_has, raised_goes, retired_goes, found_steps, TurnOutcome, OutcomeFollows, Tended, TurnResultFollows, having, outcome_account, outcome_saw_shut, tending, RanTurns, IsRunnable, CameInOrder, RanTurnsInOrder, TurnInOrder, TurnsInOrder, Sights, HadTurn, TendedBy}
 use Rattle.meters.specs.Handles as seats
-use Rattle.turn_dispatch.specs.Holdings.{IsFree}
-use Rattle.turn_dispatch.specs.Sendings.{retired}
-use Rattle.turn_dispatch.specs.Tallies.{signals_for}
-use Rattle.turn_dispatch.proofs.Beginnings.{began_is, idle_is, more_has}
 use Rattle.turn_dispatch.proofs.Calm as calm
-use Rattle.turn_dispatch.proofs.Raised.{raised_goes}
-use Rattle.turn_dispatch.proofs.Sends.{retired_goes}
-use Rattle.turn_dispatch.proofs.Stepped.{found_steps}
 use Rattle.processor.specs.declared.outcome.TurnResult.{TurnResult}
 use Rattle.processor.specs.declared.outcome.TurnResult.TheVariants as hads
-use Rattle.processor.specs.declared.outcome.TurnOutcome.{TurnOutcome}
 use Rattle.processor.specs.declared.outcome.TurnOutcome.TheVariants as outcomes
-use Rattle.processor.specs.Entries.{OutcomeFollows, Tended, TurnResultFollows, having, outcome_account, outcome_saw_shut, tending}
-use Rattle.processor.specs.Logs.{RanTurns}
-use Rattle.processor.specs.Manning.{IsRunnable}
-use Rattle.processor.specs.Orders.{CameInOrder, RanTurnsInOrder, TurnInOrder, TurnsInOrder}
-use Rattle.processor.specs.Sights.{Sights}
-use Rattle.processor.specs.Turns.{HadTurn, TendedBy}
 use Rattle.processor.proofs.Keeping.{free_still}
 use Rattle.processor.proofs.Logging.{begun_done, done_on, hand_done, leaves, none_done, none_ran, ran_on, retired_done, turn_ran}
 use Rattle.processor.proofs.Ordering.{hooked_of}
@@ -28,7 +13,7 @@ use Rattle.processor.proofs.Summing.{none_shows}
 use Rattle.processor.proofs.Ticking.{tended_ticks}
 use Rattle.processor.proofs.Trying.{ran_went}
 
--- the hand keeps its processors, and none has an element
+-- the hand keeps its processors, the elements on them, and its share
 abbrev KeepsHand : Parts → Parts → Type 0
 KeepsHand old new = Keeps (view_of old.hand) (view_of new.hand)
 

@@ -76,28 +76,6 @@ pub record Shares : Type 0 where
   pub hand : ℕ
   pub meters : ℕ
 
--- no share of anything
-abbrev pub no_shares : Shares
-no_shares = record { queues = λ q. 0; chains = λ q. 0; hand = 0; meters = 0 }
-
--- the shares of two owners, added
-abbrev pub both_shares : Shares → Shares → Shares
-both_shares a b = record {
-  queues = λ q. a.queues q + b.queues q;
-  chains = λ q. a.chains q + b.chains q;
-  hand = a.hand + b.hand;
-  meters = a.meters + b.meters;
-}
-
--- `part` of each share
-abbrev pub each_share : (ℕ → ℕ) → Shares → Shares
-each_share part a = record {
-  queues = λ q. part (a.queues q);
-  chains = λ q. part (a.chains q);
-  hand = part a.hand;
-  meters = part a.meters;
-}
-
 -- the shares that the ends of a station have
 abbrev pub shares : Parts → Shares
 shares parts = record {

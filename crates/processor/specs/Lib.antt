@@ -6,7 +6,6 @@ pub mod Logs
 pub mod Manning
 pub mod Orders
 pub mod Outcomes
-pub mod Partings
 pub mod Pipes
 pub mod Points
 pub mod Preparing

@@ -5,10 +5,9 @@ ghost use Rattle.boot_data.specs.Hearing.{Key};
 ghost use Rattle.boot_data.specs.declared.boot_plan.BootPlan.{BootPlan};
 ghost use Rattle.boot_data.specs.declared.plan.Step.{Step};
 ghost use Rattle.turn_io.specs.Accounts.{AddsUp};
-ghost use Rattle.table_theory.specs.Sharing.{given, kept};
 ghost use Rattle.processor.specs.declared.shared.Shared.{Shared};
 ghost use Rattle.processor.specs.declared.station.Parts.{Parts};
-ghost use Rattle.processor.specs.Accounts.{◌⊕◌, nothing, Shares, no_shares, both_shares, each_share};
+ghost use Rattle.processor.specs.Accounts.{◌⊕◌, nothing};
 ghost use Rattle.processor.specs.Logs.{RanTurns};
 ghost use Rattle.processor.specs.Manning.{IsRunnable, KeepsStation};
 ghost use Rattle.processor.specs.Orders.{RanTurnsInOrder};
@@ -40,11 +39,7 @@ pub fn turns_add_up<G: Watch>()
         → (ran : RanTurns (calls G.observes G.learns) shared p turns gate gate' old new) × (ran.log ≡ turned.log) }
 {}
 
-/// Work adds up. Shares add up too, in any order. The part that a split keeps and the part that it gives make up the
-/// whole.
+/// Work adds up.
 pub fn accounts_add()
-    ensures accounts { AddsUp nothing (λ a b. a ⊕ b) }
-    ensures shares { AddsUp no_shares both_shares }
-    ensures any_order { (a b : Shares) → both_shares a b ≡ both_shares b a }
-    ensures parted { (a : Shares) → both_shares (each_share kept a) (each_share given a) ≡ a }
+    ensures { AddsUp nothing (λ a b. a ⊕ b) }
 {}

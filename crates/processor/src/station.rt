@@ -31,7 +31,7 @@ pub struct Parts {
 /// line that the plan's threads can hear.
 #[derive(Drop)]
 pub struct Station {
-    pub(crate) parts: Parts,
+    pub parts: Parts,
 }
 
 impl Station {

@@ -1,15 +1,6 @@
 -- The effect of a try on the lines of its end.
-use Rattle.std.proofs.Common.{◌≡◌, ℕ, ◌<◌, Bool, List, [], ◌∷◌, ◌++◌, length, refl, sym, ap, subst, ◌∙◌, if◌then◌else◌, arith}
-use Rattle.std.specs.Prelude.{Result, Ok, Err, MatchResult, MatchBool, is_ok}
-use Rattle.std.proofs.lemmas.List.{append-nil}
-use Rattle.claim_queue.specs.Own.{View}
-use Rattle.claim_queue.specs.declared.claim.ClaimRefusal.{ClaimRefusal}
-use Rattle.claim_queue.specs.declared.take.TakeRefusal.{TakeRefusal}
-use Rattle.claim_queue.specs.Lines.{lines_put, lines_taken, SameLines, PutLine, TookLine}
-use Rattle.claim_queue.specs.Takings.{IsLine}
-use Rattle.claim_queue.specs.Puts.{PutAnswer}
+use Rattle.quajects.proofs.Common.{◌≡◌, ℕ, ◌<◌, Bool, List, [], ◌∷◌, ◌++◌, length, refl, sym, ap, subst, ◌∙◌, if◌then◌else◌, arith, Result, Ok, Err, MatchResult, MatchBool, is_ok, append-nil, View, ClaimRefusal, TakeRefusal, lines_put, lines_taken, SameLines, PutLine, TookLine, IsLine, PutAnswer, held_line}
 use Rattle.quajects.specs.Raws.{PutByte}
-use Rattle.quajects.specs.Lines.{held_line}
 
 pub holds_it : (xs : List ℕ) → 0 < length xs → held_line xs ≡ xs ∷ []
 holds_it [] h = absurd (omega arith)

@@ -1,11 +1,5 @@
 -- The lines of a cooked tty.
-use Rattle.std.proofs.Common.{◌≡◌, ℕ, suc, ◌<◌, ◌==◌, Bool, true, false, List, [], ◌∷◌, ◌++◌, map, length, refl, sym, ap, subst, ◌∙◌, if◌then◌else◌, arith}
-use Rattle.std.proofs.lemmas.List.{map-append, append-nil}
-use Rattle.std.proofs.lemmas.Bool.{false≢true, eqb-true}
-use Rattle.claim_queue.specs.Own.{View}
-use Rattle.quajects.specs.Lines.{held_line}
-use Rattle.quajects.specs.Cooked.{kept, after_kills, typed, cooked}
-use Rattle.quajects.specs.Tries.{TriedTake}
+use Rattle.quajects.proofs.Common.{◌≡◌, ℕ, suc, ◌<◌, ◌==◌, Bool, true, false, List, [], ◌∷◌, ◌++◌, map, length, refl, sym, ap, subst, ◌∙◌, if◌then◌else◌, arith, map-append, append-nil, false≢true, eqb-true, View, held_line, kept, after_kills, typed, cooked, TriedTake}
 use Rattle.quajects.specs.Cooks.{CookedRaw}
 use Rattle.quajects.proofs.Answered.{holds_it}
 

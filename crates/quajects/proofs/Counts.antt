@@ -1,13 +1,7 @@
 -- The number of items of lines, modulo 2^64, when a line is added.
-use Rattle.std.proofs.Common.{◌≡◌, ℕ, ◌+◌, ◌*◌, ◌/◌, ◌%◌, ◌^◌, ◌<◌, List, [], ◌∷◌, ◌++◌, length, take, slice_index_or, append_assoc, refl, sym, ap, ◌∙◌, arith, length-append, Bool, true, false, if◌then◌else◌}
-use Rattle.std.specs.List.{concat, flat_map}
+use Rattle.quajects.proofs.Common.{◌≡◌, ℕ, ◌+◌, ◌*◌, ◌/◌, ◌%◌, ◌^◌, ◌<◌, List, [], ◌∷◌, ◌++◌, length, take, slice_index_or, append_assoc, refl, sym, ap, ◌∙◌, arith, length-append, Bool, true, false, if◌then◌else◌, concat, flat_map, append-nil, take_more, flat_map-append, false≢true, held_line, counted}
 use Rattle.std.proofs.lemmas.List.Folds.{concat-append}
-use Rattle.std.proofs.lemmas.List.{append-nil, take_more}
-use Rattle.std.proofs.lemmas.List.Concat.{flat_map-append}
-use Rattle.std.proofs.lemmas.Bool.{false≢true}
 use Rattle.std.proofs.Math.Nat.{add-mul-mod_self_left, div-add-mod}
-use Rattle.quajects.specs.Lines.{held_line}
-use Rattle.quajects.specs.Lines.{counted}
 
 pub mod_add : (m a b : ℕ) → (a % m + b) % m ≡ (a + b) % m
 mod_add m a b = let e : a % m + b + m * (a / m) ≡ a + b = (let d = div-add-mod a m in let x : ℕ = m * (a / m) in let d' : x + a % m ≡ a = d in omega arith) in

@@ -1,12 +1,7 @@
 -- A stack of bytes gives the bytes that are kept.
-use Rattle.std.proofs.Common.{◌≡◌, ℕ, zero, suc, ◌+◌, ◌-◌, ◌<◌, ◌≤◌, ◌||◌, ◌&&◌, not, Bool, true, false, List, [], ◌∷◌, ◌++◌, length, take, refl, sym, ap, ◌∙◌, subst, if◌then◌else◌, arith, get_or, eq-eqb}
-use Rattle.std.proofs.lemmas.List.{take_more}
-use Rattle.std.specs.List.{list_any}
-use Rattle.std.proofs.lemmas.Bool.{ltb-true, lt-ltb, false≢true, ne_eqb}
+use Rattle.quajects.proofs.Common.{◌≡◌, ℕ, zero, suc, ◌+◌, ◌-◌, ◌<◌, ◌≤◌, ◌||◌, ◌&&◌, not, Bool, true, false, List, [], ◌∷◌, ◌++◌, length, take, refl, sym, ap, ◌∙◌, subst, if◌then◌else◌, arith, get_or, eq-eqb, take_more, list_any, ltb-true, lt-ltb, false≢true, ne_eqb, dec_le, is_erase, is_kill, is_other, after_kills, erases, others, outweighs_to, outweighs, kept}
 use Rattle.std.proofs.Math.Bool.{or-true as or_true}
-use native.Mathlib.Decide.{dec_le}
 use Rattle.event_theory.proofs.Lists.Histories.{both}
-use Rattle.quajects.specs.Cooked.{is_erase, is_kill, is_other, after_kills, erases, others, outweighs_to, outweighs, kept}
 
 -- the erases of a stretch that have no byte before them to take back
 abbrev pub unmatched : List ℕ → ℕ

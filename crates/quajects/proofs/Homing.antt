@@ -1,29 +1,13 @@
 -- A quaject that came home.
-use Rattle.std.proofs.Common.{◌≡◌, ℕ, suc, ◌≤◌, ◌%◌, ◌^◌, List, [], ◌∷◌, map, length, take, refl, sym, ap, subst, ◌∙◌, arith}
-use Rattle.std.specs.Prelude.{Option, Some, None}
-use Rattle.std.specs.List.{AllByRecursion}
-use Rattle.std.proofs.lemmas.List.{length-map, length-take-le}
-use Rattle.table_theory.specs.Positioned.{item_of}
-use Rattle.claim_queue.specs.Plain.{ClaimQueue}
+use Rattle.quajects.proofs.Common.{◌≡◌, ℕ, suc, ◌≤◌, ◌%◌, ◌^◌, List, [], ◌∷◌, map, length, take, refl, sym, ap, subst, ◌∙◌, arith, Option, Some, None, AllByRecursion, length-map, length-take-le, item_of, ClaimQueue, suits, makes, notes_of, Way, AnyQuaject, IsHome, CameHome, Batch, AllRaised, view_of, line_of, Post, AllFit, AllUp, post_of, post_at, WaysFit, port_of, way_post, TookNothing}
 use Rattle.proc_chain.specs.Own.{View, queue_of}
 use Rattle.proc_chain.specs.declared.rule.Pact.{Pact}
-use Rattle.proc_chain.specs.Rules.{suits, makes}
 use Rattle.proc_chain.specs.Closings.{ClosedNow}
-use Rattle.proc_chain.specs.Shown.{notes_of}
 use Rattle.quajects.specs.declared.world.Queues.{Queues}
 use Rattle.quajects.specs.declared.home.Home.{Home}
 use Rattle.quajects.specs.declared.ports.Port.{Port}
-use Rattle.quajects.specs.declared.ways.Way.{Way}
-use Rattle.quajects.specs.declared.any.AnyQuaject.{AnyQuaject}
 use Rattle.quajects.specs.declared.any.AnyQuaject.TheVariants as any
 use Rattle.quajects.specs.Anys as anys
-use Rattle.quajects.specs.Homes.{IsHome, CameHome}
-use Rattle.table_theory.specs.declared.queues.Batch.{Batch}
-use Rattle.table_theory.specs.Listing.{AllRaised}
-use Rattle.claim_queue.specs.Handles.{view_of}
-use Rattle.claim_queue.specs.Lines.{line_of}
-use Rattle.quajects.specs.Ports.{Post, AllFit, AllUp, post_of, post_at}
-use Rattle.quajects.specs.Routes.{WaysFit, port_of, way_post, TookNothing}
 use Rattle.quajects.specs.Switches as switches
 
 -- the law of its type

@@ -1,25 +1,10 @@
 -- The ends of a queue that are joined, one after the other.
-use Rattle.std.proofs.Common.{◌≡◌, ℕ, zero, suc, ◌+◌, ◌-◌, List, [], ◌∷◌, ◌++◌, map, drop, length, sym, ap, subst, ◌∙◌, arith}
-use Rattle.std.specs.Prelude.{Option, Some, Result, Ok, Err, IfOk, IfErr}
-use Rattle.std.specs.List.{All, flat_map}
-use Rattle.std.proofs.lemmas.List.{append-nil, map-append, drop-map, length-map, length-drop}
-use Rattle.std.proofs.lemmas.List.Concat.{flat_map-append}
+use Rattle.quajects.proofs.Common.{◌≡◌, ℕ, zero, suc, ◌+◌, ◌-◌, List, [], ◌∷◌, ◌++◌, map, drop, length, sym, ap, subst, ◌∙◌, arith, Option, Some, Result, Ok, Err, IfOk, IfErr, All, flat_map, append-nil, map-append, drop-map, length-map, length-drop, flat_map-append, Batch, AllRaised, item_of, Part, QueueOps, QueueEnd, View, WereOpen, view_of, line_of, lines_put, lines_taken, IsSettled, views_of, share_of, shuts_of, runs_of, takings_of, HasRaised, HasAll, SettledNow, StillOpen}
 use Rattle.std.proofs.lemmas.List.Sums.{sum_by_push}
-use Rattle.table_theory.specs.declared.queues.Batch.{Batch}
-use Rattle.table_theory.specs.Listing.{AllRaised}
-use Rattle.table_theory.specs.Positioned.{item_of}
 use Rattle.table_theory.specs.Sharing.{IsWhole}
-use Rattle.table_theory.specs.declared.views.Part.{Part}
-use Rattle.claim_queue.specs.declared.rule.QueueOps.{QueueOps}
-use Rattle.claim_queue.specs.declared.ends.QueueEnd.{QueueEnd}
-use Rattle.claim_queue.specs.Own.{View}
 use Rattle.claim_queue.specs.Closings.{ClosedNow, shown}
 use Rattle.claim_queue.specs.Layout.{ends_word}
-use Rattle.table_theory.specs.Ledgers.{WereOpen}
 use Rattle.claim_queue.specs.Endings.{JoinedBy}
-use Rattle.claim_queue.specs.Handles.{view_of}
-use Rattle.claim_queue.specs.Lines.{line_of, lines_put, lines_taken, IsSettled}
-use Rattle.quajects.specs.Settled.{views_of, share_of, shuts_of, runs_of, takings_of, HasRaised, HasAll, SettledNow, StillOpen}
 
 -- an end alone has what it has
 pub alone_has : (v : View) → HasAll (v ∷ []) v

@@ -1,3 +1,4 @@
+pub mod Common
 pub mod Named
 pub mod Worlds
 pub mod Staying

@@ -3,13 +3,11 @@ use Rattle.std.proofs.Common.{◌≡◌, ℕ, ◌+◌, ◌≤◌, false, List, [
 use Rattle.std.proofs.Math.Logic.{∥∥₁_elim}
 use native.Mathlib.Nat.{ℕ_set}
 use mathlib.Core.List.{is_set}
-use Rattle.std.specs.List.{AllByRecursion}
+use Rattle.quajects.proofs.Common.{AllByRecursion, Part, Step, load, Performed, IsValidChainView, notes_of, LostTry, IsLost, tried, Link, linked, IsLink, Service, served, notes_in, with_service}
 use Rattle.atomic_table.specs.Table.{Me}
 use Rattle.table_theory.specs.declared.queues.Positions.{Positions}
 use Rattle.table_theory.specs.declared.views.AbsState.{AbsState}
-use Rattle.table_theory.specs.declared.views.Part.{Part}
 use Rattle.table_theory.specs.Batches.{IsPast}
-use Rattle.table_theory.specs.Ledgers.{Step, load, Performed}
 use Rattle.table_theory.proofs.Parting.{made_none, made_on}
 use Rattle.table_theory.proofs.Reaching.{all_on, passes_since}
 use Rattle.proc_chain.specs.declared.rule.ChainOps.{ChainOps}
@@ -21,14 +19,11 @@ use Rattle.proc_chain.specs.declared.chaining.ChainRefusal.{ChainRefusal}
 use Rattle.proc_chain.specs.declared.chaining.ChainRefusal.TheVariants.{Spent, Full, Lost}
 use Rattle.proc_chain.specs.Own.{View, queue_of}
 use Rattle.proc_chain.specs.Happenings.{of_chains}
-use Rattle.proc_chain.specs.Rules.{IsValidChainView}
-use Rattle.proc_chain.specs.Shown.{notes_of}
 use Rattle.proc_chain.specs.Answers.{ChainedNow, NotChained, with_run, with_turn}
 use Rattle.proc_chain.specs.Notes.{line_of, notes_put, alone, PutNote}
 use Rattle.proc_chain.specs.Servings.{AllServed}
 use Rattle.proc_chain.specs.Turns.{HasOrGave, MadeSince}
 use Rattle.proc_chain.specs.Layout.{head_word, tail_word}
-use Rattle.proc_chain.specs.Links.{LostTry, IsLost, tried, Link, linked, IsLink, Service, served, notes_in, with_service}
 use Rattle.quajects.specs.Notings.{IsRun, IsLeft, Noted}
 
 tried_on : (lost more : List LostTry) → tried (lost ++ more) ≡ tried lost ++ tried more

@@ -1,22 +1,8 @@
 -- The lines of a switch, when the held line is put.
-use Rattle.std.proofs.Common.{◌≡◌, ◌≢◌, ℕ, zero, suc, ◌+◌, ◌<◌, ◌≤◌, ◌⊎◌, inl, inr, ⊎_elim, ◌&&◌, not, Bool, true, false, List, [], ◌∷◌, ◌++◌, cond, map, length, slice_set, slice_index_or, refl, sym, ap, ◌∙◌, subst, arith, eq-eqb}
-use Rattle.std.specs.Prelude.{Option, Some, None, slice_index}
-use Rattle.std.specs.List.{slice_get, filter, All, AllZip}
-use Rattle.std.proofs.lemmas.List.{append-nil}
-use native.Mathlib.Decide.{dec_le}
-use Rattle.std.proofs.lemmas.Bool.{ne_eqb}
+use Rattle.quajects.proofs.Common.{◌≡◌, ◌≢◌, ℕ, zero, suc, ◌+◌, ◌<◌, ◌≤◌, ◌⊎◌, inl, inr, ⊎_elim, ◌&&◌, not, Bool, true, false, List, [], ◌∷◌, ◌++◌, cond, map, length, slice_set, slice_index_or, refl, sym, ap, ◌∙◌, subst, arith, eq-eqb, Option, Some, None, slice_index, slice_get, filter, All, AllZip, append-nil, dec_le, ne_eqb, view_of, lines_put, ClaimQueue, QueueEnd, IsEndAt, post_of, TriedPut, Way, held_line, key_of, way_post, begins, begins_none, Routed, Given, IsGiven, IsGivenFit, given_key, given_index, given_end, index_of, end_of, RoutesEach, RoutesRest, KeysDiffer, WaysFit, TriedWay}
 use Rattle.std.proofs.lemmas.Option.{none-some, same_Some}
 use Rattle.std.proofs.Math.Bool.{and-false}
-use Rattle.claim_queue.specs.Handles.{view_of}
-use Rattle.claim_queue.specs.Lines.{lines_put}
-use Rattle.claim_queue.specs.Plain.{ClaimQueue}
-use Rattle.claim_queue.specs.declared.ends.QueueEnd.{QueueEnd}
-use Rattle.quajects.specs.Ports.{IsEndAt, post_of}
-use Rattle.quajects.specs.Tries.{TriedPut}
 use Rattle.quajects.specs.declared.ports.Outlet.{Outlet}
-use Rattle.quajects.specs.declared.ways.Way.{Way}
-use Rattle.quajects.specs.Lines.{held_line}
-use Rattle.quajects.specs.Routes.{key_of, way_post, begins, begins_none, Routed, Given, IsGiven, IsGivenFit, given_key, given_index, given_end, index_of, end_of, RoutesEach, RoutesRest, KeysDiffer, WaysFit, TriedWay}
 
 set_get : {A : Type 0} (l : List A) (i j : ℕ) (x y : A) → slice_get (slice_set l i x) j ≡ Some y → ((j ≡ i) × (x ≡ y)) ⊎ ((j ≢ i) × (slice_get l j ≡ Some y))
 set_get [] i j x y e = cc

@@ -1,16 +1,7 @@
 -- The parts of an end that no try changes.
-use Rattle.std.proofs.Common.{◌≡◌, ℕ, List, length, refl, ap, ◌∙◌}
-use Rattle.std.specs.Prelude.{Result, Ok, Err, MatchResult}
-use Rattle.claim_queue.specs.declared.rule.QueueOps.{QueueOps}
-use Rattle.claim_queue.specs.declared.ends.QueueEnd.{QueueEnd}
-use Rattle.claim_queue.specs.declared.claim.ClaimRefusal.{ClaimRefusal}
-use Rattle.claim_queue.specs.declared.take.TakeRefusal.{TakeRefusal}
+use Rattle.quajects.proofs.Common.{◌≡◌, ℕ, List, length, refl, ap, ◌∙◌, Result, Ok, Err, MatchResult, QueueOps, QueueEnd, ClaimRefusal, TakeRefusal, view_of, IsSameEnd, IsPut, TookItems, RefusedTake, IsLine, IsBegun, post_of}
 use Rattle.claim_queue.specs.Answers.{Refused}
-use Rattle.claim_queue.specs.Handles.{view_of, IsSameEnd}
-use Rattle.claim_queue.specs.Puts.{IsPut}
-use Rattle.claim_queue.specs.Takings.{TookItems, RefusedTake, IsLine, IsBegun}
 use Rattle.claim_queue.proofs.Answered.{Does, put_own, refused_own, took_own, refused_take_own}
-use Rattle.quajects.specs.Ports.{post_of}
 
 module _ {n : ℕ} (index index' : ℕ) (old new : QueueEnd n) where
   -- the same end of the same queue, with the same share, that has shut the queue equally often

@@ -1,9 +1,7 @@
-//! The tests of `claim_queue`, `proc_chain`, `quajects` and `turn_io`, in a crate of their own: in the crate of a
-//! library they would prove it once more, and each crate of tests links all its dependencies.
+//! The tests of `claim_queue`, `proc_chain` and `quajects`, in a crate of their own: in the crate of a library they would
+//! prove it once more, and each crate of tests links all its dependencies.
 #![tactic(auto)]
 
-#[cfg(test)]
-mod at_ends;
 #[cfg(test)]
 mod chains;
 #[cfg(test)]

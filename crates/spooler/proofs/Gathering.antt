@@ -1,18 +1,5 @@
 -- An end that took in others, one after the other, and what those had put.
-use Rattle.std.specs.Global.{Vec}
-use Rattle.std.proofs.Common.{◌≡◌, ℕ, suc, ◌+◌, ◌<◌, List, [], ◌∷◌, ◌++◌, ◌∙◌, map, length, get_or, refl, sym, ap, arith, append_assoc}
-use Rattle.std.proofs.lemmas.List.{append-nil}
-use Rattle.table_theory.specs.declared.queues.Batch.{Batch}
-use Rattle.table_theory.specs.Interleaving.{joined}
-use Rattle.table_theory.specs.Sharing.{total}
-use Rattle.claim_queue.specs.declared.ends.QueueEnd.{QueueEnd}
-use Rattle.claim_queue.specs.Own.{View}
-use Rattle.claim_queue.specs.Endings.{JoinedBy}
-use Rattle.claim_queue.specs.Handles.{view_of}
-use Rattle.spooler.specs.declared.line.Line.{Line}
-use Rattle.spooler.specs.Doings.{HasPut}
-use Rattle.spooler.specs.Ends.{Gathered, PutsEach}
-use Rattle.spooler.specs.Lines.{lines_of}
+use Rattle.spooler.proofs.Common.{Vec, ◌≡◌, ℕ, suc, ◌+◌, ◌<◌, List, [], ◌∷◌, ◌++◌, ◌∙◌, map, length, get_or, refl, sym, ap, arith, append_assoc, append-nil, Batch, joined, total, QueueEnd, View, JoinedBy, view_of, Line, HasPut, Gathered, PutsEach, lines_of}
 
 joined_push : (f : View → List Batch) (us : List View) (u : View) → joined (map f (us ++ u ∷ [])) ≡ joined (map f us) ++ f u
 joined_push f [] u = append-nil (f u)

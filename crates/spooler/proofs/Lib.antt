@@ -1,3 +1,4 @@
+pub mod Common
 pub mod Putting
 pub mod Taking
 pub mod Wholes

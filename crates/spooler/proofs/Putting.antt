@@ -1,12 +1,7 @@
 -- Lines that a producer put, one after the other.
-use Rattle.std.proofs.Common.{ℕ, List, [], ◌∷◌, ◌++◌, ◌∙◌, refl, sym, ap, append_assoc, Result}
-use Rattle.std.proofs.lemmas.List.{append-nil}
-use Rattle.claim_queue.specs.Own.{View}
+use Rattle.spooler.proofs.Common.{ℕ, List, [], ◌∷◌, ◌++◌, ◌∙◌, refl, sym, ap, append_assoc, Result, append-nil, View, lines_put, SameLines, PutLine, answer_order, HasPut}
 use Rattle.claim_queue.specs.declared.claim.ClaimRefusal.{ClaimRefusal}
-use Rattle.claim_queue.specs.Lines.{lines_put, SameLines, PutLine}
 use Rattle.claim_queue.specs.Puts.{PutAnswer}
-use Rattle.claim_queue.proofs.Ordered.{answer_order}
-use Rattle.spooler.specs.Doings.{HasPut}
 
 -- one line was put
 pub put_one : (room : ℕ) (v w : View) (items : List ℕ) (r : Result ℕ ClaimRefusal) → PutAnswer room v items r w → PutLine items v w → HasPut (items ∷ []) v w

@@ -1,29 +1,11 @@
 -- The closed queue's lines, as its producers put them and its takers took them.
-use Rattle.std.proofs.Common.{◌≡◌, ℕ, zero, suc, ◌≤◌, true, List, [], ◌∷◌, ◌++◌, ◌∙◌, map, length, take, refl, sym, ap, subst, arith}
-use Rattle.std.specs.Global.{Vec}
+use Rattle.spooler.proofs.Common.{◌≡◌, ℕ, zero, suc, ◌≤◌, true, List, [], ◌∷◌, ◌++◌, ◌∙◌, map, length, take, refl, sym, ap, subst, arith, Vec, concat, append-nil, length-map, ∥∥₁_elim, ∥∥₁_map, ℕ_set, take-length, some, some-injective, some-ne-none, get_elem?, Batch, Ascending, InOrder, joined, Interleaves, Grows, item_of, total, View, part_of, line_of, lines_taken, Line, HasTaken, KeepsPuts, Gathered, PutsEach, lines_of}
 use Rattle.std.specs.Prelude.{Option}
-use Rattle.std.specs.List.{concat}
-use Rattle.std.proofs.lemmas.List.{append-nil, length-map}
-use Rattle.std.proofs.Math.Logic.{∥∥₁_elim, ∥∥₁_map}
-use Rattle.std.proofs.Math.Nat.{ℕ_set}
-use Rattle.std.proofs.Math.Seq.{take-length}
-use mathlib.Core.Option.{some, some-injective, some-ne-none}
-use lib.ListN.{get_elem?}
-use Rattle.table_theory.specs.declared.queues.Batch.{Batch}
 use Rattle.table_theory.specs.declared.queues.Positions.{Positions}
-use Rattle.table_theory.specs.Interleaving.{Ascending, InOrder, joined, Interleaves}
-use Rattle.table_theory.specs.Positioned.{Grows, item_of}
-use Rattle.table_theory.specs.Sharing.{total}
 use Rattle.table_theory.proofs.Interleaving.{runs_merge, takes_merge}
 use Rattle.table_theory.proofs.Ordering.{order_none}
 use Rattle.table_theory.proofs.Positioned.{grows_trans}
-use Rattle.claim_queue.specs.Own.{View, part_of}
 use Rattle.claim_queue.specs.Closings.{ClosedNow}
-use Rattle.claim_queue.specs.Lines.{line_of, lines_taken}
-use Rattle.spooler.specs.declared.line.Line.{Line}
-use Rattle.spooler.specs.Doings.{HasTaken, KeepsPuts}
-use Rattle.spooler.specs.Ends.{Gathered, PutsEach}
-use Rattle.spooler.specs.Lines.{lines_of}
 use Rattle.spooler.specs.Spooled.{IsSpooled}
 use Rattle.spooler.proofs.Wholes.{AllWhole, all_whole, order_whole, one_cut}
 

@@ -1,27 +1,14 @@
 -- What a taker took and kept.
-use Rattle.std.proofs.Common.{◌≡◌, ◌≤◌, true, take, drop, arith, List, [], ◌∷◌, ◌++◌, ◌∙◌, ℕ, ◌<◌, length, ap, sym, subst, append_assoc}
+use Rattle.spooler.proofs.Common.{◌≡◌, ◌≤◌, true, take, drop, arith, List, [], ◌∷◌, ◌++◌, ◌∙◌, ℕ, ◌<◌, length, ap, sym, subst, append_assoc, length-map, length-take, length-drop, ∥∥₁_elim, ℕ_set, item_of, with_take, QueueEnd, view_of, View, of_queues, lines_put, lines_taken, SameLines, TookLine, TakesInOrder, IsBegun, IsLine, TookItems, RefusedTake, scanned, refused_order, took_order, order_of, by_both, seen_room, HasTaken, KeepsPuts}
 use Rattle.std.proofs.Math.Bool.{Bool-set}
 use Rattle.std.proofs.Math.Bridge.{le_prop}
-use Rattle.std.proofs.lemmas.List.{length-map, length-take, length-drop}
-use Rattle.std.proofs.Math.Logic.{∥∥₁_elim}
-use Rattle.std.proofs.Math.Nat.{ℕ_set}
 use Rattle.table_theory.specs.Ledgers.{load, change, IsValidView}
-use Rattle.table_theory.specs.Positioned.{item_of, with_take}
 use Rattle.table_theory.proofs.Reaching.{passes_since}
-use Rattle.claim_queue.specs.declared.ends.QueueEnd.{QueueEnd}
-use Rattle.claim_queue.specs.Handles.{view_of}
 use Rattle.claim_queue.specs.Layout.{tail_word}
-use Rattle.claim_queue.specs.Own.{View, of_queues}
 use Rattle.claim_queue.specs.declared.take.TakeRefusal.{TakeRefusal}
 use Rattle.claim_queue.specs.declared.take.TakeRefusal.TheVariants.{Closed}
-use Rattle.claim_queue.specs.Lines.{lines_put, lines_taken, SameLines, TookLine}
-use Rattle.claim_queue.specs.Orders.{TakesInOrder}
-use Rattle.claim_queue.specs.Takings.{IsBegun, IsLine, TookItems, RefusedTake, scanned}
-use Rattle.claim_queue.proofs.Ordered.{refused_order, took_order, order_of}
-use Rattle.claim_queue.proofs.Certain.{by_both, seen_room}
 use Rattle.claim_queue.proofs.Saying.{done_says}
 use Rattle.table_theory.proofs.Saying.{passes_split}
-use Rattle.spooler.specs.Doings.{HasTaken, KeepsPuts}
 
 -- one line more was taken, and kept
 pub more_taken : (u v w : View) (items : List ℕ) (kept kept' : List (List ℕ)) → TookLine items v w → lines_taken v ≡ lines_taken u ++ kept → kept' ≡ kept ++ items ∷ [] → lines_taken w ≡ lines_taken u ++ kept'

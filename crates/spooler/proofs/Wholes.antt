@@ -1,18 +1,8 @@
 -- Which lists of items are lines, and that items are cut into lines in one way.
-use Rattle.std.proofs.Common.{◌≡◌, ◌≢◌, ⊎_elim, ℕ, ◌+◌, ◌-◌, ◌<◌, ◌≤◌, List, [], ◌∷◌, ◌++◌, ◌∙◌, length, get_or, take, drop, set, refl, sym, ap, subst, arith}
-use Rattle.std.specs.List.{concat}
-use Rattle.std.proofs.lemmas.List.{get_or_append_left, length-append, take-append-le}
-use Rattle.std.proofs.Math.Seq.{drop-append_seam, get_or-append_seam, take-length}
-use mathlib.Core.Option.{some}
+use Rattle.spooler.proofs.Common.{◌≡◌, ◌≢◌, ⊎_elim, ℕ, ◌+◌, ◌-◌, ◌<◌, ◌≤◌, List, [], ◌∷◌, ◌++◌, ◌∙◌, length, get_or, take, drop, set, refl, sym, ap, subst, arith, concat, get_or_append_left, length-append, take-append-le, drop-append_seam, get_or-append_seam, take-length, some, get_elem?, IsLine, Interleaves, Line, lines_of, IsWhole}
 use mathlib.Core.Logic.{dite}
 use native.Mathlib.Decide.{ℕ_discrete}
-use lib.ListN.{get_elem?}
 use Rattle.atomic_table.proofs.Lists.{at_set}
-use Rattle.claim_queue.specs.Takings.{IsLine}
-use Rattle.table_theory.specs.Interleaving.{Interleaves}
-use Rattle.spooler.specs.declared.line.Line.{Line}
-use Rattle.spooler.specs.Lines.{lines_of}
-use Rattle.spooler.specs.Wholes.{IsWhole}
 
 -- a text without an end of a line, followed by an end of a line
 pub whole_of : (text : List ℕ) → length text < 64 → ((k : ℕ) → k < length text → get_or text k 0 ≢ 10) → IsWhole (text ++ 10 ∷ [])

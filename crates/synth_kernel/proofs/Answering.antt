@@ -1,17 +1,10 @@
 -- Answers of a boot, from those of its parts.
-use Rattle.synth_kernel.proofs.Common.{◌≡◌, ℕ, suc, ◌+◌, List, [], ◌∷◌, length, Option, Some, None, refl, sym, ap, subst, ◌∙◌, AllByRecursion, BootPlan, TornDown, Calls, Shared, Parts, LogEntry, Leaves, HooksSaw, BootWithHooks}
-use Rattle.std.proofs.Common.{◌==◌, Result, Ok, Err, IfOk, eq-eqb, ne_eqb}
+use Rattle.synth_kernel.proofs.Common.{◌≡◌, ℕ, suc, ◌+◌, List, [], ◌∷◌, length, Option, Some, None, refl, sym, ap, subst, ◌∙◌, AllByRecursion, BootPlan, TornDown, Calls, Shared, Parts, LogEntry, Leaves, HooksSaw, BootWithHooks, ◌==◌, Result, Ok, Err, IfOk, eq-eqb, ne_eqb, Tended, HookedTurns, TendedBy, Ended, IsLogOf, AreLogs, LogsHaveTurns, HookSaw, SawNothing, CameBackPlain, IsRun, Says, IsBoot, IsBootAnswer, RunsOf}
 use Rattle.std.specs.Option.{is_some}
-use Rattle.processor.specs.Entries.{Tended}
-use Rattle.processor.specs.Points.{HookedTurns}
-use Rattle.processor.specs.Turns.{TendedBy}
 use Rattle.boot_laws.specs.ClosedTables.{ClosedTables}
 use Rattle.turn_io.specs.declared.gate.NoGate.{NoGate}
 use Rattle.synth_kernel.specs.declared.printing.Booted.{Booted}
-use Rattle.synth_kernel.specs.declared.outcome.Ended.{Ended}
 use Rattle.synth_kernel.specs.declared.outcome.BootFault.{BootFault}
-use Rattle.synth_kernel.specs.Boots.{IsLogOf, AreLogs, LogsHaveTurns, HookSaw, SawNothing, CameBackPlain, IsRun, Says, IsBoot, IsBootAnswer}
-use Rattle.boot_threads.specs.Works.{RunsOf}
 
 -- the answer alone
 pub alone : (Did : BootPlan → ClosedTables → List (List LogEntry) → Type 0) (read : Option (List ℕ)) (ended : Ended) (old new : Option (List ℕ)) → IsBoot Did read ended old new → IsBootAnswer Did read ended

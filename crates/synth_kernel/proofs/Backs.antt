@@ -1,10 +1,6 @@
 -- The results of all threads, by the works: the stations of the processors, followed by the results of the devices.
-use Rattle.synth_kernel.proofs.Common.{◌≡◌, ◌≤◌, ℕ, zero, suc, ◌+◌, true, List, [], ◌∷◌, ◌++◌, map, length, Option, Some, Result, Ok, Err, slice_get, refl, sym, ap, subst, ◌∙◌, arith, length-map, AllZip, PlannedTty, Calls, AllThree, Device, Shared, Parts, Work, Worked, back_of, GaveBack, AreServing, ArePosted, Back, HasWorked, Served, processed_in, served_in, all_there}
-use Rattle.std.proofs.Common.{take}
-use Rattle.std.proofs.lemmas.List.{nil_from_length}
+use Rattle.synth_kernel.proofs.Common.{◌≡◌, ◌≤◌, ℕ, zero, suc, ◌+◌, true, List, [], ◌∷◌, ◌++◌, map, length, Option, Some, Result, Ok, Err, slice_get, refl, sym, ap, subst, ◌∙◌, arith, length-map, AllZip, PlannedTty, Calls, AllThree, Device, Shared, Parts, Work, Worked, back_of, GaveBack, AreServing, ArePosted, Back, HasWorked, Served, processed_in, served_in, all_there, take, nil_from_length, IsServing, RunsOf, RefusalsOf}
 use Rattle.boot_threads.specs.declared.work.Worked.TheVariants as worked
-use Rattle.boot_threads.specs.Readiness.{IsServing}
-use Rattle.boot_threads.specs.Works.{RunsOf, RefusalsOf}
 
 abbrev pub back_served : {G : Type 0} → Served → Back G
 back_served one = Ok (worked.Served one.line one.tty)

@@ -1,21 +1,15 @@
 -- The work of the ends that closed all, except the work of the devices.
-use Rattle.synth_kernel.proofs.Common.{◌≡◌, ℕ, zero, suc, ◌+◌, List, [], ◌∷◌, map, length, Option, Some, refl, ap, ◌∙◌, arith, slice_get, BootPlan, TookRaws, Parts, RawTty}
-use Rattle.std.proofs.Common.{◌<◌, ◌==◌, Bool, false, ne_eqb}
+use Rattle.synth_kernel.proofs.Common.{◌≡◌, ℕ, zero, suc, ◌+◌, List, [], ◌∷◌, map, length, Option, Some, refl, ap, ◌∙◌, arith, slice_get, BootPlan, TookRaws, Parts, RawTty, ◌<◌, ◌==◌, Bool, false, ne_eqb, Line, raw_ports, account, shown_in, end_of, DidAll}
 use Rattle.std.specs.Prelude.{if◌then◌else◌, slice_index_or}
-use Rattle.boot_data.specs.Hearing.{Line}
 use Rattle.boot_objects.proofs.Common.{dids_add}
 use Rattle.boot_objects.specs.Gains.{Gained, port_stakes}
-use Rattle.boot_objects.specs.RawEnds.{raw_ports}
 use Rattle.claim_queue.specs.declared.ends.QueueEnd.{QueueEnd}
 use Rattle.claim_queue.specs.declared.rule.QueueOps.{QueueOps}
 use Rattle.claim_queue.specs.Own.{nothing_did, did_both}
 use Rattle.meters.specs.Handles as seats
-use Rattle.processor.specs.Accounts.{account, shown_in}
-use Rattle.quajects.specs.Raws.{end_of}
 use Rattle.thread_table.specs.Handles.{view_of}
 use Rattle.turn_dispatch.specs.Tallies.{tally}
 use Rattle.turn_io.specs.Accounts.{Stake, no_stake, both_stakes, stake, stakes, at_each, lines_of, queue_account, chain_stake, idle_chain}
-use Rattle.synth_kernel.specs.Boots.{DidAll}
 
 -- if two lists agree at a place, the mapped lists agree there
 same_at : {A B : Type 0} (f : A → B) (d : B) (xs ys : List A) (k : ℕ) → slice_get xs k ≡ slice_get ys k → slice_index_or (map f xs) k d ≡ slice_index_or (map f ys) k d

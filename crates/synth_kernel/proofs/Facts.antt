@@ -1,24 +1,17 @@
 -- What a boot knows of what came back, by the works that it gave.
-use Rattle.synth_kernel.proofs.Common.{◌≡◌, ℕ, zero, suc, ◌+◌, List, [], ◌∷◌, map, drop, length, Option, Some, Result, slice_get, refl, sym, ap, subst, ◌∙◌, arith, length-map, AllZip, PlannedTty, AreRawsOf, Calls, AllThree, Device, Shared, RawTty, Typed, LineIn, IsLine, Work, Worked, GaveBack, AreServing, input_of, AreTyped, Back, HasWorked, Served, served_in, tty_of, TotalsAre}
-use Rattle.std.proofs.Common.{◌<◌, ◌%◌}
+use Rattle.synth_kernel.proofs.Common.{◌≡◌, ℕ, zero, suc, ◌+◌, List, [], ◌∷◌, map, drop, length, Option, Some, Result, slice_get, refl, sym, ap, subst, ◌∙◌, arith, length-map, AllZip, PlannedTty, AreRawsOf, Calls, AllThree, Device, Shared, RawTty, Typed, LineIn, IsLine, Work, Worked, GaveBack, AreServing, input_of, AreTyped, Back, HasWorked, Served, served_in, tty_of, TotalsAre, ◌<◌, ◌%◌, HaveBack, tty_shares, end_of, bytes_received, IsDeviceBack, device_of, device_back, short, RunsOf, RefusalsOf}
 use Rattle.std.proofs.lemmas.Option.{slice_get_within as at_below}
 use Rattle.boot_data.specs.QueueLists.{raw_queue}
-use Rattle.boot_objects.specs.Wholes.{HaveBack, tty_shares}
 use Rattle.boot_objects.specs.Devices.{AreDevicesOf}
 use Rattle.boot_objects.specs.DeviceEndings.{DeviceEnded}
 use Rattle.processor.specs.RawEnds.{IsRawAt}
-use Rattle.quajects.specs.Raws.{end_of}
 use Rattle.quajects.proofs.Routes.{mapped_at}
 use Rattle.boot_report.specs.Shown.{ShowsDevice, ShowsDevices}
 use Rattle.boot_laws.specs.ClosedTables as closed
 use Rattle.spsc_line.specs.declared.line_out.LineOut.{LineOut}
-use Rattle.spsc_line.specs.Lines.{bytes_received}
 use Rattle.boot_threads.specs.declared.work.Worked.TheVariants as worked
-use Rattle.boot_threads.specs.Backs.{IsDeviceBack, device_of}
-use Rattle.boot_threads.proofs.Returning.{device_back, short}
 use Rattle.event_theory.proofs.Lists.Placed.{there as some_at, zip_from}
 use Rattle.synth_kernel.proofs.Backs.{Sorted, served_after}
-use Rattle.boot_threads.specs.Works.{RunsOf, RefusalsOf}
 
 -- LISTS
 

@@ -1,8 +1,6 @@
 -- What a boot knows when all that it gave its threads came back, and all was joined and closed.
-use Rattle.synth_kernel.proofs.Common.{◌≡◌, ◌≤◌, ℕ, zero, suc, ◌+◌, true, List, [], ◌∷◌, map, drop, length, Option, Some, Ok, flat_map, refl, sym, ap, subst, ◌∙◌, arith, length-map, All, AllZip, AllByRecursion, BootPlan, Report, TornDown, AllClosed, AreRawsOf, TookRaws, HasWholes, Calls, AllThree, Shared, Parts, LogEntry, Leaves, hear_count, ArePartsOf, heard_lines, AllJoined, Typed, IsReported, LineIn, IsLine, Work, Processed, Worked, parts_of, gate_of, back_of, GaveBack, input_of, ArePosted, AreTyped, Back, HasWorked, as_many_posts, Served, Ready, IsBootOf, HooksSaw, BootWithHooks, processed_in, served_in, all_there, tty_of, TotalsAre, IsReady}
-use Rattle.boot_data.specs.Hearing.{Key}
+use Rattle.synth_kernel.proofs.Common.{◌≡◌, ◌≤◌, ℕ, zero, suc, ◌+◌, true, List, [], ◌∷◌, map, drop, length, Option, Some, Ok, flat_map, refl, sym, ap, subst, ◌∙◌, arith, length-map, All, AllZip, AllByRecursion, BootPlan, Report, TornDown, AllClosed, AreRawsOf, TookRaws, HasWholes, Calls, AllThree, Shared, Parts, LogEntry, Leaves, hear_count, ArePartsOf, heard_lines, AllJoined, Typed, IsReported, LineIn, IsLine, Work, Processed, Worked, parts_of, gate_of, back_of, GaveBack, input_of, ArePosted, AreTyped, Back, HasWorked, as_many_posts, Served, Ready, IsBootOf, HooksSaw, BootWithHooks, processed_in, served_in, all_there, tty_of, TotalsAre, IsReady, Key, Account, account, AllTurned, CameTogether, all_back, freed_spare, posts_first, DidAll, RunsOf, RefusalsOf}
 use Rattle.boot_objects.proofs.Backs.{come_home}
-use Rattle.processor.specs.Accounts.{Account, account}
 use Rattle.boot_report.proofs.Shutting.{ends, heard_is_few, shown as all_shown}
 use Rattle.boot_laws.proofs.Boots.ShutDown.{Shutdown, IsShutDown, boot_shut, closed_shut, came_home, worked}
 use Rattle.boot_laws.specs.Endings.{FreedSpare}
@@ -10,16 +8,10 @@ use Rattle.boot_laws.proofs.Boots.Booting.{report_agrees}
 use Rattle.quajects.specs.Homes.{homes_in}
 use Rattle.boot_threads.specs.declared.work.Work.TheVariants as works
 use Rattle.boot_threads.specs.declared.work.Worked.TheVariants as worked
-use Rattle.boot_threads.specs.Backs.{AllTurned, CameTogether}
-use Rattle.boot_threads.proofs.Firstness.{all_back}
-use Rattle.boot_threads.proofs.Preparedness.{freed_spare}
-use Rattle.boot_threads.proofs.Returning.{posts_first}
 use Rattle.boot_threads.proofs.Reunion.{came_together}
 use Rattle.synth_kernel.proofs.Backs.{Sorted, few_back, sort_back, first_back}
-use Rattle.synth_kernel.specs.Boots.{DidAll}
 use Rattle.synth_kernel.proofs.Closing.{did_all}
 use Rattle.synth_kernel.proofs.Facts.{did_of, lines_pair, raws_are, had_back, devices_ended, devices_shown}
-use Rattle.boot_threads.specs.Works.{RunsOf, RefusalsOf}
 
 module _ {G : Type 0} (ran : RunsOf G) (refused : RefusalsOf G) (T : Calls G) (shared : Shared) where
   -- each station that came back is of the shared objects

@@ -1,7 +1,5 @@
 -- What the threads gave back, one more.
-use Rattle.synth_kernel.proofs.Common.{◌≡◌, ◌≤◌, length-append, ℕ, List, [], ◌∷◌, ◌++◌, length, Ok, Err, refl, sym, ap, subst, ◌∙◌, arith, Shared, Parts, AllJoined, Work, Worked, Back, processed_in, served_in, all_there}
-use Rattle.std.proofs.Common.{append-nil, false}
-use Rattle.processor.specs.Partings.{AreJoined}
+use Rattle.synth_kernel.proofs.Common.{◌≡◌, ◌≤◌, length-append, ℕ, List, [], ◌∷◌, ◌++◌, length, Ok, Err, refl, sym, ap, subst, ◌∙◌, arith, Shared, Parts, AllJoined, Work, Worked, Back, processed_in, served_in, all_there, append-nil, false, AreJoined}
 use Rattle.boot_threads.specs.declared.starting.NotStarted.{NotStarted}
 use Rattle.boot_threads.specs.declared.work.Worked.TheVariants as worked
 

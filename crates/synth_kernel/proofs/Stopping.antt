@@ -1,10 +1,8 @@
 -- What a boot knows of all that it has when its threads have stopped.
-use Rattle.synth_kernel.proofs.Common.{◌≤◌, ℕ, List, length, flat_map, map, sym, subst, BootPlan, Report, TornDown, AllClosed, AreRawsOf, TookRaws, HasWholes, Calls, parts_of, gate_of, Shared, Parts, hear_count, heard_lines, RawTty, IsReported, lines_of, Ready, IsBootOf, BootWithHooks, processed_in, served_in, tty_of, IsReady, HasStopped}
-use Rattle.boot_data.specs.Hearing.{Line}
+use Rattle.synth_kernel.proofs.Common.{◌≤◌, ℕ, List, length, flat_map, map, sym, subst, BootPlan, Report, TornDown, AllClosed, AreRawsOf, TookRaws, HasWholes, Calls, parts_of, gate_of, Shared, Parts, hear_count, heard_lines, RawTty, IsReported, lines_of, Ready, IsBootOf, BootWithHooks, processed_in, served_in, tty_of, IsReady, HasStopped, Line, RunsOf, RefusalsOf}
 use Rattle.boot_report.specs.Rooms as reporting
 use Rattle.synth_kernel.specs.declared.running.Stopped.{Stopped}
 use Rattle.synth_kernel.proofs.Shut.{raws_came, wholes, few_lines, booted}
-use Rattle.boot_threads.specs.Works.{RunsOf, RefusalsOf}
 
 module _ {G : Type 0} (ran : RunsOf G) (refused : RefusalsOf G) (shown : TornDown → Type 0) (T : Calls G) (plan : BootPlan) (turns : ℕ) (gates : List G) (ready : Ready G) (r : IsReady plan turns gates ready) (stopped : Stopped G) (s : HasStopped ran refused T (length gates) ready stopped) where
   -- the known facts, if these are the objects, and these raw ttys, gates and lines came back

@@ -1,10 +1,10 @@
 -- The results of a kernel's threads, sorted and joined.
 use Rattle.std.specs.Prelude.{◌≡◌, ◌≤◌, ◌++◌, ◌%◌, ◌^◌, map, flat_map, length, vec_capacity, List, [], ◌∷◌}
 use Rattle.std.specs.Prelude.{Ok, Err, Bool, true, false}
-use Rattle.turn_io.specs.Splits.{AllThree}
+use Rattle.stations.specs.Splits.{AllThree}
 use Rattle.processor.specs.declared.shared.Shared.{Shared}
 use Rattle.processor.specs.declared.station.Station.{Station}
-use Rattle.processor.specs.Partings.{AllJoined}
+use Rattle.stations.specs.Partings.{AllJoined}
 use Rattle.processor.specs.Stations.{ArePartsOf}
 use Rattle.processor.specs.Turns.{heard_lines}
 use Rattle.quajects.specs.declared.raw.RawTty.{RawTty}

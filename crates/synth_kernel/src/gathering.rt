@@ -5,11 +5,11 @@ ghost use Rattle.std.specs.List.{All, AllZip, flat_map};
 ghost use Rattle.processor.specs.Stations.{ArePartsOf};
 ghost use Rattle.boot_threads.specs.Backs.{parts_of, gate_of};
 ghost use Rattle.processor.specs.Turns.{heard_lines};
-ghost use Rattle.processor.specs.Partings.{AllJoined};
+ghost use Rattle.stations.specs.Partings.{AllJoined};
 ghost use Rattle.boot_report.specs.Reported.{lines_of};
 ghost use Rattle.synth_kernel.specs.Gatherings.{processed_in, served_in, all_there, tty_of};
 ghost use Rattle.synth_kernel.specs.Gatherings.{TotalsAre, HaveRoomFor, IsGathered};
-ghost use Rattle.turn_io.specs.Splits.{AllThree};
+ghost use Rattle.stations.specs.Splits.{AllThree};
 ghost use Rattle.spsc_line.specs.Lines.{IsLine};
 
 use boot_data::HeardLines;
@@ -18,6 +18,7 @@ use boot_threads::{Back, Processed, Worked};
 use processor::{Shared, Station};
 use quajects::RawTty;
 use spsc_line::{LineIn, LineOut, finish};
+use stations::join_station;
 
 /// The result of a device: the end of its line from which it popped, and its raw tty.
 #[derive(Drop)]
@@ -113,7 +114,7 @@ fn join_stations<G: Drop>(
     let mut gates = gates;
     for one in processed {
         let Processed { station, gate } = one;
-        heards.push_reserved(first.join(shared, station));
+        heards.push_reserved(join_station(shared, &mut first, station));
         gates.push_reserved(gate);
     }
     (first, heards, gates)

@@ -1,23 +1,7 @@
 -- What a taking, a put and a refusal leave of a holder.
-use Rattle.std.proofs.Common.{◌≡◌, ℕ, ◌<◌, ◌≤◌, ◌%◌, List, [], ◌∷◌, ◌++◌, refl, ap, subst, arith}
-use Rattle.std.specs.Prelude.{IfOk, MatchResult, Result, Ok, Err}
-use Rattle.table_theory.proofs.Times.{times_self}
-use Rattle.table_theory.specs.declared.queues.Positions.{Positions}
-use Rattle.table_theory.specs.Ledgers.{ExtendsTrace, Reaches, Step}
-use Rattle.table_theory.specs.Listing.{AllRaised}
-use Rattle.table_theory.specs.Positioned.{head_of}
-use Rattle.claim_queue.specs.declared.claim.ClaimRefusal.{ClaimRefusal}
+use Rattle.tags.proofs.Common.{◌≡◌, ℕ, ◌<◌, ◌≤◌, ◌%◌, List, [], ◌∷◌, ◌++◌, refl, ap, subst, arith, IfOk, MatchResult, Result, Ok, Err, times_self, Positions, ExtendsTrace, Reaches, Step, AllRaised, head_of, ClaimRefusal, Refused, ArePut, MayPut, WereFirst, head_word, PutLine, SameLines, TookLine, View, of_queues, taking, IsPut, Does, put_own, refused_own, refused_take_own, took_own, count_in, held, GaveTag, HoldsSame, IsHolding, TookTag, Lends}
 use Rattle.claim_queue.specs.declared.take.TakeRefusal.{TakeRefusal}
-use Rattle.claim_queue.specs.Answers.{Refused}
-use Rattle.claim_queue.specs.Client.{ArePut, MayPut, WereFirst}
-use Rattle.claim_queue.specs.Layout.{head_word}
-use Rattle.claim_queue.specs.Lines.{PutLine, SameLines, TookLine}
-use Rattle.claim_queue.specs.Own.{View, of_queues, taking}
-use Rattle.claim_queue.specs.Puts.{IsPut}
 use Rattle.claim_queue.specs.Takings.{IsNone, IsOne, RefusedTake, TookItems}
-use Rattle.claim_queue.proofs.Answered.{Does, put_own, refused_own, refused_take_own, took_own}
-use Rattle.tags.specs.Holdings.{count_in, held, GaveTag, HoldsSame, IsHolding, TookTag}
-use Rattle.tags.specs.Lending.{Lends}
 use Rattle.tags.proofs.Holding.{Rises, begun_since, gave_held, gave_holding, is_tag, may_give, same_held, same_holding, took_held, took_holding}
 
 -- what the queue's laws say of the steps between two views of an end

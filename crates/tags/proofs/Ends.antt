@@ -1,30 +1,9 @@
 -- What splitting, joining and closing leave of holders.
-use Rattle.std.proofs.Common.{◌≡◌, ℕ, zero, suc, ◌+◌, ◌≤◌, List, [], ◌∷◌, ◌∙◌, ⊎_elim, map, length, take, drop, refl, sym, ap, subst, arith}
-use Rattle.std.proofs.lemmas.List.{take-map, drop-map}
-use Rattle.std.specs.Prelude.{Option, Some}
-use mathlib.Core.Option.{some, some-injective, some-ne-none}
-use lib.ListN.{get_elem?}
-use Rattle.event_theory.specs.Runs.{Run, flat}
-use Rattle.table_theory.specs.declared.queues.Batch.{Batch}
-use Rattle.table_theory.specs.declared.queues.Positions.{Positions}
-use Rattle.table_theory.specs.Filing.{Owned}
-use Rattle.table_theory.specs.Ledgers.{Reaches, WereOpen}
-use Rattle.table_theory.specs.Positioned.{head_of, item_of, left_of}
-use Rattle.table_theory.specs.Protocols.{placed_lines}
-use Rattle.table_theory.specs.QueueOf.{run_in}
-use Rattle.table_theory.specs.Sharing.{given, kept, total}
-use Rattle.table_theory.specs.Times.{first_items, returned, times}
-use Rattle.table_theory.proofs.Giving.{batch_given, batch_items}
-use Rattle.table_theory.proofs.Holding.{Accounts, held_sum, in_batch, in_later}
+use Rattle.tags.proofs.Common.{◌≡◌, ℕ, zero, suc, ◌+◌, ◌≤◌, List, [], ◌∷◌, ◌∙◌, ⊎_elim, map, length, take, drop, refl, sym, ap, subst, arith, take-map, drop-map, Option, Some, some, some-injective, some-ne-none, get_elem?, Run, flat, Batch, Positions, Owned, Reaches, WereOpen, head_of, item_of, left_of, placed_lines, run_in, given, kept, total, first_items, returned, times, batch_given, batch_items, Accounts, held_sum, in_batch, in_later, ends_word, View, of_queues, count_in, held, released, HoldsSame, IsHolding, Lends, all_tags, KeepsTo}
 use Rattle.table_theory.proofs.QueueOf.{items_are}
 use Rattle.table_theory.proofs.Looking.{Does, does}
 use Rattle.claim_queue.specs.Closings.{ClosedNow}
 use Rattle.claim_queue.specs.Endings.{IsNewEnd, JoinedBy, SplitBy}
-use Rattle.claim_queue.specs.Layout.{ends_word}
-use Rattle.claim_queue.specs.Own.{View, of_queues}
-use Rattle.tags.specs.Holdings.{count_in, held, released, HoldsSame, IsHolding}
-use Rattle.tags.specs.Lending.{Lends, all_tags}
-use Rattle.claim_queue.specs.Rules.{KeepsTo}
 use Rattle.tags.proofs.Calls.{Since}
 use Rattle.tags.proofs.Holding.{Rises, begun_since, both_held, both_holding, idle_held, idle_holding, same_held, same_holding}
 use Rattle.tags.proofs.Owners.{first_line, no_places}

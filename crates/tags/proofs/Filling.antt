@@ -1,43 +1,12 @@
 -- The first put of a new queue: it is not refused, and it is the line at the queue's first position.
-use Rattle.std.proofs.Common.{◌≡◌, ℕ, zero, suc, ◌+◌, ◌<◌, ◌≤◌, Bool, false, List, [], ◌∷◌, ◌++◌, ◌∙◌, map, length, inl, inr, refl, sym, ap, subst, arith, eq-eqb}
-use Rattle.std.proofs.Math.Bridge.{le_prop}
-use Rattle.std.proofs.Math.Logic.{∥∥₁_elim}
-use Rattle.std.proofs.lemmas.List.{length-append}
+use Rattle.tags.proofs.Common.{◌≡◌, ℕ, zero, suc, ◌+◌, ◌<◌, ◌≤◌, Bool, false, List, [], ◌∷◌, ◌++◌, ◌∙◌, map, length, inl, inr, refl, sym, ap, subst, arith, eq-eqb, le_prop, ∥∥₁_elim, length-append, cond, not, some, some-injective, some-ne-none, get_elem?, Batch, Positions, AbsState, Owned, ExtendsTrace, IsValidStep, IsValidView, Reaches, Step, AllRaised, ViewsShow, IsListed, all_places, head_of, item_of, tail_of, Placed, placed_lines, IsWhole, is_later, items_in, times, given_in, given_one, items_one, all_other, ClaimRefusal, Shape, Refused, places_of, run_of, MayPut, head_word, mark, tail_word, line_of, lines_put, lines_taken, View, of_queues, part_of, IsPut, newcomer, put_own, count_in, held, IsHolding, Lends, all_tags}
 use Rattle.std.specs.List.{AllByRecursion}
 use Rattle.std.proofs.Math.Nat.{ℕ_set}
-use mathlib.Core.Bool.{cond, not}
 use mathlib.Core.HLevel.{⊥_prop}
-use mathlib.Core.Option.{some, some-injective, some-ne-none}
-use lib.ListN.{get_elem?}
-use Rattle.table_theory.specs.declared.queues.Batch.{Batch}
 use Rattle.table_theory.specs.declared.queues.Cell.{Cell}
-use Rattle.table_theory.specs.declared.queues.Positions.{Positions}
-use Rattle.table_theory.specs.declared.views.AbsState.{AbsState}
 use Rattle.table_theory.specs.Courses.{Continues}
-use Rattle.table_theory.specs.Filing.{Owned}
-use Rattle.table_theory.specs.Ledgers.{ExtendsTrace, IsValidStep, IsValidView, Reaches, Step}
-use Rattle.table_theory.specs.Listing.{AllRaised, ViewsShow, IsListed, all_places}
-use Rattle.table_theory.specs.Positioned.{head_of, item_of, tail_of}
-use Rattle.table_theory.specs.Protocols.{Placed, placed_lines}
-use Rattle.table_theory.specs.Sharing.{IsWhole}
-use Rattle.table_theory.specs.Times.{is_later, items_in, times}
-use Rattle.table_theory.proofs.Giving.{given_in, given_one, items_one}
 use Rattle.table_theory.proofs.Reaching.{alone_since}
-use Rattle.table_theory.proofs.Times.{all_other}
-use Rattle.claim_queue.specs.declared.claim.ClaimRefusal.{ClaimRefusal}
 use Rattle.claim_queue.specs.declared.claim.ClaimRefusal.TheVariants as not_claimed
-use Rattle.claim_queue.specs.declared.rule.Shape.{Shape}
-use Rattle.claim_queue.specs.Answers.{Refused}
-use Rattle.claim_queue.specs.Claims.{places_of, run_of}
-use Rattle.claim_queue.specs.Client.{MayPut}
-use Rattle.claim_queue.specs.Layout.{head_word, mark, tail_word}
-use Rattle.claim_queue.specs.Lines.{line_of, lines_put, lines_taken}
-use Rattle.claim_queue.specs.Own.{View, of_queues, part_of}
-use Rattle.claim_queue.specs.Puts.{IsPut}
-use Rattle.claim_queue.specs.Rules.{newcomer}
-use Rattle.claim_queue.proofs.Answered.{put_own}
-use Rattle.tags.specs.Holdings.{count_in, held, IsHolding}
-use Rattle.tags.specs.Lending.{Lends, all_tags}
 use Rattle.tags.proofs.Calls.{Since}
 use Rattle.tags.proofs.Holding.{Rises, keeps_by}
 

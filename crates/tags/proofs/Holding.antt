@@ -1,34 +1,9 @@
 -- What an end holds after a call of the queue.
-use Rattle.std.proofs.Common.{◌≡◌, ℕ, ◌+◌, ◌<◌, ◌≤◌, Bool, true, List, [], ◌∷◌, ◌++◌, ◌∙◌, refl, sym, ap, subst, arith, ⊎_elim}
+use Rattle.tags.proofs.Common.{◌≡◌, ℕ, ◌+◌, ◌<◌, ◌≤◌, Bool, true, List, [], ◌∷◌, ◌++◌, ◌∙◌, refl, sym, ap, subst, arith, ⊎_elim, map-append, le_prop, ∥∥₁_elim, cond, not, dite, some, some-ne-none, ℕ_discrete, dec_lt, get_elem?, Batch, Positions, AbsState, Reaches, AllRaised, Grows, head_of, Placed, WasPut, placed_lines, is_later, items_in, returned, times, given_in, given_joined, given_one, item_counts, items_joined, items_one, placed, at_joined, at_push, times_other, times_self, ArePut, run_of, View, did_both, nothing_did, of_queues, with_run, with_taking, KeepsTo, acquired, count_in, held, released, HoldsSame, HoldsMore, HoldsLess, IsHolding, Lends}
 use Rattle.std.proofs.lemmas.Bool.{ne_eqb}
-use Rattle.std.proofs.lemmas.List.{map-append}
-use Rattle.std.proofs.Math.Bridge.{le_prop}
-use Rattle.std.proofs.Math.Logic.{∥∥₁_elim}
-use mathlib.Core.Bool.{cond, not}
-use mathlib.Core.Logic.{dite}
-use mathlib.Core.Option.{some, some-ne-none}
-use native.Mathlib.Decide.{ℕ_discrete, dec_lt}
-use lib.ListN.{get_elem?}
-use Rattle.table_theory.specs.declared.queues.Batch.{Batch}
-use Rattle.table_theory.specs.declared.queues.Positions.{Positions}
-use Rattle.table_theory.specs.declared.views.AbsState.{AbsState}
 use Rattle.table_theory.specs.Batches.{line_of}
-use Rattle.table_theory.specs.Ledgers.{Reaches}
-use Rattle.table_theory.specs.Listing.{AllRaised}
-use Rattle.table_theory.specs.Positioned.{Grows, head_of}
-use Rattle.table_theory.specs.Protocols.{Placed, WasPut, placed_lines}
-use Rattle.table_theory.specs.Times.{is_later, items_in, returned, times}
-use Rattle.table_theory.proofs.Giving.{given_in, given_joined, given_one, item_counts, items_joined, items_one, placed}
-use Rattle.table_theory.proofs.Owned.{at_joined, at_push}
-use Rattle.table_theory.proofs.Times.{times_other, times_self}
 use Rattle.claim_queue.specs.declared.rule.QueueOps.{QueueOps}
-use Rattle.claim_queue.specs.Client.{ArePut}
-use Rattle.claim_queue.specs.Claims.{run_of}
-use Rattle.claim_queue.specs.Own.{View, did_both, nothing_did, of_queues, with_run, with_taking}
-use Rattle.claim_queue.specs.Rules.{KeepsTo}
-use Rattle.tags.specs.Holdings.{acquired, count_in, held, released, HoldsSame, HoldsMore, HoldsLess, IsHolding}
 use Rattle.tags.specs.Laws.{lends_begins, lends_joins, lends_takes}
-use Rattle.tags.specs.Lending.{Lends}
 
 placed_more : (l : List Batch) (e : Batch) → placed_lines (l ++ e ∷ []) ≡ placed_lines l ++ placed e ∷ []
 placed_more l e = map-append placed l (e ∷ [])

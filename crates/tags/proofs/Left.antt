@@ -1,7 +1,5 @@
 -- The tags that are left in the places of a closed queue, and the tags of a pool that is closed.
-use Rattle.std.proofs.Common.{◌≡◌, ℕ, zero, suc, ◌+◌, ◌<◌, List, [], ◌∷◌, ◌++◌, ◌∙◌, map, length, take, get_or, sym, ap, subst, arith}
-use Rattle.std.specs.Prelude.{Option, Some, None}
-use Rattle.std.proofs.lemmas.List.{length-map}
+use Rattle.tags.proofs.Common.{◌≡◌, ℕ, zero, suc, ◌+◌, ◌<◌, List, [], ◌∷◌, ◌++◌, ◌∙◌, map, length, take, get_or, sym, ap, subst, arith, Option, Some, None, length-map}
 use Rattle.std.proofs.lemmas.Option.{none-some}
 
 item_or : Option ℕ → ℕ

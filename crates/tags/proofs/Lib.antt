@@ -1,3 +1,4 @@
+pub mod Common
 mod Owners
 mod Holding
 mod Calls

@@ -1,36 +1,12 @@
 -- Each tag has one owner, by counting over all runs and takings of the queue.
-use Rattle.std.proofs.Common.{◌≡◌, ℕ, Bool, true, false, suc, ◌+◌, ◌-◌, ◌<◌, ◌≤◌, ◌⊎◌, inl, inr, ⊎_elim, List, [], ◌∷◌, ◌∙◌, map, length, refl, sym, ap, subst, arith}
-use Rattle.std.specs.Prelude.{if◌then◌else◌}
-use mathlib.Core.Logic.{dite}
-use mathlib.Core.Option.{some}
-use native.Mathlib.Decide.{ℕ_discrete, dec_lt}
-use lib.ListN.{get_elem?}
+use Rattle.tags.proofs.Common.{◌≡◌, ℕ, Bool, true, false, suc, ◌+◌, ◌-◌, ◌<◌, ◌≤◌, ◌⊎◌, inl, inr, ⊎_elim, List, [], ◌∷◌, ◌∙◌, map, length, refl, sym, ap, subst, arith, if◌then◌else◌, dite, some, ℕ_discrete, dec_lt, get_elem?, Run, Batch, Positions, Owned, ListedOnce, Adjacent, all_places, head_of, placed_lines, run_in, total, first_items, returned, times, batch_given, batch_items, placed, Accounts, held_sum, in_batch, in_later, at_map_back, all_once, all_other, one_alone, total_alike, total_none, Shape, View, KeepsTo, shuts_of, count_in, held, released, Lends, all_tags}
 use Rattle.atomic_table.specs.Table.{State}
 use Rattle.atomic_table.proofs.Lists.{at_map}
-use Rattle.event_theory.specs.Runs.{Run}
 use Rattle.event_theory.specs.Queues.{Queue}
-use Rattle.table_theory.specs.declared.queues.Batch.{Batch}
-use Rattle.table_theory.specs.declared.queues.Positions.{Positions}
-use Rattle.table_theory.specs.Filing.{Owned, ListedOnce}
-use Rattle.table_theory.specs.Listing.{Adjacent, all_places}
-use Rattle.table_theory.specs.Positioned.{head_of}
-use Rattle.table_theory.specs.Protocols.{placed_lines}
-use Rattle.table_theory.specs.QueueOf.{run_in}
-use Rattle.table_theory.specs.Sharing.{total}
-use Rattle.table_theory.specs.Times.{first_items, returned, times}
-use Rattle.table_theory.proofs.Giving.{batch_given, batch_items, placed}
-use Rattle.table_theory.proofs.Holding.{Accounts, held_sum, in_batch, in_later}
-use Rattle.table_theory.proofs.Owned.{at_map_back}
-use Rattle.table_theory.proofs.Times.{all_once, all_other, one_alone, total_alike, total_none}
 use Rattle.table_theory.proofs.Totals.{one_of}
 use Rattle.claim_queue.specs.Between.{ShowsQueue}
 use Rattle.claim_queue.specs.Changes.{empty}
-use Rattle.claim_queue.specs.declared.rule.Shape.{Shape}
-use Rattle.claim_queue.specs.Own.{View}
-use Rattle.claim_queue.specs.Rules.{KeepsTo, shuts_of}
 use Rattle.tags.specs.Between.{EachOnce, HasOneOwner, NoneHolds, the_queue, the_end, waiting}
-use Rattle.tags.specs.Holdings.{count_in, held, released}
-use Rattle.tags.specs.Lending.{Lends, all_tags}
 
 -- a history of runs with a place has an item
 pub no_places : (log : List (Owned Batch)) → map run_in log ≡ [] → length (all_places log) ≡ 0

@@ -1,9 +1,5 @@
 -- What holders hold through several calls.
-use Rattle.std.proofs.Common.{◌≡◌, ℕ, ◌+◌, ◌<◌, List, ◌∙◌, ap, arith}
-use Rattle.table_theory.specs.Times.{times}
-use Rattle.claim_queue.specs.Own.{View}
-use Rattle.tags.specs.Holdings.{held, HoldsSame, HoldsMore, HoldsLess}
-use Rattle.tags.specs.Lending.{AreAll, all_tags}
+use Rattle.tags.proofs.Common.{◌≡◌, ℕ, ◌+◌, ◌<◌, List, ◌∙◌, ap, arith, times, View, held, HoldsSame, HoldsMore, HoldsLess, AreAll, all_tags}
 
 pub same_on : (u v w : View) → HoldsSame u v → HoldsSame v w → HoldsSame u w
 same_on u v w a b x = b x ∙ a x

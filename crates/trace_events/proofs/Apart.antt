@@ -1,12 +1,5 @@
 -- No two turns of a thread overlap on its track.
-use Rattle.std.proofs.Common.{◌≡◌, ◌<◌, ◌≤◌, ◌+◌, ◌==◌, ◌&&◌, ◌∙◌, ℕ, zero, suc, true, List, [], ◌∷◌, ◌++◌, ◌⊎◌, inl, inr, ⊎_elim, Option, Some, None, IfSome, refl, sym, ap, subst, arith, nat_lt, length, get_or}
-use Rattle.std.specs.Prelude.{AllPairs, Contains, option_map}
-use Rattle.std.specs.List.{AllByRecursion, cons_option}
-use Rattle.std.proofs.lemmas.Bool.{and_from, and_parts, cases_order, eq-eqb, eqb-true, lt-ltb, ltb-true, or_cases, or_left, or_right}
-use Rattle.boot_log.specs.declared.entry.Entry.{Entry}
-use Rattle.boot_log.specs.Kept.{Kept}
-use Rattle.trace_events.specs.declared.tracks.ThreadTurn.{ThreadTurn}
-use Rattle.trace_events.specs.Tracks.{AreApart, all_thread_turns, comes_before, element_of, is_first_of, last_end, precedes, slice_start, thread_turn_of, thread_turns}
+use Rattle.trace_events.proofs.Common.{◌≡◌, ◌<◌, ◌≤◌, ◌+◌, ◌==◌, ◌&&◌, ◌∙◌, ℕ, zero, suc, true, List, [], ◌∷◌, ◌++◌, ◌⊎◌, inl, inr, ⊎_elim, Option, Some, None, IfSome, refl, sym, ap, subst, arith, nat_lt, length, get_or, AllPairs, Contains, option_map, AllByRecursion, cons_option, and_from, and_parts, cases_order, eq-eqb, eqb-true, lt-ltb, ltb-true, or_cases, or_left, or_right, Entry, Kept, ThreadTurn, AreApart, all_thread_turns, comes_before, element_of, is_first_of, last_end, precedes, slice_start, thread_turn_of, thread_turns}
 use Rattle.trace_events.proofs.Starts.{last_end_ge, last_end_le}
 
 -- ---- any turns

@@ -1,14 +1,8 @@
 -- The text of a trace is that of its events, one after the other.
-use Rattle.std.proofs.Common.{◌≡◌, append_assoc, ℕ, List, [], ◌∷◌, ◌++◌, ◌∙◌, refl, sym, ap, Bool, true, false}
+use Rattle.trace_events.proofs.Common.{◌≡◌, append_assoc, ℕ, List, [], ◌∷◌, ◌++◌, ◌∙◌, refl, sym, ap, Bool, true, false, Token, begin_object, end_object, end_array, key, string, Json, Items, Members, json_tokens, items_tokens, members_tokens, print, print_from, ends, escape_byte, Named, members_of, object_of, list_tokens, member_tokens, items_of, json_text, trace_text, later_texts}
 use Rattle.std.specs.Prelude.{codes, fold}
-use Rattle.json.specs.Token.{Token, begin_object, end_object, end_array, key, string}
 use Rattle.json.specs.Json as json
-use Rattle.json.specs.Json.{Json, Items, Members}
-use Rattle.json.specs.Tree.{json_tokens, items_tokens, members_tokens}
-use Rattle.json.specs.Print.{print, print_from, ends, escape_byte}
 use Rattle.json.proofs.Printed.Tokens.{print_from-append}
-use Rattle.trace_events.specs.Objects.{Named, members_of, object_of, list_tokens, member_tokens, items_of}
-use Rattle.trace_events.specs.Documents.{json_text, trace_text, later_texts}
 
 abbrev ended : Bool → List Token → Bool
 ended c ts = fold (λ _ t. ends t) c ts

@@ -1,10 +1,7 @@
 -- No argument of a turn is an array or an object.
-use Rattle.std.proofs.Common.{◌≡◌, ℕ, ◌==◌, List, [], ◌∷◌, ◌++◌, Bool, true, false, Option, Some, None, Result, Ok, Err, refl, codes}
-use Rattle.std.specs.Prelude.{if◌then◌else◌}
-use Rattle.boot_data.specs.declared.boot_plan.BootPlan.{BootPlan}
+use Rattle.trace_events.proofs.Common.{◌≡◌, ℕ, ◌==◌, List, [], ◌∷◌, ◌++◌, Bool, true, false, Option, Some, None, Result, Ok, Err, refl, codes, if◌then◌else◌, BootPlan, Entry, depth, members_depth, turn_json, Named, members_of, woken_args, claim_args, say_args, take_args, hear_args, poke_args, step_args, delivered_args, counted_args, idle_args, did_args, tick_args, fired_args, turn_args, went_args, retired_name, way_name}
 use Rattle.boot_log.specs.declared.entry.Did.{Did}
 use Rattle.boot_log.specs.declared.entry.Did.TheVariants as did
-use Rattle.boot_log.specs.declared.entry.Entry.{Entry}
 use Rattle.boot_log.specs.declared.entry.HeardAnswer.{HeardAnswer}
 use Rattle.boot_log.specs.declared.entry.HeardAnswer.TheVariants as hears
 use Rattle.boot_log.specs.declared.entry.SaidAnswer.{SaidAnswer}
@@ -26,11 +23,6 @@ use Rattle.turn_dispatch.specs.declared.dispatch.Idle.TheVariants.{NothingReady,
 use Rattle.turn_dispatch.specs.declared.waking.Woken.{Woken}
 use Rattle.turn_io.specs.declared.poking.Poked.{Poked}
 use Rattle.turn_io.specs.declared.poking.Poked.TheVariants.{Ran, Left}
-use Rattle.json.specs.Tree.{depth, members_depth}
-use Rattle.trace_events.specs.Events.{turn_json}
-use Rattle.trace_events.specs.Objects.{Named, members_of}
-use Rattle.trace_events.specs.TurnArgs.{woken_args, claim_args, say_args, take_args, hear_args, poke_args, step_args, delivered_args, counted_args, idle_args, did_args, tick_args, fired_args, turn_args, went_args, retired_name}
-use Rattle.trace_events.specs.TurnNames.{way_name}
 
 abbrev pub IsFlat : List Named → Type 0
 IsFlat [] = Unit {0}

@@ -1,20 +1,10 @@
 -- Tokens that are appended in several steps, and the text of an event.
-use Rattle.std.proofs.Common.{◌≡◌, ◌≤◌, ℕ, ◌-◌, append_assoc, List, [], ◌∷◌, ◌++◌, ◌∙◌, sym, ap, subst, Result}
-use Rattle.std.proofs.lemmas.Grind.{flat_map-append}
-use Rattle.std.proofs.lemmas.Result.{on_ok_weaker, IfOk-weaker}
+use Rattle.trace_events.proofs.Common.{◌≡◌, ◌≤◌, ℕ, ◌-◌, append_assoc, List, [], ◌∷◌, ◌++◌, ◌∙◌, sym, ap, subst, Result, flat_map-append, on_ok_weaker, IfOk-weaker, AllByRecursion, Token, begin_object, end_object, key, Json, Items, Members, json_tokens, items_tokens, members_tokens, HasNumbers, ItemsHaveNumbers, MembersHaveNumbers, depth, print, IsPrintable, Grown, Writes, IsAlone, Named, list_tokens, member_tokens, timed, IsEvent, head, turn_json, turn_opening}
 use Rattle.std.specs.Prelude.{IfOk, Vec, codes}
-use Rattle.std.specs.List.{AllByRecursion}
 use Rattle.std.specs.declared.alloc.Global.{Global}
-use Rattle.json.specs.Token.{Token, begin_object, end_object, key}
 use Rattle.json.specs.Json as json
-use Rattle.json.specs.Json.{Json, Items, Members}
-use Rattle.json.specs.Tree.{json_tokens, items_tokens, members_tokens, HasNumbers, ItemsHaveNumbers, MembersHaveNumbers, depth}
-use Rattle.json.specs.Print.{print, IsPrintable}
 use Rattle.json.specs.Written.{Written}
 use Rattle.event_theory.specs.declared.refusal.OutOfMemory.{OutOfMemory}
-use Rattle.trace_events.specs.Objects.{Grown, Writes, IsAlone, Named, list_tokens, member_tokens, timed}
-use Rattle.trace_events.specs.Documents.{IsEvent}
-use Rattle.trace_events.specs.Events.{head, turn_json, turn_opening}
 use Rattle.trace_events.proofs.Documents.{tokens_listed}
 
 pub all_append : {A : Type 0} (P : A → Type 0) (xs ys : List A) → AllByRecursion P xs → AllByRecursion P ys → AllByRecursion P (xs ++ ys)

@@ -1,10 +1,5 @@
 -- The runs of turns are all turns, and only idle turns are in a run with others.
-use Rattle.std.proofs.Common.{◌≡◌, ◌<◌, ◌&&◌, ◌∙◌, Bool, true, false, List, [], ◌∷◌, refl, ap, length, arith}
-use Rattle.std.specs.Prelude.{if◌then◌else◌}
-use Rattle.std.specs.List.{AllByRecursion, flat_map}
-use Rattle.boot_log.specs.declared.entry.Entry.{Entry}
-use Rattle.boot_log.specs.Idling.{is_idle}
-use Rattle.trace_events.specs.Turns.{joined, runs_of}
+use Rattle.trace_events.proofs.Common.{◌≡◌, ◌<◌, ◌&&◌, ◌∙◌, Bool, true, false, List, [], ◌∷◌, refl, ap, length, arith, if◌then◌else◌, AllByRecursion, flat_map, Entry, is_idle, joined, runs_of}
 
 abbrev flat : List (List Entry) → List Entry
 flat runs = flat_map (λ (run : List Entry). run) runs

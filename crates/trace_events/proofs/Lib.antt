@@ -1,3 +1,4 @@
+pub mod Common
 mod Apart
 mod Documents
 mod Flat

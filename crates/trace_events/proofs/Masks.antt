@@ -1,10 +1,6 @@
 -- The names of the threads of a mask, one after the other.
-use Rattle.std.proofs.Common.{◌≡◌, ◌<◌, ◌+◌, ◌-◌, ◌∙◌, ℕ, suc, Bool, true, false, cond, List, [], ◌∷◌, ◌++◌, refl, sym, ap, append-nil, append_assoc, map, arith}
-use Rattle.std.specs.Prelude.{filter, if◌then◌else◌}
-use Rattle.std.specs.List.{join_with_byte, range_with_len}
-use Rattle.boot_data.specs.declared.boot_plan.BootPlan.{BootPlan}
+use Rattle.trace_events.proofs.Common.{◌≡◌, ◌<◌, ◌+◌, ◌-◌, ◌∙◌, ℕ, suc, Bool, true, false, cond, List, [], ◌∷◌, ◌++◌, refl, sym, ap, append-nil, append_assoc, map, arith, filter, if◌then◌else◌, join_with_byte, range_with_len, BootPlan, thread_names, thread_text}
 use Rattle.thread_table.specs.Answers.{is_in}
-use Rattle.trace_events.specs.Names.{thread_names, thread_text}
 
 -- names with a space before each, except before the first of all
 abbrev pub spaced : Bool → List (List ℕ) → List ℕ

@@ -1,10 +1,9 @@
 -- Times are numbers of JSON.
-use Rattle.std.proofs.Common.{◌≡◌, ℕ, zero, suc, ◌+◌, ◌/◌, ◌%◌, ◌^◌, ◌<◌, true, false, List, [], ◌∷◌, ◌++◌, length, get_or, decimal, refl, ap, subst, arith}
+use Rattle.trace_events.proofs.Common.{◌≡◌, ℕ, zero, suc, ◌+◌, ◌/◌, ◌%◌, ◌^◌, ◌<◌, true, false, List, [], ◌∷◌, ◌++◌, length, get_or, decimal, refl, ap, subst, arith, IsNumber}
 use Rattle.std.proofs.lemmas.Fmt.{decimal_is_IsNumeral, decimal_digit, first_decimal}
 use Rattle.std.specs.Str.Parse.{AllDigits}
 use Rattle.std.specs.Float.Numeral.{Parts, IsWellFormed}
 use Rattle.ryu.specs.Plain.{IsPlain}
-use Rattle.json.specs.Print.{IsNumber}
 use Rattle.json.proofs.Printed.Floats.{IsNumber-plain}
 use Rattle.trace_events.specs.Micros.{micros}
 

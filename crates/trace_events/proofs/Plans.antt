@@ -1,8 +1,7 @@
 -- A plan has few enough threads.
-use Rattle.std.proofs.Common.{◌≤◌, length}
+use Rattle.trace_events.proofs.Common.{◌≤◌, length, BootPlan}
 use Rattle.std.proofs.Math.Bridge.{le_prop}
 use Rattle.std.proofs.Math.Logic.{∥∥₁_elim}
-use Rattle.boot_data.specs.declared.boot_plan.BootPlan.{BootPlan}
 use Rattle.boot_data.specs.BootPlans.{plan_of}
 use Rattle.boot_data.specs.PlanLimits.{IsPlan}
 

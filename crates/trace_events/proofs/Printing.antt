@@ -1,16 +1,7 @@
 -- Events that are printed in several steps.
-use Rattle.std.proofs.Common.{◌≡◌, ◌<◌, ◌≤◌, ◌+◌, ℕ, zero, suc, length, arith, refl, drop, get_or, add-one, List, [], ◌∷◌, ◌++◌, ◌∙◌, sym, ap, subst, append-nil, map, Option, Result}
+use Rattle.trace_events.proofs.Common.{◌≡◌, ◌<◌, ◌≤◌, ◌+◌, ℕ, zero, suc, length, arith, refl, drop, get_or, add-one, List, [], ◌∷◌, ◌++◌, ◌∙◌, sym, ap, subst, append-nil, map, Option, Result, Appends-trans, Appends-nil, flat_map-append, drop_all, on_ok_weaker, OnOk, Json, HasNumbers, depth, json_text, later_texts, IsEvent, Prints, numbered_events}
 use Rattle.std.proofs.Math.Seq.{drop-cons}
-use Rattle.std.proofs.KnownBytes.{Appends-trans, Appends-nil}
-use Rattle.std.proofs.lemmas.Grind.{flat_map-append}
-use Rattle.std.proofs.lemmas.List.{drop_all}
-use Rattle.std.proofs.lemmas.Result.{on_ok_weaker}
-use Rattle.std.specs.Prelude.{OnOk}
 use Rattle.std.specs.Io.KnownBytes.{Appends}
-use Rattle.json.specs.Json.{Json}
-use Rattle.json.specs.Tree.{HasNumbers, depth}
-use Rattle.trace_events.specs.Documents.{json_text, later_texts, IsEvent, Prints}
-use Rattle.trace_events.specs.Traces.{numbered_events}
 use Rattle.trace_events.proofs.Growing.{all_append}
 
 pub prints_join : (a b c : Option (List ℕ)) (xs ys : List Json) → Prints a b xs → Prints b c ys → Prints a c (xs ++ ys)

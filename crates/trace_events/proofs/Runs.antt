@@ -1,13 +1,5 @@
 -- The first run of turns.
-use Rattle.std.proofs.Common.{◌≡◌, ℕ, suc, ◌+◌, ◌-◌, ◌<◌, Bool, true, false, ◌&&◌, List, [], ◌∷◌, ◌++◌, ◌∙◌, refl, sym, ap, subst, length, take, drop, get_or, cond, arith}
-use Rattle.std.specs.Prelude.{if◌then◌else◌}
-use Rattle.std.specs.List.{prefix_len}
-use Rattle.boot_data.specs.declared.boot_plan.BootPlan.{BootPlan}
-use Rattle.boot_log.specs.declared.entry.Entry.{Entry}
-use Rattle.boot_log.specs.Idling.{is_idle}
-use Rattle.boot_log.specs.Kept.{end_of}
-use Rattle.trace_events.specs.declared.tracks.ThreadTurn.{ThreadTurn}
-use Rattle.trace_events.specs.Turns.{joined, runs_of, run_length, idle_event, run_events, runs_events}
+use Rattle.trace_events.proofs.Common.{◌≡◌, ℕ, suc, ◌+◌, ◌-◌, ◌<◌, Bool, true, false, ◌&&◌, List, [], ◌∷◌, ◌++◌, ◌∙◌, refl, sym, ap, subst, length, take, drop, get_or, cond, arith, if◌then◌else◌, prefix_len, BootPlan, Entry, is_idle, end_of, ThreadTurn, joined, runs_of, run_length, idle_event, run_events, runs_events}
 
 -- how many turns after the first one are in its run
 abbrev after_first : Entry → List Entry → ℕ

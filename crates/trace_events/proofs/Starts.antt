@@ -1,18 +1,12 @@
 -- The last end of a thread's turns: in any order of the turns, and where they are sorted.
-use Rattle.std.proofs.Common.{◌≡◌, ◌<◌, ◌≤◌, ◌-◌, ◌+◌, ◌==◌, ◌&&◌, ◌∙◌, ℕ, zero, suc, Bool, true, false, cond, List, [], ◌∷◌, ⊎_elim, refl, sym, ap, subst, arith, nat_lt, length, get_or}
-use Rattle.std.specs.Prelude.{◌||◌, if◌then◌else◌, max, All, IsPermutation}
+use Rattle.trace_events.proofs.Common.{◌≡◌, ◌<◌, ◌≤◌, ◌-◌, ◌+◌, ◌==◌, ◌&&◌, ◌∙◌, ℕ, zero, suc, Bool, true, false, cond, List, [], ◌∷◌, ⊎_elim, refl, sym, ap, subst, arith, nat_lt, length, get_or, ◌||◌, if◌then◌else◌, max, All, IsPermutation, and_cases, and_parts, both_ways, cases_lt, eqb-false, eqb-true, lt-ltb, ltb-false, ltb-true, or_cases, or_left, or_parts, or_right, true_from_ne_false, get_or_default, get_or_read, All-permutation, IsPermutation-sym, ranks_by, sorted_far, ThreadTurn, comes_before, is_first_of, last_end, precedes, slice_start, sorts_before}
 use Rattle.std.specs.Cmp.{IsStrictWeakOrder, IsTotalOrder}
 use Rattle.std.specs.declared.cmp.Ordering.{Ordering}
 use Rattle.std.specs.declared.cmp.Ordering.TheVariants.{Less, Equal, Greater}
 use Rattle.std.specs.List.Sorted.{IsPartitionPoint, IsPartitionedBy, IsSortedBy, IsSortedByKey}
 use Rattle.std.specs.Ordering.{is_lt, nat_cmp, ordering_then}
-use Rattle.std.proofs.lemmas.Bool.{and_cases, and_parts, both_ways, cases_lt, eqb-false, eqb-true, lt-ltb, ltb-false, ltb-true, or_cases, or_left, or_parts, or_right, true_from_ne_false}
 use Rattle.std.proofs.lemmas.Cmp.{nat_cmp_total, on_total, then_total}
-use Rattle.std.proofs.lemmas.List.{get_or_default, get_or_read}
 use Rattle.std.proofs.lemmas.List.Elements.{All-head, All-tail}
-use Rattle.std.proofs.lemmas.List.Sorted.{All-permutation, IsPermutation-sym, ranks_by, sorted_far}
-use Rattle.trace_events.specs.declared.tracks.ThreadTurn.{ThreadTurn}
-use Rattle.trace_events.specs.Tracks.{comes_before, is_first_of, last_end, precedes, slice_start, sorts_before}
 
 -- ---- turns in any order
 

@@ -1,12 +1,5 @@
 -- The turns of a processor, printed run by run.
-use Rattle.std.proofs.Common.{◌≡◌, ℕ, ◌<◌, ◌+◌, ◌==◌, true, false, List, [], ◌∷◌, ◌∙◌, sym, ap, subst, length, take, drop, arith, Option}
-use Rattle.std.proofs.lemmas.Bool.{eqb-true}
-use Rattle.boot_data.specs.declared.boot_plan.BootPlan.{BootPlan}
-use Rattle.boot_log.specs.declared.entry.Entry.{Entry}
-use Rattle.boot_log.specs.Kept.{end_of}
-use Rattle.trace_events.specs.declared.tracks.ThreadTurn.{ThreadTurn}
-use Rattle.trace_events.specs.Documents.{Prints}
-use Rattle.trace_events.specs.Turns.{runs_of, run_length, run_events, runs_events}
+use Rattle.trace_events.proofs.Common.{◌≡◌, ℕ, ◌<◌, ◌+◌, ◌==◌, true, false, List, [], ◌∷◌, ◌∙◌, sym, ap, subst, length, take, drop, arith, Option, eqb-true, BootPlan, Entry, end_of, ThreadTurn, Prints, runs_of, run_length, run_events, runs_events}
 use Rattle.trace_events.proofs.Printing.{prints_join, prints_nothing}
 use Rattle.trace_events.proofs.Runs.{runs_first}
 

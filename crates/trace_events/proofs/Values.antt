@@ -1,11 +1,6 @@
 -- The text of a trace whose events can be read back is read back as that trace.
-use Rattle.std.proofs.Common.{◌≡◌, ◌≤◌, List, [], ◌∷◌, Some, arith}
-use Rattle.std.specs.List.{AllByRecursion}
-use Rattle.json.specs.Json.{Json, document}
-use Rattle.json.specs.Tree.{HasNumbers, ItemsHaveNumbers, depth, items_depth}
+use Rattle.trace_events.proofs.Common.{◌≡◌, ◌≤◌, List, [], ◌∷◌, Some, arith, AllByRecursion, Json, document, HasNumbers, ItemsHaveNumbers, depth, items_depth, items_of, trace_json, trace_text}
 use Rattle.json.proofs.Printed.Trees.{document-print}
-use Rattle.trace_events.specs.Objects.{items_of}
-use Rattle.trace_events.specs.Documents.{trace_json, trace_text}
 
 items_have : (events : List Json) → AllByRecursion HasNumbers events → ItemsHaveNumbers (items_of events)
 items_have [] h = tt

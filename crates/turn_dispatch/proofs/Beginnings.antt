@@ -1,12 +1,7 @@
 -- How a turn begins.
-use Rattle.turn_dispatch.proofs.Common.{◌⊎◌, inl, inr, ◌||◌, ◌==◌, View, Lost, TakeAnswer, HoldsMore, has, Begun, Began, mask_of, HoldsSame, HoldsUnless, Tally, no_events, one_delivery}
-use Rattle.std.proofs.Common.{◌≡◌, ◌≢◌, ⊎_elim, ℕ, Bool, true, false, get_or, Ok, refl, sym, ap, ◌∙◌, arith, eqb}
-use Rattle.std.specs.Prelude.{if◌then◌else◌}
-use Rattle.std.proofs.lemmas.Bool.Decides.{eqb_tells}
-use Rattle.thread_table.specs.Entries.{HoldsLess}
+use Rattle.turn_dispatch.proofs.Common.{◌⊎◌, inl, inr, ◌||◌, ◌==◌, View, Lost, TakeAnswer, HoldsMore, has, Begun, Began, mask_of, HoldsSame, HoldsUnless, Tally, no_events, one_delivery, ◌≡◌, ◌≢◌, ⊎_elim, ℕ, Bool, true, false, get_or, Ok, refl, sym, ap, ◌∙◌, arith, eqb, if◌then◌else◌, eqb_tells, HoldsLess, Awake, WasIdle, IdleHolds}
 use Rattle.turn_dispatch.specs.declared.dispatch.Idle.{Idle}
 use Rattle.turn_dispatch.specs.declared.dispatch.Idle.TheVariants as idle
-use Rattle.turn_dispatch.specs.Dispatches.{Awake, WasIdle, IdleHolds}
 use Rattle.turn_dispatch.proofs.Calm.{Goes, Bridges, goes_after, goes_before, right}
 use Rattle.turn_dispatch.proofs.OnlyLoads.{take_looks, took_goes, took_holds, parked_goes, park_looks, runs_looks, deliver_goes, counts_looks}
 use Rattle.turn_dispatch.proofs.Sends.{sent_goes, sent_holds}

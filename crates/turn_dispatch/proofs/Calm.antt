@@ -1,12 +1,8 @@
 -- The parts that a hand keeps over several steps, what the steps add, and that none of its elements is counted a step.
-use Rattle.turn_dispatch.proofs.Common.{inl, inr, ∥∥₁_elim, ℕ_set, append-nil, MadeEvent, View, steps_in, MayStep, done_at, has, IsValidHandView, quiet, counted_done, IsFree, OnlyAdds, Steady, Tally, tally, followed_by, no_events, AddsToTally}
-use Rattle.std.proofs.Common.{◌≡◌, ℕ, ◌+◌, ◌<◌, true, false, List, [], ◌++◌, get_or, Some, None, refl, sym, ap, ◌∙◌, arith}
+use Rattle.turn_dispatch.proofs.Common.{inl, inr, ∥∥₁_elim, ℕ_set, append-nil, MadeEvent, View, steps_in, MayStep, done_at, has, IsValidHandView, quiet, counted_done, IsFree, OnlyAdds, Steady, Tally, tally, followed_by, no_events, AddsToTally, ◌≡◌, ℕ, ◌+◌, ◌<◌, true, false, List, [], ◌++◌, get_or, Some, None, refl, sym, ap, ◌∙◌, arith, Step, PerformsEvents, IsCalm, serves, running, IsOn}
 use Rattle.table_theory.specs.Ends.{Begins}
 use Rattle.table_theory.proofs.Ends.{begins_refl, begins_trans}
-use Rattle.thread_table.specs.Entries.{Step, PerformsEvents, IsCalm}
 use Rattle.thread_table.specs.Keeping.{Keeps}
-use Rattle.thread_table.specs.Rules.{serves, running}
-use Rattle.turn_dispatch.specs.Holdings.{IsOn}
 use Rattle.turn_dispatch.proofs.Tallies.{adds_on, adds_before, adds_more, reported_steps, reported_more}
 
 -- the hand has made a step, and only the hand counted steps of what it has before and after

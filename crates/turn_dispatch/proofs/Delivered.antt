@@ -1,14 +1,8 @@
 -- The bits of the signals that were delivered.
-use Rattle.turn_dispatch.proofs.Common.{◌⊎◌, inl, inr, ◌||◌, cond, set, ◌==◌, ◌&&◌, bit_or, is_in, Shows, delivery, is_delivered}
-use Rattle.std.proofs.Common.{◌≡◌, ◌≢◌, ℕ, zero, suc, ◌+◌, ◌<◌, ◌≤◌, Bool, true, false, List, ◌∷◌, get_or, length, max, refl, sym, ap, ◌∙◌, arith, eqb}
-use Rattle.std.specs.Prelude.{filter}
+use Rattle.turn_dispatch.proofs.Common.{◌⊎◌, inl, inr, ◌||◌, cond, set, ◌==◌, ◌&&◌, bit_or, is_in, Shows, delivery, is_delivered, ◌≡◌, ◌≢◌, ℕ, zero, suc, ◌+◌, ◌<◌, ◌≤◌, Bool, true, false, List, ◌∷◌, get_or, length, max, refl, sym, ap, ◌∙◌, arith, eqb, filter, eqb_tells, nat_tests, get_or-set_same, get_or-set_other, and-false, signals_in}
 use Rattle.std.specs.Int.{bit_at}
 use Rattle.std.specs.List.{list_any, range_with_len}
-use Rattle.std.proofs.lemmas.Bool.Decides.{eqb_tells, nat_tests}
-use Rattle.std.proofs.lemmas.List.{get_or-set_same, get_or-set_other}
-use Rattle.std.proofs.Math.Bool.{and-false}
 use Rattle.std.proofs.lemmas.Nat.Bits.{bit_at_or, bit_at-lt}
-use Rattle.thread_table.specs.Answers.{signals_in}
 
 either_bit : (x y : ℕ) → x < 2 → y < 2 → eqb (max x y) 1 ≡ (eqb x 1 || eqb y 1)
 either_bit zero zero a b = refl

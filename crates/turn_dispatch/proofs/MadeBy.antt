@@ -1,7 +1,6 @@
 -- The contribution of one event to a tally.
-use Rattle.turn_dispatch.proofs.Common.{MadeEvent, step_by, taking_by}
+use Rattle.turn_dispatch.proofs.Common.{MadeEvent, step_by, taking_by, signal_by, delivery_by, retiring_by}
 use Rattle.std.specs.Prelude.{ℕ, List}
-use Rattle.turn_dispatch.specs.Tallies.{signal_by, delivery_by, retiring_by}
 
 abbrev pub done_by : MadeEvent → List (ℕ × ℕ)
 done_by m = step_by m.event m.number

@@ -1,6 +1,5 @@
 -- The parts that each answer of the table leaves to the hand, and what the answer adds.
-use Rattle.turn_dispatch.proofs.Common.{append-nil, View, Lost, Signalled, TakeAnswer, MoveAnswer, WaitAnswer, SignalAnswer, ReadPc, HoldsMore, IsValidHandView, quiet, mask_of, OnlyAdds, tally, no_events, one_signal, one_delivery}
-use Rattle.std.proofs.Common.{◌≡◌, ◌≢◌, ⊎_elim, ℕ, zero, suc, Bool, true, false, [], ◌∷◌, Result, Ok, Err, refl, sym}
+use Rattle.turn_dispatch.proofs.Common.{append-nil, View, Lost, Signalled, TakeAnswer, MoveAnswer, WaitAnswer, SignalAnswer, ReadPc, HoldsMore, IsValidHandView, quiet, mask_of, OnlyAdds, tally, no_events, one_signal, one_delivery, ◌≡◌, ◌≢◌, ⊎_elim, ℕ, zero, suc, Bool, true, false, [], ◌∷◌, Result, Ok, Err, refl, sym, StartAnswer, StartedNow, ParkAnswer, DeliverAnswer, SignalledNow, StoppedNow, IsTicket, with_delivery, with_event, take_event, having_found, with_held, with_start, count_of}
 use Rattle.event_theory.specs.declared.event.Event.TheVariants as events
 use Rattle.thread_table.specs.declared.takings.NextRefusal.{NextRefusal}
 use Rattle.thread_table.specs.declared.takings.NextRefusal.TheVariants as nexts
@@ -8,9 +7,6 @@ use Rattle.thread_table.specs.declared.moves.MoveRefusal.{MoveRefusal}
 use Rattle.thread_table.specs.declared.moves.MoveRefusal.TheVariants as moves
 use Rattle.thread_table.specs.declared.states.Signalled.TheVariants as signalled
 use Rattle.thread_table.specs.declared.states.Started.TheVariants as started
-use Rattle.thread_table.specs.Answers.{StartAnswer, StartedNow, ParkAnswer, DeliverAnswer, SignalledNow, StoppedNow, IsTicket, with_delivery}
-use Rattle.thread_table.specs.Entries.{with_event, take_event}
-use Rattle.thread_table.specs.Views.{having_found, with_held, with_start, count_of}
 use Rattle.turn_dispatch.proofs.Calm.{Goes, OnlyLoads, acts_goes, acts_held, acts_look, only}
 
 -- a refused taking

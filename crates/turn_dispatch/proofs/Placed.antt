@@ -1,9 +1,6 @@
 -- An element that was put on a processor, or taken off it.
-use Rattle.turn_dispatch.proofs.Common.{set, View, IsValidHandView, Steady, AddsToTally, no_events}
-use Rattle.std.proofs.Common.{◌≡◌, ℕ, true, [], ◌∷◌, Some, None, Option, List, refl, ap}
+use Rattle.turn_dispatch.proofs.Common.{set, View, IsValidHandView, Steady, AddsToTally, no_events, ◌≡◌, ℕ, true, [], ◌∷◌, Some, None, Option, List, refl, ap, PutsOn, TakesOff, KeepsBut}
 use Rattle.event_theory.specs.declared.event.Event.TheVariants as events
-use Rattle.thread_table.specs.Answers.{PutsOn, TakesOff}
-use Rattle.turn_dispatch.specs.Holdings.{KeepsBut}
 use Rattle.turn_dispatch.proofs.Calm.{steady_by}
 use Rattle.turn_dispatch.proofs.Tallies.{adds_more}
 

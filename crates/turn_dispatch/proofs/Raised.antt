@@ -1,13 +1,9 @@
 -- Tending the alarms.
-use Rattle.turn_dispatch.proofs.Common.{take, append-nil, View, Signalled, SignalAnswer, IsValidHandView, OnlyAdds, one_signal, RaisedAll}
-use Rattle.std.proofs.Common.{◌≡◌, ℕ, suc, ◌+◌, ◌<◌, true, List, [], ◌∷◌, ◌++◌, length, get_or, Result, Ok, Err, refl, sym, ap, ◌∙◌, subst, arith}
-use Rattle.std.specs.Prelude.{MatchResult}
+use Rattle.turn_dispatch.proofs.Common.{take, append-nil, View, Signalled, SignalAnswer, IsValidHandView, OnlyAdds, one_signal, RaisedAll, ◌≡◌, ℕ, suc, ◌+◌, ◌<◌, true, List, [], ◌∷◌, ◌++◌, length, get_or, Result, Ok, Err, refl, sym, ap, ◌∙◌, subst, arith, MatchResult, signals_for, DidTend}
 use Rattle.std.proofs.Math.Seq.{take-suc}
 use Rattle.event_theory.specs.declared.alarm.Alarm.{Alarm}
 use Rattle.meters.specs.declared.gauges.AdvanceRefusal.{AdvanceRefusal}
 use Rattle.meters.specs.Own.{SeatView, own_of, Own, DidNothing, DidAdvance, DidFire}
-use Rattle.turn_dispatch.specs.Tallies.{signals_for}
-use Rattle.turn_dispatch.specs.Tendings.{DidTend}
 use Rattle.turn_dispatch.proofs.Calm.{Goes, OnlyLoads, goes_on, left, looks_none, only}
 use Rattle.turn_dispatch.proofs.OnlyLoads.{signal_goes}
 

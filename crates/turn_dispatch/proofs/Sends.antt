@@ -1,20 +1,12 @@
 -- Moves, retried when lost.
-use Rattle.turn_dispatch.proofs.Common.{inl, ∥∥₁_elim, ℕ_set, ◌==◌, View, MoveAnswer, WaitAnswer, steps_in, made_in, done_at, has, thread_at, IsValidHandView, counted_done, elements_of, LostTries, Sent, HoldsUnless, LostWaits, retired, Tally, tally, no_events}
-use Rattle.std.proofs.Common.{◌≡◌, ◌≢◌, ℕ, zero, suc, ◌+◌, ◌<◌, Bool, true, false, List, [], ◌∷◌, get_or, Ok, Err, refl, sym, ap, ◌∙◌, subst, arith}
-use Rattle.std.specs.Prelude.{if◌then◌else◌}
+use Rattle.turn_dispatch.proofs.Common.{inl, ∥∥₁_elim, ℕ_set, ◌==◌, View, MoveAnswer, WaitAnswer, steps_in, made_in, done_at, has, thread_at, IsValidHandView, counted_done, elements_of, LostTries, Sent, HoldsUnless, LostWaits, retired, Tally, tally, no_events, ◌≡◌, ◌≢◌, ℕ, zero, suc, ◌+◌, ◌<◌, Bool, true, false, List, [], ◌∷◌, get_or, Ok, Err, refl, sym, ap, ◌∙◌, subst, arith, if◌then◌else◌, Event, MovedBy, with_move, raise_event, head_in, claim_event, state_after, IsAllowed, LastTry, LastWait, WaitedAt, has_gone, one_retired}
 use Rattle.event_theory.specs.Elements.{Elements}
 use Rattle.event_theory.specs.States.{State}
-use Rattle.event_theory.specs.declared.event.Event.{Event}
 use Rattle.event_theory.specs.declared.event.Event.TheVariants as events
 use Rattle.thread_table.specs.declared.moves.MoveRefusal.TheVariants as moves
-use Rattle.thread_table.specs.Answers.{MovedBy, with_move, raise_event, head_in}
-use Rattle.thread_table.specs.Entries.{claim_event}
-use Rattle.thread_table.specs.Schedules.{state_after, IsAllowed}
 use Rattle.thread_table.proofs.Schedule.Orders.{adds_real}
 use Rattle.turn_dispatch.specs.declared.moving.Waited.{Waited}
 use Rattle.turn_dispatch.specs.declared.moving.Waited.TheVariants as waited
-use Rattle.turn_dispatch.specs.Sendings.{LastTry, LastWait, WaitedAt, has_gone}
-use Rattle.turn_dispatch.specs.Tallies.{one_retired}
 use Rattle.turn_dispatch.proofs.Calm.{Goes, OnlyLoads, goes_after, left, looks_none, looks_on, acts_goes, steps_more, done_is}
 use Rattle.turn_dispatch.proofs.OnlyLoads.{move_looks, wait_looks}
 use Rattle.turn_dispatch.proofs.Tallies.{reported_steps}

@@ -1,13 +1,7 @@
 -- Counting a step.
-use Rattle.turn_dispatch.proofs.Common.{inl, inr, cond, sum_by-append, is_done, View, ReadPc, steps_in, MayStep, done_at, IsValidHandView, AddsToTally, no_events}
-use Rattle.std.proofs.Common.{◌≡◌, ◌≢◌, ⊎_elim, ℕ, ◌+◌, ◌<◌, Bool, true, false, [], ◌∷◌, ◌++◌, get_or, List, None, Ok, refl, sym, ap, ◌∙◌, subst, arith, eqb}
-use Rattle.std.proofs.lemmas.Bool.Decides.{eqb_tells}
-use Rattle.event_theory.specs.declared.event.Event.{Event}
+use Rattle.turn_dispatch.proofs.Common.{inl, inr, cond, sum_by-append, is_done, View, ReadPc, steps_in, MayStep, done_at, IsValidHandView, AddsToTally, no_events, ◌≡◌, ◌≢◌, ⊎_elim, ℕ, ◌+◌, ◌<◌, Bool, true, false, [], ◌∷◌, ◌++◌, get_or, List, None, Ok, refl, sym, ap, ◌∙◌, subst, arith, eqb, eqb_tells, Event, DoneAnswer, with_step, Past, one_step}
 use Rattle.event_theory.specs.declared.event.Event.TheVariants as events
-use Rattle.thread_table.specs.Answers.{DoneAnswer, with_step}
-use Rattle.thread_table.specs.Schedules.{Past}
 use Rattle.turn_dispatch.specs.Countings.{SteadyBut}
-use Rattle.turn_dispatch.specs.Tallies.{one_step}
 use Rattle.turn_dispatch.proofs.Calm.{Goes, acts_goes, acts_held, steps_more, steady, done_is}
 use Rattle.turn_dispatch.proofs.OnlyLoads.{counts_looks}
 use Rattle.turn_dispatch.proofs.Tallies.{reported_steps}

@@ -1,12 +1,6 @@
 -- The sum of events, one after the other.
-use Rattle.turn_dispatch.proofs.Common.{cond, ◌==◌, flat_map-append, append-nil, sum_by-append, is_done, MadeEvent, View, Tally, tally, followed_by, no_events, AddsToTally, step_by}
-use Rattle.std.proofs.Common.{◌≡◌, ◌+◌, ℕ, List, [], ◌∷◌, ◌++◌, refl, sym, ap, ◌∙◌, subst, arith}
-use Rattle.std.specs.Prelude.{count_by, flat_map}
-use Rattle.std.proofs.lemmas.List.{append_assoc}
-use Rattle.std.proofs.lemmas.List.Sums.{sum_by-cons}
-use Rattle.event_theory.specs.declared.event.Event.{Event}
+use Rattle.turn_dispatch.proofs.Common.{cond, ◌==◌, flat_map-append, append-nil, sum_by-append, is_done, MadeEvent, View, Tally, tally, followed_by, no_events, AddsToTally, step_by, ◌≡◌, ◌+◌, ℕ, List, [], ◌∷◌, ◌++◌, refl, sym, ap, ◌∙◌, subst, arith, count_by, flat_map, append_assoc, sum_by-cons, Event, steps_by}
 use Rattle.event_theory.specs.declared.event.Event.TheVariants as events
-use Rattle.thread_table.specs.Entries.{steps_by}
 use Rattle.turn_dispatch.proofs.MadeBy.{done_by, signalled_by, delivered_by, retired_by, taken_by}
 
 pub tally_more : (a b : List MadeEvent) → tally (a ++ b) ≡ followed_by (tally a) (tally b)

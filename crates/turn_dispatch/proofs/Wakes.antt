@@ -1,15 +1,10 @@
 -- Waking all that wait, and starting.
-use Rattle.turn_dispatch.proofs.Common.{◌⊎◌, inl, inr, ◌||◌, ◌==◌, ◌&&◌, bit_or, View, Lost, is_in, has, Woken, HoldsSame, Sent, HoldsUnless, tally, no_events}
-use Rattle.std.proofs.Common.{◌≡◌, ◌≢◌, ℕ, zero, suc, ◌+◌, ◌*◌, ◌^◌, ◌%◌, ◌<◌, ◌≤◌, Bool, true, false, List, [], ◌∷◌, get_or, Result, Ok, Err, refl, sym, ap, ◌∙◌, subst, arith, eqb}
-use Rattle.std.specs.Prelude.{not, if◌then◌else◌, flat_map}
-use Rattle.std.proofs.Math.Bool.{or-true}
+use Rattle.turn_dispatch.proofs.Common.{◌⊎◌, inl, inr, ◌||◌, ◌==◌, ◌&&◌, bit_or, View, Lost, is_in, has, Woken, HoldsSame, Sent, HoldsUnless, tally, no_events, ◌≡◌, ◌≢◌, ℕ, zero, suc, ◌+◌, ◌*◌, ◌^◌, ◌%◌, ◌<◌, ◌≤◌, Bool, true, false, List, [], ◌∷◌, get_or, Result, Ok, Err, refl, sym, ap, ◌∙◌, subst, arith, eqb, not, if◌then◌else◌, flat_map, or-true, eqb_tells, CanWake, OneReady, AllReady, Woke, HoldsWoken, ResumeAnswer, ResumeHolds}
 use Rattle.std.proofs.Math.Pow.{pow-lt}
-use Rattle.std.proofs.lemmas.Bool.Decides.{eqb_tells}
 use Rattle.thread_table.specs.Wakes.{WokeAll, Try, took, missed, made_by_try, with_wakes}
 use Rattle.thread_table.proofs.Shown.StateBits.{bit_set_here, bit_set_other}
 use Rattle.turn_dispatch.specs.declared.waking.Resumed.{Resumed}
 use Rattle.turn_dispatch.specs.declared.waking.Resumed.TheVariants as resumed
-use Rattle.turn_dispatch.specs.Wakings.{CanWake, OneReady, AllReady, Woke, HoldsWoken, ResumeAnswer, ResumeHolds}
 use Rattle.turn_dispatch.proofs.Beginnings.{back, more_grows}
 use Rattle.turn_dispatch.proofs.Calm.{Goes, goes_after, goes_before, looks_none, acts_goes}
 use Rattle.turn_dispatch.proofs.Delivered.{none_in}

@@ -1,12 +1,7 @@
 -- The sums of accounts: associative, with a unit.
-use Rattle.turn_io.proofs.Common.{◌≡◌, ℕ, ◌+◌, fun_ext, map-append, nothing_did, did_both, idle_queue, both_queue, idle_chain, both_chain, no_stake, both_stakes, lines_of, at_each}
+use Rattle.turn_io.proofs.Common.{◌≡◌, ℕ, ◌+◌, fun_ext, map-append, nothing_did, did_both, idle_queue, both_queue, idle_chain, both_chain, no_stake, both_stakes, lines_of, at_each, append_assoc, append-nil, QueueIndex, Small, Large, line_of, AddsUp}
 use Rattle.std.proofs.Math.Nat.{add_assoc, add-zero, zero-add}
-use Rattle.std.proofs.lemmas.List.{append_assoc, append-nil}
-use Rattle.boot_data.specs.declared.plan.QueueIndex.{QueueIndex}
-use Rattle.boot_data.specs.declared.plan.QueueIndex.TheVariants.{Small, Large}
 use Rattle.claim_queue.specs.declared.rule.QueueOps.{QueueOps}
-use Rattle.claim_queue.specs.Lines.{line_of}
-use Rattle.turn_io.specs.Accounts.{AddsUp}
 
 pub numbers_add : AddsUp 0 (λ a b. a + b)
 numbers_add = record { regroups = add_assoc; none_first = zero-add; none_last = add-zero }

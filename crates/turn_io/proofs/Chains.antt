@@ -1,10 +1,6 @@
 -- One end of a list of chain ends is used.
-use Rattle.turn_io.proofs.Common.{◌≡◌, ℕ, ◌<◌, List, length, get_or, set, sym, ap, subst, ◌∙◌, arith, Some, Result, All, slice_get-get_or, ChainRefusal, ChainEnd, ProcChain, Ghosts, chain_table, chain_end_table, chain_end_call, IsIdle, AreChainEndsOf, AreSameChainEnds}
-use Rattle.std.proofs.Common.{true≢false}
+use Rattle.turn_io.proofs.Common.{◌≡◌, ℕ, ◌<◌, List, length, get_or, set, sym, ap, subst, ◌∙◌, arith, Some, Result, All, slice_get-get_or, ChainRefusal, ChainEnd, ProcChain, Ghosts, chain_table, chain_end_table, chain_end_call, IsIdle, AreChainEndsOf, AreSameChainEnds, true≢false, Poked, HasPoked, PokedAt, AreChainsOver}
 use Rattle.proc_chain.specs.Handles.{world_of, IsEndOf, IsSameEnd}
-use Rattle.turn_io.specs.declared.poking.Poked.{Poked}
-use Rattle.turn_io.specs.Outcomes.{HasPoked, PokedAt}
-use Rattle.turn_io.specs.EndLists.{AreChainsOver}
 use Rattle.turn_io.proofs.Places.{same_at, as_long, same_ends, on_end, all_still}
 
 -- a fact about each end holds of the one that is used

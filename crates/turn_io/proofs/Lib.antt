@@ -5,8 +5,5 @@ pub mod Shares
 pub mod Using
 pub mod Telling
 pub mod Chains
-pub mod Walking
-pub mod Parting
-pub mod ChainParting
 pub mod Accounting
 pub mod Queues

@@ -1,6 +1,5 @@
 -- One end of a list is used, and the others stay.
-use Rattle.turn_io.proofs.Common.{◌≡◌, ℕ, zero, suc, ◌<◌, Bool, true, false, List, [], ◌∷◌, map, length, get_or, set, refl, sym, ap, subst, ◌∙◌, arith, Some, All, map-set_same, length-map, slice_get-get_or, TableId, OnEnd, AreSame}
-use Rattle.std.proofs.Common.{eqb}
+use Rattle.turn_io.proofs.Common.{◌≡◌, ℕ, zero, suc, ◌<◌, Bool, true, false, List, [], ◌∷◌, map, length, get_or, set, refl, sym, ap, subst, ◌∙◌, arith, Some, All, map-set_same, length-map, slice_get-get_or, TableId, OnEnd, AreSame, eqb}
 use Rattle.std.specs.Prelude.{if◌then◌else◌}
 use Rattle.std.proofs.Math.Dec.{eqb-suc-suc, eqb-suc-zero, eqb-zero-suc}
 
@@ -24,6 +23,9 @@ module _ {E : Type 0} (ends : List E) (i : ℕ) (end after : E) (is : end ≡ ge
 
   pub on_end : (Does : E → E → Type 0) → i < length ends → Does end after → OnEnd i Does ends (set ends i after)
   on_end Does below does = record { end = end; after = after; was = slice_get-get_or ends i end below ∙ ap Some (sym is); does = does; now = refl }
+
+pub same_on : {E : Type 0} (table : E → TableId) (call : E → ℕ) (a b d : List E) → AreSame table call a b → AreSame table call b d → AreSame table call a d
+same_on table call a b d s t = record { tables = t.tables ∙ s.tables; calls = t.calls ∙ s.calls }
 
 -- the increase of an end, in a measure, is the increase of the list at the end's place
 module _ {E A B : Type 0} (F : E → A) (d : A) (m : A → B) (op : B → B → B) (u : B) (right : (b : B) → op b u ≡ b) where

@@ -1,34 +1,16 @@
--- The ends of all queues: the work of a step at one of them, of a split and of a join, by their evidence.
-use Rattle.turn_io.proofs.Common.{◌≡◌, ◌≤◌, ◌<◌, ◌+◌, ℕ, zero, suc, Bool, true, false, List, [], ◌∷◌, map, length, get_or, set, refl, sym, ap, subst, ◌∙◌, arith, Some, Result, All, QueueEnd, OnEnd, Heard, HasRaised, end_knows_shut, idle_queue, both_queue, at_each, lines_of, Batch}
+-- The ends of all queues: the work of a step at one of them, by its evidence.
+use Rattle.turn_io.proofs.Common.{◌≡◌, ◌≤◌, ◌<◌, ℕ, zero, suc, Bool, true, false, List, [], ◌∷◌, map, length, get_or, set, refl, sym, ap, subst, ◌∙◌, arith, Some, Result, All, QueueEnd, OnEnd, Heard, HasRaised, end_knows_shut, idle_queue, both_queue, at_each, Batch, slice_get, QueueIndex, Small, Large, ClaimRefusal, TakeRefusal, view_of, line_of, TakesInOrder, View, IsBegun, IsLine, by_both, InOrder, AllStaySound, AreInOrder, AtQueue, StaySound, know_shut, only, put_if, queue_account, queue_shares, room_of, shares_of, shut_if, taken_if, work_of, ClaimedInOrder, TookInOrder, knows_shut_at, Said, HasShut, AreSameQueueEnds, HeardAt, OnQueue, SaidAt, ShutAt}
 use Rattle.std.proofs.Common.{Ok, Err, ◌==◌, if◌then◌else◌}
 use Rattle.std.proofs.Math.Bool.{Bool-set}
 use Rattle.std.proofs.lemmas.Bool.{eqb-true}
-use Rattle.std.specs.List.{slice_get}
-use Rattle.boot_data.specs.declared.plan.QueueIndex.{QueueIndex}
-use Rattle.boot_data.specs.declared.plan.QueueIndex.TheVariants.{Small, Large}
-use Rattle.claim_queue.specs.declared.claim.ClaimRefusal.{ClaimRefusal}
 use Rattle.claim_queue.specs.declared.claim.ClaimRefusal.TheVariants as claims
 use Rattle.claim_queue.specs.declared.rule.QueueOps as queues
-use Rattle.claim_queue.specs.declared.take.TakeRefusal.{TakeRefusal}
 use Rattle.claim_queue.specs.declared.take.TakeRefusal.TheVariants as takes
-use Rattle.claim_queue.specs.Handles.{view_of}
-use Rattle.claim_queue.specs.Lines.{line_of}
-use Rattle.claim_queue.specs.Orders.{TakesInOrder}
-use Rattle.claim_queue.specs.Own.{View}
-use Rattle.claim_queue.specs.Takings.{IsBegun, IsLine}
-use Rattle.claim_queue.proofs.Certain.{by_both}
 use Rattle.claim_queue.proofs.Saying.{closed_says, done_says}
-use Rattle.table_theory.specs.Interleaving.{InOrder}
-use Rattle.table_theory.specs.Sharing.{given, kept}
 use Rattle.table_theory.proofs.Ordering.{order_none}
 use Rattle.turn_io.specs.declared.queue_ends.QueueEnds.{QueueEnds}
-use Rattle.turn_io.specs.Accounts.{AllStaySound, AreInOrder, AtQueue, Stake, StaySound, know_shut, only, put_if, queue_account, queue_shares, room_of, shares_of, shut_if, stakes, taken_if, work_of}
-use Rattle.turn_io.specs.EndLists.{ClaimedInOrder, TookInOrder, knows_shut_at}
-use Rattle.turn_io.specs.Outcomes.{Said, HasShut}
-use Rattle.turn_io.specs.QueueEnds.{AreQueuesJoined, AreQueuesSplit, AreSameQueueEnds, HeardAt, OnQueue, SaidAt, ShutAt}
-use Rattle.turn_io.specs.Splits.{AreJoined}
-use Rattle.turn_io.proofs.Accounting.{WorkedAt, given_at, heard_at, joined_at, kept_at, said_at, shut_at}
-use Rattle.turn_io.proofs.Adding.{by_sizes, each_adds, lines_add, queues_add}
+use Rattle.turn_io.proofs.Accounting.{WorkedAt, heard_at, said_at, shut_at}
+use Rattle.turn_io.proofs.Adding.{by_sizes, each_adds, queues_add}
 use Rattle.turn_io.proofs.Shares.{heard_long, none_of}
 use mathlib.Core.Option.{some, some-ne-none}
 use lib.ListN.{get_elem?}
@@ -139,29 +121,6 @@ heard_on queue line r = worked_on queue (λ n. Heard {n = n} line r) (taken_if r
 
 pub shut_on : (queue : QueueIndex) (was_open : Bool) (old new : QueueEnds) → ShutAt queue was_open old new → EndsWorked (only idle_queue queue (shut_if was_open)) old new
 shut_on queue was_open = worked_on queue (λ n. HasShut {n = n} was_open) (shut_if was_open) (λ n. shut_at {n = n} was_open)
-
--- SPLITS AND JOINS
-
-pub ends_kept : (old new born : QueueEnds) → AreQueuesSplit old new born → (work_of new ≡ work_of old) × (shares_of new ≡ (λ q. kept (shares_of old q)))
-ends_kept old new born s = (
-  by_sizes (work_of new) (work_of old) (λ q i. lines_of (kept_at old.small.items new.small.items born.small.items s.small.each i q).did) (λ q i. lines_of (kept_at old.large.items new.large.items born.large.items s.large.each i q).did),
-  by_sizes (shares_of new) _ (λ q i. (kept_at old.small.items new.small.items born.small.items s.small.each i q).share) (λ q i. (kept_at old.large.items new.large.items born.large.items s.large.each i q).share),
-)
-
-pub ends_given : (old new born : QueueEnds) → AreQueuesSplit old new born → (work_of born ≡ (λ q. idle_queue)) × (shares_of born ≡ (λ q. given (shares_of old q)))
-ends_given old new born s = (
-  by_sizes (work_of born) _ (λ q i. lines_of (given_at old.small.items new.small.items born.small.items s.small.each i q).did) (λ q i. lines_of (given_at old.large.items new.large.items born.large.items s.large.each i q).did),
-  by_sizes (shares_of born) _ (λ q i. (given_at old.small.items new.small.items born.small.items s.small.each i q).share) (λ q i. (given_at old.large.items new.large.items born.large.items s.large.each i q).share),
-)
-
-joined_lines : {n : ℕ} (xs ys zs : List (QueueEnd n)) → AreJoined xs ys zs → (q : ℕ) → queue_account zs q ≡ both_queue (queue_account xs q) (queue_account ys q)
-joined_lines xs ys zs h q = ap (λ (f : ℕ → Stake queues.QueueOps). lines_of (f q).did) (joined_at xs zs ys h.each) ∙ lines_add (stakes xs q).did (stakes ys q).did
-
-pub ends_joined : (old others new : QueueEnds) → AreQueuesJoined old others new → (work_of new ≡ at_each both_queue (work_of old) (work_of others)) × (shares_of new ≡ (λ q. shares_of old q + shares_of others q))
-ends_joined old others new j = (
-  by_sizes (work_of new) _ (joined_lines old.small.items others.small.items new.small.items j.small) (joined_lines old.large.items others.large.items new.large.items j.large),
-  by_sizes (shares_of new) _ (λ q i. (joined_at old.small.items new.small.items others.small.items j.small.each i q).share) (λ q i. (joined_at old.large.items new.large.items others.large.items j.large.each i q).share),
-)
 
 -- WHAT AN ANSWER SAYS
 

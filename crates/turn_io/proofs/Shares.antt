@@ -1,36 +1,19 @@
 -- The sum of each kind of step at a queue, by its evidence: the lines, the share and the shuts of an end.
-use Rattle.turn_io.proofs.Common.{◌≡◌, ◌<◌, ◌≤◌, ℕ, zero, suc, ◌+◌, take, Bool, true, false, refl, List, [], ◌∷◌, map, length, sym, ap, subst, ◌∙◌, arith, Result, length-map, QueueEnd, Owns, RaisedFrom, Batch, Part, AllRaised, valid_end, still_shut, Heard, HasRaised, end_knows_shut, idle_queue, both_queue, lines_of}
-use Rattle.std.proofs.Common.{Ok}
+use Rattle.turn_io.proofs.Common.{◌≡◌, ◌<◌, ◌≤◌, ℕ, zero, suc, ◌+◌, take, Bool, true, false, refl, List, [], ◌∷◌, map, length, sym, ap, subst, ◌∙◌, arith, Result, length-map, QueueEnd, Owns, RaisedFrom, Batch, Part, AllRaised, valid_end, still_shut, Heard, HasRaised, end_knows_shut, idle_queue, both_queue, lines_of, Ok, append-nil, length-drop, ClaimRefusal, TakeRefusal, view_of, line_of, TakesInOrder, View, of_queues, with_shutting, Raised, IsPut, IsBegun, IsLine, TookItems, scanned, InOrder, Distinct, by_both, seen_room, put_of, AtQueue, put_if, shut_if, taken_if, ClaimedInOrder, TookInOrder, end_share, Said, HasShut}
 use Rattle.std.specs.Prelude.{Err, IfOk, MatchBool, drop}
-use Rattle.std.proofs.lemmas.List.{append-nil, length-drop}
 use Rattle.std.proofs.Math.Bridge.{le_prop}
-use Rattle.claim_queue.specs.declared.claim.ClaimRefusal.{ClaimRefusal}
-use Rattle.claim_queue.specs.declared.take.TakeRefusal.{TakeRefusal}
 use Rattle.claim_queue.specs.Answers.{ClaimedItems}
-use Rattle.claim_queue.specs.Handles.{view_of}
 use Rattle.claim_queue.specs.Layout.{tail_word}
-use Rattle.claim_queue.specs.Lines.{line_of}
-use Rattle.claim_queue.specs.Orders.{TakesInOrder}
-use Rattle.claim_queue.specs.Own.{View, of_queues, with_shutting}
-use Rattle.claim_queue.specs.Puts.{Raised, IsPut}
-use Rattle.claim_queue.specs.Takings.{IsBegun, IsLine, TookItems, scanned}
 use Rattle.table_theory.specs.declared.queues.Cell.{Cell}
 use Rattle.table_theory.specs.declared.queues.Positions.{Positions}
-use Rattle.table_theory.specs.Interleaving.{InOrder}
 use Rattle.table_theory.specs.Ledgers.{IsValidView, load, change}
-use Rattle.table_theory.specs.Listing.{Distinct}
 use Rattle.table_theory.specs.Positioned.{item_of, with_take}
 use Rattle.claim_queue.proofs.Answered.{Does, does, refused_own, put_own, took_own, refused_take_own}
-use Rattle.claim_queue.proofs.Certain.{by_both, seen_room}
 use Rattle.claim_queue.proofs.Growing.{reaches_grow}
 use Rattle.claim_queue.proofs.Lining.{put_line, took_line, raised_put}
 use Rattle.claim_queue.proofs.Ordered.{order_of, answer_order, refused_claim, put_order, refused_order, took_order, shut_order}
-use Rattle.claim_queue.proofs.Putting.{put_of}
 use Rattle.table_theory.proofs.Saying.{passes_split}
 use Rattle.table_theory.proofs.Reaching.{passes_since}
-use Rattle.turn_io.specs.Accounts.{AtQueue, put_if, shut_if, taken_if}
-use Rattle.turn_io.specs.EndLists.{ClaimedInOrder, TookInOrder, end_share}
-use Rattle.turn_io.specs.Outcomes.{Said, HasShut}
 use Rattle.turn_io.proofs.Telling.{none_more}
 
 -- The end did this in addition, and has the share that it had. If it had raised all that it claimed, it still has; if

@@ -1,7 +1,5 @@
 -- The sum of a poke, by its evidence: the notes chained, the notes run, and the share of an end of a chain.
-use Rattle.turn_io.proofs.Common.{◌≡◌, ℕ, ◌+◌, [], ◌∷◌, ◌++◌, map, length, sym, ap, ◌∙◌, arith, length-append, length-map, map-append, Part, ChainRefusal, ChainEnd, Ghosts, ProcChain, Result, notes_taken, both_chain}
-use Rattle.std.proofs.Common.{Ok, Err}
-use Rattle.std.proofs.lemmas.List.{append-nil}
+use Rattle.turn_io.proofs.Common.{◌≡◌, ℕ, ◌+◌, [], ◌∷◌, ◌++◌, map, length, sym, ap, ◌∙◌, arith, length-append, length-map, map-append, Part, ChainRefusal, ChainEnd, Ghosts, ProcChain, Result, notes_taken, both_chain, Ok, Err, append-nil, Poked, AtChain, chained_if, notes_of, chain_end_share, HasPoked}
 use Rattle.proc_chain.specs.declared.rule.ChainOps.{ChainOps}
 use Rattle.proc_chain.specs.declared.chaining.ChainRefusal.TheVariants.{Spent, Full, Lost}
 use Rattle.proc_chain.specs.Answers.{NotChained, with_run}
@@ -9,11 +7,7 @@ use Rattle.proc_chain.specs.Handles.{view_of}
 use Rattle.proc_chain.specs.Links.{notes_in}
 use Rattle.proc_chain.specs.Notes.{line_of, alone}
 use Rattle.proc_chain.specs.Own.{View}
-use Rattle.turn_io.specs.declared.poking.Poked.{Poked}
 use Rattle.turn_io.specs.declared.poking.Poked.TheVariants.{Ran, Left}
-use Rattle.turn_io.specs.Accounts.{AtChain, chained_if, notes_of}
-use Rattle.turn_io.specs.EndLists.{chain_end_share}
-use Rattle.turn_io.specs.Outcomes.{HasPoked}
 
 pub none_more : (a b : ℕ) → a ≡ b → a ≡ b + 0
 none_more a b e = omega arith

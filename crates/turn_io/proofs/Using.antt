@@ -1,10 +1,8 @@
 -- One end of a list of queue ends is used.
-use Rattle.turn_io.proofs.Common.{◌≡◌, ℕ, ◌<◌, List, length, get_or, set, sym, subst, ◌∙◌, arith, QueueEnd, queue_table, end_table, end_call, AreSameEnds, OnEnd}
+use Rattle.turn_io.proofs.Common.{◌≡◌, ℕ, ◌<◌, List, length, get_or, set, sym, subst, ◌∙◌, arith, QueueEnd, queue_table, end_table, end_call, AreSameEnds, OnEnd, with_items, AreEndsOf}
 use Rattle.std.specs.Global.{Vec}
-use Rattle.std.specs.Vec.{with_items}
 use Rattle.claim_queue.specs.Plain.{ClaimQueue}
 use Rattle.claim_queue.specs.Handles.{IsEndOf, IsSameEnd}
-use Rattle.turn_io.specs.EndLists.{AreEndsOf}
 use Rattle.turn_io.proofs.Places.{same_at, as_long, same_ends, on_end}
 
 module _ {n : ℕ} where

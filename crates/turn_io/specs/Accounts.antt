@@ -5,7 +5,6 @@ use Rattle.std.specs.Prelude.{◌∷◌, Result, Ok, Err, is_ok, true}
 use Rattle.std.specs.List.{All}
 use Rattle.boot_data.specs.declared.plan.QueueIndex.{QueueIndex}
 use Rattle.boot_data.specs.declared.plan.QueueIndex.TheVariants.{Small, Large}
-use Rattle.table_theory.specs.Sharing.{given, kept}
 use Rattle.claim_queue.specs.declared.ends.QueueEnd.{QueueEnd}
 use Rattle.claim_queue.specs.declared.rule.QueueOps.{QueueOps}
 use Rattle.claim_queue.specs.Handles.{view_of}
@@ -61,14 +60,6 @@ no_stake none = record { did = none; share = 0 }
 -- the stakes of two ends, added
 abbrev pub both_stakes : {D : Type 0} → (D → D → D) → Stake D → Stake D → Stake D
 both_stakes add a b = record { did = add a.did b.did; share = a.share + b.share }
-
--- the stake that an end keeps after a split
-abbrev pub keep : {D : Type 0} → Stake D → Stake D
-keep stake = record stake { share = kept stake.share }
-
--- the stake that a split gives to the new end, which did nothing
-abbrev pub give : {D : Type 0} → D → Stake D → Stake D
-give none stake = record { did = none; share = given stake.share }
 
 -- the work of an end of a queue, with its runs and takings as lines
 abbrev pub lines_of : QueueOps → AtQueue

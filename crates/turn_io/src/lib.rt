@@ -3,7 +3,6 @@
 //! chains.
 #![tactic(auto)]
 
-mod chain_splitting;
 mod gate;
 mod hearing;
 mod items;
@@ -11,9 +10,7 @@ mod laws;
 mod poking;
 mod queue_ends;
 mod saying;
-mod splitting;
 
-pub use chain_splitting::{join_chain_ends, split_chain_ends, split_chain_ends_into};
 pub use gate::{Gate, NoGate, Point};
 pub use hearing::hear;
 pub use items::item_at;
@@ -21,4 +18,3 @@ pub use laws::accounts_add;
 pub use poking::{Poked, poke};
 pub use queue_ends::{LineRoom, QueueEnds};
 pub use saying::say;
-pub use splitting::{join_ends, split_ends, split_ends_into};

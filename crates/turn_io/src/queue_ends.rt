@@ -2,14 +2,12 @@
 ghost use Rattle.std.specs.Prelude.{◌≡◌, ◌≤◌, [], length};
 ghost use Rattle.turn_io.specs.Gates.{HookSawSay};
 ghost use Rattle.turn_io.specs.QueueEnds.{AreQueueEndsOf, AreSameQueueEnds, IsThere, SaidAt, HeardAt, ShutAt};
-ghost use Rattle.turn_io.specs.QueueEnds.{AreQueuesDivisible, AreQueuesSplit, AreQueuesJoined, HaveRoomFor};
 ghost use Rattle.turn_io.specs.declared.gate.Point.TheVariants.{TakeAnswered};
 
 use crate::gate::Gate;
 use crate::hearing::hear;
 use crate::items::item_at;
 use crate::saying::say;
-use crate::splitting::{join_ends, split_ends_into};
 use arrayvec::ArrayVec;
 use boot_data::plan::QueueIndex;
 use claim_queue::{ClaimRefusal, QueueEnd, TakeRefusal};
@@ -131,39 +129,5 @@ impl QueueEnds {
             QueueIndex::Small(at) => queues.small[at].shut(item_at(self.small.as_mut_slice(), at)),
             QueueIndex::Large(at) => queues.large[at].shut(item_at(self.large.as_mut_slice(), at)),
         }
-    }
-
-    /// A new end of each queue, split off from the one here. The new ends go into `born`, whose lists are empty and have
-    /// room for them, so it allocates no memory.
-    ///
-    /// Conditions: the ends are those of the queues, and each has two parts or more of its queue's 2^64 - 1.
-    pub fn split_into(&mut self, queues: &Queues, born: QueueEnds) -> QueueEnds
-        requires ends { AreQueueEndsOf queues.now self.old }
-        requires parts { AreQueuesDivisible self.old }
-        requires room { HaveRoomFor queues.now born }
-        ensures split { AreQueuesSplit self.old self.new result }
-        ensures born { AreQueueEndsOf queues.now result }
-        ensures handle { AreSameQueueEnds self.old self.new }
-    {
-        let QueueEnds { small, large } = born;
-        QueueEnds {
-            small: split_ends_into(queues.small.as_slice(), self.small.as_mut_slice(), small),
-            large: split_ends_into(queues.large.as_slice(), self.large.as_mut_slice(), large),
-        }
-    }
-
-    /// Joins each of the other ends to the one of the same queue here, which then has all that both had. It allocates no
-    /// memory.
-    ///
-    /// Condition: both are ends of the queues.
-    pub fn join(&mut self, queues: &Queues, others: QueueEnds)
-        requires ends { AreQueueEndsOf queues.now self.old }
-        requires others { AreQueueEndsOf queues.now others }
-        ensures joined { AreQueuesJoined self.old others self.new }
-        ensures handle { AreSameQueueEnds self.old self.new }
-    {
-        let QueueEnds { small, large } = others;
-        join_ends(queues.small.as_slice(), self.small.as_mut_slice(), small);
-        join_ends(queues.large.as_slice(), self.large.as_mut_slice(), large);
     }
 }

@@ -1,7 +1,9 @@
-//! The tests of `processor` and `boot_objects`, in a crate of their own: turns of stations, and what the tables close
-//! with. In the crate of either they would prove that crate once more.
+//! The tests of `turn_io`, `processor`, `stations` and `boot_objects`, in a crate of their own: steps at ends, turns of
+//! stations, and what the tables close with. In the crate of a library they would prove it once more.
 #![tactic(auto)]
 
+#[cfg(test)]
+mod at_ends;
 #[cfg(test)]
 mod closes;
 #[cfg(test)]

@@ -25,6 +25,7 @@ use meters::{MeterSeat, Metered, Meters};
 use processor::*;
 use quajects::Queues;
 use stands::{must_be_free, stand};
+use stations::join_station;
 use std::alloc::Global;
 use std::panic::Expect;
 use std::process::Abort;

@@ -1,13 +1,8 @@
 -- What a boot knows at its end makes its report agree.
-use Rattle.boot_laws.proofs.Common.{zero, ◌+◌, Account, ChainEnded, ◌≡◌, ℕ, suc, ◌≤◌, List, [], ◌∷◌, ◌++◌, length, refl, sym, ap, ◌∙◌, subst, arith, append-nil, Some, flat_map, sum_by, IsPermutation, le_prop, ∥∥₁_elim, AllZip, AllByRecursion, concat, sum_by-cons, BootPlan, PlannedMover, PlannedTty, QueueIndex, Small, Large, Report, plan_of, IsPlan, IsMoverOf, many_of, raw_queue, QueueEnd, lines_put, lines_taken, DeviceEnded, AnyQuaject, Home, runs_of, LogEntry, Line, there, all_at, taken_from, put_in, IsTty, Boot, BootEnded, others_at, ClosedTables, queue_at, home_at, device_at, IsReport, total_of}
-use Rattle.std.proofs.Common.{slice_get}
+use Rattle.boot_laws.proofs.Common.{zero, ◌+◌, Account, ChainEnded, ◌≡◌, ℕ, suc, ◌≤◌, List, [], ◌∷◌, ◌++◌, length, refl, sym, ap, ◌∙◌, subst, arith, append-nil, Some, flat_map, sum_by, IsPermutation, le_prop, ∥∥₁_elim, AllZip, AllByRecursion, concat, sum_by-cons, BootPlan, PlannedMover, PlannedTty, QueueIndex, Small, Large, Report, plan_of, IsPlan, IsMoverOf, many_of, raw_queue, QueueEnd, lines_put, lines_taken, DeviceEnded, AnyQuaject, Home, runs_of, LogEntry, Line, there, all_at, taken_from, put_in, IsTty, Boot, BootEnded, others_at, ClosedTables, queue_at, home_at, device_at, IsReport, total_of, slice_get, view_of, AreWithout, TtyAgrees, TablesAgree, IsNoRaw}
 use Rattle.std.proofs.lemmas.Option.{slice_get_within as within}
-use Rattle.claim_queue.specs.Handles.{view_of}
-use Rattle.boot_objects.specs.DeviceEndings.{AreWithout}
 use Rattle.quajects.specs.declared.any.AnyQuaject.TheVariants as any
-use Rattle.boot_laws.specs.Agreements.{TtyAgrees}
 use Rattle.boot_laws.specs.ClosedTables as closed
-use Rattle.boot_laws.specs.Reports.{TablesAgree, IsNoRaw}
 use Rattle.boot_laws.proofs.Queues.Chains.{mover_agrees}
 use Rattle.boot_laws.proofs.Meters.{gauges_agree, alarms_agree}
 use Rattle.boot_laws.proofs.Threads.{thread_agrees}

@@ -1,20 +1,14 @@
 -- What was made for a plan is the plan's after any note.
-use Rattle.boot_laws.proofs.Common.{◌-◌, ◌≡◌, ℕ, zero, suc, ◌≤◌, ◌<◌, List, [], ◌∷◌, ◌++◌, map, length, refl, sym, ap, ◌∙◌, arith, Option, Some, None, flat_map, subst, All, BootPlan, Mover, PlannedMover, raw_queue, line_queue, screen_queue, ProcChain, AnyQuaject, Way, Queues, IsMover, IsTty, MadeOfNew, routes_of}
-use Rattle.std.proofs.Common.{◌^◌, slice_get}
+use Rattle.boot_laws.proofs.Common.{◌-◌, ◌≡◌, ℕ, zero, suc, ◌≤◌, ◌<◌, List, [], ◌∷◌, ◌++◌, map, length, refl, sym, ap, ◌∙◌, arith, Option, Some, None, flat_map, subst, All, BootPlan, Mover, PlannedMover, raw_queue, line_queue, screen_queue, ProcChain, AnyQuaject, Way, Queues, IsMover, IsTty, MadeOfNew, routes_of, ◌^◌, slice_get, AreQuajectsOf, quajects_of, SameEnds, MadeOf, key_of, index_of, way_post, run_count, sides_of}
 use Rattle.std.proofs.Math.Nat.{mod-eq_of_lt}
 use Rattle.std.proofs.lemmas.Option.{get_or_from_slice_get, slice_get_within}
 use Rattle.boot_data.specs.declared.plan.Mover.TheVariants as movers
 use Rattle.boot_data.specs.declared.plan.Way.{Way as PlannedWay}
-use Rattle.boot_objects.specs.Objects.{AreQuajectsOf}
-use Rattle.boot_objects.specs.Shares.{quajects_of}
 use Rattle.boot_objects.specs.Planned as objects
 use Rattle.boot_objects.specs.Planned.{IsReady, four_ways, way_key, way_to}
 use Rattle.proc_chain.specs.Handles.{opening_of}
 use Rattle.quajects.specs.declared.any.AnyQuaject.TheVariants as any
-use Rattle.quajects.specs.Anys.{SameEnds, MadeOf}
 use Rattle.quajects.specs.Ports.{Post}
-use Rattle.quajects.specs.Routes.{key_of, index_of, way_post}
-use Rattle.quajects.proofs.Homing.{run_count, sides_of}
 
 -- WAYS
 

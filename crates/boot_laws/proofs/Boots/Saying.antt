@@ -1,21 +1,15 @@
 -- If all steps were done, the lines said are those of the plan.
-use Rattle.boot_laws.proofs.Common.{◌≡◌, ◌≢◌, ⊎_elim, ℕ, zero, suc, ◌+◌, ◌<◌, Bool, true, false, eqb, eq-eqb, ne_eqb, List, [], ◌∷◌, ◌++◌, map, length, refl, sym, ap, ◌∙◌, subst, arith, Option, Some, None, append_assoc, append-nil, flat_map, count_by, IsPermutation, if◌then◌else◌, ◌&&◌, ◌||◌, ◌==◌, nat_lt, not, range_with_len, AllByRecursion, list_any-append, leb_tells, flat_map-append, dite, dec_lt, BootPlan, PlannedThread, QueueIndex, Small, Step, Report, Place, AtQueue, idle_queue, only, put_if, shut_if, taken_if, StepOutcome, SayAnswer, is_done, IsOutcomeOf, queues_by, saw_shut, LogEntry, FollowsPlan, entry_account, turn_saw_shut, sum_of, was_shut, Key, same_key, program, step_of, said_line, Line, said, heard, PlaceAgrees, ClosedTables, IsReport, IsNeverShut, total_of, by_bool, plus, many_cons, many_more}
-use Rattle.std.proofs.Common.{slice_get}
-use Rattle.std.proofs.lemmas.List.Sorted.{IsPermutation-refl, IsPermutation-trans, IsPermutation-append_comm, IsPermutation-append_left, IsPermutation-append_right}
+use Rattle.boot_laws.proofs.Common.{◌≡◌, ◌≢◌, ⊎_elim, ℕ, zero, suc, ◌+◌, ◌<◌, Bool, true, false, eqb, eq-eqb, ne_eqb, List, [], ◌∷◌, ◌++◌, map, length, refl, sym, ap, ◌∙◌, subst, arith, Option, Some, None, append_assoc, append-nil, flat_map, count_by, IsPermutation, if◌then◌else◌, ◌&&◌, ◌||◌, ◌==◌, nat_lt, not, range_with_len, AllByRecursion, list_any-append, leb_tells, flat_map-append, dite, dec_lt, BootPlan, PlannedThread, QueueIndex, Small, Step, Report, Place, AtQueue, idle_queue, only, put_if, shut_if, taken_if, StepOutcome, SayAnswer, is_done, IsOutcomeOf, queues_by, saw_shut, LogEntry, FollowsPlan, entry_account, turn_saw_shut, sum_of, was_shut, Key, same_key, program, step_of, said_line, Line, said, heard, PlaceAgrees, ClosedTables, IsReport, IsNeverShut, total_of, by_bool, plus, many_cons, many_more, slice_get, IsPermutation-refl, IsPermutation-trans, IsPermutation-append_comm, IsPermutation-append_left, IsPermutation-append_right, steps_in, state_for, says_to, all_said, IsSaid, AllEnded, is_ended, is_live, find_it, range_in, range_far}
 use Rattle.std.proofs.lemmas.Bool.{eqb-true as eqb_is, and_parts as both, or_parts as or_false}
 use Rattle.boot_data.specs.declared.plan.Step.TheVariants as steps
 use Rattle.boot_data.specs.declared.report.ThreadLine.{ThreadLine}
 use Rattle.boot_data.specs.declared.report.ThreadState.{ThreadState}
 use Rattle.boot_data.specs.declared.report.ThreadState.TheVariants as states
-use Rattle.boot_data.specs.Plans.{steps_in}
 use Rattle.thread_table.specs.declared.places.Place.TheVariants as places
 use Rattle.processor.specs.declared.step_outcome.StepOutcome.TheVariants as step_outcomes
 use Rattle.processor.specs.declared.phases.SayAnswer.TheVariants as says
 use Rattle.processor.proofs.Rooms.{same_refl as key_itself}
 use Rattle.event_theory.proofs.Lists.Placed.{there as there_is}
-use Rattle.boot_laws.specs.Lines.{state_for}
-use Rattle.boot_laws.specs.Saying.{says_to, all_said, IsSaid, AllEnded, is_ended, is_live}
-use Rattle.thread_table.proofs.Lists.Counts.{find_it, range_in, range_far}
 use Rattle.boot_laws.proofs.Entries.{turn_is, say_is}
 use Rattle.boot_laws.proofs.Only.{only_all, only_map, only_off}
 use Rattle.boot_laws.proofs.Totals.{all_of, all_planned}

@@ -1,14 +1,8 @@
 -- What is known when a boot is shut down is what the laws of its report ask for.
-use Rattle.boot_laws.proofs.Common.{◌<◌, true, concat, AllZip, AllByRecursion, no_stake, was_shut, Account, account, LogEntry, FreedSpare, WorkedTogether, ◌≡◌, ℕ, zero, suc, ◌+◌, ◌-◌, List, [], ◌∷◌, ◌++◌, map, take, length, refl, sym, ap, ◌∙◌, subst, arith, Option, Some, flat_map, IsPermutation, if◌then◌else◌, ◌==◌, Bool, false, All, range_with_len, le_prop, ∥∥₁_elim, length-map, BootPlan, PlannedMover, PlannedTty, QueueIndex, Small, Large, Report, plan_of, IsPlan, raw_queue, line_queue, screen_queue, QueueEnd, IsClosed, Gained, Stake, at_one, ProcChain, DeviceEnded, Parts, Line, heard_lines, there, AnyQuaject, Home, Port, Queues, shuts_of, IsTty, MadeOfNew, Boot, BootEnded, others_at, ClosedTables, queue_at, queue_of, QueueEnded, ThreadsEnded, MetersEnded, MoverEnded, ChainEnded, ends_at, device_at, thread_of, Ascend, stake}
-use Rattle.std.proofs.Common.{slice_get}
-use Rattle.std.proofs.lemmas.List.{take-append-drop}
+use Rattle.boot_laws.proofs.Common.{◌<◌, true, concat, AllZip, AllByRecursion, no_stake, was_shut, Account, account, LogEntry, FreedSpare, WorkedTogether, ◌≡◌, ℕ, zero, suc, ◌+◌, ◌-◌, List, [], ◌∷◌, ◌++◌, map, take, length, refl, sym, ap, ◌∙◌, subst, arith, Option, Some, flat_map, IsPermutation, if◌then◌else◌, ◌==◌, Bool, false, All, range_with_len, le_prop, ∥∥₁_elim, length-map, BootPlan, PlannedMover, PlannedTty, QueueIndex, Small, Large, Report, plan_of, IsPlan, raw_queue, line_queue, screen_queue, QueueEnd, IsClosed, Gained, Stake, at_one, ProcChain, DeviceEnded, Parts, Line, heard_lines, there, AnyQuaject, Home, Port, Queues, shuts_of, IsTty, MadeOfNew, Boot, BootEnded, others_at, ClosedTables, queue_at, queue_of, QueueEnded, ThreadsEnded, MetersEnded, MoverEnded, ChainEnded, ends_at, device_at, thread_of, Ascend, stake, slice_get, take-append-drop, QueueOps, view_of, AreQuajectsOf, quajects_of, port_stakes, nothing_did, end_table, queue_table, AtChain, chain_stake, idle_chain, zip_from, homes_in, shown_in, notes_long, chains_of, closed_of, Says}
 use Rattle.std.proofs.lemmas.Option.{get_or_from_slice_get, slice_get_past, slice_get_within as within}
-use Rattle.claim_queue.specs.declared.rule.QueueOps.{QueueOps}
-use Rattle.claim_queue.specs.Handles.{view_of}
 use Rattle.boot_objects.specs.declared.closing.all.TornDown.{TornDown}
 use Rattle.boot_objects.specs.Endings.{AllClosed}
-use Rattle.boot_objects.specs.Objects.{AreQuajectsOf}
-use Rattle.boot_objects.specs.Shares.{quajects_of}
 use Rattle.quajects.proofs.Routes.{mapped_at}
 use Rattle.boot_objects.specs.Comings.{ShutNothing, small_ports, large_ports}
 use Rattle.boot_objects.specs.RawEnds.{TookRaws, raw_ports}
@@ -16,11 +10,7 @@ use Rattle.boot_objects.specs.Retirals.{HasRetired, HaveRetired, IsFew}
 use Rattle.boot_objects.proofs.Drawing.{three_long}
 use Rattle.boot_objects.proofs.Unshut.{homes_unshut}
 use Rattle.boot_objects.proofs.PortGains.{gained_both, stakes_append}
-use Rattle.boot_objects.specs.Gains.{port_stakes}
-use Rattle.claim_queue.specs.Own.{nothing_did}
-use Rattle.turn_io.specs.EndLists.{end_table, queue_table}
 use Rattle.turn_io.proofs.Places.{as_long}
-use Rattle.turn_io.specs.Accounts.{AtChain, chain_stake, idle_chain}
 use Rattle.turn_dispatch.specs.Holdings.{IsFree}
 use Rattle.boot_laws.proofs.Settling.Named.{none_on}
 use Rattle.boot_laws.proofs.Settling.Reading.{closed_settles}
@@ -32,20 +22,14 @@ use Rattle.proc_chain.specs.Handles as chains
 use Rattle.proc_chain.specs.Own as chain_views
 use Rattle.proc_chain.specs.Shown.{notes_of}
 use Rattle.event_theory.proofs.Lists.Histories.{slice_get-drop}
-use Rattle.event_theory.proofs.Lists.Placed.{zip_from}
 use Rattle.quajects.specs.Anys.{notes_of as quaject_notes}
-use Rattle.quajects.specs.Homes.{homes_in}
 use Rattle.processor.specs.declared.shared.Shared.{Shared}
-use Rattle.processor.specs.Accounts.{shown_in}
 use Rattle.processor.specs.Stations.{ArePartsOf}
 use Rattle.quajects.specs.declared.raw.RawTty.{RawTty}
 use Rattle.quajects.specs.Raws.{end_of}
-use Rattle.quajects.proofs.Homing.{notes_long}
 use Rattle.thread_table.specs.Closings as tables
 use Rattle.thread_table.specs.Handles as threads
 use Rattle.boot_laws.specs.ClosedTables as closed
-use Rattle.boot_laws.specs.Closings.{chains_of, closed_of}
-use Rattle.boot_laws.specs.Lines.{Says}
 use Rattle.boot_laws.proofs.Boots.Planning.{all_got, IsPlanned, IsOfPlan, planned_stay, made_new}
 use Rattle.boot_laws.proofs.Joined.{at_its, WereJoined, worked_together}
 use Rattle.boot_laws.proofs.Queues.Notes.{notes_are}

@@ -1,10 +1,7 @@
 -- No step is heard twice, so heard lines that ascend by thread and step do so strictly.
-use Rattle.boot_laws.proofs.Common.{Done, ◌≡◌, ⊎_elim, inl, inr, ℕ, zero, suc, ◌<◌, ◌≤◌, Bool, true, false, eq-eqb, List, [], ◌∷◌, length, refl, ap, ◌∙◌, arith, Some, count_by, IsPermutation, if◌then◌else◌, ◌&&◌, nat_lt, slice_index_or, AllByRecursion, le_prop, ∥∥₁_elim, dite, dec_lt, BootPlan, Step, plan_of, IsPlan, StepOutcome, is_done, heard_by, LogEntry, FollowsPlan, entry_account, sum_of, Key, same_key, Line, ClosedTables, WorkedTogether, ThreadsEnded, Ascend, total_of, plus, many_cons, many_more}
-use Rattle.std.proofs.Common.{slice_get}
+use Rattle.boot_laws.proofs.Common.{Done, ◌≡◌, ⊎_elim, inl, inr, ℕ, zero, suc, ◌<◌, ◌≤◌, Bool, true, false, eq-eqb, List, [], ◌∷◌, length, refl, ap, ◌∙◌, arith, Some, count_by, IsPermutation, if◌then◌else◌, ◌&&◌, nat_lt, slice_index_or, AllByRecursion, le_prop, ∥∥₁_elim, dite, dec_lt, BootPlan, Step, plan_of, IsPlan, StepOutcome, is_done, heard_by, LogEntry, FollowsPlan, entry_account, sum_of, Key, same_key, Line, ClosedTables, WorkedTogether, ThreadsEnded, Ascend, total_of, plus, many_cons, many_more, slice_get, AreSorted, many_shuffled}
 use Rattle.processor.specs.declared.step_outcome.StepOutcome.TheVariants as step_outcomes
 use Rattle.processor.specs.declared.phases.HearAnswer.TheVariants as hears
-use Rattle.boot_laws.specs.Reports.{AreSorted}
-use Rattle.thread_table.proofs.Lists.Counts.{many_shuffled}
 use Rattle.boot_laws.proofs.Entries.{turn_is}
 use Rattle.boot_laws.proofs.Threads.{once}
 use Rattle.boot_laws.proofs.Totals.{all_of, all_planned}

@@ -1,7 +1,5 @@
 -- The closed chains of pumps and switches by the logs.
-use Rattle.boot_laws.proofs.Common.{◌≡◌, ℕ, List, length, ap, ◌∙◌, arith, concat, BootPlan, PlannedMover, Home, Account, LogEntry, Done, WorkedTogether, ChainEnded, MoverEnded, total_of}
-use Rattle.quajects.specs.Anys.{notes_of}
-use Rattle.boot_laws.specs.Agreements.{MoverAgrees}
+use Rattle.boot_laws.proofs.Common.{◌≡◌, ℕ, List, length, ap, ◌∙◌, arith, concat, BootPlan, PlannedMover, Home, Account, LogEntry, Done, WorkedTogether, ChainEnded, MoverEnded, total_of, notes_of, MoverAgrees}
 use Rattle.boot_laws.specs.ClosedTables as closed
 use Rattle.boot_laws.proofs.Totals.{all_of, all_did}
 use Rattle.boot_laws.proofs.Turns.{all_work}

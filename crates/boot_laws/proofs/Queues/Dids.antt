@@ -1,15 +1,9 @@
 -- What a station's end of a queue did, by the queue's index: its runs and its takings with their positions.
-use Rattle.boot_laws.proofs.Common.{Option, ◌≡◌, ℕ, zero, suc, List, [], ◌∷◌, refl, sym, ap, ◌∙◌, arith, Some, All, BootPlan, QueueIndex, Small, Large, QueueEnd, AtQueue, Stake, lines_of, room_of, stakes, no_stake, stake, Ascending, Parts, Account, account, AreJoined}
+use Rattle.boot_laws.proofs.Common.{Option, ◌≡◌, ℕ, zero, suc, List, [], ◌∷◌, refl, sym, ap, ◌∙◌, arith, Some, All, BootPlan, QueueIndex, Small, Large, QueueEnd, AtQueue, Stake, lines_of, room_of, stakes, no_stake, stake, Ascending, Parts, Account, account, AreJoined, QueueOps, view_of, nothing_did, did_both, AreInOrder, ClaimedInOrder, TookInOrder, IsPrepared}
 use Rattle.std.specs.List.{slice_get}
-use Rattle.claim_queue.specs.declared.rule.QueueOps.{QueueOps}
-use Rattle.claim_queue.specs.Handles.{view_of}
-use Rattle.claim_queue.specs.Own.{nothing_did, did_both}
-use Rattle.turn_io.specs.Accounts.{AreInOrder}
-use Rattle.turn_io.specs.EndLists.{ClaimedInOrder, TookInOrder}
-use Rattle.turn_io.proofs.Accounting.{joined_at}
+use Rattle.stations.proofs.Stakes.{joined_at}
 use Rattle.turn_io.proofs.Shares.{none_of}
 use Rattle.table_theory.proofs.Ordering.{order_none}
-use Rattle.processor.specs.Preparing.{IsPrepared}
 use Rattle.boot_laws.proofs.Joined.{at_its}
 
 -- the end that a station has of the queue

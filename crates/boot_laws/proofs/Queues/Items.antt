@@ -1,11 +1,6 @@
 -- The items of a closed queue, position by position, by the runs of its last end.
-use Rattle.std.proofs.lemmas.Bool.Decides.{nat_tests}
-use Rattle.boot_laws.proofs.Common.{◌≡◌, ℕ, zero, suc, ◌+◌, ◌-◌, ◌<◌, ◌≤◌, Bool, true, List, [], ◌∷◌, map, length, get_or, refl, sym, ap, ◌∙◌, subst, arith, length-append, if◌then◌else◌, some, some-injective, some-ne-none, dite, dec_lt, get_elem?, ClosedNow, Batch, Owned, ListedOnce, all_places, Adjacent, item_of, items_from, by_bool}
-use Rattle.std.proofs.lemmas.List.{get_or_append_left, get_or-append_right}
+use Rattle.boot_laws.proofs.Common.{◌≡◌, ℕ, zero, suc, ◌+◌, ◌-◌, ◌<◌, ◌≤◌, Bool, true, List, [], ◌∷◌, map, length, get_or, refl, sym, ap, ◌∙◌, subst, arith, length-append, if◌then◌else◌, some, some-injective, some-ne-none, dite, dec_lt, get_elem?, ClosedNow, Batch, Owned, ListedOnce, all_places, Adjacent, item_of, items_from, by_bool, nat_tests, get_or_append_left, get_or-append_right, Cell, blank, lies_in, item_at}
 use Rattle.claim_queue.specs.Own.{View}
-use Rattle.table_theory.specs.declared.queues.Cell.{Cell}
-use Rattle.table_theory.specs.Positioned.{blank}
-use Rattle.boot_laws.specs.Closings.{lies_in, item_at}
 
 -- the item of a run at a position
 abbrev in_run : ℕ → Batch → ℕ

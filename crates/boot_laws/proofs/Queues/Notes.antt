@@ -1,15 +1,8 @@
 -- The notes that a closed chain ran are those that its end lists.
-use Rattle.boot_laws.proofs.Common.{◌≡◌, ℕ, ◌+◌, ◌<◌, List, [], ◌∷◌, map, length, refl, sym, ap, ◌∙◌, sum_by, length-append, concat, length-map, sum_by-cons, Batch, Owned, entry_of, all_places, item_of, Home}
-use Rattle.std.proofs.Common.{mod-eq_of_lt, ◌^◌}
-use Rattle.std.proofs.lemmas.List.Sorted.{sum_by-IsPermutation}
+use Rattle.boot_laws.proofs.Common.{◌≡◌, ℕ, ◌+◌, ◌<◌, List, [], ◌∷◌, map, length, refl, sym, ap, ◌∙◌, sum_by, length-append, concat, length-map, sum_by-cons, Batch, Owned, entry_of, all_places, item_of, Home, mod-eq_of_lt, ◌^◌, sum_by-IsPermutation, AnyQuaject, Queues, notes_of, CameHome, filed_shuffle}
 use Rattle.proc_chain.specs.declared.rule.Pact.{Pact}
 use Rattle.proc_chain.specs.Own.{View}
 use Rattle.proc_chain.specs.Notes.{line_of, notes_put}
-use Rattle.quajects.specs.declared.any.AnyQuaject.{AnyQuaject}
-use Rattle.quajects.specs.declared.world.Queues.{Queues}
-use Rattle.quajects.specs.Anys.{notes_of}
-use Rattle.quajects.specs.Homes.{CameHome}
-use Rattle.thread_table.proofs.Lists.Shuffles.{filed_shuffle}
 
 abbrev long : Batch → ℕ
 long b = length b.places

@@ -1,23 +1,14 @@
 -- A closed queue was ended: its last end has what the stations' ends, the devices' and the quajects' had.
-use Rattle.boot_laws.proofs.Common.{Home, take, ◌<◌, Bool, if◌then◌else◌, AllByRecursion, Batch, AtQueue, Parts, account, LogEntry, was_shut, ◌≡◌, ◌≤◌, ℕ, zero, suc, ◌+◌, true, false, List, [], ◌∷◌, ◌++◌, map, length, refl, sym, ap, ◌∙◌, subst, arith, Option, Some, flat_map, length-map, BootPlan, QueueIndex, QueueEnd, ClosedNow, IsClosed, Gained, Stake, both_stakes, stake, room_of, no_stake, end_knows_shut, there, Port, runs_of, takings_of, item_of, Boot, others_at, items_from, queue_of, QueueEnded, ends_at}
-use Rattle.std.proofs.Common.{slice_get}
+use Rattle.boot_laws.proofs.Common.{Home, take, ◌<◌, Bool, if◌then◌else◌, AllByRecursion, Batch, AtQueue, Parts, account, LogEntry, was_shut, ◌≡◌, ◌≤◌, ℕ, zero, suc, ◌+◌, true, false, List, [], ◌∷◌, ◌++◌, map, length, refl, sym, ap, ◌∙◌, subst, arith, Option, Some, flat_map, length-map, BootPlan, QueueIndex, QueueEnd, ClosedNow, IsClosed, Gained, Stake, both_stakes, stake, room_of, no_stake, end_knows_shut, there, Port, runs_of, takings_of, item_of, Boot, others_at, items_from, queue_of, QueueEnded, ends_at, slice_get, QueueOps, did_both, nothing_did, view_of, AreClosed, queues_from, port_stakes, joined, IsListed}
 use Rattle.std.proofs.lemmas.Option.{slice_get_within as within}
 use Rattle.claim_queue.specs.declared.close.Closed.{Closed as Shut}
 use Rattle.claim_queue.specs.Plain.{ClaimQueue}
-use Rattle.claim_queue.specs.declared.rule.QueueOps.{QueueOps}
-use Rattle.claim_queue.specs.Own.{did_both, nothing_did}
-use Rattle.claim_queue.specs.Handles.{view_of}
 use Rattle.claim_queue.proofs.Certain.{seen_room}
-use Rattle.boot_objects.specs.ClosedQueues.{AreClosed}
 use Rattle.boot_laws.specs.ClosedTables as closed
-use Rattle.boot_laws.specs.Closings.{queues_from}
 use Rattle.boot_laws.proofs.Joined.{at_its}
 use Rattle.boot_laws.proofs.Queues.Items.{items_are}
 use Rattle.boot_laws.proofs.Queues.Stakes.{ports_list}
 use Rattle.boot_laws.proofs.Queues.Takings.{of_ends}
-use Rattle.boot_objects.specs.Gains.{port_stakes}
-use Rattle.table_theory.specs.Interleaving.{joined}
-use Rattle.table_theory.specs.Listing.{IsListed}
 use Rattle.boot_laws.proofs.Joined.{joined_lists, WereJoined, done_by}
 use Rattle.boot_laws.proofs.Queues.Dids.{end_at, did_at, did_joined, lines_are, its_did, none_first, runs_up, takes_up}
 use Rattle.boot_laws.proofs.Queues.Stations.{of_each, all_in_order, lines_all, all_of_them, all_told, its_knowing}

@@ -1,16 +1,10 @@
 -- No processor, pump or switch puts in a tty's raw queue.
-use Rattle.boot_laws.proofs.Common.{◌≡◌, ⊎_elim, ℕ, zero, suc, ◌+◌, ◌<◌, ◌≤◌, Bool, List, [], ◌∷◌, ◌++◌, map, length, refl, sym, ap, ◌∙◌, subst, arith, append-nil, Some, eq-eqb, ne_eqb, le_prop, ∥∥₁_elim, if◌then◌else◌, AllByRecursion, BootPlan, Mover, PlannedThread, QueueIndex, Small, Large, Step, plan_of, steps_at, IsPlan, IsMoverOf, many_of, QueueEnd, AtQueue, idle_queue, put_if, shut_if, taken_if, StepOutcome, IsOutcomeOf, queues_by, LogEntry, FollowsPlan, entry_account, sum_of, program, step_of, said, heard, AnyQuaject, runs_of, Batch, all_at, IsMover, device_at}
-use Rattle.std.proofs.Common.{slice_get}
+use Rattle.boot_laws.proofs.Common.{◌≡◌, ⊎_elim, ℕ, zero, suc, ◌+◌, ◌<◌, ◌≤◌, Bool, List, [], ◌∷◌, ◌++◌, map, length, refl, sym, ap, ◌∙◌, subst, arith, append-nil, Some, eq-eqb, ne_eqb, le_prop, ∥∥₁_elim, if◌then◌else◌, AllByRecursion, BootPlan, Mover, PlannedThread, QueueIndex, Small, Large, Step, plan_of, steps_at, IsPlan, IsMoverOf, many_of, QueueEnd, AtQueue, idle_queue, put_if, shut_if, taken_if, StepOutcome, IsOutcomeOf, queues_by, LogEntry, FollowsPlan, entry_account, sum_of, program, step_of, said, heard, AnyQuaject, runs_of, Batch, all_at, IsMover, device_at, slice_get, Plan, IsProgramOf, IsStepOf, IsWayOf, view_of, line_of, joined}
 use Rattle.boot_data.specs.declared.plan.Mover.TheVariants as movers
 use Rattle.boot_data.specs.declared.plan.Step.TheVariants as steps
 use Rattle.boot_data.specs.declared.plan.Way.{Way as PlannedWay}
-use Rattle.boot_data.specs.Plans.{Plan}
-use Rattle.boot_data.specs.PlanLimits.{IsProgramOf, IsStepOf, IsWayOf}
-use Rattle.claim_queue.specs.Handles.{view_of}
-use Rattle.claim_queue.specs.Lines.{line_of}
 use Rattle.processor.specs.declared.step_outcome.StepOutcome.TheVariants as step_outcomes
 use Rattle.quajects.specs.declared.any.AnyQuaject.TheVariants as any
-use Rattle.table_theory.specs.Interleaving.{joined}
 use Rattle.turn_io.proofs.Shares.{none_of as no_lines}
 use Rattle.boot_laws.proofs.Entries.{turn_is, say_is}
 use Rattle.boot_laws.proofs.Only.{only_all}

@@ -1,13 +1,10 @@
 -- A queue that no step shuts was open for each say.
-use Rattle.boot_laws.proofs.Common.{Done, ◌<◌, ◌≡◌, ⊎_elim, ℕ, Bool, true, List, [], ◌∷◌, refl, sym, ap, ◌∙◌, arith, Some, if◌then◌else◌, ◌==◌, AllByRecursion, BootPlan, QueueIndex, Small, Large, Step, AtQueue, idle_queue, put_if, taken_if, shut_if, StepOutcome, IsOutcomeOf, queues_by, LogEntry, FollowsPlan, entry_account, sum_of, was_shut, step_of, said, heard, WorkedTogether, IsNeverShut, total_of, by_bool}
-use Rattle.std.proofs.Common.{eqb-true}
+use Rattle.boot_laws.proofs.Common.{Done, ◌<◌, ◌≡◌, ⊎_elim, ℕ, Bool, true, List, [], ◌∷◌, refl, sym, ap, ◌∙◌, arith, Some, if◌then◌else◌, ◌==◌, AllByRecursion, BootPlan, QueueIndex, Small, Large, Step, AtQueue, idle_queue, put_if, taken_if, shut_if, StepOutcome, IsOutcomeOf, queues_by, LogEntry, FollowsPlan, entry_account, sum_of, was_shut, step_of, said, heard, WorkedTogether, IsNeverShut, total_of, by_bool, eqb-true, IsLeftOpen, IsNeverClosed, sum_on}
 use Rattle.boot_data.specs.declared.plan.Step.TheVariants as steps
 use Rattle.processor.specs.declared.step_outcome.StepOutcome.TheVariants as step_outcomes
-use Rattle.boot_laws.specs.Saying.{IsLeftOpen, IsNeverClosed}
 use Rattle.boot_laws.proofs.Entries.{turn_is, close_is}
 use Rattle.boot_laws.proofs.Only.{only_all}
 use Rattle.boot_laws.proofs.Totals.{all_of, queue_did}
-use Rattle.processor.proofs.Logging.{sum_on}
 
 abbrev NeverShuts : AtQueue → Type 0
 NeverShuts a = a.shuts ≡ 0

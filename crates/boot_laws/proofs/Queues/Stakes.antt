@@ -1,10 +1,6 @@
 -- What the ends at ports have of a queue together, end by end.
-use Rattle.boot_laws.proofs.Common.{◌≡◌, ℕ, Bool, true, false, List, [], ◌∷◌, ◌++◌, append_assoc, map, refl, sym, ap, ◌∙◌, Option, Some, None, flat_map, if◌then◌else◌, ◌==◌, map-append, QueueEnd, no_stake, stake, at_one, Port, Batch, ends_at}
-use Rattle.claim_queue.specs.declared.rule.QueueOps.{QueueOps}
+use Rattle.boot_laws.proofs.Common.{◌≡◌, ℕ, Bool, true, false, List, [], ◌∷◌, ◌++◌, append_assoc, map, refl, sym, ap, ◌∙◌, Option, Some, None, flat_map, if◌then◌else◌, ◌==◌, map-append, QueueEnd, no_stake, stake, at_one, Port, Batch, ends_at, QueueOps, view_of, line_of, port_stakes}
 use Rattle.claim_queue.specs.Own.{View, nothing_did, did_both}
-use Rattle.claim_queue.specs.Handles.{view_of}
-use Rattle.claim_queue.specs.Lines.{line_of}
-use Rattle.boot_objects.specs.Gains.{port_stakes}
 use Rattle.boot_laws.proofs.Queues.Takings.{of_ends, of_next}
 
 pub map_flat : (f : View → List Batch) (vs : List View) → map line_of (flat_map f vs) ≡ flat_map (λ v. map line_of (f v)) vs

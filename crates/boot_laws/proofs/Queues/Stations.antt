@@ -1,10 +1,5 @@
 -- The stretches of stations that were joined: their runs, or their takings, and the lines of those; and what they know.
-use Rattle.boot_laws.proofs.Common.{◌≡◌, ℕ, true, false, List, [], ◌∷◌, ◌++◌, map, refl, sym, ap, ◌∙◌, flat_map, Some, AllZip, AllByRecursion, BootPlan, QueueIndex, Small, Large, QueueEnd, Batch, Ascending, AtQueue, lines_of, room_of, end_knows_shut, Parts, account, Account, LogEntry, Leaves, was_shut, AreJoined, AllJoined}
-use Rattle.claim_queue.specs.declared.rule.QueueOps.{QueueOps}
-use Rattle.claim_queue.specs.Handles.{view_of}
-use Rattle.claim_queue.specs.Lines.{line_of}
-use Rattle.turn_io.specs.Accounts.{know_shut}
-use Rattle.table_theory.specs.Interleaving.{joined}
+use Rattle.boot_laws.proofs.Common.{◌≡◌, ℕ, true, false, List, [], ◌∷◌, ◌++◌, map, refl, sym, ap, ◌∙◌, flat_map, Some, AllZip, AllByRecursion, BootPlan, QueueIndex, Small, Large, QueueEnd, Batch, Ascending, AtQueue, lines_of, room_of, end_knows_shut, Parts, account, Account, LogEntry, Leaves, was_shut, AreJoined, AllJoined, QueueOps, view_of, line_of, know_shut, joined}
 use Rattle.boot_laws.proofs.Joined.{at_its, stays}
 use Rattle.boot_laws.proofs.Queues.Dids.{end_at, did_at, lines_are, its_did}
 

@@ -1,15 +1,11 @@
 -- What the ends of quajects that came home put and took, queue by queue.
-use Rattle.boot_laws.proofs.Common.{◌≡◌, ◌≢◌, ℕ, ◌+◌, ◌<◌, ◌≤◌, Bool, true, false, List, [], ◌∷◌, ◌++◌, map, refl, ap, ◌∙◌, arith, append-nil, Option, Some, None, flat_map, ne_eqb, if◌then◌else◌, ◌==◌, AllZip, AllByRecursion, map-append, flat_map-append, QueueIndex, Small, Large, QueueEnd, lines_put, lines_taken, at_one, only, AnyQuaject, Home, Port, Way, runs_of, taken_from, routes_of, put_in, ends_at, home_at, device_at, ChainEnded}
+use Rattle.boot_laws.proofs.Common.{◌≡◌, ◌≢◌, ℕ, ◌+◌, ◌<◌, ◌≤◌, Bool, true, false, List, [], ◌∷◌, ◌++◌, map, refl, ap, ◌∙◌, arith, append-nil, Option, Some, None, flat_map, ne_eqb, if◌then◌else◌, ◌==◌, AllZip, AllByRecursion, map-append, flat_map-append, QueueIndex, Small, Large, QueueEnd, lines_put, lines_taken, at_one, only, AnyQuaject, Home, Port, Way, runs_of, taken_from, routes_of, put_in, ends_at, home_at, device_at, ChainEnded, view_of, KeepsSides, PortsOf, all_taken, port_of, TookNothing, source_of, way_target, targets}
 use Rattle.claim_queue.specs.Own.{View}
-use Rattle.claim_queue.specs.Handles.{view_of}
 use Rattle.turn_io.proofs.Shares.{none_of as no_lines}
 use Rattle.quajects.specs.declared.any.AnyQuaject.TheVariants as any
-use Rattle.quajects.specs.Anys.{KeepsSides, PortsOf, all_taken}
 use Rattle.quajects.specs.Pumps as pumps
-use Rattle.quajects.specs.Routes.{port_of, TookNothing}
 use Rattle.quajects.specs.Switches as switches
 use Rattle.quajects.specs.Terminals as terminals
-use Rattle.boot_laws.specs.Agreements.{source_of, way_target, targets}
 use Rattle.boot_laws.specs.ClosedTables as closed
 
 -- WHAT ENDS LIST

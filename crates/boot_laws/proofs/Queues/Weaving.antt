@@ -1,14 +1,8 @@
 -- A closed queue's items are the lines put, in the order of their claims, and those taken are the lines taken, in the
 -- order of their takings: each processor's in its own order.
-use Rattle.boot_laws.proofs.Common.{all_append, ◌≡◌, flat_map, ℕ, zero, suc, List, [], ◌∷◌, ◌++◌, map, take, refl, sym, ap, ◌∙◌, subst, arith, append_assoc, append-nil, AllByRecursion, concat, map-append, some, some-injective, some-ne-none, get_elem?, BootPlan, QueueIndex, Batch, Owned, entry_of, ListedOnce, Ascending, all_places, item_of, QueueEnd, room_of, Account, LogEntry, sum_of, runs_of, takings_of, AreCovered, Done, WorkedTogether, QueueEnded}
-use Rattle.std.proofs.lemmas.List.{take-map}
+use Rattle.boot_laws.proofs.Common.{all_append, ◌≡◌, flat_map, ℕ, zero, suc, List, [], ◌∷◌, ◌++◌, map, take, refl, sym, ap, ◌∙◌, subst, arith, append_assoc, append-nil, AllByRecursion, concat, map-append, some, some-injective, some-ne-none, get_elem?, BootPlan, QueueIndex, Batch, Owned, entry_of, ListedOnce, Ascending, all_places, item_of, QueueEnd, room_of, Account, LogEntry, sum_of, runs_of, takings_of, AreCovered, Done, WorkedTogether, QueueEnded, take-map, Cell, joined, Interleaves, view_of, line_of, QueueAgrees, IsWoven}
 use Rattle.std.proofs.lemmas.Simd.{map-map}
-use Rattle.table_theory.specs.declared.queues.Cell.{Cell}
-use Rattle.table_theory.specs.Interleaving.{joined, Interleaves}
 use Rattle.table_theory.proofs.Interleaving.{interleaved, interleaves_map}
-use Rattle.claim_queue.specs.Handles.{view_of}
-use Rattle.claim_queue.specs.Lines.{line_of}
-use Rattle.boot_laws.specs.Agreements.{QueueAgrees, IsWoven}
 use Rattle.boot_laws.specs.ClosedTables as closed
 use Rattle.boot_laws.proofs.Queues.Stakes.{map_flat}
 

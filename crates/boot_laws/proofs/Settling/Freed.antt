@@ -5,19 +5,13 @@ use Rattle.boot_laws.proofs.Settling.Common.{eq-eqb, map, drop, sum_by, AllByRec
 use Rattle.thread_table.proofs.Common.{◌≡◌, ⊎_elim, ℕ, ◌+◌, ◌≤◌, Bool, true, false, not, eqb_tells, List, [], ◌∷◌, ◌++◌, ◌∙◌, length, get_or, refl, sym, ap, subst, arith, Option, None, Some, Ok, Result, count_by, flat_map, list_any, append_assoc, map-append, length-append, State, Event, Hold, Elements, IsLawfulElements, Queue, Run, flat, holds, is_put, appearances, UnknownName, eqb, nat_tests, nat_lt, ◌≢◌, suc, zero, in_cell, sum_by-cons, if◌then◌else◌, ◌-◌, range_with_len, ◌<◌}
 use Rattle.thread_table.specs.declared.places.Place.TheVariants as places
 use Rattle.std.proofs.lemmas.Bool.{not-false, or_cases}
-use Rattle.std.proofs.lemmas.List.{drop-append-le}
-use Rattle.std.proofs.lemmas.List.Folds.{concat-append}
-use Rattle.std.proofs.lemmas.List.Sums.{sum_by-le-sum_by}
+use Rattle.boot_laws.proofs.Common.{drop-append-le, concat-append, sum_by-le-sum_by, after, begun, state_after, IsAllowed, are_reported, range_out, allowed_before}
 use Rattle.event_theory.specs.declared.event.Event.TheVariants as events
 use Rattle.event_theory.specs.declared.names.QueueName.TheVariants as names
 use Rattle.event_theory.specs.declared.refusal.Refusal.TheVariants.{NoItems, NotHeld}
 use Rattle.thread_table.specs.Retiring.{items_of, retired_by, retired_in}
-use Rattle.thread_table.specs.Schedules.{after, begun, state_after, IsAllowed}
-use Rattle.thread_table.proofs.Closing.Retiring.{are_reported}
 use Rattle.thread_table.proofs.Hands.Releases.{held_counts}
-use Rattle.thread_table.proofs.Lists.Counts.{range_out}
 use Rattle.boot_laws.proofs.Settling.Steps.{turned}
-use Rattle.thread_table.proofs.Schedule.Schedules.{allowed_before}
 
 -- WHAT EVENTS PUT THERE
 

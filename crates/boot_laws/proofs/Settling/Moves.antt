@@ -3,10 +3,7 @@ use Rattle.turn_dispatch.proofs.Common.{MadeEvent, made_in}
 use Rattle.boot_laws.proofs.Settling.Common.{map, sum_by, result_unwrap_or, step, first_state, Reaches, ELEMENTS, moves, AreMade, plus, many_cons, many_more}
 use Rattle.thread_table.proofs.Common.{◌≡◌, ℕ, Bool, List, [], ◌∷◌, ◌++◌, ◌∙◌, refl, sym, ap, arith, flat_map, count_by, sum_by-cons, sum_by-IsPermutation, State, Result, Event}
 use Rattle.event_theory.specs.declared.event.Event.TheVariants as events
-use Rattle.table_theory.specs.Filing.{entry_of}
-use Rattle.thread_table.specs.Makers.{numbered}
-use Rattle.thread_table.specs.Schedules.{begun}
-use Rattle.thread_table.proofs.Lists.Shuffles.{filed_shuffle}
+use Rattle.boot_laws.proofs.Common.{entry_of, numbered, begun, filed_shuffle}
 
 -- an event with the state that it found
 abbrev pub Move : Type 0

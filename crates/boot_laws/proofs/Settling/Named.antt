@@ -1,20 +1,17 @@
 -- There are as many elements, element queues and processors after a schedule as before: so each place that is reported
 -- exists.
 use Rattle.turn_dispatch.proofs.Common.{◌==◌, ◌||◌, View, elements_of, IsFree}
-use Rattle.boot_laws.specs.Settlings.{place_of, IsNamed, NoneOn}
+use Rattle.boot_laws.proofs.Common.{place_of, IsNamed, NoneOn, nat_le, nat_lt, Gives, then_gives, test_gives, ok_gives, state_after, IsAllowed}
 use Rattle.boot_laws.proofs.Settling.Common.{dite, dec_lt, get_or-eq_default, Reaches, effect, first_state, is_on, claim_element, done, claim, change_at, Refusal, empty_queue, Thread, wait_ring, TooLong, Full, then_ok, change_ok, ELEMENTS, Place, ClosedNow, StandsAt, is_left, elements_after, reached}
 use Rattle.thread_table.proofs.Common.{◌≡◌, ℕ, ◌<◌, true, List, [], ◌∷◌, ◌++◌, ◌∙◌, length, get_or, refl, sym, ap, subst, arith, Some, None, option_map, Result, Ok, length-set, length-map, get_or_from_slice_get, State, in_elements, counted, Event, hold, Elements, let_go, raise_element, take_element, deliver, take_first, at, ◌>>=◌, join_queue, raise, false}
-use Rattle.std.specs.Prelude.{nat_le, nat_lt}
 use Rattle.event_theory.specs.Chains.{empty_chain}
 use Rattle.event_theory.specs.Elements.{change_thread, let_all_go, put_by, join_hold}
 use Rattle.event_theory.specs.Meters.{set_alarm}
 use Rattle.event_theory.specs.declared.event.Event.TheVariants as events
 use Rattle.event_theory.specs.declared.names.QueueName.TheVariants as names
 use Rattle.event_theory.proofs.Lists.Inversions.{given_ok}
-use Rattle.thread_table.proofs.Closing.Retiring.{Gives, then_gives, test_gives, ok_gives}
 use Rattle.thread_table.specs.declared.layout.TheConstants.{PROCESSORS}
 use Rattle.thread_table.specs.declared.places.Place.TheVariants as places
-use Rattle.thread_table.specs.Schedules.{state_after, IsAllowed}
 
 -- how many elements, element queues and processors there are
 abbrev sizes : Elements → ℕ × ℕ × ℕ

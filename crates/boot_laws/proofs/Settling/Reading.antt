@@ -1,10 +1,9 @@
 -- The consequences if a table's events settle: for the crates above, which know the events as those of a first hand and
 -- the rest.
 use Rattle.turn_dispatch.proofs.Common.{◌==◌, ◌&&◌, ◌||◌, is_in, View, Tally, tally, followed_by, is_delivered}
-use Rattle.boot_laws.specs.Settlings.{same_pair, IsOnceWhere, is_free, place_of, Settles}
+use Rattle.boot_laws.proofs.Common.{same_pair, IsOnceWhere, is_free, place_of, Settles, if◌then◌else◌, nat_lt}
 use Rattle.boot_laws.proofs.Settling.Common.{eq-eqb, dite, dec_lt, ELEMENTS, Place, ClosedNow, plus, many_cons, many_more, by_bool, any_is, is_less}
 use Rattle.thread_table.proofs.Common.{◌≡◌, ⊎_elim, ℕ, ◌<◌, ◌≤◌, Bool, true, false, eqb_tells, List, [], ◌∷◌, ◌++◌, ◌∙◌, length, get_or, refl, sym, ap, arith, count_by, list_any}
-use Rattle.std.specs.Prelude.{if◌then◌else◌, nat_lt}
 use Rattle.boot_laws.proofs.Settling.Retired.{retired_settle}
 use Rattle.boot_laws.proofs.Settling.Signals.{signals_settle}
 use Rattle.boot_laws.proofs.Settling.Steps.{steps_settle}

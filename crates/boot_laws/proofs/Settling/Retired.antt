@@ -1,14 +1,11 @@
 -- An element was retired once, after all its steps, if it is free at the end.
 use Rattle.turn_dispatch.proofs.Common.{◌==◌, ◌&&◌, MadeEvent, made_in, View, taking_by, done_at, thread_at, elements_of, tally}
-use Rattle.boot_laws.specs.Settlings.{same_pair, IsOnceWhere, is_free, place_of, is_back}
+use Rattle.boot_laws.proofs.Common.{same_pair, IsOnceWhere, is_free, place_of, is_back, if◌then◌else◌, state_after, IsAllowed, after_none}
 use Rattle.boot_laws.proofs.Settling.Common.{drop, AllByRecursion, result_unwrap_or, dite, dec_lt, step, first_state, in_list, left, cases_lt, concat, moves, all_append, ELEMENTS, Place, ClosedNow, StandsAt, is_left, AreMade, elements_after, ring_at, first_runs, takings_in, plus, many_cons, by_bool, any_is, some_count, is_less, many_more, lawful_after, le-ltb}
 use Rattle.thread_table.proofs.Common.{◌≡◌, ⊎_elim, ℕ, ◌+◌, ◌<◌, ◌≤◌, Bool, true, false, eqb_tells, List, [], ◌∷◌, ◌++◌, ◌∙◌, length, refl, sym, ap, subst, arith, count_by, flat_map, append_assoc, State, Event, Elements, nat_lt}
-use Rattle.std.specs.Prelude.{if◌then◌else◌}
 use Rattle.event_theory.specs.declared.event.Event.TheVariants as events
 use Rattle.event_theory.specs.declared.names.QueueName.TheVariants as names
 use Rattle.thread_table.specs.declared.places.Place.TheVariants as places
-use Rattle.thread_table.specs.Schedules.{state_after, IsAllowed}
-use Rattle.thread_table.proofs.Schedule.Schedules.{after_none}
 use Rattle.turn_dispatch.proofs.MadeBy.{retired_by, taken_by}
 use Rattle.boot_laws.proofs.Settling.Freed.{first_item, freed, steady, after_one, left_is, once_left, only_free, first_gone, first_still}
 use Rattle.boot_laws.proofs.Settling.Moves.{by_move, of_schedule}

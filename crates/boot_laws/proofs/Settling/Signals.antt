@@ -1,14 +1,10 @@
 -- The signals raised are those delivered and those pending.
 use Rattle.turn_dispatch.proofs.Common.{◌&&◌, ◌||◌, ◌==◌, is_in, made_in, View, thread_at, elements_of, tally, is_delivered}
-use Rattle.boot_laws.specs.Settlings.{same_pair}
+use Rattle.boot_laws.proofs.Common.{same_pair, is_pending, pending_in, made_pending, delivered, is_signal, IsAccounted, signals_of, state_after, signalled_by, delivered_by}
 use Rattle.boot_laws.proofs.Settling.Common.{result_unwrap_or, dite, dec_lt, Reaches, step, first_state, Thread, new_thread, slice_get, ELEMENTS, moves, Place, ClosedNow, plus, many_cons, many_more, by_bool, find_it, any_is, is_less, reached}
 use Rattle.thread_table.proofs.Common.{◌≡◌, ⊎_elim, ℕ, zero, suc, ◌+◌, ◌<◌, ◌≤◌, Bool, true, false, not, eqb_tells, List, [], ◌∷◌, ◌∙◌, get_or, refl, sym, ap, subst, arith, count_by, list_any, or-true, or-false, State, Event, Elements, nat_lt}
 use Rattle.event_theory.proofs.Keeping.Accounts.{account_law}
-use Rattle.event_theory.specs.Accounts.{is_pending, pending_in, made_pending, delivered, is_signal, IsAccounted}
 use Rattle.event_theory.specs.declared.event.Event.TheVariants as events
-use Rattle.thread_table.specs.Makers.{signals_of}
-use Rattle.thread_table.specs.Schedules.{state_after}
-use Rattle.turn_dispatch.proofs.MadeBy.{signalled_by, delivered_by}
 use Rattle.turn_dispatch.proofs.Delivered.{any_at}
 use Rattle.boot_laws.proofs.Settling.Moves.{Move, cut, of_schedule, each_one}
 use Rattle.boot_laws.proofs.Settling.Steps.{turned}

@@ -1,15 +1,10 @@
 -- Each step that an element has done is counted once.
 use Rattle.turn_dispatch.proofs.Common.{◌==◌, ◌&&◌, is_done, made_in, View, done_at, thread_at, elements_of, tally}
-use Rattle.boot_laws.specs.Settlings.{same_pair, IsOnceWhere, has_done}
+use Rattle.boot_laws.proofs.Common.{same_pair, IsOnceWhere, has_done, if◌then◌else◌, nat_lt, done_of, done_numbers, state_after, range_far, done_by}
 use Rattle.boot_laws.proofs.Settling.Common.{cases_lt, eq-eqb, map, Thread, new_thread, get_or-eq_default, le-ltb, moves, Place, ClosedNow, elements_after, plus, many_cons, by_bool, is_less, range_in}
 use Rattle.thread_table.proofs.Common.{◌≡◌, get_or, ⊎_elim, ℕ, ◌+◌, Bool, false, eqb, ne_eqb, eqb_tells, List, [], ◌∷◌, ◌∙◌, refl, sym, ap, arith, count_by, State, Event, range_with_len}
-use Rattle.std.specs.Prelude.{if◌then◌else◌, nat_lt}
-use Rattle.event_theory.specs.Accounts.{done_of, done_numbers}
 use Rattle.event_theory.specs.declared.event.Event.TheVariants as events
-use Rattle.thread_table.specs.Schedules.{state_after}
-use Rattle.thread_table.proofs.Lists.Counts.{range_far}
 use Rattle.thread_table.proofs.Schedule.Once.{thread_done, drop_it, keep_it}
-use Rattle.turn_dispatch.proofs.MadeBy.{done_by}
 use Rattle.boot_laws.proofs.Settling.Moves.{Move, of_schedule, each_one}
 use Rattle.boot_laws.proofs.Settling.Named.{sizes_are}
 

@@ -4,7 +4,7 @@ ghost use Rattle.boot_objects.specs.Gains.{Gained, ChainsGained, note_stake};
 ghost use Rattle.turn_io.specs.Accounts.{at_one, idle_queue, no_stake};
 ghost use Rattle.turn_io.specs.EndLists.{AreChainEndsOf, AreSameChainEnds, AreEndsOf, AreSameEnds, OnEnd};
 ghost use Rattle.turn_io.specs.EndLists.{end_knows_shut, knows_shut_at};
-ghost use Rattle.turn_io.specs.Splits.{IsJoined, IsChainJoined};
+ghost use Rattle.stations.specs.Splits.{IsJoined, IsChainJoined};
 ghost use Rattle.proc_chain.specs.Handles.{turn_of};
 ghost use Rattle.processor.specs.RawEnds.{IsChainEndAt};
 ghost use Rattle.quajects.specs.Ports.{IsEndAt, port as port_of};

@@ -1,12 +1,5 @@
 -- Results that are refused, or go on.
-use Rattle.std.proofs.Common.{◌≡◌, ◌⊎◌, inl, inr, List, [], ◌∷◌, ℕ, refl, ap, Bool, true, false, cond, Result, Ok, Err}
-use Rattle.boot_script.specs.declared.fault.ScriptRefusal.{ScriptRefusal}
-use Rattle.boot_script.specs.declared.fault.ScriptRefusal.TheVariants.{OutOfMemory}
-use Rattle.boot_script.specs.declared.fault.ScriptFault.{ScriptFault}
-use Rattle.boot_script.specs.Scripts.{at_line}
-use Rattle.boot_script.specs.Words.{◌>>=◌}
-use Rattle.boot_script.specs.Names.{◌or◌}
-use Rattle.boot_script.specs.Grammar.{no_more_of}
+use Rattle.boot_script.proofs.Common.{◌≡◌, ◌⊎◌, inl, inr, List, [], ◌∷◌, ℕ, refl, ap, Bool, true, false, cond, Result, Ok, Err, ScriptRefusal, OutOfMemory, ScriptFault, at_line, ◌>>=◌, ◌or◌, no_more_of}
 
 pub bind_ok : {A B E : Type 0} (r : Result A E) (f : A → Result B E) (y : B) → (r >>= f) ≡ Ok y → (x : A) × (r ≡ Ok x) × (f x ≡ Ok y)
 bind_ok (Ok x) f y h = (x, refl, h)

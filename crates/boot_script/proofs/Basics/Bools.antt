@@ -1,6 +1,5 @@
 -- The meaning of tests.
-use Rattle.std.proofs.Common.{◌≡◌, ◌⊎◌, inl, inr, refl, true, false, Bool, cond, Ok, Err}
-use Rattle.boot_script.specs.declared.fault.ScriptRefusal.{ScriptRefusal}
+use Rattle.boot_script.proofs.Common.{◌≡◌, ◌⊎◌, inl, inr, refl, true, false, Bool, cond, Ok, Err, ScriptRefusal}
 
 pub either : (b : Bool) → (b ≡ true) ⊎ (b ≡ false)
 either true = inl refl

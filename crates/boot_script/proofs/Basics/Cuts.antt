@@ -1,12 +1,6 @@
 -- Where a list is cut.
 use Rattle.std.proofs.Common.{◌≡◌, ℕ, ◌<◌, ◌≤◌, ◌+◌, ◌-◌, List, [], ◌∷◌, ◌∙◌, refl, sym, ap, arith, length, take, drop, length-drop, Bool, true, false, cond, Some, None}
-use Rattle.std.proofs.Math.Dec.{eqb}
-use Rattle.std.proofs.lemmas.List.{take_all}
-use Rattle.std.proofs.lemmas.Bool.Decides.{nat_tests}
-use Rattle.std.specs.List.{slice_split, position, position_or_len}
-use Rattle.std.proofs.lemmas.List.Splits.{slice_split_first, slice_split_none, length-slice_split}
-use Rattle.std.proofs.lemmas.List.Sums.{fails_before_first}
-use Rattle.boot_script.specs.Words.{pieces, lines_of, without_last_empty}
+use Rattle.boot_script.proofs.Common.{eqb, take_all, nat_tests, slice_split, position, position_or_len, slice_split_first, slice_split_none, length-slice_split, fails_before_first, pieces, lines_of, without_last_empty}
 
 -- a list has one part at least
 pub some_pieces : (s : ℕ) (bytes : List ℕ) → pieces s bytes ≡ [] → ⊥

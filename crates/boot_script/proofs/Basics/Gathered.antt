@@ -1,7 +1,5 @@
 -- Lists that a loop gathers, of which what is pushed after a refused growth is lost.
-use Rattle.std.proofs.Common.{◌≡◌, true, false, cond, Bool, List, [], ◌∷◌, ◌++◌, ◌∙◌, refl, sym, ap, append_assoc, Result, Ok, Err, IsOk}
-use Rattle.std.proofs.lemmas.List.{append-nil}
-use Rattle.boot_script.specs.Words.{◌>>=◌}
+use Rattle.boot_script.proofs.Common.{◌≡◌, true, false, cond, Bool, List, [], ◌∷◌, ◌++◌, ◌∙◌, refl, sym, ap, append_assoc, Result, Ok, Err, IsOk, append-nil, ◌>>=◌}
 
 -- what was read before, and what is still read
 abbrev pub with_front : {A E : Type 0} → List A → Result (List A) E → Result (List A) E

@@ -1,10 +1,5 @@
 -- Words that are compared byte by byte, from their ends on.
-use Rattle.std.proofs.Common.{◌≡◌, ◌<◌, ◌≤◌, ◌+◌, ℕ, zero, suc, List, ◌∷◌, ◌∙◌, sym, ap, arith, length, drop, get_or, add-one, true, false}
-use Rattle.std.proofs.Math.Seq.{drop-cons}
-use Rattle.std.proofs.lemmas.Bool.{false_from_ne_true}
-use Rattle.std.proofs.lemmas.List.{drop_all}
-use Rattle.std.proofs.lemmas.Slice.Eq.{bytes_eq-Decides}
-use Rattle.std.specs.Str.{bytes_eq}
+use Rattle.boot_script.proofs.Common.{◌≡◌, ◌<◌, ◌≤◌, ◌+◌, ℕ, zero, suc, List, ◌∷◌, ◌∙◌, sym, ap, arith, length, drop, get_or, add-one, true, false, drop-cons, false_from_ne_true, drop_all, bytes_eq-Decides, bytes_eq}
 
 pub other_length : (xs ys : List ℕ) → (length xs ≡ length ys → ⊥) → bytes_eq xs ys ≡ false
 other_length xs ys h = false_from_ne_true (bytes_eq xs ys) (λ same. h (ap length ((bytes_eq-Decides xs ys).0 same)))

@@ -1,13 +1,5 @@
 -- Lines whose bytes were seen to be printable.
-use Rattle.std.proofs.Common.{◌≡◌, ℕ, ◌<◌, ◌≤◌, ◌+◌, ◌-◌, List, [], ◌∷◌, ◌∙◌, not, refl, sym, ap, arith, length, take, drop, get_or, ltb, Bool, true, false, cond, Some, None}
-use Rattle.std.proofs.Math.Dec.{eqb}
-use Rattle.std.proofs.lemmas.Bool.{false_from_ne_true, not-false}
-use Rattle.std.proofs.lemmas.Bool.Decides.{nat_tests, Decides-eqb}
-use Rattle.std.proofs.lemmas.List.{get_or-take, length-take-le}
-use Rattle.std.proofs.lemmas.List.Sums.{position_or_len_is, fails_before_first, list_all-from_AllPass}
-use Rattle.std.specs.List.{position, position_or_len, list_all}
-use Rattle.boot_script.specs.Words.{lines_of}
-use Rattle.boot_script.specs.Grammar.{is_printable}
+use Rattle.boot_script.proofs.Common.{◌≡◌, ℕ, ◌<◌, ◌≤◌, ◌+◌, ◌-◌, List, [], ◌∷◌, ◌∙◌, not, refl, sym, ap, arith, length, take, drop, get_or, ltb, Bool, true, false, cond, Some, None, eqb, false_from_ne_true, not-false, nat_tests, Decides-eqb, get_or-take, length-take-le, position_or_len_is, fails_before_first, list_all-from_AllPass, position, position_or_len, list_all, lines_of, is_printable}
 use Rattle.boot_script.proofs.Basics.Cuts.{some_chosen, none_chosen, cut_at, cut_nowhere, one_line, last_line}
 
 -- an end of a line isn't printable

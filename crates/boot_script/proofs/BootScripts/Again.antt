@@ -1,29 +1,11 @@
 -- The spelling of a line of a boot script is read as that line again.
-use Rattle.std.proofs.Common.{◌≡◌, ℕ, ◌<◌, ◌≤◌, ◌&&◌, List, [], ◌∷◌, ◌∙◌, refl, ap, length, true, false, Bool, Option, Some, None, Ok}
+use Rattle.boot_script.proofs.Common.{◌≡◌, ℕ, ◌<◌, ◌≤◌, ◌&&◌, List, [], ◌∷◌, ◌∙◌, refl, ap, length, true, false, Bool, Option, Some, None, Ok, join_with_byte, list_all, decimal, BootWord, Line, Named, Mover, Pump, Switch, PipeWaits, QueueIndex, Step, Version, ◌>>=◌, words_of, is_later, is_printable, count_of, boot_word, boot_words, word_named, has_word, if_had, boot_word_of, type_words, say_words, line_of, words_line, boot_line, AreInOrder, name_of_number, queue_word, way_words, queue_words, mover_words, EndsInText, IsSpelling, IsNew, FitsWaits, FitsQueue, FitsMover, FitsStep, FitsLine}
 use Rattle.std.specs.Prelude.{◌||◌, codes}
-use Rattle.std.specs.List.{join_with_byte, list_all}
-use Rattle.std.specs.Fmt.{decimal}
 use Rattle.std.proofs.Math.Bool.{or-true as declares}
-use Rattle.boot_script.specs.declared.boot_words.BootWord.{BootWord}
 use Rattle.boot_script.specs.declared.boot_words.BootWord.TheVariants as word
-use Rattle.boot_script.specs.declared.boot_lines.Line.{Line}
 use Rattle.boot_script.specs.declared.boot_lines.Line.TheVariants as line
 use Rattle.boot_data.specs.declared.kind.Kind.TheVariants as kind
-use Rattle.boot_script.specs.declared.declared_names.Named.{Named}
-use Rattle.boot_data.specs.declared.plan.Mover.{Mover}
-use Rattle.boot_data.specs.declared.plan.Mover.TheVariants.{Pump, Switch}
-use Rattle.boot_data.specs.declared.plan.PipeWaits.{PipeWaits}
-use Rattle.boot_data.specs.declared.plan.QueueIndex.{QueueIndex}
-use Rattle.boot_data.specs.declared.plan.Step.{Step}
 use Rattle.boot_data.specs.declared.plan.Step.TheVariants as step
-use Rattle.boot_script.specs.declared.version.Version.{Version}
-use Rattle.boot_script.specs.Words.{◌>>=◌, words_of}
-use Rattle.boot_script.specs.Versions.{is_later}
-use Rattle.boot_script.specs.Grammar.{is_printable}
-use Rattle.boot_script.specs.BootNames.{count_of}
-use Rattle.boot_script.specs.BootWords.{boot_word, boot_words, word_named, has_word, if_had, boot_word_of}
-use Rattle.boot_script.specs.BootLines.{type_words, say_words, line_of, words_line, boot_line}
-use Rattle.boot_script.specs.BootSpellings.{AreInOrder, name_of_number, queue_word, way_words, queue_words, mover_words, EndsInText, IsSpelling, IsNew, FitsWaits, FitsQueue, FitsMover, FitsStep, FitsLine}
 use Rattle.boot_script.proofs.LineWords.Plain.{is_plain, ArePlain, print_words, words_again}
 use Rattle.boot_script.proofs.LineWords.Readers.{small_reader, short_reader, long_reader}
 use Rattle.boot_script.proofs.LineWords.Rows.{none_again, one_again, two_again, three_again}

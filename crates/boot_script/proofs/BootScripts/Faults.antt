@@ -1,34 +1,8 @@
 -- No boot script is invalid because memory is exhausted.
-use Rattle.std.proofs.Common.{ℕ, ◌+◌, ◌-◌, ◌*◌, ◌&&◌, List, [], ◌∷◌, length, true, false, Bool, cond, Option, Some, None, Result, Ok, Err, codes}
-use Rattle.std.proofs.Math.Dec.{eqb}
-use Rattle.std.specs.Prelude.{nat_le, nat_lt}
-use Rattle.std.specs.List.{list_all, join_with_byte}
-use Rattle.std.specs.Str.{bytes_eq}
-use Rattle.boot_script.specs.declared.fault.ScriptRefusal.{ScriptRefusal}
-use Rattle.boot_script.specs.declared.fault.ScriptRefusal.TheVariants.{BadName, BadNumber, NameTwice, NameUnknown, NotAscii, TextTooLong, TooMany, UnknownWord}
-use Rattle.boot_script.specs.declared.fault.ScriptFault.{ScriptFault}
-use Rattle.boot_script.specs.declared.boot_words.BootWord.{BootWord}
+use Rattle.boot_script.proofs.Common.{ℕ, ◌+◌, ◌-◌, ◌*◌, ◌&&◌, List, [], ◌∷◌, length, true, false, Bool, cond, Option, Some, None, Result, Ok, Err, codes, eqb, nat_le, nat_lt, list_all, join_with_byte, bytes_eq, ScriptRefusal, BadName, BadNumber, NameTwice, NameUnknown, NotAscii, TextTooLong, TooMany, UnknownWord, ScriptFault, BootWord, Line, Kind, Named, Small, Large, Step, Version, Boot, ◌>>=◌, pieces, words_of, first_word, later_words, number_of, last_wait, signal_of, digit_of, escape_of, before, bytes_of, within_of, text_of, Reader, is_printable, at_most_of, no_words, one_word, two_words, three_words, is_name, same_kind, if_kind, find, is_declared, if_new, name_of, number_named, new_name, count_of, most_of, room_of, part_of, queue_or_part, queue_named, boot_word, boot_words, word_named, has_word, if_had, boot_word_of, is_key, key_of, way_of, ways_from, ways_of, switch_words, type_words, say_words, line_of, words_line, boot_line, steps_at, Draft, first_draft, goes_on, typed_at, text_room, alarm_room, step_room, add_step, added, line_added, plan_from, plan_only, text_plan, says_nothing, at_line, opening_of}
 use Rattle.boot_script.specs.declared.boot_words.BootWord.TheVariants as word
-use Rattle.boot_script.specs.declared.boot_lines.Line.{Line}
 use Rattle.boot_script.specs.declared.boot_lines.Line.TheVariants as line
-use Rattle.boot_data.specs.declared.kind.Kind.{Kind}
 use Rattle.boot_data.specs.declared.kind.Kind.TheVariants as kind
-use Rattle.boot_script.specs.declared.declared_names.Named.{Named}
-use Rattle.boot_data.specs.declared.plan.QueueIndex.TheVariants.{Small, Large}
-use Rattle.boot_data.specs.declared.plan.Step.{Step}
-use Rattle.boot_script.specs.declared.version.Version.{Version}
-use Rattle.boot_script.specs.declared.version.Script.TheVariants.{Boot}
-use Rattle.boot_script.specs.Words.{◌>>=◌, pieces, words_of, first_word, later_words, number_of}
-use Rattle.boot_script.specs.Versions.{last_wait}
-use Rattle.boot_script.specs.Names.{signal_of}
-use Rattle.boot_script.specs.Texts.{digit_of, escape_of, before, bytes_of, within_of, text_of}
-use Rattle.boot_script.specs.Grammar.{Reader, is_printable, at_most_of, no_words, one_word, two_words, three_words}
-use Rattle.boot_script.specs.BootNames.{is_name, same_kind, if_kind, find, is_declared, if_new, name_of, number_named, new_name, count_of, most_of, room_of, part_of, queue_or_part, queue_named}
-use Rattle.boot_script.specs.BootWords.{boot_word, boot_words, word_named, has_word, if_had, boot_word_of}
-use Rattle.boot_script.specs.BootLines.{is_key, key_of, way_of, ways_from, ways_of, switch_words, type_words, say_words, line_of, words_line, boot_line}
-use Rattle.boot_data.specs.Plans.{steps_at}
-use Rattle.boot_script.specs.Plans.{Draft, first_draft, goes_on, typed_at, text_room, alarm_room, step_room, add_step, added, line_added, plan_from, plan_only, text_plan}
-use Rattle.boot_script.specs.Scripts.{says_nothing, at_line, opening_of}
 use Rattle.boot_script.proofs.Basics.Binds.{Known, bind_known, test_known, ok_known, last_known, IsKnown, bind_is_known, test_is_known, ok_is_known, at_line_known}
 use Rattle.boot_script.proofs.LineWords.Readers.{number_known}
 use Rattle.boot_script.proofs.LineWords.Openings.{opening_known}

@@ -1,14 +1,7 @@
 -- The lines of a boot script, one after the other, as the loop over them reads them.
-use Rattle.std.proofs.Common.{◌≡◌, true, false, ℕ, ◌+◌, List, [], ◌∷◌, ◌∙◌, refl, sym, ap, Result, Ok, Err, IsOk}
+use Rattle.boot_script.proofs.Common.{◌≡◌, true, false, ℕ, ◌+◌, List, [], ◌∷◌, ◌∙◌, refl, sym, ap, Result, Ok, Err, IsOk, ScriptRefusal, ScriptFault, Version, ◌>>=◌, says_nothing, at_line, line_added, plan_from, plan_only, Draws}
 use Rattle.boot_script.specs.declared.draft.Draft.{Draft}
-use Rattle.boot_script.specs.declared.fault.ScriptRefusal.{ScriptRefusal}
-use Rattle.boot_script.specs.declared.fault.ScriptFault.{ScriptFault}
-use Rattle.boot_script.specs.declared.version.Version.{Version}
-use Rattle.boot_script.specs.Words.{◌>>=◌}
-use Rattle.boot_script.specs.Scripts.{says_nothing, at_line}
 use Rattle.boot_script.specs.Plans as plans
-use Rattle.boot_script.specs.Plans.{line_added, plan_from, plan_only}
-use Rattle.boot_script.specs.Drafts.{Draws}
 
 -- the kept draft is one from which the lines that are left lead to what the text says
 pub record IsDrawnSoFar (version : Version) (number : ℕ) (kept : Draft) (lines : List (List ℕ)) (said : Result plans.Draft ScriptFault) : Type 0 where

@@ -1,11 +1,5 @@
 -- A word that is looked up among the words of a boot script.
-use Rattle.std.proofs.Common.{◌≡◌, ℕ, ◌<◌, ◌≤◌, ◌+◌, List, ◌∙◌, refl, sym, ap, length, drop, get_or, add-one, true, false, Ok, Err}
-use Rattle.std.proofs.Math.Seq.{drop-cons}
-use Rattle.std.proofs.lemmas.List.{drop_all}
-use Rattle.std.specs.Str.{bytes_eq}
-use Rattle.boot_script.specs.declared.boot_words.BootWord.{BootWord}
-use Rattle.boot_script.specs.declared.fault.ScriptRefusal.TheVariants.{UnknownWord}
-use Rattle.boot_script.specs.BootWords.{boot_word, word_named}
+use Rattle.boot_script.proofs.Common.{◌≡◌, ℕ, ◌<◌, ◌≤◌, ◌+◌, List, ◌∙◌, refl, sym, ap, length, drop, get_or, add-one, true, false, Ok, Err, drop-cons, drop_all, bytes_eq, BootWord, UnknownWord, boot_word, word_named}
 
 -- the word at this place isn't written so, and the others are looked at
 pub word_more : (written : List ℕ) (words : List BootWord) (i : ℕ) (d : BootWord) → i < length words → bytes_eq written (boot_word (get_or words i d)) ≡ false → word_named written (drop i words) ≡ word_named written (drop (i + 1) words)

@@ -1,26 +1,7 @@
 -- How each word of a boot script is read where names are in order, and the one word that spells what was read.
-use Rattle.std.proofs.Common.{◌≡◌, ◌⊎◌, inl, inr, ℕ, ◌<◌, ◌≤◌, ◌+◌, ◌*◌, ◌&&◌, List, [], ◌∷◌, ◌++◌, ◌∙◌, refl, sym, ap, subst, arith, length, length-append, true, false, Bool, cond, Ok, Err, codes}
-use Rattle.std.proofs.Math.Dec.{eqb}
+use Rattle.boot_script.proofs.Common.{◌≡◌, ◌⊎◌, inl, inr, ℕ, ◌<◌, ◌≤◌, ◌+◌, ◌*◌, ◌&&◌, List, [], ◌∷◌, ◌++◌, ◌∙◌, refl, sym, ap, subst, arith, length, length-append, true, false, Bool, cond, Ok, Err, codes, eqb, nat_tests, bytes_eq-Decides, join_with_byte-slice_split, slice_split-cons_no, slice_split-cons_yes, nat_le, ◌/◌, ◌%◌, list_all, join_with_byte, onto_first, bytes_eq, decimal, NameUnknown, NameTwice, BadName, Kind, Named, QueueIndex, Small, Large, Version, One, Two, Three, ◌>>=◌, pieces, first_word, later_words, number_of, last_wait, is_letter, is_name_byte, is_name, name_of, find, is_declared, if_new, new_name, count_of, number_named, part_of, queue_or_part, queue_named, AreInOrder, name_of_number, part_name, queue_word, IsNew, FitsQueue}
 use Rattle.std.proofs.lemmas.Bool.{cases_lt, and_parts as both, or_cases as one_of}
-use Rattle.std.proofs.lemmas.Bool.Decides.{nat_tests}
-use Rattle.std.proofs.lemmas.Slice.Eq.{bytes_eq-Decides}
-use Rattle.std.proofs.lemmas.List.Splits.{join_with_byte-slice_split, slice_split-cons_no, slice_split-cons_yes}
-use Rattle.std.specs.Prelude.{nat_le, ◌/◌, ◌%◌}
-use Rattle.std.specs.List.{list_all, join_with_byte, onto_first}
-use Rattle.std.specs.Str.{bytes_eq}
-use Rattle.std.specs.Fmt.{decimal}
-use Rattle.boot_script.specs.declared.fault.ScriptRefusal.TheVariants.{NameUnknown, NameTwice, BadName}
-use Rattle.boot_data.specs.declared.kind.Kind.{Kind}
 use Rattle.boot_data.specs.declared.kind.Kind.TheVariants as kind
-use Rattle.boot_script.specs.declared.declared_names.Named.{Named}
-use Rattle.boot_data.specs.declared.plan.QueueIndex.{QueueIndex}
-use Rattle.boot_data.specs.declared.plan.QueueIndex.TheVariants.{Small, Large}
-use Rattle.boot_script.specs.declared.version.Version.{Version}
-use Rattle.boot_script.specs.declared.version.Version.TheVariants.{One, Two, Three}
-use Rattle.boot_script.specs.Words.{◌>>=◌, pieces, first_word, later_words, number_of}
-use Rattle.boot_script.specs.Versions.{last_wait}
-use Rattle.boot_script.specs.BootNames.{is_letter, is_name_byte, is_name, name_of, find, is_declared, if_new, new_name, count_of, number_named, part_of, queue_or_part, queue_named}
-use Rattle.boot_script.specs.BootSpellings.{AreInOrder, name_of_number, part_name, queue_word, IsNew, FitsQueue}
 use Rattle.boot_script.proofs.Basics.Binds.{bind_ok, guard_ok, chosen}
 use Rattle.boot_script.proofs.BootScripts.Faults.{new_name_known, number_named_known, queue_named_known}
 use Rattle.boot_script.proofs.Basics.Cuts.{some_pieces}

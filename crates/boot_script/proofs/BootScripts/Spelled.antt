@@ -1,28 +1,10 @@
 -- What is read of a line of a boot script is spelled so.
-use Rattle.std.proofs.Common.{◌≡◌, inl, inr, ℕ, List, [], ◌∷◌, ◌∙◌, refl, sym, ap, subst, true, false, Bool, Some, None, Ok, Err}
-use Rattle.std.proofs.lemmas.List.Splits.{join_with_byte-slice_split}
-use Rattle.std.proofs.lemmas.Slice.Eq.{bytes_eq-Decides}
-use Rattle.std.specs.Prelude.{◌||◌}
-use Rattle.std.specs.List.{join_with_byte, list_all}
-use Rattle.std.specs.Str.{bytes_eq}
+use Rattle.boot_script.proofs.Common.{◌≡◌, inl, inr, ℕ, List, [], ◌∷◌, ◌∙◌, refl, sym, ap, subst, true, false, Bool, Some, None, Ok, Err, join_with_byte-slice_split, bytes_eq-Decides, ◌||◌, join_with_byte, list_all, bytes_eq, NotAscii, UnknownWord, BootWord, Line, Named, Pump, Version, ◌>>=◌, words_of, first_word, later_words, is_later, is_printable, text_of, boot_word, boot_words, word_named, has_word, if_had, boot_word_of, type_words, say_words, line_of, words_line, boot_line, AreInOrder, name_of_number, queue_word, EndsInText, IsSpelling, FitsLine}
 use Rattle.std.proofs.lemmas.Bool.{and_parts as both}
-use Rattle.boot_script.specs.declared.fault.ScriptRefusal.TheVariants.{NotAscii, UnknownWord}
-use Rattle.boot_script.specs.declared.boot_words.BootWord.{BootWord}
 use Rattle.boot_script.specs.declared.boot_words.BootWord.TheVariants as word
-use Rattle.boot_script.specs.declared.boot_lines.Line.{Line}
 use Rattle.boot_script.specs.declared.boot_lines.Line.TheVariants as line
 use Rattle.boot_data.specs.declared.kind.Kind.TheVariants as kind
-use Rattle.boot_script.specs.declared.declared_names.Named.{Named}
-use Rattle.boot_data.specs.declared.plan.Mover.TheVariants.{Pump}
 use Rattle.boot_data.specs.declared.plan.Step.TheVariants as step
-use Rattle.boot_script.specs.declared.version.Version.{Version}
-use Rattle.boot_script.specs.Words.{◌>>=◌, words_of, first_word, later_words}
-use Rattle.boot_script.specs.Versions.{is_later}
-use Rattle.boot_script.specs.Grammar.{is_printable}
-use Rattle.boot_script.specs.Texts.{text_of}
-use Rattle.boot_script.specs.BootWords.{boot_word, boot_words, word_named, has_word, if_had, boot_word_of}
-use Rattle.boot_script.specs.BootLines.{type_words, say_words, line_of, words_line, boot_line}
-use Rattle.boot_script.specs.BootSpellings.{AreInOrder, name_of_number, queue_word, EndsInText, IsSpelling, FitsLine}
 use Rattle.boot_script.proofs.Basics.Binds.{bind_ok, guard_ok, chosen}
 use Rattle.boot_script.proofs.Basics.Cuts.{some_pieces}
 use Rattle.boot_script.proofs.LineWords.Plain.{ArePlain}

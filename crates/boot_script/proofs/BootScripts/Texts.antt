@@ -1,22 +1,7 @@
 -- What a whole boot script says, and how it is spelled.
-use Rattle.std.proofs.Common.{◌≡◌, inl, inr, ℕ, ◌+◌, List, [], ◌∷◌, ◌∙◌, refl, sym, ap, false, Option, Some, None, Ok, codes}
-use Rattle.std.specs.List.{join_with_byte}
-use Rattle.boot_script.specs.declared.boot_lines.Line.{Line}
+use Rattle.boot_script.proofs.Common.{◌≡◌, inl, inr, ℕ, ◌+◌, List, [], ◌∷◌, ◌∙◌, refl, sym, ap, false, Option, Some, None, Ok, codes, join_with_byte, Line, Named, Mover, Pump, Switch, PipeWaits, Step, Version, Boot, ◌>>=◌, boot_line, says_nothing, at_line, opening_of, Plan, Draft, first_draft, goes_on, added, line_added, plan_from, plan_only, text_plan, queue_words, mover_words, EndsInText, IsSpelling, SpellFrom, SpellsPlan}
 use Rattle.boot_script.specs.declared.boot_lines.Line.TheVariants as line
-use Rattle.boot_script.specs.declared.declared_names.Named.{Named}
-use Rattle.boot_data.specs.declared.plan.Mover.{Mover}
-use Rattle.boot_data.specs.declared.plan.Mover.TheVariants.{Pump, Switch}
-use Rattle.boot_data.specs.declared.plan.PipeWaits.{PipeWaits}
-use Rattle.boot_data.specs.declared.plan.Step.{Step}
 use Rattle.boot_data.specs.declared.plan.Step.TheVariants as step
-use Rattle.boot_script.specs.declared.version.Version.{Version}
-use Rattle.boot_script.specs.declared.version.Script.TheVariants.{Boot}
-use Rattle.boot_script.specs.Words.{◌>>=◌}
-use Rattle.boot_script.specs.BootLines.{boot_line}
-use Rattle.boot_script.specs.Scripts.{says_nothing, at_line, opening_of}
-use Rattle.boot_data.specs.Plans.{Plan}
-use Rattle.boot_script.specs.Plans.{Draft, first_draft, goes_on, added, line_added, plan_from, plan_only, text_plan}
-use Rattle.boot_script.specs.BootSpellings.{queue_words, mover_words, EndsInText, IsSpelling, SpellFrom, SpellsPlan}
 use Rattle.boot_script.proofs.Basics.Binds.{bind_ok, chosen}
 use Rattle.boot_script.proofs.LineWords.Openings.{at_line_ok, opening_ok, opening_again}
 use Rattle.boot_script.proofs.Drafts.DraftOrder.{IsOrdered, added_in_order}

@@ -1,22 +1,8 @@
 -- The ways of a switch, and the words that spell them.
-use Rattle.std.proofs.Common.{◌≡◌, ◌≢◌, inl, inr, ℕ, ◌<◌, ◌≤◌, ◌&&◌, List, [], ◌∷◌, ◌∙◌, refl, sym, ap, subst, arith, length, true, false, Ok, Err}
-use Rattle.std.proofs.Math.Dec.{eqb}
-use Rattle.std.proofs.lemmas.Bool.Decides.{nat_tests}
-use Rattle.std.specs.Prelude.{nat_le}
-use Rattle.std.specs.List.{AllByRecursion, list_all}
+use Rattle.boot_script.proofs.Common.{◌≡◌, ◌≢◌, inl, inr, ℕ, ◌<◌, ◌≤◌, ◌&&◌, List, [], ◌∷◌, ◌∙◌, refl, sym, ap, subst, arith, length, true, false, Ok, Err, eqb, nat_tests, nat_le, AllByRecursion, list_all, NameTwice, Line, Named, Switch, Way, ◌>>=◌, first_word, later_words, at_most_of, count_of, number_named, is_key, key_of, way_of, ways_from, ways_of, switch_words, AreInOrder, name_of_number, way_words, IsNew, FitWays}
 use Rattle.std.proofs.lemmas.Bool.{and_parts as both, or_parts as neither}
-use Rattle.boot_script.specs.declared.fault.ScriptRefusal.TheVariants.{NameTwice}
-use Rattle.boot_script.specs.declared.boot_lines.Line.{Line}
 use Rattle.boot_script.specs.declared.boot_lines.Line.TheVariants as line
 use Rattle.boot_data.specs.declared.kind.Kind.TheVariants as kind
-use Rattle.boot_script.specs.declared.declared_names.Named.{Named}
-use Rattle.boot_data.specs.declared.plan.Mover.TheVariants.{Switch}
-use Rattle.boot_data.specs.declared.plan.Way.{Way}
-use Rattle.boot_script.specs.Words.{◌>>=◌, first_word, later_words}
-use Rattle.boot_script.specs.Grammar.{at_most_of}
-use Rattle.boot_script.specs.BootNames.{count_of, number_named}
-use Rattle.boot_script.specs.BootLines.{is_key, key_of, way_of, ways_from, ways_of, switch_words}
-use Rattle.boot_script.specs.BootSpellings.{AreInOrder, name_of_number, way_words, IsNew, FitWays}
 use Rattle.boot_script.proofs.Basics.Bools.{room_ok}
 use Rattle.boot_script.proofs.Basics.Binds.{bind_ok, chosen}
 use Rattle.boot_script.proofs.LineWords.Plain.{is_plain, ArePlain}

@@ -1,16 +1,5 @@
 -- The ways of a switch, one after the other.
-use Rattle.std.proofs.Common.{◌≡◌, ℕ, ◌<◌, ◌≤◌, ◌+◌, List, [], ◌∷◌, ◌++◌, ◌∙◌, refl, sym, ap, arith, length, length-append, slice_index_or, slice_set, true, false, Bool, Result, Ok, Err}
-use Rattle.std.proofs.Math.Dec.{eqb}
-use Rattle.std.proofs.lemmas.Bool.Decides.{nat_tests}
-use Rattle.std.proofs.lemmas.List.{append-nil, get_or-set_same, get_or-set_other}
-use Rattle.std.specs.Prelude.{nat_le, ◌||◌}
-use Rattle.boot_script.specs.declared.fault.ScriptRefusal.{ScriptRefusal}
-use Rattle.boot_script.specs.declared.fault.ScriptRefusal.TheVariants.{TooMany}
-use Rattle.boot_script.specs.declared.declared_names.Named.{Named}
-use Rattle.boot_data.specs.declared.plan.Way.{Way}
-use Rattle.boot_script.specs.Words.{◌>>=◌, word_at, words_from}
-use Rattle.boot_script.specs.Grammar.{at_most_of}
-use Rattle.boot_script.specs.BootLines.{AreSeen, is_key, way_of, ways_from, ways_of}
+use Rattle.boot_script.proofs.Common.{◌≡◌, ℕ, ◌<◌, ◌≤◌, ◌+◌, List, [], ◌∷◌, ◌++◌, ◌∙◌, refl, sym, ap, arith, length, length-append, slice_index_or, slice_set, true, false, Bool, Result, Ok, Err, eqb, nat_tests, append-nil, get_or-set_same, get_or-set_other, nat_le, ◌||◌, ScriptRefusal, TooMany, Named, Way, ◌>>=◌, word_at, words_from, at_most_of, AreSeen, is_key, way_of, ways_from, ways_of}
 use Rattle.boot_script.proofs.Basics.Gathered.{with_front, regroup}
 
 -- The kept ways, if there was room, and the ways that are still to be read are all that is said; their keys are marked

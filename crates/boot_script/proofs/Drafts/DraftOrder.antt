@@ -1,16 +1,7 @@
 -- The names of a draft stay in order.
-use Rattle.std.proofs.Common.{◌≡◌, ℕ, ◌+◌, List, [], ◌∷◌, ◌++◌, refl, subst, length, Bool, Option, Some, None, Ok}
-use Rattle.boot_script.specs.declared.boot_lines.Line.{Line}
+use Rattle.boot_script.proofs.Common.{◌≡◌, ℕ, ◌+◌, List, [], ◌∷◌, ◌++◌, refl, subst, length, Bool, Option, Some, None, Ok, Line, Kind, Named, Step, Version, count_of, room_of, with_name, steps_at, Draft, typed_at, change_at, with_text, with_step, text_room, alarm_room, step_room, add_step, added, AreInOrder, IsNew, FitsLine}
 use Rattle.boot_script.specs.declared.boot_lines.Line.TheVariants as line
-use Rattle.boot_data.specs.declared.kind.Kind.{Kind}
 use Rattle.boot_data.specs.declared.kind.Kind.TheVariants as kind
-use Rattle.boot_script.specs.declared.declared_names.Named.{Named}
-use Rattle.boot_data.specs.declared.plan.Step.{Step}
-use Rattle.boot_script.specs.declared.version.Version.{Version}
-use Rattle.boot_script.specs.BootNames.{count_of, room_of, with_name}
-use Rattle.boot_data.specs.Plans.{steps_at}
-use Rattle.boot_script.specs.Plans.{Draft, typed_at, change_at, with_text, with_step, text_room, alarm_room, step_room, add_step, added}
-use Rattle.boot_script.specs.BootSpellings.{AreInOrder, IsNew, FitsLine}
 use Rattle.boot_script.proofs.Basics.Binds.{bind_ok}
 use Rattle.boot_script.proofs.Drafts.NameOrder.{push_in_order}
 

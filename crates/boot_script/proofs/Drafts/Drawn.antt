@@ -1,27 +1,8 @@
 -- What is kept of a boot script, line by line.
-use Rattle.std.proofs.Common.{◌≡◌, ℕ, zero, suc, ◌<◌, ◌≤◌, ◌+◌, List, [], ◌∷◌, ◌++◌, ◌∙◌, refl, sym, ap, arith, length, length-append, get_or, slice_set, true, false, Bool, cond, Option, Some, None, Result, Ok, Err}
-use Rattle.std.proofs.Math.Dec.{eqb}
-use Rattle.std.proofs.lemmas.Bool.Decides.{nat_tests}
-use Rattle.std.proofs.lemmas.List.{get_or-set_same, get_or-set_other}
-use Rattle.std.specs.Prelude.{nat_le, nat_lt, IsSome, IfSome, OnOk}
+use Rattle.boot_script.proofs.Common.{◌≡◌, ℕ, zero, suc, ◌<◌, ◌≤◌, ◌+◌, List, [], ◌∷◌, ◌++◌, ◌∙◌, refl, sym, ap, arith, length, length-append, get_or, slice_set, true, false, Bool, cond, Option, Some, None, Result, Ok, Err, eqb, nat_tests, get_or-set_same, get_or-set_other, nat_le, nat_lt, IsSome, IfSome, OnOk, ScriptRefusal, TooMany, TextTooLong, Kind, Named, Version, same_kind, count_of, most_of, room_of, with_name, Alarm, PlannedQueue, PlannedMover, PlannedTty, PlannedThread, Step, ◌>>=◌, Plan, steps_at, no_plan, typed_at, change_at, with_text, with_step, text_room, alarm_room, step_room}
 use Rattle.std.specs.Result.{is_ok}
-use Rattle.boot_script.specs.declared.fault.ScriptRefusal.{ScriptRefusal}
-use Rattle.boot_script.specs.declared.fault.ScriptRefusal.TheVariants.{TooMany, TextTooLong}
-use Rattle.boot_data.specs.declared.kind.Kind.{Kind}
-use Rattle.boot_script.specs.declared.declared_names.Named.{Named}
 use Rattle.boot_data.specs.declared.kind.Kind.TheVariants.{Thread}
-use Rattle.boot_script.specs.declared.version.Version.{Version}
-use Rattle.boot_script.specs.BootNames.{same_kind, count_of, most_of, room_of, with_name}
 use Rattle.boot_script.proofs.Drafts.NamesSoFar.{count_push, most_three}
-use Rattle.event_theory.specs.declared.alarm.Alarm.{Alarm}
-use Rattle.boot_data.specs.declared.plan.PlannedQueue.{PlannedQueue}
-use Rattle.boot_data.specs.declared.plan.PlannedMover.{PlannedMover}
-use Rattle.boot_data.specs.declared.plan.PlannedTty.{PlannedTty}
-use Rattle.boot_data.specs.declared.plan.PlannedThread.{PlannedThread}
-use Rattle.boot_data.specs.declared.plan.Step.{Step}
-use Rattle.boot_script.specs.Words.{◌>>=◌}
-use Rattle.boot_data.specs.Plans.{Plan, steps_at}
-use Rattle.boot_script.specs.Plans.{no_plan, typed_at, change_at, with_text, with_step, text_room, alarm_room, step_room}
 
 abbrev pub plan_with : List PlannedQueue → List PlannedTty → List PlannedMover → List (List ℕ) → List Alarm → List PlannedThread → Plan
 plan_with queues ttys movers gauges alarms threads = record { queues = queues; ttys = ttys; movers = movers; gauges = gauges; alarms = alarms; threads = threads }

@@ -1,16 +1,6 @@
 -- Names in order: each name has one number of its kind, and each number one name.
-use Rattle.std.proofs.Common.{◌≡◌, inl, inr, ℕ, ◌<◌, ◌≤◌, ◌+◌, ◌&&◌, List, [], ◌∷◌, ◌++◌, ◌∙◌, refl, sym, ap, arith, append_assoc, true, false, Bool, cond, Ok}
-use Rattle.std.proofs.Math.Dec.{eqb}
-use Rattle.std.proofs.lemmas.Bool.Decides.{nat_tests}
-use Rattle.std.proofs.lemmas.List.{append-nil}
-use Rattle.std.proofs.lemmas.Slice.Eq.{bytes_eq-Decides}
-use Rattle.std.specs.Str.{bytes_eq}
+use Rattle.boot_script.proofs.Common.{◌≡◌, inl, inr, ℕ, ◌<◌, ◌≤◌, ◌+◌, ◌&&◌, List, [], ◌∷◌, ◌++◌, ◌∙◌, refl, sym, ap, arith, append_assoc, true, false, Bool, cond, Ok, eqb, nat_tests, append-nil, bytes_eq-Decides, bytes_eq, NameUnknown, Kind, Named, is_name, same_kind, if_kind, find, is_declared, count_of, FollowInOrder, name_of_number}
 use Rattle.std.proofs.lemmas.Bool.{and_parts as both, or_parts as neither}
-use Rattle.boot_script.specs.declared.fault.ScriptRefusal.TheVariants.{NameUnknown}
-use Rattle.boot_data.specs.declared.kind.Kind.{Kind}
-use Rattle.boot_script.specs.declared.declared_names.Named.{Named}
-use Rattle.boot_script.specs.BootNames.{is_name, same_kind, if_kind, find, is_declared, count_of}
-use Rattle.boot_script.specs.BootSpellings.{FollowInOrder, name_of_number}
 use Rattle.boot_script.proofs.Basics.Bools.{either}
 use Rattle.boot_script.proofs.Basics.Binds.{guard_ok, chosen}
 use Rattle.boot_script.proofs.Drafts.NamesSoFar.{kinds, count_push, count_cons}

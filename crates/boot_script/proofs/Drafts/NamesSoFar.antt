@@ -1,19 +1,6 @@
 -- Names that were declared, one after the other.
-use Rattle.std.proofs.Common.{◌≡◌, ℕ, zero, ◌<◌, ◌≤◌, ◌+◌, suc, List, [], ◌∷◌, ◌++◌, ◌∙◌, refl, sym, ap, subst, arith, length, drop, get_or, add-one, true, false, Bool, cond, Ok, Err}
-use Rattle.std.proofs.Math.Seq.{drop-cons}
-use Rattle.std.proofs.lemmas.List.{drop_all}
-use Rattle.std.proofs.lemmas.List.Splits.{join_with_byte-slice_split}
-use Rattle.std.proofs.lemmas.List.Sums.{sum_by_push, sum_by-cons}
-use Rattle.std.specs.List.{AllByRecursion, join_with_byte}
-use Rattle.std.specs.Str.{bytes_eq}
-use Rattle.boot_script.specs.declared.fault.ScriptRefusal.TheVariants.{NameUnknown}
-use Rattle.boot_data.specs.declared.kind.Kind.{Kind}
+use Rattle.boot_script.proofs.Common.{◌≡◌, ℕ, zero, ◌<◌, ◌≤◌, ◌+◌, suc, List, [], ◌∷◌, ◌++◌, ◌∙◌, refl, sym, ap, subst, arith, length, drop, get_or, add-one, true, false, Bool, cond, Ok, Err, drop-cons, drop_all, join_with_byte-slice_split, sum_by_push, sum_by-cons, AllByRecursion, join_with_byte, bytes_eq, NameUnknown, Kind, Named, Version, One, Two, Three, ◌>>=◌, pieces, first_word, later_words, same_kind, if_kind, find, is_declared, count_of, most_of, with_name, tty_part, queue_or_part, queue_named, name_of}
 use Rattle.boot_data.specs.declared.kind.Kind.TheVariants.{Queue, Tty, Mover, Gauge, Thread}
-use Rattle.boot_script.specs.declared.declared_names.Named.{Named}
-use Rattle.boot_script.specs.declared.version.Version.{Version}
-use Rattle.boot_script.specs.declared.version.Version.TheVariants.{One, Two, Three}
-use Rattle.boot_script.specs.Words.{◌>>=◌, pieces, first_word, later_words}
-use Rattle.boot_script.specs.BootNames.{same_kind, if_kind, find, is_declared, count_of, most_of, with_name, tty_part, queue_or_part, queue_named, name_of}
 use Rattle.boot_script.proofs.Basics.Cuts.{some_pieces}
 use Rattle.boot_script.specs.Counted.{IsInRange, AreCounted}
 

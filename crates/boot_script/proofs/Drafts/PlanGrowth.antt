@@ -1,25 +1,7 @@
 -- Plans of which there is more of a kind, and what was there still is.
-use Rattle.std.proofs.Common.{◌≡◌, ℕ, ◌<◌, ◌≤◌, ◌+◌, List, [], ◌∷◌, ◌++◌, refl, arith, length, length-append, true, cond, Ok}
-use Rattle.std.proofs.lemmas.Bool.Decides.{nat_tests}
-use Rattle.std.specs.Prelude.{nat_lt}
-use Rattle.std.specs.List.{AllByRecursion}
-use Rattle.event_theory.specs.declared.alarm.Alarm.{Alarm}
-use Rattle.boot_data.specs.declared.kind.Kind.{Kind}
+use Rattle.boot_script.proofs.Common.{◌≡◌, ℕ, ◌<◌, ◌≤◌, ◌+◌, List, [], ◌∷◌, ◌++◌, refl, arith, length, length-append, true, cond, Ok, nat_tests, nat_lt, AllByRecursion, Alarm, Kind, Named, Mover, Pump, Switch, PlannedMover, PlannedThread, QueueIndex, Small, Large, Step, Version, Three, same_kind, count_of, most_of, room_of, with_name, Plan, many_of, IsQueueOf, IsSaidTo, IsStepOf, IsWayOf, IsMoverOf, IsAlarmOf, IsProgramOf}
 use Rattle.boot_data.specs.declared.kind.Kind.TheVariants as kind
-use Rattle.boot_script.specs.declared.declared_names.Named.{Named}
-use Rattle.boot_data.specs.declared.plan.Mover.{Mover}
-use Rattle.boot_data.specs.declared.plan.Mover.TheVariants.{Pump, Switch}
-use Rattle.boot_data.specs.declared.plan.PlannedMover.{PlannedMover}
-use Rattle.boot_data.specs.declared.plan.PlannedThread.{PlannedThread}
-use Rattle.boot_data.specs.declared.plan.QueueIndex.{QueueIndex}
-use Rattle.boot_data.specs.declared.plan.QueueIndex.TheVariants.{Small, Large}
-use Rattle.boot_data.specs.declared.plan.Step.{Step}
 use Rattle.boot_data.specs.declared.plan.Step.TheVariants as step
-use Rattle.boot_script.specs.declared.version.Version.{Version}
-use Rattle.boot_script.specs.declared.version.Version.TheVariants.{Three}
-use Rattle.boot_script.specs.BootNames.{same_kind, count_of, most_of, room_of, with_name}
-use Rattle.boot_data.specs.Plans.{Plan}
-use Rattle.boot_data.specs.PlanLimits.{many_of, IsQueueOf, IsSaidTo, IsStepOf, IsWayOf, IsMoverOf, IsAlarmOf, IsProgramOf}
 use Rattle.boot_script.proofs.Basics.Bools.{room_ok}
 use Rattle.boot_script.proofs.Drafts.NamesSoFar.{count_push, most_three}
 

@@ -1,28 +1,7 @@
 -- The limits of a plan hold of each draft.
-use Rattle.std.proofs.Common.{◌≡◌, inl, inr, ℕ, zero, suc, ◌≤◌, ◌+◌, List, [], ◌∷◌, ◌++◌, ◌∙◌, refl, sym, ap, subst, arith, length, length-append, true, Option, Some, None, Result, Ok, Err}
-use Rattle.std.proofs.lemmas.Bool.Decides.{nat_tests}
-use Rattle.std.specs.Prelude.{nat_le, nat_lt}
-use Rattle.std.specs.List.{AllByRecursion, slice_get}
-use Rattle.event_theory.specs.declared.alarm.Alarm.{Alarm}
-use Rattle.boot_script.specs.declared.fault.ScriptFault.{ScriptFault}
-use Rattle.boot_script.specs.declared.boot_lines.Line.{Line}
+use Rattle.boot_script.proofs.Common.{◌≡◌, inl, inr, ℕ, zero, suc, ◌≤◌, ◌+◌, List, [], ◌∷◌, ◌++◌, ◌∙◌, refl, sym, ap, subst, arith, length, length-append, true, Option, Some, None, Result, Ok, Err, nat_tests, nat_le, nat_lt, AllByRecursion, slice_get, Alarm, ScriptFault, Line, Kind, PlannedQueue, PlannedTty, PlannedMover, PlannedThread, Step, Version, Boot, count_of, room_of, with_name, boot_line, says_nothing, at_line, opening_of, Plan, steps_in, steps_at, Draft, first_draft, no_plan, goes_on, typed_in, typed_at, change_at, with_text, with_step, text_room, alarm_room, step_room, add_step, added, line_added, plan_from, plan_only, text_plan, many_of, IsStepOf, IsMoverOf, IsAlarmOf, IsProgramOf, IsTyped, IsPlan, AreInOrder}
 use Rattle.boot_script.specs.declared.boot_lines.Line.TheVariants as line
-use Rattle.boot_data.specs.declared.kind.Kind.{Kind}
 use Rattle.boot_data.specs.declared.kind.Kind.TheVariants as kind
-use Rattle.boot_data.specs.declared.plan.PlannedQueue.{PlannedQueue}
-use Rattle.boot_data.specs.declared.plan.PlannedTty.{PlannedTty}
-use Rattle.boot_data.specs.declared.plan.PlannedMover.{PlannedMover}
-use Rattle.boot_data.specs.declared.plan.PlannedThread.{PlannedThread}
-use Rattle.boot_data.specs.declared.plan.Step.{Step}
-use Rattle.boot_script.specs.declared.version.Version.{Version}
-use Rattle.boot_script.specs.declared.version.Script.TheVariants.{Boot}
-use Rattle.boot_script.specs.BootNames.{count_of, room_of, with_name}
-use Rattle.boot_script.specs.BootLines.{boot_line}
-use Rattle.boot_script.specs.Scripts.{says_nothing, at_line, opening_of}
-use Rattle.boot_data.specs.Plans.{Plan, steps_in, steps_at}
-use Rattle.boot_script.specs.Plans.{Draft, first_draft, no_plan, goes_on, typed_in, typed_at, change_at, with_text, with_step, text_room, alarm_room, step_room, add_step, added, line_added, plan_from, plan_only, text_plan}
-use Rattle.boot_data.specs.PlanLimits.{many_of, IsStepOf, IsMoverOf, IsAlarmOf, IsProgramOf, IsTyped, IsPlan}
-use Rattle.boot_script.specs.BootSpellings.{AreInOrder}
 use Rattle.boot_script.proofs.Basics.Bools.{room_ok}
 use Rattle.boot_script.proofs.Basics.Binds.{bind_ok, chosen}
 use Rattle.boot_script.proofs.Drafts.NamesSoFar.{all_push}

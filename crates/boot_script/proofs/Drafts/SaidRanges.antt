@@ -1,22 +1,8 @@
 -- What a line in its ranges names is there.
-use Rattle.std.proofs.Common.{inl, inr, ℕ, List, [], ◌∷◌, true, false, Bool}
-use Rattle.std.specs.List.{AllByRecursion}
-use Rattle.boot_script.specs.declared.boot_lines.Line.{Line}
+use Rattle.boot_script.proofs.Common.{inl, inr, ℕ, List, [], ◌∷◌, true, false, Bool, AllByRecursion, Line, Kind, Named, Mover, Pump, Switch, QueueIndex, Small, Large, Step, Way, Version, count_of, FitsQueue, FitWays, FitsMover, FitsStep, FitsLine, IsQueueOf, IsSaidTo, IsStepOf, IsWayOf, AreApart, IsMoverOf, IsAlarmOf}
 use Rattle.boot_script.specs.declared.boot_lines.Line.TheVariants as line
-use Rattle.boot_data.specs.declared.kind.Kind.{Kind}
 use Rattle.boot_data.specs.declared.kind.Kind.TheVariants as kind
-use Rattle.boot_script.specs.declared.declared_names.Named.{Named}
-use Rattle.boot_data.specs.declared.plan.Mover.{Mover}
-use Rattle.boot_data.specs.declared.plan.Mover.TheVariants.{Pump, Switch}
-use Rattle.boot_data.specs.declared.plan.QueueIndex.{QueueIndex}
-use Rattle.boot_data.specs.declared.plan.QueueIndex.TheVariants.{Small, Large}
-use Rattle.boot_data.specs.declared.plan.Step.{Step}
 use Rattle.boot_data.specs.declared.plan.Step.TheVariants as step
-use Rattle.boot_data.specs.declared.plan.Way.{Way}
-use Rattle.boot_script.specs.declared.version.Version.{Version}
-use Rattle.boot_script.specs.BootNames.{count_of}
-use Rattle.boot_script.specs.BootSpellings.{FitsQueue, FitWays, FitsMover, FitsStep, FitsLine}
-use Rattle.boot_data.specs.PlanLimits.{IsQueueOf, IsSaidTo, IsStepOf, IsWayOf, AreApart, IsMoverOf, IsAlarmOf}
 use Rattle.boot_script.proofs.Drafts.PlanGrowth.{Grows, below_more, step_more, mover_more}
 
 -- what a line names is there

@@ -1,16 +1,6 @@
 -- The spellings of a text.
-use Rattle.std.proofs.Common.{◌≡◌, ◌≢◌, inl, inr, ℕ, ◌<◌, ◌≤◌, ◌+◌, ◌-◌, ◌*◌, ◌&&◌, List, [], ◌∷◌, ◌++◌, ◌∙◌, refl, sym, ap, subst, arith, true, false, cond, Result, Ok, Err}
-use Rattle.std.specs.Prelude.{nat_le, nat_lt, ◌/◌, ◌%◌}
-use Rattle.std.proofs.Math.Dec.{eqb}
+use Rattle.boot_script.proofs.Common.{◌≡◌, ◌≢◌, inl, inr, ℕ, ◌<◌, ◌≤◌, ◌+◌, ◌-◌, ◌*◌, ◌&&◌, List, [], ◌∷◌, ◌++◌, ◌∙◌, refl, sym, ap, subst, arith, true, false, cond, Result, Ok, Err, nat_le, nat_lt, ◌/◌, ◌%◌, eqb, nat_tests, AllByRecursion, list_all, ScriptRefusal, BadNumber, ◌>>=◌, is_printable, digit_of, escape_of, before, bytes_of, digit_for, escape, IsText}
 use Rattle.std.proofs.lemmas.Bool.{cases_lt, and_parts as both}
-use Rattle.std.proofs.lemmas.Bool.Decides.{nat_tests}
-use Rattle.std.specs.List.{AllByRecursion, list_all}
-use Rattle.boot_script.specs.declared.fault.ScriptRefusal.{ScriptRefusal}
-use Rattle.boot_script.specs.declared.fault.ScriptRefusal.TheVariants.{BadNumber}
-use Rattle.boot_script.specs.Words.{◌>>=◌}
-use Rattle.boot_script.specs.Grammar.{is_printable}
-use Rattle.boot_script.specs.Texts.{digit_of, escape_of, before, bytes_of}
-use Rattle.boot_script.specs.BootSpellings.{digit_for, escape, IsText}
 use Rattle.boot_script.proofs.Basics.Bools.{either}
 use Rattle.boot_script.proofs.Basics.Binds.{bind_ok, chosen}
 use Rattle.boot_script.proofs.Escaping.Unescaped.{plain_byte, escaped_byte, wanting}

@@ -1,16 +1,6 @@
 -- Lines that end in a text.
-use Rattle.std.proofs.Common.{◌≡◌, inl, inr, ℕ, ◌≤◌, List, [], ◌∷◌, ◌++◌, ◌∙◌, refl, sym, ap, subst, arith, length, true, false, Ok}
-use Rattle.std.proofs.Math.Dec.{eqb}
-use Rattle.std.proofs.lemmas.Bool.Decides.{nat_tests}
-use Rattle.std.proofs.lemmas.List.Splits.{join_with_byte-slice_split, slice_split-cons_no, slice_split-cons_yes}
-use Rattle.std.specs.Prelude.{nat_le}
-use Rattle.std.specs.List.{list_all, join_with_byte, onto_first}
+use Rattle.boot_script.proofs.Common.{◌≡◌, inl, inr, ℕ, ◌≤◌, List, [], ◌∷◌, ◌++◌, ◌∙◌, refl, sym, ap, subst, arith, length, true, false, Ok, eqb, nat_tests, join_with_byte-slice_split, slice_split-cons_no, slice_split-cons_yes, nat_le, list_all, join_with_byte, onto_first, TextTooLong, ◌>>=◌, pieces, words_of, is_printable, bytes_of, within_of, text_of, IsText, EndsInText}
 use Rattle.std.proofs.lemmas.Bool.{and_parts as both}
-use Rattle.boot_script.specs.declared.fault.ScriptRefusal.TheVariants.{TextTooLong}
-use Rattle.boot_script.specs.Words.{◌>>=◌, pieces, words_of}
-use Rattle.boot_script.specs.Grammar.{is_printable}
-use Rattle.boot_script.specs.Texts.{bytes_of, within_of, text_of}
-use Rattle.boot_script.specs.BootSpellings.{IsText, EndsInText}
 use Rattle.boot_script.proofs.Basics.Bools.{either}
 use Rattle.boot_script.proofs.Basics.Binds.{bind_ok, guard_ok}
 use Rattle.boot_script.proofs.Escaping.Escapes.{text_ok, text_again, text_printable}

@@ -1,14 +1,5 @@
 -- Texts, byte by byte.
-use Rattle.std.proofs.Common.{◌≡◌, inl, inr, ℕ, ◌<◌, ◌≤◌, ◌+◌, ◌-◌, List, [], ◌∷◌, ◌++◌, ◌∙◌, refl, sym, ap, arith, append_assoc, length, length-append, take, drop, slice_index_or, true, false, Bool, Result, Ok, Err}
-use Rattle.std.proofs.Math.Dec.{eqb}
-use Rattle.std.proofs.lemmas.Bool.{cases_lt}
-use Rattle.std.proofs.lemmas.Bool.Decides.{nat_tests}
-use Rattle.std.proofs.lemmas.List.{append-nil, take_all, length-drop}
-use Rattle.std.specs.Prelude.{nat_le}
-use Rattle.boot_script.specs.declared.fault.ScriptRefusal.{ScriptRefusal}
-use Rattle.boot_script.specs.declared.fault.ScriptRefusal.TheVariants.{BadNumber, TextTooLong}
-use Rattle.boot_script.specs.Words.{◌>>=◌}
-use Rattle.boot_script.specs.Texts.{escape_of, before, bytes_of, within_of}
+use Rattle.boot_script.proofs.Common.{◌≡◌, inl, inr, ℕ, ◌<◌, ◌≤◌, ◌+◌, ◌-◌, List, [], ◌∷◌, ◌++◌, ◌∙◌, refl, sym, ap, arith, append_assoc, length, length-append, take, drop, slice_index_or, true, false, Bool, Result, Ok, Err, eqb, cases_lt, nat_tests, append-nil, take_all, length-drop, nat_le, ScriptRefusal, BadNumber, TextTooLong, ◌>>=◌, escape_of, before, bytes_of, within_of}
 
 -- all bytes after a place
 pub following : (n : ℕ) (text : List ℕ) → take (length text - n) (drop n text) ≡ drop n text

@@ -1,16 +1,8 @@
 -- What is spelled as events are is read again.
-use Rattle.std.proofs.Common.{◌≡◌, ℕ, List, ◌∷◌, ◌∙◌, refl, sym, ap, subst, true, Ok}
-use Rattle.std.specs.List.{join_with_byte}
-use Rattle.event_theory.specs.declared.event.Event.{Event}
+use Rattle.boot_script.proofs.Common.{◌≡◌, ℕ, List, ◌∷◌, ◌∙◌, refl, sym, ap, subst, true, Ok, join_with_byte, Event, Command, Version, ◌>>=◌, first_word, later_words, command_word, knows, command_of, notify_event, event_of, words_event, line_event, Fits, event_words, spelling}
 use Rattle.event_theory.specs.declared.event.Event.TheVariants as events
-use Rattle.boot_script.specs.declared.commands.Command.{Command}
 use Rattle.boot_script.specs.declared.commands.Command.TheVariants as command
 use Rattle.boot_script.specs.declared.names.Listener.TheVariants as listeners
-use Rattle.boot_script.specs.declared.version.Version.{Version}
-use Rattle.boot_script.specs.Words.{◌>>=◌, first_word, later_words}
-use Rattle.boot_script.specs.Commands.{command_word, knows, command_of}
-use Rattle.boot_script.specs.Grammar.{notify_event, event_of, words_event, line_event}
-use Rattle.boot_script.specs.Spellings.{Fits, event_words, spelling}
 use Rattle.boot_script.proofs.LineWords.Named.{command_again}
 use Rattle.boot_script.proofs.LineWords.Plain.{is_plain, ArePlain, print_words, words_again}
 use Rattle.boot_script.proofs.LineWords.Readers.{call_reader, processor_reader, element_reader, gauge_reader, small_reader, capacity_reader, short_reader, long_reader, byte_queue_reader, chain_reader, wait_reader, queue_reader, listener_reader}

@@ -1,17 +1,6 @@
 -- The lines of claims.
-use Rattle.std.proofs.Common.{◌≡◌, ℕ, ◌≤◌, List, [], ◌∷◌, ◌∙◌, refl, ap, subst, arith, length, map, true, false, Bool, cond, Ok, Err}
-use Rattle.std.proofs.lemmas.Bool.Decides.{nat_tests}
-use Rattle.std.specs.Prelude.{nat_le}
-use Rattle.std.specs.List.{AllByRecursion}
-use Rattle.std.specs.Fmt.{decimal}
-use Rattle.event_theory.specs.declared.event.Event.{Event}
+use Rattle.boot_script.proofs.Common.{◌≡◌, ℕ, ◌≤◌, List, [], ◌∷◌, ◌∙◌, refl, ap, subst, arith, length, map, true, false, Bool, cond, Ok, Err, nat_tests, nat_le, AllByRecursion, decimal, Event, QueueName, TooMany, Version, ◌>>=◌, number_of, first_word, later_words, call_of, queue_of, numbers_of, at_most_of, items_of, claim_words}
 use Rattle.event_theory.specs.declared.event.Event.TheVariants.{Claim}
-use Rattle.event_theory.specs.declared.names.QueueName.{QueueName}
-use Rattle.boot_script.specs.declared.fault.ScriptRefusal.TheVariants.{TooMany}
-use Rattle.boot_script.specs.declared.version.Version.{Version}
-use Rattle.boot_script.specs.Words.{◌>>=◌, number_of, first_word, later_words}
-use Rattle.boot_script.specs.Names.{call_of, queue_of}
-use Rattle.boot_script.specs.Grammar.{numbers_of, at_most_of, items_of, claim_words}
 use Rattle.boot_script.specs.Spellings.{FitsQueue, FitsItem, call_name, queue_name}
 use Rattle.boot_script.proofs.Basics.Binds.{bind_ok, Known, bind_known, test_known, ok_known}
 use Rattle.boot_script.proofs.LineWords.Plain.{plain_decimal, ArePlain}

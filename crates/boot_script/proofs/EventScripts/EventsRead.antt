@@ -1,14 +1,6 @@
 -- Events one after the other, as the loop over the lines reads them.
-use Rattle.std.proofs.Common.{◌≡◌, true, false, ℕ, ◌+◌, List, [], ◌∷◌, ◌++◌, ◌∙◌, refl, sym, ap, arith, length, Result, Ok, Err}
-use Rattle.event_theory.specs.declared.event.Event.{Event}
-use Rattle.boot_script.specs.declared.fault.ScriptRefusal.{ScriptRefusal}
+use Rattle.boot_script.proofs.Common.{◌≡◌, true, false, ℕ, ◌+◌, List, [], ◌∷◌, ◌++◌, ◌∙◌, refl, sym, ap, arith, length, Result, Ok, Err, Event, ScriptRefusal, ScriptFault, Version, ◌>>=◌, lines_of, line_event, says_nothing, at_line, events_from, Fails}
 use Rattle.boot_script.specs.declared.fault.ScriptRefusal.TheVariants as refusals
-use Rattle.boot_script.specs.declared.fault.ScriptFault.{ScriptFault}
-use Rattle.boot_script.specs.declared.version.Version.{Version}
-use Rattle.boot_script.specs.Words.{◌>>=◌, lines_of}
-use Rattle.boot_script.specs.Grammar.{line_event}
-use Rattle.boot_script.specs.Scripts.{says_nothing, at_line, events_from}
-use Rattle.boot_script.specs.Answers.{Fails}
 use Rattle.boot_script.proofs.Basics.Gathered.{with_front, regroup, all_done}
 
 pub silent_more : (version : Version) (number : ℕ) (front : List (ℕ × Event)) (line : List ℕ) (lines : List (List ℕ)) (said : Result (List (ℕ × Event)) ScriptFault) → true ≡ says_nothing line

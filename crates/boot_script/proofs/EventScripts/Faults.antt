@@ -1,18 +1,7 @@
 -- No text is invalid because memory is exhausted.
-use Rattle.std.proofs.Common.{◌≡◌, inl, inr, ℕ, ◌+◌, List, [], ◌∷◌, Err, IsOk}
-use Rattle.std.specs.List.{list_all}
+use Rattle.boot_script.proofs.Common.{◌≡◌, inl, inr, ℕ, ◌+◌, List, [], ◌∷◌, Err, IsOk, list_all, Command, NotAscii, OutOfMemory, ScriptFault, Version, Events, first_word, later_words, words_of, command_of, notify_event, event_of, words_event, line_event, is_printable, says_nothing, at_line, events_from, opening_of, text_events, IsFault}
 use Rattle.event_theory.specs.declared.event.Event.TheVariants as events
-use Rattle.boot_script.specs.declared.commands.Command.{Command}
 use Rattle.boot_script.specs.declared.commands.Command.TheVariants as command
-use Rattle.boot_script.specs.declared.fault.ScriptRefusal.TheVariants.{NotAscii, OutOfMemory}
-use Rattle.boot_script.specs.declared.fault.ScriptFault.{ScriptFault}
-use Rattle.boot_script.specs.declared.version.Version.{Version}
-use Rattle.boot_script.specs.declared.version.Script.TheVariants.{Events}
-use Rattle.boot_script.specs.Words.{first_word, later_words, words_of}
-use Rattle.boot_script.specs.Commands.{command_of}
-use Rattle.boot_script.specs.Grammar.{notify_event, event_of, words_event, line_event, is_printable}
-use Rattle.boot_script.specs.Scripts.{says_nothing, at_line, events_from, opening_of, text_events}
-use Rattle.boot_script.specs.Answers.{IsFault}
 use Rattle.boot_script.proofs.Basics.Binds.{Known, bind_known, test_known}
 use Rattle.boot_script.proofs.LineWords.Named.{command_known}
 use Rattle.boot_script.proofs.LineWords.Readers.{call_reader, processor_reader, element_reader, gauge_reader, small_reader, capacity_reader, short_reader, long_reader, byte_queue_reader, chain_reader, wait_reader, queue_reader, listener_reader}

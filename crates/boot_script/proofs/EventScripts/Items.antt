@@ -1,12 +1,5 @@
 -- The items of a claim, one after the other.
-use Rattle.std.proofs.Common.{◌≡◌, true, false, cond, Bool, ℕ, ◌≤◌, ◌<◌, List, [], ◌∷◌, ◌++◌, ◌∙◌, refl, sym, ap, subst, arith, length, Result, Ok, Err}
-use Rattle.std.proofs.lemmas.Bool.Decides.{nat_tests}
-use Rattle.std.specs.Prelude.{nat_le}
-use Rattle.boot_script.specs.declared.fault.ScriptRefusal.{ScriptRefusal}
-use Rattle.boot_script.specs.declared.fault.ScriptRefusal.TheVariants.{BadNumber, TooMany}
-use Rattle.boot_script.specs.Words.{◌>>=◌, number_of, first_word, later_words}
-use Rattle.boot_script.specs.Grammar.{numbers_of, at_most_of, items_of}
-use Rattle.boot_script.specs.Answers.{Fails}
+use Rattle.boot_script.proofs.Common.{◌≡◌, true, false, cond, Bool, ℕ, ◌≤◌, ◌<◌, List, [], ◌∷◌, ◌++◌, ◌∙◌, refl, sym, ap, subst, arith, length, Result, Ok, Err, nat_tests, nat_le, ScriptRefusal, BadNumber, TooMany, ◌>>=◌, number_of, first_word, later_words, numbers_of, at_most_of, items_of, Fails}
 use Rattle.boot_script.proofs.Basics.Gathered.{with_front, regroup}
 
 pub number_more : (most n : ℕ) (front : List ℕ) (words : List (List ℕ)) (said : Result (List ℕ) ScriptRefusal) → (words ≡ [] → ⊥) → Ok n ≡ number_of most (first_word words)

@@ -1,11 +1,7 @@
 -- Events that are allowed one after the other.
-use Rattle.std.proofs.Common.{◌≡◌, ℕ, ◌<◌, ◌+◌, List, [], ◌∷◌, ◌++◌, ◌∙◌, sym, ap, length, take, get_or, Ok}
-use Rattle.std.proofs.lemmas.List.{map_push, take_more}
-use Rattle.event_theory.specs.declared.event.Event.{Event}
+use Rattle.boot_script.proofs.Common.{◌≡◌, ℕ, ◌<◌, ◌+◌, List, [], ◌∷◌, ◌++◌, ◌∙◌, sym, ap, length, take, get_or, Ok, map_push, take_more, Event, Reaches, alone}
 use Rattle.event_theory.specs.States.{State, step}
-use Rattle.event_theory.specs.Schedules.{Reaches}
 use Rattle.event_theory.proofs.Keeping.Steps.{reaches_more}
-use Rattle.boot_script.specs.Replays.{alone}
 
 pub reaches_next : (s : State) (events : List (ℕ × Event)) (at : ℕ) (numbered : ℕ × Event) (t u : State) → at < length events → numbered ≡ get_or events at numbered
     → Reaches s (alone (take at events)) t → step numbered.1 t ≡ Ok u → Reaches s (alone (take (at + 1) events)) u

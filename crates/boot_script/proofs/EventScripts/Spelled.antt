@@ -1,19 +1,8 @@
 -- What is read is spelled as events are.
-use Rattle.std.proofs.Common.{◌≡◌, inl, inr, ℕ, ◌≤◌, List, [], ◌∷◌, ◌∙◌, refl, sym, ap, true, Ok, Err}
-use Rattle.std.proofs.lemmas.List.Splits.{join_with_byte-slice_split}
-use Rattle.std.specs.List.{join_with_byte, list_all}
-use Rattle.event_theory.specs.declared.event.Event.{Event}
+use Rattle.boot_script.proofs.Common.{◌≡◌, inl, inr, ℕ, ◌≤◌, List, [], ◌∷◌, ◌∙◌, refl, sym, ap, true, Ok, Err, join_with_byte-slice_split, join_with_byte, list_all, Event, Command, NotAscii, Listener, Version, first_word, later_words, words_of, command_word, knows, command_of, notify_event, event_of, words_event, line_event, is_printable, Fits, call_name, event_words, spelling}
 use Rattle.event_theory.specs.declared.event.Event.TheVariants as events
-use Rattle.boot_script.specs.declared.commands.Command.{Command}
 use Rattle.boot_script.specs.declared.commands.Command.TheVariants as command
-use Rattle.boot_script.specs.declared.fault.ScriptRefusal.TheVariants.{NotAscii}
-use Rattle.boot_script.specs.declared.names.Listener.{Listener}
 use Rattle.boot_script.specs.declared.names.Listener.TheVariants as listeners
-use Rattle.boot_script.specs.declared.version.Version.{Version}
-use Rattle.boot_script.specs.Words.{first_word, later_words, words_of}
-use Rattle.boot_script.specs.Commands.{command_word, knows, command_of}
-use Rattle.boot_script.specs.Grammar.{notify_event, event_of, words_event, line_event, is_printable}
-use Rattle.boot_script.specs.Spellings.{Fits, call_name, event_words, spelling}
 use Rattle.boot_script.proofs.Basics.Binds.{bind_ok, chosen}
 use Rattle.boot_script.proofs.Basics.Cuts.{some_pieces}
 use Rattle.boot_script.proofs.LineWords.Named.{command_ok}

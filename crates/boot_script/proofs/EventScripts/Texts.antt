@@ -1,15 +1,6 @@
 -- What a whole text says, and how it is spelled.
-use Rattle.std.proofs.Common.{◌≡◌, inl, inr, ℕ, ◌+◌, List, [], ◌∷◌, ◌∙◌, refl, sym, ap, false, Result, Ok}
-use Rattle.event_theory.specs.declared.event.Event.{Event}
+use Rattle.boot_script.proofs.Common.{◌≡◌, inl, inr, ℕ, ◌+◌, List, [], ◌∷◌, ◌∙◌, refl, sym, ap, false, Result, Ok, Event, ScriptFault, Version, Events, ◌>>=◌, elements_of, line_event, says_nothing, at_line, events_from, opening_of, text_events, spelling, Spells, SpellsText}
 use Rattle.event_theory.specs.declared.event.Event.TheVariants as events
-use Rattle.boot_script.specs.declared.fault.ScriptFault.{ScriptFault}
-use Rattle.boot_script.specs.declared.version.Version.{Version}
-use Rattle.boot_script.specs.declared.version.Script.TheVariants.{Events}
-use Rattle.boot_script.specs.Words.{◌>>=◌}
-use Rattle.boot_script.specs.Versions.{elements_of}
-use Rattle.boot_script.specs.Grammar.{line_event}
-use Rattle.boot_script.specs.Scripts.{says_nothing, at_line, events_from, opening_of, text_events}
-use Rattle.boot_script.specs.Spellings.{spelling, Spells, SpellsText}
 use Rattle.boot_script.proofs.Basics.Binds.{bind_ok, chosen}
 use Rattle.boot_script.proofs.EventScripts.Spelled.{line_ok}
 use Rattle.boot_script.proofs.EventScripts.Again.{line_again}

@@ -1,8 +1,6 @@
 -- Lines that wait in a buffer.
 use Rattle.std.proofs.Common.{◌≡◌, ℕ, List, [], ◌++◌, ◌∙◌, ap, append-nil, Option, Some, None, Result}
-use Rattle.std.proofs.lemmas.Result.{on_ok_weaker}
-use Rattle.std.specs.Prelude.{OnOk}
-use Rattle.std.specs.Io.KnownBytes.{Appends, append_known}
+use Rattle.boot_script.proofs.Common.{on_ok_weaker, OnOk, Appends, append_known}
 
 -- what was put in an empty buffer is appended once the buffer is written out
 pub written_out : (a b c : Option (List ℕ)) (empty buffer text all : List ℕ) → empty ≡ [] → Appends (append_known a empty) (append_known b buffer) text → text ≡ all → Appends b c buffer

@@ -1,18 +1,5 @@
 -- A buffer that is filled from a reader, and the text that it then has.
-use Rattle.std.proofs.Common.{◌≡◌, ◌⊎◌, inl, inr, ℕ, ◌<◌, ◌≤◌, ◌+◌, List, [], ◌++◌, ◌∙◌, refl, sym, ap, subst, arith, append_assoc, length, length-append, take, Option, Some, None, Result, Ok, Err}
-use Rattle.std.proofs.lemmas.Bool.{cases_lt}
-use Rattle.std.proofs.lemmas.List.{append-nil, take-append-le}
-use Rattle.std.proofs.Math.Seq.{take-append-add}
-use Rattle.std.specs.Prelude.{IfOk, IfErr, IfSome}
-use Rattle.std.specs.Io.KnownBytes.{Consumes, IsAtEnd, Keeps}
-use Rattle.boot_script.specs.declared.version.Script.TheVariants.{Events, Boot}
-use Rattle.boot_script.specs.declared.outcome.Replayed.{Replayed}
-use Rattle.boot_script.specs.declared.outcome.ReplayFault.{ReplayFault}
-use Rattle.boot_script.specs.Replays.{IsReplay, IsReplayFault}
-use Rattle.boot_script.specs.Words.{◌>>=◌}
-use Rattle.boot_script.specs.Versions.{elements_of}
-use Rattle.boot_script.specs.Plans.{first_draft, plan_from, plan_only, text_plan}
-use Rattle.boot_script.specs.Scripts.{events_from, text_events}
+use Rattle.boot_script.proofs.Common.{◌≡◌, ◌⊎◌, inl, inr, ℕ, ◌<◌, ◌≤◌, ◌+◌, List, [], ◌++◌, ◌∙◌, refl, sym, ap, subst, arith, append_assoc, length, length-append, take, Option, Some, None, Result, Ok, Err, cases_lt, append-nil, take-append-le, take-append-add, IfOk, IfErr, IfSome, Consumes, IsAtEnd, Keeps, Events, Boot, Replayed, ReplayFault, IsReplay, IsReplayFault, ◌>>=◌, elements_of, first_draft, plan_from, plan_only, text_plan, events_from, text_events}
 use Rattle.boot_script.proofs.LineWords.Openings.{both_long}
 
 pub consumes_join : (a b c : Option (List ℕ)) (x y : List ℕ) → Consumes a b x → Consumes b c y → Consumes a c (x ++ y)

@@ -1,10 +1,5 @@
 -- What holds of the text that was read holds of the bytes of the reader.
-use Rattle.std.proofs.Common.{◌≡◌, List, ℕ, sym, subst, Option, Some, None}
-use Rattle.std.specs.Prelude.{IfSome}
-use Rattle.boot_script.specs.declared.outcome.Replayed.{Replayed}
-use Rattle.boot_script.specs.declared.outcome.ReplayFault.{ReplayFault}
-use Rattle.boot_script.specs.Scripts.{text_events}
-use Rattle.boot_script.specs.Replays.{IsReplay, IsReplayFault}
+use Rattle.boot_script.proofs.Common.{◌≡◌, List, ℕ, sym, subst, Option, Some, None, IfSome, Replayed, ReplayFault, text_events, IsReplay, IsReplayFault}
 
 pub replay_of : (remaining old new : Option (List ℕ)) (text : List ℕ) (replayed : Replayed) → IfSome remaining (λ bytes. text_events bytes ≡ text_events text) → IsReplay (text_events text) replayed old new
     → IfSome remaining (λ bytes. IsReplay (text_events bytes) replayed old new)

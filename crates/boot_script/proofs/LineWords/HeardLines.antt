@@ -1,12 +1,7 @@
 -- Lines that were heard, which are added to a buffer.
 use Rattle.std.proofs.Common.{◌≡◌, ℕ, ◌<◌, ◌≤◌, ◌/◌, ◌%◌, ◌+◌, List, [], ◌∷◌, ◌++◌, ◌∙◌, refl, sym, ap, arith, length, drop, get_or, add-one, append_assoc, codes}
-use Rattle.std.proofs.Math.Seq.{drop-cons}
-use Rattle.std.proofs.lemmas.List.{append-nil, drop_all}
-use Rattle.std.proofs.lemmas.Fmt.{decimal_digit, decimal_step}
-use Rattle.std.specs.Fmt.{decimal}
+use Rattle.boot_script.proofs.Common.{drop-cons, append-nil, drop_all, decimal_digit, decimal_step, decimal, end_of_line, named, written_byte, heard_text, heard_line}
 use Rattle.boot_data.specs.Hearing.{NamedLine}
-use Rattle.boot_script.specs.Printed.{end_of_line}
-use Rattle.boot_script.specs.Reports.{named, written_byte, heard_text, heard_line}
 
 -- a number of one digit, between spaces
 pub one_digit : (n : ℕ) → n < 10 → 32 ∷ (48 + n) ∷ 32 ∷ [] ≡ codes " " ++ decimal n ++ codes " "

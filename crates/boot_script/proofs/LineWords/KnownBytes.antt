@@ -1,13 +1,6 @@
 -- Known bytes that grow in several steps.
-use Rattle.std.proofs.Common.{◌≡◌, ℕ, suc, ◌<◌, ◌+◌, List, [], ◌∷◌, ◌++◌, ◌∙◌, sym, ap, subst, append_assoc, length, drop, get_or, add-one, Option, Some, None, Result}
-use Rattle.std.proofs.Math.Seq.{drop-cons}
-use Rattle.std.proofs.lemmas.List.{append-nil}
+use Rattle.boot_script.proofs.Common.{◌≡◌, ℕ, suc, ◌<◌, ◌+◌, List, [], ◌∷◌, ◌++◌, ◌∙◌, sym, ap, subst, append_assoc, length, drop, get_or, add-one, Option, Some, None, Result, drop-cons, append-nil, on_ok_weaker, OnOk, flat_map, slice_get, Appends, numbered_lines}
 use Rattle.std.proofs.lemmas.Option.{slice_get_within, get_or_from_slice_get}
-use Rattle.std.proofs.lemmas.Result.{on_ok_weaker}
-use Rattle.std.specs.Prelude.{OnOk}
-use Rattle.std.specs.List.{flat_map, slice_get}
-use Rattle.std.specs.Io.KnownBytes.{Appends}
-use Rattle.boot_script.specs.Printed.{numbered_lines}
 
 pub appends_join : (a b c : Option (List ℕ)) (x y : List ℕ) → Appends a b x → Appends b c y → Appends a c (x ++ y)
 appends_join None b c x y h k = tt

@@ -1,14 +1,6 @@
 -- A word that is looked up among commands.
-use Rattle.std.proofs.Common.{◌≡◌, inl, inr, ℕ, ◌<◌, ◌≤◌, ◌+◌, List, [], ◌∷◌, ◌∙◌, refl, sym, ap, length, drop, get_or, add-one, true, false, Ok, Err}
-use Rattle.std.proofs.Math.Seq.{drop-cons}
-use Rattle.std.proofs.lemmas.List.{drop_all}
-use Rattle.std.proofs.lemmas.Slice.Eq.{bytes_eq-Decides}
-use Rattle.std.specs.Str.{bytes_eq}
-use Rattle.boot_script.specs.declared.commands.Command.{Command}
+use Rattle.boot_script.proofs.Common.{◌≡◌, inl, inr, ℕ, ◌<◌, ◌≤◌, ◌+◌, List, [], ◌∷◌, ◌∙◌, refl, sym, ap, length, drop, get_or, add-one, true, false, Ok, Err, drop-cons, drop_all, bytes_eq-Decides, bytes_eq, Command, UnknownWord, Version, ◌>>=◌}
 use Rattle.boot_script.specs.declared.commands.Command.TheVariants as command
-use Rattle.boot_script.specs.declared.fault.ScriptRefusal.TheVariants.{UnknownWord}
-use Rattle.boot_script.specs.declared.version.Version.{Version}
-use Rattle.boot_script.specs.Words.{◌>>=◌}
 use Rattle.boot_script.specs.Commands.{command_word, commands, named, knows, if_known, command_of}
 use Rattle.boot_script.proofs.Basics.Binds.{bind_ok, guard_ok, chosen, Known, bind_known, test_known, ok_known}
 

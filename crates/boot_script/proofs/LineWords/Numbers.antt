@@ -1,18 +1,6 @@
 -- A number and its one spelling.
-use Rattle.std.proofs.Common.{◌≡◌, ℕ, suc, zero, ◌<◌, ◌≤◌, ◌+◌, ◌*◌, ◌^◌, ◌&&◌, List, [], ◌∷◌, ◌∙◌, refl, sym, ap, subst, arith, length, drop, get_or, Bool, true, false, cond, Ok, Err}
-use Rattle.std.proofs.Math.Seq.{drop-cons}
-use Rattle.std.proofs.lemmas.Bool.Decides.{nat_tests}
-use Rattle.std.proofs.lemmas.Slice.Eq.{bytes_eq-Decides}
-use Rattle.std.proofs.lemmas.Fmt.{decimal_is_IsNumeral, first_decimal, decimal_digit, decimal-digits_value}
-use Rattle.std.proofs.lemmas.List.{drop_all}
-use Rattle.std.proofs.lemmas.Str.Parse.{IsNumeralModel, numerals_by_value, tells_digits, digit_at}
-use Rattle.std.specs.Prelude.{nat_le}
-use Rattle.std.specs.Int.{IsInRange}
+use Rattle.boot_script.proofs.Common.{◌≡◌, ℕ, suc, zero, ◌<◌, ◌≤◌, ◌+◌, ◌*◌, ◌^◌, ◌&&◌, List, [], ◌∷◌, ◌∙◌, refl, sym, ap, subst, arith, length, drop, get_or, Bool, true, false, cond, Ok, Err, drop-cons, nat_tests, bytes_eq-Decides, decimal_is_IsNumeral, first_decimal, decimal_digit, decimal-digits_value, drop_all, IsNumeralModel, numerals_by_value, tells_digits, digit_at, nat_le, IsInRange, decimal, AllDigits, IsNumeral, digits_value, digits_value_after, BadNumber, number_of}
 use Rattle.std.specs.Char.{digit_value}
-use Rattle.std.specs.Fmt.{decimal}
-use Rattle.std.specs.Str.Parse.{AllDigits, IsNumeral, digits_value, digits_value_after}
-use Rattle.boot_script.specs.declared.fault.ScriptRefusal.TheVariants.{BadNumber}
-use Rattle.boot_script.specs.Words.{number_of}
 
 by_test : (a b : Bool) (n : ℕ) → (a ≡ true → b ≡ true → ⊥) → Err BadNumber ≡ cond (a && b) (Ok n) (Err BadNumber)
 by_test true true n h = absurd (h refl refl)

@@ -1,20 +1,6 @@
 -- The first line of a script.
-use Rattle.std.proofs.Common.{◌≡◌, inl, inr, ℕ, ◌<◌, ◌≤◌, List, [], ◌∷◌, ◌∙◌, refl, ap, arith, length, true, false, Result, Ok, Err}
-use Rattle.std.proofs.lemmas.Bool.Decides.{nat_tests}
-use Rattle.std.proofs.lemmas.Slice.Eq.{bytes_eq-Decides}
-use Rattle.std.specs.Prelude.{nat_lt}
-use Rattle.std.specs.List.{list_all}
-use Rattle.std.specs.Str.{bytes_eq}
-use Rattle.boot_script.specs.declared.fault.ScriptRefusal.{ScriptRefusal}
-use Rattle.boot_script.specs.declared.fault.ScriptRefusal.TheVariants.{NotVersion, NotAscii, TooMany}
+use Rattle.boot_script.proofs.Common.{◌≡◌, inl, inr, ℕ, ◌<◌, ◌≤◌, List, [], ◌∷◌, ◌∙◌, refl, ap, arith, length, true, false, Result, Ok, Err, nat_tests, bytes_eq-Decides, nat_lt, list_all, bytes_eq, ScriptRefusal, NotVersion, NotAscii, TooMany, Events, Boot, Version, One, Two, Three, lines_of, version_line, is_printable, at_line, version_of, versioned, opening_of}
 use Rattle.boot_script.specs.declared.version.Script.{Script}
-use Rattle.boot_script.specs.declared.version.Script.TheVariants.{Events, Boot}
-use Rattle.boot_script.specs.declared.version.Version.{Version}
-use Rattle.boot_script.specs.declared.version.Version.TheVariants.{One, Two, Three}
-use Rattle.boot_script.specs.Words.{lines_of}
-use Rattle.boot_script.specs.Versions.{version_line}
-use Rattle.boot_script.specs.Grammar.{is_printable}
-use Rattle.boot_script.specs.Scripts.{at_line, version_of, versioned, opening_of}
 use Rattle.boot_script.proofs.Basics.Binds.{bind_ok, chosen, Known, test_known, ok_known, IsKnown, bind_is_known, test_is_known, ok_is_known, at_line_known}
 
 version_is : (script : Script) (line : List ℕ) (named version : Version) → bytes_eq line (version_line script named) ≡ true → named ≡ version → line ≡ version_line script version

@@ -1,18 +1,6 @@
 -- Words of printable bytes with no space, and the lines that are joined of them.
-use Rattle.std.proofs.Common.{◌≡◌, ℕ, ◌<◌, ◌^◌, ◌&&◌, List, [], ◌∷◌, ◌++◌, ◌∙◌, refl, ap, arith, true, false, Bool}
-use Rattle.std.proofs.Math.Dec.{eqb}
-use Rattle.std.proofs.lemmas.Bool.Decides.{nat_tests}
-use Rattle.std.proofs.lemmas.Fmt.{decimal_is_IsNumeral}
-use Rattle.std.proofs.lemmas.Str.Parse.{digit_from_value}
-use Rattle.std.proofs.lemmas.List.Splits.{slice_split-cons_no, slice_split-cons_yes}
-use Rattle.std.specs.Prelude.{nat_le}
-use Rattle.std.specs.Int.{IsInRange}
-use Rattle.std.specs.List.{AllByRecursion, join_with_byte, list_all, slice_split, onto_first}
-use Rattle.std.specs.Str.Parse.{AllDigits}
-use Rattle.std.specs.Fmt.{decimal}
+use Rattle.boot_script.proofs.Common.{◌≡◌, ℕ, ◌<◌, ◌^◌, ◌&&◌, List, [], ◌∷◌, ◌++◌, ◌∙◌, refl, ap, arith, true, false, Bool, eqb, nat_tests, decimal_is_IsNumeral, digit_from_value, slice_split-cons_no, slice_split-cons_yes, nat_le, IsInRange, AllByRecursion, join_with_byte, list_all, slice_split, onto_first, AllDigits, decimal, words_of, is_printable}
 use Rattle.std.proofs.lemmas.Bool.{and_parts as both}
-use Rattle.boot_script.specs.Words.{words_of}
-use Rattle.boot_script.specs.Grammar.{is_printable}
 
 -- a byte of a word: printable, and no space
 unfoldable pub is_plain : ℕ → Bool

@@ -1,27 +1,8 @@
 -- How each kind of word is read, and the one word that spells what was read.
-use Rattle.std.proofs.Common.{◌≡◌, inl, inr, ℕ, ◌<◌, ◌≤◌, ◌^◌, ◌&&◌, List, [], ◌∷◌, ◌∙◌, refl, sym, ap, subst, arith, length, true, false, Bool, cond, Result, Ok, Err, codes}
-use Rattle.std.proofs.Math.Dec.{eqb}
-use Rattle.std.proofs.lemmas.Bool.Decides.{nat_tests}
+use Rattle.boot_script.proofs.Common.{◌≡◌, inl, inr, ℕ, ◌<◌, ◌≤◌, ◌^◌, ◌&&◌, List, [], ◌∷◌, ◌∙◌, refl, sym, ap, subst, arith, length, true, false, Bool, cond, Result, Ok, Err, codes, eqb, nat_tests, bytes_eq-Decides, decimal_is_IsNumeral, decimal_nonempty, nat_le, list_all, bytes_eq, digits_value, decimal, QueueName, ScriptRefusal, BadNumber, BadName, Listener, Version, One, Two, Three, ◌>>=◌, number_of, is_later, last_element, last_processor, last_wait, in_a_name, numbered_name, the_word, call_of, processor_of, element_of, gauge_of, byte_queue_of, chain_of, wait_of, queue_of, listener_of, Reader}
 use Rattle.std.proofs.lemmas.Bool.{eqb-true, and_parts as both_true}
-use Rattle.std.proofs.lemmas.Slice.Eq.{bytes_eq-Decides}
-use Rattle.std.proofs.lemmas.Fmt.{decimal_is_IsNumeral, decimal_nonempty}
-use Rattle.std.specs.Prelude.{nat_le}
-use Rattle.std.specs.List.{list_all}
-use Rattle.std.specs.Str.{bytes_eq}
-use Rattle.std.specs.Str.Parse.{digits_value}
-use Rattle.std.specs.Fmt.{decimal}
-use Rattle.event_theory.specs.declared.names.QueueName.{QueueName}
 use Rattle.event_theory.specs.declared.names.QueueName.TheVariants as queues
-use Rattle.boot_script.specs.declared.fault.ScriptRefusal.{ScriptRefusal}
-use Rattle.boot_script.specs.declared.fault.ScriptRefusal.TheVariants.{BadNumber, BadName}
-use Rattle.boot_script.specs.declared.names.Listener.{Listener}
 use Rattle.boot_script.specs.declared.names.Listener.TheVariants as listeners
-use Rattle.boot_script.specs.declared.version.Version.{Version}
-use Rattle.boot_script.specs.declared.version.Version.TheVariants.{One, Two, Three}
-use Rattle.boot_script.specs.Words.{◌>>=◌, number_of}
-use Rattle.boot_script.specs.Versions.{is_later, last_element, last_processor, last_wait}
-use Rattle.boot_script.specs.Names.{in_a_name, numbered_name, the_word, call_of, processor_of, element_of, gauge_of, byte_queue_of, chain_of, wait_of, queue_of, listener_of}
-use Rattle.boot_script.specs.Grammar.{Reader}
 use Rattle.boot_script.specs.Spellings.{FitsQueue, call_name, processor_name, element_name, gauge_name, byte_queue_name, chain_name, wait_name, queue_name}
 use Rattle.boot_script.proofs.Basics.Binds.{bind_ok, guard_ok, chosen, or_ok, Known, bind_known, test_known, or_known, ok_known}
 use Rattle.boot_script.proofs.LineWords.Plain.{is_plain, plain_decimal, plain_name}

@@ -1,8 +1,5 @@
 -- Lines of a given number of words.
-use Rattle.std.proofs.Common.{◌≡◌, ℕ, ◌<◌, List, [], ◌∷◌, ◌∙◌, refl, ap, subst, arith, length, Result, Ok}
-use Rattle.boot_script.specs.declared.fault.ScriptRefusal.{ScriptRefusal}
-use Rattle.boot_script.specs.Words.{◌>>=◌, first_word, later_words}
-use Rattle.boot_script.specs.Grammar.{Reader, no_words, one_word, two_words, three_words, four_words}
+use Rattle.boot_script.proofs.Common.{◌≡◌, ℕ, ◌<◌, List, [], ◌∷◌, ◌∙◌, refl, ap, subst, arith, length, Result, Ok, ScriptRefusal, ◌>>=◌, first_word, later_words, Reader, no_words, one_word, two_words, three_words, four_words}
 use Rattle.boot_script.proofs.Basics.Binds.{bind_ok, last_ok, Known, bind_known, last_known}
 use Rattle.boot_script.proofs.LineWords.Readers.{IsReader}
 

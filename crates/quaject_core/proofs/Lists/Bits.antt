@@ -1,9 +1,7 @@
 -- The number that has a bit for each number of a set.
-use Rattle.std.proofs.Common.{◌≡◌, ℕ, zero, suc, ◌+◌, ◌*◌, ◌-◌, ◌^◌, ◌<◌, ◌≤◌, Bool, true, false, cond, List, get_or, refl, ap, ◌∙◌, arith}
+use Rattle.quaject_core.proofs.Common.{◌≡◌, ℕ, zero, suc, ◌+◌, ◌*◌, ◌-◌, ◌^◌, ◌<◌, ◌≤◌, Bool, true, false, cond, List, get_or, refl, ap, ◌∙◌, arith, set_of, bits_from}
 use mir.Val.{bool_byte}
 use Rattle.std.proofs.Math.Pow.{pow_mono}
-use Rattle.quaject_core.specs.Layout.{set_of}
-use Rattle.event_theory.specs.Statuses.{bits_from}
 
 one_bit : (b : Bool) → cond b 1 0 ≤ 1
 one_bit true = omega arith

@@ -1,7 +1,5 @@
 -- A list of which the first so many were changed, one after the other.
-use Rattle.std.proofs.Common.{◌≡◌, ℕ, zero, suc, ◌+◌, ◌<◌, ◌≤◌, Bool, not, cond, ltb, Some, None, position, List, [], ◌∷◌, ◌++◌, ◌∙◌, map, length, take, drop, set, get_or, refl, sym, ap, ap₂, arith, add-one, append-nil}
-use Rattle.std.proofs.lemmas.List.{take_all, drop_all, length-map}
-use Rattle.std.specs.List.{list_any, prefix_len}
+use Rattle.quaject_core.proofs.Common.{◌≡◌, ℕ, zero, suc, ◌+◌, ◌<◌, ◌≤◌, Bool, not, cond, ltb, Some, None, position, List, [], ◌∷◌, ◌++◌, ◌∙◌, map, length, take, drop, set, get_or, refl, sym, ap, ap₂, arith, add-one, append-nil, take_all, drop_all, length-map, list_any, prefix_len}
 
 -- the list after the first so many were changed
 abbrev pub mapped : {A : Type 0} → (A → A) → ℕ → List A → List A

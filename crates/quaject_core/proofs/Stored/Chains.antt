@@ -1,9 +1,6 @@
 -- What a chain is made of, as it is stored.
-use Rattle.std.proofs.Common.{◌≡◌, ℕ, zero, suc, Bool, false, slice_index_or, replicate, refl, ap₂, Option}
+use Rattle.quaject_core.proofs.Common.{◌≡◌, ℕ, zero, suc, Bool, false, slice_index_or, replicate, refl, ap₂, Option, set_of, Queue, Chain}
 use mathlib.Core.Path.{fun_ext}
-use Rattle.quaject_core.specs.Layout.{set_of}
-use Rattle.event_theory.specs.Queues.{Queue}
-use Rattle.event_theory.specs.Chains.{Chain}
 use Rattle.event_theory.specs.declared.status.Gate.{Gate}
 
 no_mark : (count number : ℕ) → slice_index_or (replicate count false) number false ≡ false

@@ -1,23 +1,8 @@
 -- When each event of the thread elements is allowed, and what it then makes of the stored elements.
-use Rattle.std.proofs.Common.{◌≡◌, ℕ, ◌+◌, ◌%◌, ◌<◌, Bool, true, false, ◌||◌, not, cond, List, [], ◌∷◌, ◌++◌, ◌∙◌, map, length, remove, position, set, get_or, refl, sym, ap, ap₂, subst, arith, Option, Some, None, slice_get, option_map, eqb, ltb, Result, Ok, Err}
-use Rattle.std.proofs.lemmas.Bool.Decides.{nat_tests}
-use Rattle.std.proofs.lemmas.Bool.{ltb-true}
-use Rattle.std.proofs.lemmas.List.{map-set, length-map}
-use Rattle.std.proofs.lemmas.Option.{slice_get-map, slice_get_read, slice_get-get_or}
-use Rattle.std.specs.List.{list_any}
+use Rattle.quaject_core.proofs.Common.{◌≡◌, ℕ, ◌+◌, ◌%◌, ◌<◌, Bool, true, false, ◌||◌, not, cond, List, [], ◌∷◌, ◌++◌, ◌∙◌, map, length, remove, position, set, get_or, refl, sym, ap, ap₂, subst, arith, Option, Some, None, slice_get, option_map, eqb, ltb, Result, Ok, Err, nat_tests, ltb-true, map-set, length-map, slice_get-map, slice_get_read, slice_get-get_or, list_any, Thread, Elements, hold, is_hold, is_put, is_busy, holds, put_on, park, start, deliver, done, change_thread, notify_wait, refused_if, elements, thread, Hold, Refusal, Full, NotHeld, ProcessorBusy, NotStopped, StoredElements, StoredThread}
 use Rattle.std.specs.Option.{is_some}
-use Rattle.event_theory.specs.Elements.{Thread, Elements, hold, is_hold, is_put, is_busy, holds, put_on, park, start, deliver, done, change_thread}
-use Rattle.event_theory.specs.Marks.{notify_wait}
-use Rattle.event_theory.specs.Results.{refused_if}
 use Rattle.event_theory.proofs.Outcomes.{changed, parked_ok, park_not_held, park_not_stopped, start_not_stopped, put_not_held, put_held, started_ok, delivered_ok, deliver_not_held, done_ok, done_not_held}
-use Rattle.quaject_core.specs.ShownElements.{elements}
-use Rattle.quaject_core.specs.ShownThreads.{thread}
-use Rattle.event_theory.specs.declared.hold.Hold.{Hold}
-use Rattle.event_theory.specs.declared.refusal.Refusal.{Refusal}
-use Rattle.event_theory.specs.declared.refusal.Refusal.TheVariants.{Full, NotHeld, ProcessorBusy, NotStopped}
 use Rattle.event_theory.proofs.Lists.Placed.{there as is_there}
-use Rattle.quaject_core.specs.declared.elements.StoredElements.{StoredElements}
-use Rattle.quaject_core.specs.declared.threading.StoredThread.{StoredThread}
 
 -- what was read at a place
 pub found_at : {A : Type 0} (xs : List A) (k e : ℕ) (x : A) → k ≡ e → k < length xs → x ≡ get_or xs k x → slice_get xs e ≡ Some x

@@ -1,17 +1,6 @@
 -- A queue that is made full, as it is stored.
-use Rattle.std.proofs.Common.{◌≡◌, ℕ, zero, suc, ◌+◌, ◌<◌, ◌≤◌, Bool, true, false, ◌&&◌, List, [], ◌∷◌, ◌++◌, ◌∙◌, map, length, take, drop, get_or, refl, sym, ap, ap₂, subst, arith, zero-add, add-zero, Option, Some, None, IfSome, slice_get, eqb, ltb, inl, inr}
-use Rattle.std.proofs.lemmas.Bool.{cases_lt}
-use Rattle.std.proofs.lemmas.Bool.Decides.{nat_tests}
-use Rattle.std.proofs.lemmas.List.{drop-drop, get_or-map}
+use Rattle.quaject_core.proofs.Common.{◌≡◌, ℕ, zero, suc, ◌+◌, ◌<◌, ◌≤◌, Bool, true, false, ◌&&◌, List, [], ◌∷◌, ◌++◌, ◌∙◌, map, length, take, drop, get_or, refl, sym, ap, ap₂, subst, arith, zero-add, add-zero, Option, Some, None, IfSome, slice_get, eqb, ltb, inl, inr, cases_lt, nat_tests, drop-drop, get_or-map, range_with_len, Run, full_queue, item_of, flag_of, run_at, flag_at, queue_at, Laid, IsLawfulQueue, StoredItem, Span, same_set}
 use Rattle.std.proofs.lemmas.List.FromFn.{get_or-map-range_with_len, length-map-range_with_len, map-range_with_len_more}
-use Rattle.std.specs.List.{range_with_len}
-use Rattle.event_theory.specs.Runs.{Run}
-use Rattle.event_theory.specs.Queues.{full_queue}
-use Rattle.quaject_core.specs.Layout.{item_of, flag_of, run_at, flag_at, queue_at, Laid}
-use Rattle.event_theory.specs.Lawful.{IsLawfulQueue}
-use Rattle.quaject_core.specs.declared.queueing.StoredItem.{StoredItem}
-use Rattle.quaject_core.specs.declared.queueing.Span.{Span}
-use Rattle.event_theory.proofs.Lists.Histories.{same_set}
 use Rattle.event_theory.proofs.Keeping.First.{full_law}
 use Rattle.quaject_core.proofs.Stored.Layout.{same_queue}
 

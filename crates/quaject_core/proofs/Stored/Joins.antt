@@ -1,15 +1,6 @@
 -- What a join makes of a stored queue.
-use Rattle.std.proofs.Common.{◌≡◌, ℕ, zero, suc, ◌+◌, ◌<◌, ◌≤◌, Bool, List, [], ◌∷◌, ◌++◌, ◌∙◌, map, length, take, drop, set, get_or, refl, sym, ap, subst, arith, Option, Some, None, option_map, slice_get}
+use Rattle.quaject_core.proofs.Common.{◌≡◌, ℕ, zero, suc, ◌+◌, ◌<◌, ◌≤◌, Bool, List, [], ◌∷◌, ◌++◌, ◌∙◌, map, length, take, drop, set, get_or, refl, sym, ap, subst, arith, Option, Some, None, option_map, slice_get, slice_get-map, renamed, join_run, join_queue, renamed_span, item_of, flag_of, run_at, flag_at, queue_at, Laid, IsLawfulQueue, queue, Span, StoredQueue, same_set}
 use Rattle.std.proofs.lemmas.List.{drop_all, take_all, append-nil}
-use Rattle.std.proofs.lemmas.Option.{slice_get-map}
-use Rattle.event_theory.specs.Queues.{renamed, join_run, join_queue}
-use Rattle.quaject_core.specs.Joined.{renamed_span}
-use Rattle.quaject_core.specs.Layout.{item_of, flag_of, run_at, flag_at, queue_at, Laid}
-use Rattle.event_theory.specs.Lawful.{IsLawfulQueue}
-use Rattle.quaject_core.specs.Shown.{queue}
-use Rattle.quaject_core.specs.declared.queueing.Span.{Span}
-use Rattle.quaject_core.specs.declared.queueing.StoredQueue.{StoredQueue}
-use Rattle.event_theory.proofs.Lists.Histories.{same_set}
 use Rattle.event_theory.proofs.Keeping.Joins.{join_queue_law}
 use Rattle.quaject_core.proofs.Stored.Layout.{same_queue}
 

@@ -1,23 +1,9 @@
 -- A queue as it is stored: its runs lie side by side, each flag beside its item.
-use Rattle.std.proofs.Common.{◌≡◌, ◌≢◌, ℕ, zero, suc, ◌+◌, ◌<◌, ◌≤◌, ◌-◌, Bool, true, false, ◌&&◌, ◌||◌, cond, List, [], ◌∷◌, ◌++◌, ◌∙◌, map, length, take, drop, set, get_or, refl, sym, ap, ap₂, subst, arith, length-drop, zero-add, add-zero, Option, Some, None, option_map, slice_get, eqb, ltb, count_by, filter, inl, inr}
-use Rattle.std.proofs.lemmas.Bool.{cases_lt, eqb-true}
-use Rattle.std.proofs.lemmas.Bool.Decides.{nat_tests}
-use Rattle.std.proofs.lemmas.List.{length-take-le, map-append, map-set, take-append-le, drop-append-le, take-append-drop, drop-drop, drop_all, take_all, drop_at, get_or-append-add, get_or-set_other, length-map, take-map, drop-map}
+use Rattle.quaject_core.proofs.Common.{◌≡◌, ◌≢◌, ℕ, zero, suc, ◌+◌, ◌<◌, ◌≤◌, ◌-◌, Bool, true, false, ◌&&◌, ◌||◌, cond, List, [], ◌∷◌, ◌++◌, ◌∙◌, map, length, take, drop, set, get_or, refl, sym, ap, ap₂, subst, arith, length-drop, zero-add, add-zero, Option, Some, None, option_map, slice_get, eqb, ltb, count_by, filter, inl, inr, cases_lt, eqb-true, nat_tests, length-take-le, map-append, map-set, take-append-le, drop-append-le, take-append-drop, drop-drop, drop_all, take_all, drop_at, get_or-append-add, get_or-set_other, length-map, take-map, drop-map, list_all, drop-cons, map-set_same, slice_get-map, Run, flat, pairs_of, pairs_from, pairs, Queue, left, left_pairs, is_raised, after_claim, after_raise, fresh, item_of, flag_of, run_at, flag_at, queue_at, Laid, StoredItem, Span, queue, StoredQueue, same_set, both, slice_get-drop}
 use Rattle.std.proofs.lemmas.List.Folds.{list_all-map}
 use Rattle.std.proofs.lemmas.List.Sums.{length-filter}
-use Rattle.std.specs.List.{list_all}
 use Rattle.std.proofs.Math.ListN.{get_or-append}
 use Rattle.std.proofs.lemmas.Grind.{get_or-set_at}
-use Rattle.std.proofs.Math.Seq.{drop-cons, map-set_same}
-use Rattle.std.proofs.lemmas.Option.{slice_get-map}
-use Rattle.event_theory.specs.Runs.{Run, flat, pairs_of, pairs_from, pairs}
-use Rattle.event_theory.specs.Queues.{Queue, left, left_pairs, is_raised, after_claim, after_raise}
-use Rattle.quaject_core.specs.Layout.{fresh, item_of, flag_of, run_at, flag_at, queue_at, Laid}
-use Rattle.quaject_core.specs.declared.queueing.StoredItem.{StoredItem}
-use Rattle.quaject_core.specs.declared.queueing.Span.{Span}
-use Rattle.quaject_core.specs.Shown.{queue}
-use Rattle.quaject_core.specs.declared.queueing.StoredQueue.{StoredQueue}
-use Rattle.event_theory.proofs.Lists.Histories.{same_set, both, slice_get-drop}
 
 pub laid_rises : (start : ℕ) (spans : List Span) (end : ℕ) → Laid start spans end → start ≤ end
 laid_rises start [] end laid = omega (arith, laid)

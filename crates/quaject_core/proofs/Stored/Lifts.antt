@@ -1,12 +1,5 @@
 -- What an event makes of a part, and so of the whole.
-use Rattle.std.proofs.Common.{◌≡◌, ℕ, zero, suc, ◌+◌, ◌<◌, List, [], ◌∷◌, ◌++◌, ◌∙◌, map, length, set, get_or, refl, sym, ap, ap₂, subst, Result, Ok, Err, add-one}
-use Rattle.std.specs.Prelude.{IsOk, IsErrAnd}
-use Rattle.std.specs.List.{repeat}
-use Rattle.std.proofs.lemmas.List.{map-append}
-use Rattle.std.proofs.Math.Seq.{map-set_same}
-use Rattle.event_theory.specs.Results.{◌>>=◌, at, change_at, IsWhy, Changes}
-use Rattle.event_theory.specs.declared.refusal.Refusal.{Refusal}
-use Rattle.event_theory.specs.declared.refusal.Refusal.TheVariants.{OutOfMemory}
+use Rattle.quaject_core.proofs.Common.{◌≡◌, ℕ, zero, suc, ◌+◌, ◌<◌, List, [], ◌∷◌, ◌++◌, ◌∙◌, map, length, set, get_or, refl, sym, ap, ap₂, subst, Result, Ok, Err, add-one, IsOk, IsErrAnd, repeat, map-append, map-set_same, ◌>>=◌, at, change_at, IsWhy, Changes, Refusal, OutOfMemory}
 use Rattle.quaject_core.proofs.Stored.Elements.{found_at, shown_at, shown_set}
 
 -- the reason of a refused part is the reason of the refused whole

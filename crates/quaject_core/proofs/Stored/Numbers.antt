@@ -1,13 +1,5 @@
 -- Where an element is, and the numbers of the elements so far.
-use Rattle.std.proofs.Common.{◌≡◌, ℕ, ◌+◌, Bool, not, cond, List, [], ◌∷◌, map, refl, ap, Option, position}
-use Rattle.std.proofs.lemmas.List.{length-map}
-use Rattle.std.specs.List.{position_or_len}
-use Rattle.event_theory.specs.Elements.{Elements}
-use Rattle.quaject_core.specs.Shown.{queue}
-use Rattle.quaject_core.specs.ShownThreads.{thread}
-use Rattle.event_theory.specs.declared.hold.Hold.{Hold}
-use Rattle.quaject_core.specs.declared.queueing.StoredQueue.{StoredQueue}
-use Rattle.quaject_core.specs.declared.threading.StoredThread.{StoredThread}
+use Rattle.quaject_core.proofs.Common.{◌≡◌, ℕ, ◌+◌, Bool, not, cond, List, [], ◌∷◌, map, refl, ap, Option, position, length-map, position_or_len, Elements, queue, thread, Hold, StoredQueue, StoredThread}
 
 position_or_len-map : {X Y : Type 0} (p : X → Bool) (f : Y → X) (ys : List Y) → position_or_len p (map f ys) ≡ position_or_len (λ y. p (f y)) ys
 position_or_len-map p f [] = refl

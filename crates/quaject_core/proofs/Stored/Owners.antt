@@ -1,23 +1,7 @@
 -- Whose run an item of a stored queue is in.
-use Rattle.std.proofs.Common.{◌≡◌, ℕ, zero, suc, ◌+◌, ◌<◌, ◌≤◌, ◌-◌, Bool, true, false, ◌&&◌, not, List, [], ◌∷◌, ◌++◌, ◌∙◌, map, length, take, get_or, refl, sym, ap, ap₂, subst, arith, zero-add, add-zero, Option, Some, None, option_map, slice_get, leb, nat_le}
-use Rattle.std.proofs.lemmas.Bool.{leb-true}
-use Rattle.std.proofs.lemmas.Bool.Decides.{nat_tests}
+use Rattle.quaject_core.proofs.Common.{◌≡◌, ℕ, zero, suc, ◌+◌, ◌<◌, ◌≤◌, ◌-◌, Bool, true, false, ◌&&◌, not, List, [], ◌∷◌, ◌++◌, ◌∙◌, map, length, take, get_or, refl, sym, ap, ap₂, subst, arith, zero-add, add-zero, Option, Some, None, option_map, slice_get, leb, nat_le, leb-true, nat_tests, slice_get_within, slice_get-get_or, slice_get_past, list_all, IsPartitionedBy-leb, IsNonDecreasingBy, IsPartitionPoint, IsPartitionedBy, Run, flat, pairs_of, pairs_from, pairs, Queue, left, left_pairs, is_raised, first_are_raised, Chain, owes, forgotten, is_forgotten, call_of, owner, first_call, AreBegun, item_of, run_at, Laid, queue, Span, StoredQueue, length-pairs_of, length-pairs_from, slice_get-drop}
 use Rattle.std.proofs.lemmas.List.{length-map, length-drop}
-use Rattle.std.proofs.lemmas.Option.{slice_get_within, slice_get-get_or, slice_get_past}
-use Rattle.std.specs.List.{list_all}
-use Rattle.std.proofs.lemmas.List.Sorted.{IsPartitionedBy-leb}
-use Rattle.std.specs.List.Sorted.{IsNonDecreasingBy, IsPartitionPoint, IsPartitionedBy}
-use Rattle.event_theory.specs.Runs.{Run, flat, pairs_of, pairs_from, pairs}
-use Rattle.event_theory.specs.Queues.{Queue, left, left_pairs, is_raised, first_are_raised}
-use Rattle.event_theory.specs.Chains.{Chain, owes, forgotten, is_forgotten}
-use Rattle.quaject_core.specs.Owners.{call_of, owner, first_call, AreBegun}
-use Rattle.quaject_core.specs.Layout.{item_of, run_at, Laid}
-use Rattle.quaject_core.specs.Shown.{queue}
-use Rattle.quaject_core.specs.declared.queueing.Span.{Span}
-use Rattle.quaject_core.specs.declared.queueing.StoredQueue.{StoredQueue}
-use Rattle.event_theory.proofs.Lists.Histories.{length-pairs_of, length-pairs_from}
 use Rattle.quaject_core.proofs.Stored.Layout.{span_within, stored_run, run_count}
-use Rattle.event_theory.proofs.Lists.Histories.{slice_get-drop}
 
 slice_get-front : {X : Type 0} (xs ys : List X) (i : ℕ) → i < length xs → slice_get (xs ++ ys) i ≡ slice_get xs i
 slice_get-front [] ys i within = absurd (omega arith)

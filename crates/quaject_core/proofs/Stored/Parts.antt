@@ -1,23 +1,8 @@
 -- What an event of one stored part makes of the whole state.
-use Rattle.std.proofs.Common.{◌≡◌, ℕ, ◌+◌, ◌<◌, ◌≤◌, List, [], ◌∷◌, ◌++◌, ◌∙◌, map, length, set, get_or, take, drop, append-nil, refl, sym, ap, ap₂, subst, arith, Some, slice_get, ok_or, Result, Ok, Err, option_map}
-use Rattle.std.proofs.lemmas.List.{map-set, length-map, get_or-map, take_all, drop_all}
+use Rattle.quaject_core.proofs.Common.{◌≡◌, ℕ, ◌+◌, ◌<◌, ◌≤◌, List, [], ◌∷◌, ◌++◌, ◌∙◌, map, length, set, get_or, take, drop, append-nil, refl, sym, ap, ap₂, subst, arith, Some, slice_get, ok_or, Result, Ok, Err, option_map, map-set, length-map, get_or-map, take_all, drop_all, slice_get-map, slice_get_read, slice_get_past, map-set_same, ◌>>=◌, at, change_at, IsWhy, Changes, Queue, Chain, State, in_queue, in_chain, queue, chain, elements, stored_state, StoredQueue, StoredChain, Refusal, UnknownName, OutOfMemory}
 use Rattle.std.proofs.lemmas.List.Edits.{map_over_more}
-use Rattle.std.proofs.lemmas.Option.{slice_get-map, slice_get_read, slice_get_past}
-use Rattle.std.proofs.Math.Seq.{map-set_same}
-use Rattle.event_theory.specs.Results.{◌>>=◌, at, change_at, IsWhy, Changes}
-use Rattle.event_theory.specs.Queues.{Queue}
-use Rattle.event_theory.specs.Chains.{Chain}
-use Rattle.event_theory.specs.States.{State, in_queue, in_chain}
-use Rattle.quaject_core.specs.Shown.{queue}
-use Rattle.quaject_core.specs.ShownChains.{chain}
-use Rattle.quaject_core.specs.ShownElements.{elements}
 use Rattle.quaject_core.specs.ShownMeters.{meters}
-use Rattle.quaject_core.specs.ShownStates.{stored_state}
 use Rattle.quaject_core.specs.declared.store.Store.{Store}
-use Rattle.quaject_core.specs.declared.queueing.StoredQueue.{StoredQueue}
-use Rattle.quaject_core.specs.declared.chaining.StoredChain.{StoredChain}
-use Rattle.event_theory.specs.declared.refusal.Refusal.{Refusal}
-use Rattle.event_theory.specs.declared.refusal.Refusal.TheVariants.{UnknownName, OutOfMemory}
 
 -- why a part was refused is why the whole was
 why_then : {A B : Type 0} (refusal : Refusal) (said : Result A Refusal) (f : A → B) → IsWhy refusal said → IsWhy refusal (said >>= λ x. Ok (f x))

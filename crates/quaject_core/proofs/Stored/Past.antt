@@ -1,13 +1,8 @@
 -- The events that led to a state, and one more.
-use Rattle.std.proofs.Common.{◌≡◌, ℕ, List, [], ◌++◌, ◌∷◌, sym, subst, Result, Ok, Err}
+use Rattle.quaject_core.proofs.Common.{◌≡◌, ℕ, List, [], ◌++◌, ◌∷◌, sym, subst, Result, Ok, Err, Changes, Reaches, State, first_state, step, Refusal, reaches_more}
 use Rattle.std.proofs.Math.Logic.{∥∥₁_map}
-use Rattle.event_theory.specs.Results.{Changes}
-use Rattle.event_theory.specs.Schedules.{Reaches}
-use Rattle.event_theory.specs.States.{State, first_state, step}
 use Rattle.event_theory.specs.declared.event.Event.{Event}
-use Rattle.event_theory.specs.declared.refusal.Refusal.{Refusal}
 use Rattle.event_theory.proofs.Keeping.Accounts.{account_law}
-use Rattle.event_theory.proofs.Keeping.Steps.{reaches_more}
 use Rattle.quaject_core.specs.Histories.{HasHistory}
 
 history_of : (elements : ℕ) (events : List Event) (s : State) → Reaches (first_state elements) events s → HasHistory s

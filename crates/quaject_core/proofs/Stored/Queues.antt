@@ -1,21 +1,6 @@
 -- When each queue event is allowed, and what it then makes of a stored queue.
-use Rattle.std.proofs.Common.{◌≡◌, ℕ, ◌+◌, ◌<◌, ◌≤◌, Bool, true, false, ◌&&◌, not, cond, List, [], ◌∷◌, ◌++◌, ◌∙◌, map, length, set, get_or, refl, sym, ap, ap₂, subst, arith, Some, None, slice_get, eqb, ltb, leb, Ok, Err, option_map, length-append}
-use Rattle.std.proofs.lemmas.Bool.Decides.{nat_tests}
-use Rattle.std.proofs.lemmas.List.{length-map, length-set, get_or-map}
-use Rattle.std.proofs.lemmas.Option.{slice_get-map, slice_get_read}
-use Rattle.event_theory.specs.Runs.{length_of, run_length}
-use Rattle.event_theory.specs.Queues.{Queue, left, claim, raise, raise_of, first_are_raised, after_claim, after_raise}
-use Rattle.quaject_core.specs.Layout.{fresh, item_of, flag_of, run_at, flag_at, queue_at, Laid}
-use Rattle.event_theory.specs.Lawful.{IsLawfulQueue}
-use Rattle.quaject_core.specs.Shown.{queue}
-use Rattle.event_theory.specs.declared.refusal.Refusal.TheVariants.{UnknownName, NotOwner, AlreadyRaised}
-use Rattle.quaject_core.specs.declared.queueing.StoredItem.{StoredItem}
-use Rattle.quaject_core.specs.declared.queueing.Span.{Span}
-use Rattle.quaject_core.specs.declared.queueing.StoredQueue.{StoredQueue}
-use Rattle.event_theory.proofs.Keeping.Queues.{claim_keeps, raise_keeps, take_keeps}
+use Rattle.quaject_core.proofs.Common.{◌≡◌, ℕ, ◌+◌, ◌<◌, ◌≤◌, Bool, true, false, ◌&&◌, not, cond, List, [], ◌∷◌, ◌++◌, ◌∙◌, map, length, set, get_or, refl, sym, ap, ap₂, subst, arith, Some, None, slice_get, eqb, ltb, leb, Ok, Err, option_map, length-append, nat_tests, length-map, length-set, get_or-map, slice_get-map, slice_get_read, length_of, run_length, Queue, left, claim, raise, raise_of, first_are_raised, after_claim, after_raise, fresh, item_of, flag_of, run_at, flag_at, queue_at, Laid, IsLawfulQueue, queue, UnknownName, NotOwner, AlreadyRaised, StoredItem, Span, StoredQueue, claim_keeps, raise_keeps, take_keeps, leb-true, both}
 use Rattle.quaject_core.proofs.Stored.Layout.{stored_claim, stored_raise, stored_run, run_count, span_within, laid_claim, left_stored, taken_stored}
-use Rattle.std.proofs.lemmas.Bool.{leb-true}
-use Rattle.event_theory.proofs.Lists.Histories.{both}
 
 claim_goes : (longest call : ℕ) (items : List ℕ) (q : Queue) → 0 < length items → length items ≤ longest → q.shut ≡ false → length (left q) + length items ≤ q.capacity
     → claim longest call items q ≡ Ok (after_claim call items q)

@@ -1,27 +1,7 @@
 -- When an event of an element queue is allowed, and what it then makes of the elements.
-use Rattle.std.proofs.Common.{◌≡◌, ℕ, ◌+◌, ◌<◌, ◌≤◌, Bool, true, false, cond, List, [], ◌∷◌, ◌∙◌, map, length, take, set, get_or, remove, position, refl, sym, ap, ap₂, subst, arith, Option, Some, None, slice_get, ok_or, eqb, ltb, leb, Result, Ok, Err}
-use Rattle.std.specs.Prelude.{IsOk, IsErrAnd, MatchResult}
-use Rattle.std.specs.List.{list_any}
-use Rattle.std.proofs.lemmas.Bool.{eqb-false, ne_eqb, lt-ltb, le-ltb, leb-true}
-use Rattle.std.proofs.lemmas.Bool.Decides.{nat_tests}
-use Rattle.event_theory.specs.Queues.{Queue, left, claim, after_claim, take_first}
-use Rattle.event_theory.specs.Elements.{Elements, Thread, is_hold, let_all_go, claim_element}
+use Rattle.quaject_core.proofs.Common.{◌≡◌, ℕ, ◌+◌, ◌<◌, ◌≤◌, Bool, true, false, cond, List, [], ◌∷◌, ◌∙◌, map, length, take, set, get_or, remove, position, refl, sym, ap, ap₂, subst, arith, Option, Some, None, slice_get, ok_or, eqb, ltb, leb, Result, Ok, Err, IsOk, IsErrAnd, MatchResult, list_any, eqb-false, ne_eqb, lt-ltb, le-ltb, leb-true, nat_tests, Queue, left, claim, after_claim, take_first, Elements, Thread, is_hold, let_all_go, claim_element, queue_status, ◌>>=◌, at, change_at, IsWhy, Hold, Refusal, NoItems, TooLong, Full, NotRaised, NotHeld, Closed, Moved, queue, elements, thread, wait_at, StoredElements, StoredQueue, QueueStatus, take_ok, both}
 use Rattle.event_theory.specs.Rings.{first_hold, taken}
-use Rattle.event_theory.specs.Statuses.{queue_status}
-use Rattle.event_theory.specs.Results.{◌>>=◌, at, change_at, IsWhy}
-use Rattle.event_theory.specs.declared.hold.Hold.{Hold}
-use Rattle.event_theory.specs.declared.refusal.Refusal.{Refusal}
-use Rattle.event_theory.specs.declared.refusal.Refusal.TheVariants.{NoItems, TooLong, Full, NotRaised, NotHeld, Closed, Moved}
 use Rattle.event_theory.proofs.Lists.Inversions.{change_ok, test_ok}
-use Rattle.quaject_core.specs.Shown.{queue}
-use Rattle.quaject_core.specs.ShownElements.{elements}
-use Rattle.quaject_core.specs.ShownThreads.{thread}
-use Rattle.event_theory.specs.Marks.{wait_at}
-use Rattle.quaject_core.specs.declared.elements.StoredElements.{StoredElements}
-use Rattle.quaject_core.specs.declared.queueing.StoredQueue.{StoredQueue}
-use Rattle.event_theory.specs.declared.status.QueueStatus.{QueueStatus}
-use Rattle.event_theory.proofs.Keeping.Queues.{take_ok}
-use Rattle.event_theory.proofs.Lists.Histories.{both}
 use Rattle.event_theory.proofs.Lists.Placed.{there as is_there}
 use Rattle.quaject_core.proofs.Stored.Elements.{shown_at}
 use Rattle.quaject_core.proofs.Stored.Lifts.{why_given, ok_of, at_there}

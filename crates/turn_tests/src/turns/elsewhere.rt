@@ -146,7 +146,7 @@ fn heard_beside<R: Abort + Wait>(rt: &R, alloc: Global, turns: u32, shuts: bool)
     let (p, q) = (processor(rt, 0), processor(rt, 1));
     let (shared, one, other) = stand_two(rt, alloc, plan, p, q);
     let (mut one, other) = run_beside(rt, &shared, (one, p), other, turns, shuts);
-    let _lines = one.join(&shared, other);
+    let _lines = join_station(&shared, &mut one, other);
     close_all(rt, shared, one.into_parts())
 }
 

@@ -103,7 +103,7 @@ fn two_processors(rt: HostRuntime) {
     let (one, other) = run_two(&rt, &shared, (one, p), (other, q));
     let one = freed(&rt, one, p);
     let mut one = run(&rt, &shared, one, p, TURNS, &mut NoGate);
-    let others = one.join(&shared, other);
+    let others = join_station(&shared, &mut one, other);
     let ended = close_all(&rt, shared, one.into_parts());
     check_states(&rt, &ended, &[at(Place::Free, 4); 8]);
     let lines = [

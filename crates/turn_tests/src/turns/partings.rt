@@ -2,11 +2,12 @@
 ghost use Rattle.std.specs.Prelude.{◌≡◌};
 ghost use Rattle.turn_io.specs.EndLists.{AreEndsOf};
 ghost use Rattle.processor.specs.Manning.{IsRunnable};
-ghost use Rattle.processor.specs.Partings.{AreDivisible};
+ghost use Rattle.stations.specs.Partings.{AreDivisible};
 ghost use Rattle.processor.specs.Stations.{ArePartsOf};
 
 use super::stands::{first_station, make_queues, readied};
 use super::*;
+use stations::split_station;
 use std::test::*;
 
 /// A station for one more processor, split off this one, with no element on the processor.
@@ -24,7 +25,7 @@ fn split_for<R: Abort>(
     ensures station { IsRunnable shared.now q result.1.parts }
 {
     let mut station = freed(rt, station, q);
-    let Ok(other) = station.split(alloc, shared, 1 << q.number()) else {
+    let Ok(other) = split_station(alloc, shared, &mut station, 1 << q.number()) else {
         panic!(rt; "memory")
     };
     (station, freed(rt, other, q))
@@ -99,7 +100,7 @@ fn split_and_joined(rt: HostRuntime) {
     assert!(rt; (heard, mask) == (0, 0));
     let (other, heard, mask) = reported(other, 1);
     assert!(rt; (heard, mask) == (1, 16));
-    let lines = one.join(&shared, other);
+    let lines = join_station(&shared, &mut one, other);
     check_lines(&rt, &lines, &[(1, 0, b"xy\n")]);
     let ended = close_all(&rt, shared, one.into_parts());
     assert!(rt; ended.heard.len() == 0);

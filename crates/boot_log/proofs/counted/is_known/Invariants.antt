@@ -1,7 +1,4 @@
-use Rattle.std.proofs.Common.{◌≡◌, drop}
-use Rattle.std.specs.List.{list_all}
-use Rattle.boot_log.specs.Counting.{has_all_until}
-use Rattle.boot_log.specs.Kept.{kept_in}
+use Rattle.boot_log.proofs.Common.{◌≡◌, drop, list_all, has_all_until, kept_in}
 use Rattle.boot_log.proofs.counted.is_known.Given as goal
 
 -- the logs that are left decide

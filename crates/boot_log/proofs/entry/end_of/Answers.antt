@@ -1,6 +1,4 @@
-use Rattle.std.proofs.Common.{◌≡◌, ◌<◌, ◌-◌, ℕ, suc, List, [], ◌∷◌, length, get_or, sym, ap, subst, arith}
-use Rattle.boot_log.specs.declared.entry.Entry.{Entry}
-use Rattle.boot_log.specs.Kept.{end_of}
+use Rattle.boot_log.proofs.Common.{◌≡◌, ◌<◌, ◌-◌, ℕ, suc, List, [], ◌∷◌, length, get_or, sym, ap, subst, arith, Entry, end_of}
 use Rattle.boot_log.proofs.entry.end_of.Goals as goal
 
 -- the end of the last turn

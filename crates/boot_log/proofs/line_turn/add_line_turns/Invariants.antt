@@ -1,5 +1,4 @@
-use Rattle.std.proofs.Common.{◌≡◌, ◌++◌, drop}
-use Rattle.boot_log.specs.Lines.{line_turns}
+use Rattle.boot_log.proofs.Common.{◌≡◌, ◌++◌, drop, line_turns}
 use Rattle.boot_log.proofs.line_turn.add_line_turns.Given as goal
 
 -- with those of the turns that are left, the turns of all lines are appended

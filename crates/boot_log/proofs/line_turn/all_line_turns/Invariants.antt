@@ -1,6 +1,4 @@
-use Rattle.std.proofs.Common.{◌≡◌, ◌++◌, drop}
-use Rattle.boot_log.specs.Kept.{kept_in}
-use Rattle.boot_log.specs.Lines.{all_line_turns}
+use Rattle.boot_log.proofs.Common.{◌≡◌, ◌++◌, drop, kept_in, all_line_turns}
 use Rattle.boot_log.proofs.line_turn.all_line_turns.Given as goal
 
 -- with those of the processors that are left, the turns of all lines are in the list

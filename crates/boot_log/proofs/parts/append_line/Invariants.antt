@@ -1,5 +1,4 @@
-use Rattle.std.proofs.Common.{◌≡◌, ◌++◌, ◌+◌, take, length, vec_capacity}
-use Rattle.boot_data.specs.Hearing.{bytes_of}
+use Rattle.boot_log.proofs.Common.{◌≡◌, ◌++◌, ◌+◌, take, length, vec_capacity, bytes_of}
 use Rattle.boot_log.proofs.parts.append_line.Given as goal
 
 -- The bytes that were there, and then those of the items so far. The room is the same.

@@ -1,7 +1,4 @@
-use Rattle.std.proofs.Common.{◌≡◌, ◌++◌, drop}
-use Rattle.std.specs.List.{filter_map}
-use Rattle.boot_log.specs.Kept.{kept_in}
-use Rattle.boot_log.specs.Lines.{passing_of}
+use Rattle.boot_log.proofs.Common.{◌≡◌, ◌++◌, drop, filter_map, kept_in, passing_of}
 use Rattle.boot_log.proofs.passing.joined.Given as goal
 
 -- with those of the takings that are left, all lines that passed are in the list

@@ -1,7 +1,4 @@
-use Rattle.std.proofs.Common.{◌≡◌, ◌&&◌, ◌==◌, nat_le, drop}
-use Rattle.std.specs.List.{find}
-use Rattle.boot_log.specs.Kept.{kept_in}
-use Rattle.boot_log.specs.Lines.{are_same, count_before}
+use Rattle.boot_log.proofs.Common.{◌≡◌, ◌&&◌, ◌==◌, nat_le, drop, find, kept_in, are_same, count_before}
 use Rattle.boot_log.proofs.passing.put_of.Given as goal
 
 -- the putting is among those that are left

@@ -1,6 +1,5 @@
-use Rattle.boot_objects.proofs.Common.{rules, ◌≡◌, ◌+◌, the_whole, opening_of, chain_end_share, IsIdleChainEnd}
+use Rattle.boot_objects.proofs.Common.{rules, ◌≡◌, ◌+◌, the_whole, opening_of, chain_end_share, IsIdleChainEnd, zip_more}
 use Rattle.proc_chain.specs.Handles.{world_of, first_of}
-use Rattle.quajects.proofs.Worlds.{zip_more}
 use Rattle.boot_objects.proofs.Lists.{all_pushed, map_pushed}
 use Rattle.boot_objects.proofs.chains.make_chains.Goals as goal
 

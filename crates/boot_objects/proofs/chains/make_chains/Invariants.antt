@@ -1,6 +1,5 @@
-use Rattle.boot_objects.proofs.Common.{◌+◌, ◌≤◌, vec_len, vec_capacity, into_iter_items, into_iter_len, IsReady}
+use Rattle.boot_objects.proofs.Common.{◌+◌, ◌≤◌, vec_len, vec_capacity, into_iter_items, into_iter_len, IsReady, MadeChains}
 use Rattle.std.proofs.Common.{All}
-use Rattle.boot_objects.specs.Makings.{MadeChains}
 use Rattle.boot_objects.proofs.chains.make_chains.Given as goal
 
 abbrev pub invariant-loop-quaject : goal.invariant-loop-quaject

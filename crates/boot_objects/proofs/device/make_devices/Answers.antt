@@ -1,5 +1,4 @@
-use Rattle.boot_objects.proofs.Common.{rules, refl, ◌+◌, ℕ, List, length, subst, sym, arith, PlannedMover, PlannedQueue, ClaimQueue, Small, Shares, device_shares, IsStock}
-use Rattle.boot_objects.specs.Devices.{IsDevice, IsDeviceOf}
+use Rattle.boot_objects.proofs.Common.{rules, refl, ◌+◌, ℕ, List, length, subst, sym, arith, PlannedMover, PlannedQueue, ClaimQueue, Small, Shares, device_shares, IsStock, IsDevice, IsDeviceOf}
 use Rattle.boot_objects.proofs.Lists.{each_pushed, long_pushed, gave_pushed}
 use Rattle.boot_objects.proofs.device.make_devices.Goals as goal
 

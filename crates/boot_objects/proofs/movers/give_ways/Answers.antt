@@ -1,5 +1,4 @@
-use Rattle.boot_objects.proofs.Common.{[], ◌∷◌, IsGivenUnused, IsGivenOpen}
-use Rattle.quajects.specs.Routes.{IsGivenFit}
+use Rattle.boot_objects.proofs.Common.{[], ◌∷◌, IsGivenUnused, IsGivenOpen, IsGivenFit}
 use Rattle.boot_objects.proofs.Ways.{all_four, gave_four}
 use Rattle.boot_objects.proofs.movers.give_ways.Goals as goal
 

@@ -1,5 +1,4 @@
-use Rattle.boot_objects.proofs.Common.{◌≡◌, ◌+◌, ◌++◌, List, [], map, refl, ap, subst, ◌∙◌, arith, flat_map, QueueEnd, view_of, line_of, lines_put, ClaimQueue, IsEndAt, puts_of, at_one, end_share, end_shuts, givens_share}
-use Rattle.claim_queue.specs.Lines.{lines_taken}
+use Rattle.boot_objects.proofs.Common.{◌≡◌, ◌+◌, ◌++◌, List, [], map, refl, ap, subst, ◌∙◌, arith, flat_map, QueueEnd, view_of, line_of, lines_put, ClaimQueue, IsEndAt, puts_of, at_one, end_share, end_shuts, givens_share, lines_taken}
 use Rattle.boot_objects.specs.Stocks.{shares}
 use Rattle.boot_objects.proofs.Dealing.{gave_both}
 use Rattle.boot_objects.proofs.Ways.{posts_given, none_given, open_given}

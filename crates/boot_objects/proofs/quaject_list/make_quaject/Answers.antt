@@ -1,6 +1,4 @@
-use Rattle.boot_objects.proofs.Common.{◌≡◌, ◌+◌, ◌-◌, List, length, get_or, subst, sym, ap, arith, Option, Some, None, slice_get, slice_get-get_or, PlannedMover, PlannedQueue}
-use Rattle.std.proofs.lemmas.Option.{slice_get_past}
-use Rattle.boot_objects.specs.Planned.{IsPlanned, IsTty}
+use Rattle.boot_objects.proofs.Common.{◌≡◌, ◌+◌, ◌-◌, List, length, get_or, subst, sym, ap, arith, Option, Some, None, slice_get, slice_get-get_or, PlannedMover, PlannedQueue, slice_get_past, IsPlanned, IsTty}
 use Rattle.boot_objects.specs.Stocks.{shares}
 use Rattle.boot_objects.proofs.Dealing.{gave_more, gave_none}
 use Rattle.boot_objects.proofs.LargeEnds.{no_large}

@@ -1,5 +1,4 @@
-use Rattle.boot_objects.proofs.Common.{rules, refl, ◌+◌, ◌*◌, ℕ, subst, sym, arith, IsReady, Small, Large, Shares, quaject_shares}
-use Rattle.boot_objects.specs.Planned.{IsPlannedAt}
+use Rattle.boot_objects.proofs.Common.{rules, refl, ◌+◌, ◌*◌, ℕ, subst, sym, arith, IsReady, Small, Large, Shares, quaject_shares, IsPlannedAt}
 use Rattle.boot_objects.proofs.Lists.{each_pushed, long_pushed, all_pushed, gave_pushed}
 use Rattle.boot_objects.proofs.quaject_list.make_quajects.Goals as goal
 

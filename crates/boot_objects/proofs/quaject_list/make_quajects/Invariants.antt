@@ -1,5 +1,4 @@
-use Rattle.boot_objects.proofs.Common.{◌≤◌, vec_capacity}
-use Rattle.boot_objects.specs.Makings.{MadeQuajects}
+use Rattle.boot_objects.proofs.Common.{◌≤◌, vec_capacity, MadeQuajects}
 use Rattle.boot_objects.proofs.quaject_list.make_quajects.Given as goal
 
 abbrev pub invariant-loop-number : goal.invariant-loop-number

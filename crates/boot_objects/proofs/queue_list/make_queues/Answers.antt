@@ -1,5 +1,4 @@
-use Rattle.boot_objects.proofs.Common.{length, ap, arith}
-use Rattle.quajects.proofs.Worlds.{if_ok}
+use Rattle.boot_objects.proofs.Common.{length, ap, arith, if_ok}
 use Rattle.boot_objects.proofs.Fresh.{fresh_stock, fresh_whole, fresh_firsts}
 use Rattle.boot_objects.proofs.queue_list.make_queues.Goals as goal
 

@@ -1,5 +1,4 @@
-use Rattle.boot_objects.proofs.Common.{◌<◌, length, subst, arith, AllZip-long, ClaimQueue, end_share, IsIdleEnd}
-use Rattle.claim_queue.specs.Handles.{IsEndOf}
+use Rattle.boot_objects.proofs.Common.{◌<◌, length, subst, arith, AllZip-long, ClaimQueue, end_share, IsIdleEnd, IsEndOf}
 use Rattle.boot_objects.proofs.Stocks.{at_both, set_both, here, can_split, gave_one}
 use Rattle.boot_objects.proofs.stock.split_at.Goals as goal
 

@@ -1,5 +1,4 @@
-use Rattle.boot_objects.proofs.Common.{ap, ◌∙◌}
-use Rattle.claim_queue.specs.Own.{View}
+use Rattle.boot_objects.proofs.Common.{ap, ◌∙◌, View}
 use Rattle.boot_objects.proofs.stock.split_one.Goals as goal
 
 pub returns-clause-idle : goal.returns-clause-idle

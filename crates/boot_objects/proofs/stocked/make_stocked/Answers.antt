@@ -1,5 +1,4 @@
-use Rattle.boot_objects.proofs.Common.{◌≡◌, ◌+◌, ◌*◌, ℕ, length, refl, sym, ap, subst, arith, AllZip-long, Small, Large, stakes, chain_stakes, end_share, chain_end_share, share_at, chain_share_at, Shares, both_shares, MadeDevices, quaject_shares, device_shares, all_shares, quajects_of, opening_shares, end_shares, IsIdleEnd, IsIdleChainEnd}
-use Rattle.boot_objects.specs.Objects.{AreQuajectsOf}
+use Rattle.boot_objects.proofs.Common.{◌≡◌, ◌+◌, ◌*◌, ℕ, length, refl, sym, ap, subst, arith, AllZip-long, Small, Large, stakes, chain_stakes, end_share, chain_end_share, share_at, chain_share_at, Shares, both_shares, MadeDevices, quaject_shares, device_shares, all_shares, quajects_of, opening_shares, end_shares, IsIdleEnd, IsIdleChainEnd, AreQuajectsOf}
 use Rattle.boot_objects.specs.Stocks.{shares, chain_shares}
 use Rattle.boot_objects.proofs.Dealing.{can_then, gave_more}
 use Rattle.boot_objects.proofs.Fresh.{can_whole, whole_here}

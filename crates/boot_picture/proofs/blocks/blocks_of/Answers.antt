@@ -1,10 +1,4 @@
-use Rattle.std.proofs.Common.{◌≡◌, ◌+◌, ◌-◌, List, sym, subst, arith, length, take, drop, length-drop}
-use Rattle.std.specs.List.{All}
-use Rattle.std.proofs.lemmas.List.Elements.{All-push}
-use Rattle.boot_log.specs.declared.entry.Entry.{Entry}
-use Rattle.boot_picture.specs.declared.blocks.Block.{Block}
-use Rattle.boot_picture.specs.Blocks.{AreBlock, AreInARow, IsBlock}
-use Rattle.std.proofs.lemmas.List.{take_all}
+use Rattle.boot_picture.proofs.Common.{◌≡◌, ◌+◌, ◌-◌, List, sym, subst, arith, length, take, drop, length-drop, All, All-push, Entry, Block, AreBlock, AreInARow, IsBlock, take_all}
 use Rattle.boot_picture.proofs.BlockTurns.{more_turns, row_more}
 use Rattle.boot_picture.proofs.blocks.blocks_of.Goals as goal
 

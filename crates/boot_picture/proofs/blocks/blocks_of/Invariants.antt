@@ -1,6 +1,4 @@
-use Rattle.std.proofs.Common.{length, take, ◌-◌, ◌≡◌, ◌≤◌}
-use Rattle.std.specs.List.{All, flat_map}
-use Rattle.boot_picture.specs.Blocks.{AreInARow, IsBlock, turns_of}
+use Rattle.boot_picture.proofs.Common.{length, take, ◌-◌, ◌≡◌, ◌≤◌, All, flat_map, AreInARow, IsBlock, turns_of}
 use Rattle.boot_picture.proofs.blocks.blocks_of.Given as goal
 
 -- the turns of the blocks so far are all turns before the next one

@@ -1,6 +1,4 @@
-use Rattle.std.proofs.Common.{length, take, ◌-◌, ◌≤◌}
-use Rattle.std.specs.List.{All}
-use Rattle.boot_picture.specs.Blocks.{IsIdle}
+use Rattle.boot_picture.proofs.Common.{length, take, ◌-◌, ◌≤◌, All, IsIdle}
 use Rattle.boot_picture.proofs.blocks.first_block.Given as goal
 
 -- the turns so far are idle

@@ -1,7 +1,4 @@
-use Rattle.std.proofs.Common.{List, sym, subst, length, ◌<◌}
-use Rattle.std.specs.List.{All}
-use Rattle.boot_picture.specs.declared.columns.Placed.{Placed}
-use Rattle.boot_picture.specs.Places.{IsWide}
+use Rattle.boot_picture.proofs.Common.{List, sym, subst, length, ◌<◌, All, Placed, IsWide}
 use Rattle.boot_picture.proofs.Placing.{processors_of}
 use Rattle.boot_picture.proofs.columns.place_all.Goals as goal
 

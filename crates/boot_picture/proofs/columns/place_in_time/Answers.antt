@@ -1,8 +1,4 @@
-use Rattle.std.proofs.Common.{◌≡◌, ◌+◌, ◌∙◌, ℕ, ap, arith, max, refl, subst, sym}
-use Rattle.std.proofs.lemmas.List.{take_all}
-use Rattle.std.specs.List.{All}
-use Rattle.boot_picture.specs.declared.columns.Scale.{Scale}
-use Rattle.boot_picture.specs.Places.{IsAtTime, blocks_of, place, scale_of}
+use Rattle.boot_picture.proofs.Common.{◌≡◌, ◌+◌, ◌∙◌, ℕ, ap, arith, max, refl, subst, sym, take_all, All, Scale, IsAtTime, blocks_of, place, scale_of}
 use Rattle.boot_picture.proofs.Placing.{blocks_more, times_more, wide_more}
 use Rattle.boot_picture.proofs.columns.place_in_time.Goals as goal
 

@@ -1,6 +1,4 @@
-use Rattle.std.proofs.Common.{◌≡◌, take}
-use Rattle.std.specs.List.{All}
-use Rattle.boot_picture.specs.Places.{IsAtTime, IsWide, blocks_of}
+use Rattle.boot_picture.proofs.Common.{◌≡◌, take, All, IsAtTime, IsWide, blocks_of}
 use Rattle.boot_picture.proofs.columns.place_in_time.Given as goal
 
 -- the blocks so far have places, by the time

@@ -1,5 +1,4 @@
-use Rattle.std.proofs.Common.{◌∙◌, arith, refl}
-use Rattle.std.proofs.lemmas.List.{take_all}
+use Rattle.boot_picture.proofs.Common.{◌∙◌, arith, refl, take_all}
 use Rattle.boot_picture.proofs.Placing.{blocks_more, left_more, pairs_more, wide_more}
 use Rattle.boot_picture.proofs.columns.place_in_turns.Goals as goal
 

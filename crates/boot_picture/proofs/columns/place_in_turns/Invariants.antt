@@ -1,6 +1,4 @@
-use Rattle.std.proofs.Common.{◌≡◌, ◌≤◌, ◌+◌, ◌*◌, take}
-use Rattle.std.specs.List.{All, AllPairs}
-use Rattle.boot_picture.specs.Places.{IsBefore, IsWide, blocks_of}
+use Rattle.boot_picture.proofs.Common.{◌≡◌, ◌≤◌, ◌+◌, ◌*◌, take, All, AllPairs, IsBefore, IsWide, blocks_of}
 use Rattle.boot_picture.proofs.Placing.{IsLeftOf}
 use Rattle.boot_picture.proofs.columns.place_in_turns.Given as goal
 

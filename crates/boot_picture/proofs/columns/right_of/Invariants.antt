@@ -1,5 +1,4 @@
-use Rattle.std.proofs.Common.{◌≤◌, take}
-use Rattle.std.specs.List.{All}
+use Rattle.boot_picture.proofs.Common.{◌≤◌, take, All}
 use Rattle.boot_picture.proofs.columns.right_of.Given as goal
 
 -- no block so far ends after this side

@@ -1,5 +1,4 @@
-use Rattle.std.proofs.Common.{◌≡◌, take}
-use Rattle.boot_picture.specs.Places.{first_end, last_end}
+use Rattle.boot_picture.proofs.Common.{◌≡◌, take, first_end, last_end}
 use Rattle.boot_picture.proofs.columns.scale_of.Given as goal
 
 -- when the first turn of the blocks so far ended, and the last one

@@ -1,7 +1,4 @@
-use Rattle.std.proofs.Common.{◌∙◌, ◌-◌, ◌+◌, ◌<◌, ◌≡◌, ap, arith, get_or, length, length-set, refl, sym}
-use Rattle.std.proofs.lemmas.List.Elements.{All-set}
-use Rattle.boot_picture.specs.declared.columns.Placed.{Placed}
-use Rattle.boot_picture.specs.Places.{IsWide}
+use Rattle.boot_picture.proofs.Common.{◌∙◌, ◌-◌, ◌+◌, ◌<◌, ◌≡◌, ap, arith, get_or, length, length-set, refl, sym, All-set, Placed, IsWide}
 use Rattle.boot_picture.proofs.Orders.{read_at}
 use Rattle.boot_picture.proofs.Placing.{AreNexts, before_later, blocks_moved, moved, nexts_moved, pairs_moved}
 use Rattle.boot_picture.proofs.columns.stretch.Goals as goal

@@ -1,6 +1,4 @@
-use Rattle.std.proofs.Common.{◌≡◌, ◌<◌, length}
-use Rattle.std.specs.List.{All, AllPairs}
-use Rattle.boot_picture.specs.Places.{IsBefore, IsWide, blocks_of}
+use Rattle.boot_picture.proofs.Common.{◌≡◌, ◌<◌, length, All, AllPairs, IsBefore, IsWide, blocks_of}
 use Rattle.boot_picture.proofs.Placing.{AreNexts}
 use Rattle.boot_picture.proofs.columns.stretch.Given as goal
 

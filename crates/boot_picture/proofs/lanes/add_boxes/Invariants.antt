@@ -1,5 +1,4 @@
-use Rattle.std.proofs.Common.{take}
-use Rattle.boot_picture.specs.Lanes.{AreBoxesDrawn}
+use Rattle.boot_picture.proofs.Common.{take, AreBoxesDrawn}
 use Rattle.boot_picture.proofs.lanes.add_boxes.Given as goal
 
 -- the boxes of the blocks so far are drawn

@@ -1,6 +1,4 @@
-use Rattle.std.proofs.Common.{◌-◌, arith, inr}
-use Rattle.std.proofs.lemmas.Result.{on_ok_weaker}
-use Rattle.boot_picture.specs.Clear.{DrawsBelow}
+use Rattle.boot_picture.proofs.Common.{◌-◌, arith, inr, on_ok_weaker, DrawsBelow}
 use Rattle.boot_picture.proofs.Clears.{below_more, below_then}
 use Rattle.boot_picture.proofs.legend.add_legend.Goals as goal
 

@@ -1,6 +1,4 @@
-use Rattle.std.proofs.Common.{List, subst, sym}
-use Rattle.svg.specs.declared.shapes.Shape.{Shape}
-use Rattle.boot_picture.specs.Clear.{DrawsAbove}
+use Rattle.boot_picture.proofs.Common.{List, subst, sym, Shape, DrawsAbove}
 use Rattle.boot_picture.proofs.Clears.{above_then, above_then_text}
 use Rattle.boot_picture.proofs.marks.add_alarms.Goals as goal
 use Rattle.boot_picture.proofs.marks.add_alarms.Goals.{then-not-is_empty+in_ok-words, else-not-is_empty}

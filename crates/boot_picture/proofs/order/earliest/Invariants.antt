@@ -1,5 +1,4 @@
-use Rattle.std.proofs.Common.{◌≡◌, None, IfSome}
-use Rattle.boot_picture.specs.Orders.{AreUsed, IsLeast, IsNextIn}
+use Rattle.boot_picture.proofs.Common.{◌≡◌, None, IfSome, AreUsed, IsLeast, IsNextIn}
 use Rattle.boot_picture.proofs.order.earliest.Given as goal
 
 -- what was found is a next block, or no processor so far has one

@@ -1,7 +1,4 @@
-use Rattle.std.proofs.Common.{◌≤◌, ◌<◌, ◌+◌, ◌-◌, ◌∙◌, ℕ, ⊎_elim, ap, arith, sym}
-use Rattle.std.proofs.lemmas.Bool.{cases_lt}
-use Rattle.std.specs.List.{slice_get}
-use Rattle.boot_picture.specs.Orders.{ended}
+use Rattle.boot_picture.proofs.Common.{◌≤◌, ◌<◌, ◌+◌, ◌-◌, ◌∙◌, ℕ, ⊎_elim, ap, arith, sym, cases_lt, slice_get, ended}
 use Rattle.boot_picture.proofs.order.last_time_of.Goals as goal
 
 pub returns : goal.returns

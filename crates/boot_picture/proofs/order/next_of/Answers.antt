@@ -1,7 +1,4 @@
-use Rattle.std.proofs.Common.{◌≡◌, ◌≤◌, refl, subst, length, get_or, List, Some, None}
-use Rattle.std.specs.List.{slice_get}
-use Rattle.std.proofs.lemmas.Option.{slice_get_past, slice_get_read}
-use Rattle.boot_picture.specs.declared.blocks.Block.{Block}
+use Rattle.boot_picture.proofs.Common.{◌≡◌, ◌≤◌, refl, subst, length, get_or, List, Some, None, slice_get, slice_get_past, slice_get_read, Block}
 use Rattle.boot_picture.proofs.Clocks.{next_is, next_known}
 use Rattle.boot_picture.proofs.Orders.{used_none}
 use Rattle.boot_picture.proofs.order.next_of.Goals as goal

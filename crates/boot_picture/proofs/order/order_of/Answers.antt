@@ -1,10 +1,5 @@
-use Rattle.std.proofs.Common.{◌≡◌, ◌<◌, ◌≤◌, ◌+◌, ◌++◌, ◌∷◌, [], ◌∙◌, ℕ, List, arith, inl, inr, sym, subst, length, length-append, length-set, set, get_or}
-use Rattle.std.specs.List.{All}
-use Rattle.std.proofs.lemmas.List.Elements.{All-push}
-use Rattle.boot_picture.specs.declared.order.Ordered.{Ordered}
-use Rattle.boot_picture.specs.Orders.{AreUsed, IsLeast, IsNextIn, time_of}
+use Rattle.boot_picture.proofs.Common.{◌≡◌, ◌<◌, ◌≤◌, ◌+◌, ◌++◌, ◌∷◌, [], ◌∙◌, ℕ, List, arith, inl, inr, sym, subst, length, length-append, length-set, set, get_or, All, All-push, Ordered, AreUsed, IsLeast, IsNextIn, time_of, IsNonDecreasingBy}
 use Rattle.std.proofs.lemmas.List.Sorted.{IsNonDecreasingBy-push}
-use Rattle.std.specs.List.Sorted.{IsNonDecreasingBy}
 use Rattle.boot_picture.proofs.Clocks.{IsLastBelow, last_more, least_first, none_before}
 use Rattle.boot_picture.proofs.Orders.{HasTaken, next_within, next_fits, read_at, taken_more, first_taken, all_taken}
 use Rattle.boot_picture.proofs.order.order_of.Goals as goal

@@ -1,7 +1,4 @@
-use Rattle.std.proofs.Common.{length, ◌-◌, ◌≡◌, ◌≤◌, ◌<◌}
-use Rattle.std.specs.List.{All}
-use Rattle.std.specs.List.Sorted.{IsNonDecreasingBy}
-use Rattle.boot_picture.specs.Orders.{IsTimed, time_of}
+use Rattle.boot_picture.proofs.Common.{length, ◌-◌, ◌≡◌, ◌≤◌, ◌<◌, All, IsNonDecreasingBy, IsTimed, time_of}
 use Rattle.boot_picture.proofs.Clocks.{IsLastBelow}
 use Rattle.boot_picture.proofs.Orders.{HasTaken}
 use Rattle.boot_picture.proofs.order.order_of.Given as goal

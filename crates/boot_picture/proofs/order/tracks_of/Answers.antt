@@ -1,6 +1,4 @@
-use Rattle.std.proofs.Common.{List, refl, subst}
-use Rattle.boot_log.specs.declared.entry.Entry.{Entry}
-use Rattle.boot_picture.specs.Blocks.{AreBlocksOf}
+use Rattle.boot_picture.proofs.Common.{List, refl, subst, Entry, AreBlocksOf}
 use Rattle.boot_picture.proofs.Orders.{tracks_more}
 use Rattle.boot_picture.proofs.order.tracks_of.Goals as goal
 

@@ -1,5 +1,4 @@
-use Rattle.std.proofs.Common.{inr, refl}
-use Rattle.boot_picture.specs.Clear.{DrawsGround}
+use Rattle.boot_picture.proofs.Common.{inr, refl, DrawsGround}
 use Rattle.boot_picture.proofs.Clears.{ground_more, then_ground}
 use Rattle.boot_picture.proofs.picture.add_head.Goals as goal
 

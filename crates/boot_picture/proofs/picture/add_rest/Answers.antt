@@ -1,5 +1,4 @@
-use Rattle.std.proofs.Common.{◌-◌, arith}
-use Rattle.std.proofs.lemmas.Result.{on_ok_weaker}
+use Rattle.boot_picture.proofs.Common.{◌-◌, arith, on_ok_weaker}
 use Rattle.boot_picture.proofs.picture.add_rest.Goals as goal
 
 pub returns : goal.returns

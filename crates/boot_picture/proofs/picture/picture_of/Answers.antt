@@ -1,18 +1,5 @@
-use Rattle.std.proofs.Common.{◌≡◌, ◌≤◌, ◌<◌, ◌-◌, ◌∙◌, ℕ, List, Bor, arith, sym, subst, length}
-use Rattle.std.proofs.lemmas.List.{length-map}
-use Rattle.std.proofs.lemmas.List.Elements.{All-nil}
-use Rattle.std.proofs.lemmas.Slice.Zip.{AllZip-long}
-use Rattle.std.specs.List.{All, AllZip}
-use Rattle.boot_log.specs.Kept.{Kept, kept_in}
-use Rattle.svg.specs.declared.shapes.Shape.{Shape}
-use Rattle.boot_picture.specs.declared.columns.Placed.{Placed}
-use Rattle.boot_picture.specs.declared.order.Ordered.{Ordered}
-use Rattle.boot_picture.specs.declared.order.Track.{Track}
-use Rattle.boot_picture.specs.Clear.{IsClear, IsGround}
-use Rattle.boot_picture.specs.Lanes.{IsBoxOf}
-use Rattle.boot_picture.specs.Orders.{IsOrderOf, IsTrackOf}
+use Rattle.boot_picture.proofs.Common.{◌≡◌, ◌≤◌, ◌<◌, ◌-◌, ◌∙◌, ℕ, List, Bor, arith, sym, subst, length, length-map, All-nil, AllZip-long, All, AllZip, Kept, kept_in, Shape, Placed, Ordered, Track, IsClear, IsGround, IsBoxOf, IsOrderOf, IsTrackOf, ArePlaced, IsWide}
 use Rattle.boot_picture.specs.Pictures.{lanes_end}
-use Rattle.boot_picture.specs.Places.{ArePlaced, IsWide}
 use Rattle.boot_picture.proofs.Placing.{processors_of}
 use Rattle.boot_picture.proofs.picture.picture_of.Goals as goal
 

@@ -1,6 +1,4 @@
-use Rattle.std.proofs.Common.{◌-◌, List, arith, inr, subst, sym}
-use Rattle.svg.specs.declared.shapes.Shape.{Shape}
-use Rattle.boot_picture.specs.Clear.{DrawsBelow}
+use Rattle.boot_picture.proofs.Common.{◌-◌, List, arith, inr, subst, sym, Shape, DrawsBelow}
 use Rattle.boot_picture.proofs.Clears.{below_more}
 use Rattle.boot_picture.proofs.thread_lanes.add_arrows.Goals as goal
 use Rattle.boot_picture.proofs.thread_lanes.add_arrows.Goals.{then-arrow+in_ok-up, else-arrow+in_ok-down}

@@ -1,5 +1,4 @@
-use Rattle.std.proofs.Common.{◌-◌}
-use Rattle.boot_picture.specs.Clear.{DrawsBelow}
+use Rattle.boot_picture.proofs.Common.{◌-◌, DrawsBelow}
 use Rattle.boot_picture.proofs.thread_lanes.add_arrows.Given as goal
 
 -- no part so far is more than 5 above the lanes of the threads

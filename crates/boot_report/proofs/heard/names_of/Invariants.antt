@@ -1,5 +1,4 @@
-use Rattle.boot_report.proofs.Common.{◌≡◌, ◌≤◌, map, take, length, vec_len, vec_capacity}
-use Rattle.boot_report.specs.Made.{name_of}
+use Rattle.boot_report.proofs.Common.{◌≡◌, ◌≤◌, map, take, length, vec_len, vec_capacity, name_of}
 use Rattle.boot_report.proofs.heard.names_of.Given as goal
 
 abbrev pub invariant-loop-thread : goal.invariant-loop-thread

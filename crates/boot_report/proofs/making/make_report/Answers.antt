@@ -1,6 +1,4 @@
-use Rattle.boot_report.proofs.Common.{◌≡◌, ◌∙◌, ◌%◌, ◌^◌, ℕ, List, length, map, ap, subst, sum_by, BootPlan, numbered, queue_line, gauge_line, mover_line, heard_line, left_in}
-use Rattle.boot_data.specs.Hearing.{heard_at}
-use Rattle.boot_report.specs.Made.{alarm_counts}
+use Rattle.boot_report.proofs.Common.{◌≡◌, ◌∙◌, ◌%◌, ◌^◌, ℕ, List, length, map, ap, subst, sum_by, BootPlan, numbered, queue_line, gauge_line, mover_line, heard_line, left_in, heard_at, alarm_counts}
 use Rattle.boot_report.proofs.Saying.{says}
 use Rattle.boot_report.proofs.making.make_report.Goals as goal
 

@@ -1,14 +1,7 @@
-use Rattle.boot_report.proofs.Common.{List, ◌≡◌, length, map, flat_map, arith, ap, ◌∙◌, sym, subst, length_permutation, Line, Ascend}
-use Rattle.std.proofs.Common.{IsPermutation}
-use Rattle.std.proofs.lemmas.List.{with_items_is}
+use Rattle.boot_report.proofs.Common.{List, ◌≡◌, length, map, flat_map, arith, ap, ◌∙◌, sym, subst, length_permutation, Line, Ascend, IsPermutation, with_items_is, All-permutation, IsPermutation-map, AllByRecursion, HeardPlace, Heard, IsPlace, heard_at, lines_of}
 use Rattle.std.proofs.lemmas.List.Elements.{All-from_recursion, recursion_from_All}
-use Rattle.std.proofs.lemmas.List.Sorted.{All-permutation, IsPermutation-map}
 use Rattle.std.specs.Global.{Vec}
-use Rattle.std.specs.List.{AllByRecursion}
 use Rattle.std.specs.Vec.{with_items}
-use Rattle.boot_data.specs.declared.heard.HeardPlace.{HeardPlace}
-use Rattle.boot_data.specs.Hearing.{Heard, IsPlace, heard_at}
-use Rattle.boot_report.specs.Reported.{lines_of}
 use Rattle.boot_report.proofs.making.report_boot.Goals as goal
 
 -- what was sorted is what the list then has

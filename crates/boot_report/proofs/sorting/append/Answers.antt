@@ -1,6 +1,4 @@
-use Rattle.boot_report.proofs.Common.{◌+◌, ◌++◌, ◌∷◌, [], arith, ap, ◌∙◌, sym, drop, numbered}
-use Rattle.std.proofs.lemmas.List.{append_assoc}
-use Rattle.boot_report.specs.Reported.{place_of}
+use Rattle.boot_report.proofs.Common.{◌+◌, ◌++◌, ◌∷◌, [], arith, ap, ◌∙◌, sym, drop, numbered, append_assoc, place_of}
 use Rattle.boot_report.proofs.Placing.{place_first}
 use Rattle.boot_report.proofs.sorting.append.Goals as goal
 

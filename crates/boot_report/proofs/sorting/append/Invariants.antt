@@ -1,5 +1,4 @@
-use Rattle.boot_report.proofs.Common.{◌≡◌, ◌+◌, ◌++◌, drop, vec_len, vec_capacity, numbered}
-use Rattle.boot_report.specs.Reported.{place_of}
+use Rattle.boot_report.proofs.Common.{◌≡◌, ◌+◌, ◌++◌, drop, vec_len, vec_capacity, numbered, place_of}
 use Rattle.boot_report.proofs.sorting.append.Given as goal
 
 abbrev pub invariant-loop-number : goal.invariant-loop-number

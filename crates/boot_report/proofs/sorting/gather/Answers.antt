@@ -1,9 +1,4 @@
-use Rattle.boot_report.proofs.Common.{◌≡◌, ℕ, ◌+◌, ◌≤◌, ◌++◌, List, length, map, arith, ap, ◌∙◌, sym, subst, drop, numbered, length-append}
-use Rattle.std.proofs.lemmas.List.{append-nil, drop_all}
-use Rattle.std.specs.List.{AllByRecursion}
-use Rattle.boot_data.specs.declared.heard.HeardPlace.{HeardPlace}
-use Rattle.boot_data.specs.Hearing.{Heard, IsPlace, heard_at}
-use Rattle.boot_report.specs.Reported.{place_of}
+use Rattle.boot_report.proofs.Common.{◌≡◌, ℕ, ◌+◌, ◌≤◌, ◌++◌, List, length, map, arith, ap, ◌∙◌, sym, subst, drop, numbered, length-append, append-nil, drop_all, AllByRecursion, HeardPlace, Heard, IsPlace, heard_at, place_of}
 use Rattle.boot_report.proofs.Numbering.{as_many}
 use Rattle.boot_report.proofs.Placing.{places_from, places_first, as_many_places, of_all}
 use Rattle.boot_report.proofs.sorting.gather.Goals as goal

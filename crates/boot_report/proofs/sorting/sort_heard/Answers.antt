@@ -1,5 +1,4 @@
-use Rattle.std.proofs.Common.{rules}
-use Rattle.std.proofs.lemmas.List.Sorted.{answers_always}
+use Rattle.boot_report.proofs.Common.{rules, answers_always}
 use Rattle.boot_report.proofs.Ordering.{ascending, key_of}
 use Rattle.boot_report.proofs.sorting.sort_heard.Goals as goal
 

@@ -1,5 +1,4 @@
-use Rattle.boot_report.proofs.Common.{arith, ◌<◌, List, length, subst, PlannedTty}
-use Rattle.boot_objects.proofs.Plans.{few_ttys}
+use Rattle.boot_report.proofs.Common.{arith, ◌<◌, List, length, subst, PlannedTty, few_ttys}
 use Rattle.boot_report.proofs.ttys.lines_of_ttys.Goals as goal
 
 pub lines_of-requires : goal.lines_of-requires

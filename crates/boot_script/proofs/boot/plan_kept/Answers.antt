@@ -1,5 +1,4 @@
-use Rattle.std.proofs.Common.{sym, subst}
-use Rattle.boot_data.specs.PlanLimits.{IsPlan}
+use Rattle.boot_script.proofs.Common.{sym, subst, IsPlan}
 use Rattle.boot_script.proofs.Drafts.Drawn.{same_plan}
 use Rattle.boot_script.proofs.boot.plan_kept.Goals as goal
 

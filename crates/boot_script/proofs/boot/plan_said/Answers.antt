@@ -1,9 +1,4 @@
-use Rattle.std.proofs.Common.{◌∙◌, inl, inr, refl, sym, ap, subst, arith, Ok}
-use Rattle.std.proofs.lemmas.Bool.Decides.{nat_tests}
-use Rattle.boot_script.specs.Words.{lines_of}
-use Rattle.boot_script.specs.Plans.{first_draft, plan_from, plan_only}
-use Rattle.boot_data.specs.PlanLimits.{IsPlan}
-use Rattle.boot_script.specs.Drafts.{Draws}
+use Rattle.boot_script.proofs.Common.{◌∙◌, inl, inr, refl, sym, ap, subst, arith, Ok, nat_tests, lines_of, first_draft, plan_from, plan_only, IsPlan, Draws}
 use Rattle.boot_script.proofs.EventScripts.EventsRead.{no_text}
 use Rattle.boot_script.proofs.BootScripts.LinesDrawn.{silent_line, line_reported, line_fault, lines_done, is_said}
 use Rattle.boot_script.proofs.Drafts.PlanLimits.{draft_within}

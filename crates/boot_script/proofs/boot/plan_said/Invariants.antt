@@ -1,6 +1,4 @@
-use Rattle.std.proofs.Common.{◌+◌, ◌≤◌, length}
-use Rattle.boot_script.specs.Words.{lines_of}
-use Rattle.boot_script.specs.Plans.{first_draft, plan_from}
+use Rattle.boot_script.proofs.Common.{◌+◌, ◌≤◌, length, lines_of, first_draft, plan_from}
 use Rattle.boot_script.proofs.BootScripts.LinesDrawn.{IsDrawnSoFar}
 use Rattle.boot_script.proofs.boot.plan_said.Given as goal
 

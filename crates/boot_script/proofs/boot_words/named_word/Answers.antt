@@ -1,7 +1,5 @@
-use Rattle.std.proofs.Common.{◌≡◌, ap, sym, ◌∙◌, get_or}
-use Rattle.std.specs.Str.{bytes_eq}
+use Rattle.boot_script.proofs.Common.{◌≡◌, ap, sym, ◌∙◌, get_or, bytes_eq, boot_word, boot_words}
 use Rattle.boot_script.specs.declared.boot_words.BootWord.TheVariants.{Queue}
-use Rattle.boot_script.specs.BootWords.{boot_word, boot_words}
 use Rattle.boot_script.proofs.BootScripts.Named.{word_more, word_here, word_nowhere}
 use Rattle.boot_script.proofs.boot_words.named_word.Goals as goal
 

@@ -1,5 +1,4 @@
-use Rattle.std.proofs.Common.{◌≡◌, drop}
-use Rattle.boot_script.specs.BootWords.{boot_words, word_named}
+use Rattle.boot_script.proofs.Common.{◌≡◌, drop, boot_words, word_named}
 use Rattle.boot_script.proofs.boot_words.named_word.Given as goal
 
 -- The word is still to be found among the words that are left.

@@ -1,7 +1,5 @@
-use Rattle.std.proofs.Common.{◌≡◌, ap, sym, ◌∙◌, get_or}
-use Rattle.std.specs.Str.{bytes_eq}
+use Rattle.boot_script.proofs.Common.{◌≡◌, ap, sym, ◌∙◌, get_or, bytes_eq, command_word, commands}
 use Rattle.boot_script.specs.declared.commands.Command.TheVariants.{Queue}
-use Rattle.boot_script.specs.Commands.{command_word, commands}
 use Rattle.boot_script.proofs.LineWords.Named.{named_more, named_here, named_nowhere}
 use Rattle.boot_script.proofs.commands.named_command.Goals as goal
 

@@ -1,6 +1,4 @@
-use Rattle.std.proofs.Common.{◌≡◌, ◌<◌, ◌≤◌, sym, ap, ◌∙◌, arith, length}
-use Rattle.boot_data.specs.declared.plan.PlannedThread.{PlannedThread}
-use Rattle.boot_script.specs.Plans.{with_step}
+use Rattle.boot_script.proofs.Common.{◌≡◌, ◌<◌, ◌≤◌, sym, ap, ◌∙◌, arith, length, PlannedThread, with_step}
 use Rattle.boot_script.proofs.Drafts.Drawn.{change_set, change_past, on_ok}
 use Rattle.boot_script.proofs.draft.step_at.Goals as goal
 

@@ -1,6 +1,4 @@
-use Rattle.std.proofs.Common.{◌≡◌, ◌<◌, ◌≤◌, ◌+◌, sym, ap, ◌∙◌, arith, length}
-use Rattle.boot_data.specs.declared.plan.PlannedTty.{PlannedTty}
-use Rattle.boot_script.specs.Plans.{typed_at, with_text}
+use Rattle.boot_script.proofs.Common.{◌≡◌, ◌<◌, ◌≤◌, ◌+◌, sym, ap, ◌∙◌, arith, length, PlannedTty, typed_at, with_text}
 use Rattle.boot_script.proofs.Drafts.Drawn.{change_set, change_past, typed_is}
 use Rattle.boot_script.proofs.draft.type_at.Goals as goal
 

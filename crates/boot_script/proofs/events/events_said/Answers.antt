@@ -1,10 +1,4 @@
-use Rattle.std.proofs.Common.{◌∷◌, ◌++◌, ◌∙◌, inl, inr, [], refl, sym, ap, subst, rules, ℕ, arith, Ok}
-use Rattle.std.proofs.lemmas.Bool.Decides.{nat_tests}
-use Rattle.event_theory.specs.declared.event.Event.{Event}
-use Rattle.boot_script.specs.Words.{lines_of}
-use Rattle.boot_script.specs.Grammar.{line_event}
-use Rattle.boot_script.specs.Scripts.{events_from}
-use Rattle.boot_script.specs.Answers.{Fails}
+use Rattle.boot_script.proofs.Common.{◌∷◌, ◌++◌, ◌∙◌, inl, inr, [], refl, sym, ap, subst, rules, ℕ, arith, Ok, nat_tests, Event, lines_of, line_event, events_from, Fails}
 use Rattle.boot_script.proofs.Basics.Gathered.{with_front, none_yet, pushed, what_is_ok, is_ok_by}
 use Rattle.boot_script.proofs.EventScripts.EventsRead.{silent_more, reported_more, reported_fault, no_text, events_done}
 use Rattle.boot_script.proofs.events.events_said.Goals as goal

@@ -1,8 +1,4 @@
-use Rattle.std.proofs.Common.{ℕ, ◌+◌, ◌≤◌, length}
-use Rattle.event_theory.specs.declared.event.Event.{Event}
-use Rattle.boot_script.specs.declared.fault.ScriptFault.{ScriptFault}
-use Rattle.boot_script.specs.Words.{lines_of}
-use Rattle.boot_script.specs.Scripts.{events_from}
+use Rattle.boot_script.proofs.Common.{ℕ, ◌+◌, ◌≤◌, length, Event, ScriptFault, lines_of, events_from}
 use Rattle.boot_script.proofs.Basics.Gathered.{IsGathered}
 use Rattle.boot_script.proofs.events.events_said.Given as goal
 

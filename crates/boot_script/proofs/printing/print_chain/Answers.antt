@@ -1,6 +1,4 @@
-use Rattle.std.proofs.Common.{codes, ◌∙◌}
-use Rattle.std.proofs.lemmas.Result.{on_ok_weaker}
-use Rattle.boot_script.specs.Printed.{chain_line}
+use Rattle.boot_script.proofs.Common.{codes, ◌∙◌, on_ok_weaker, chain_line}
 use Rattle.boot_script.proofs.LineWords.KnownBytes.{appends_join, appends_word, appends_as}
 use Rattle.boot_script.proofs.printing.print_chain.Goals as goal
 

@@ -1,7 +1,4 @@
-use Rattle.std.proofs.Common.{◌≡◌, append_assoc, false, arith}
-use Rattle.std.proofs.Math.Dec.{eqb}
-use Rattle.std.proofs.lemmas.Bool.Decides.{nat_tests}
-use Rattle.boot_script.specs.Printed.{clock_line}
+use Rattle.boot_script.proofs.Common.{◌≡◌, append_assoc, false, arith, eqb, nat_tests, clock_line}
 use Rattle.boot_script.proofs.LineWords.KnownBytes.{then_appends}
 use Rattle.boot_script.proofs.printing.print_clock.Goals as goal
 

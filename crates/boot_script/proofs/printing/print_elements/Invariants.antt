@@ -1,6 +1,4 @@
-use Rattle.std.proofs.Common.{ℕ, List, Option, drop}
-use Rattle.std.specs.Io.KnownBytes.{Appends}
-use Rattle.boot_script.specs.Printed.{numbered_lines, element_line}
+use Rattle.boot_script.proofs.Common.{ℕ, List, Option, drop, Appends, numbered_lines, element_line}
 use Rattle.boot_script.proofs.printing.print_elements.Given as goal
 
 -- Whoever appends the lines that are left has appended all lines.

@@ -1,6 +1,4 @@
-use Rattle.std.proofs.Common.{ap}
-use Rattle.std.proofs.lemmas.Result.{on_ok_weaker}
-use Rattle.boot_script.specs.Printed.{numbered_lines, queue_line, chain_line, element_line, gauge_line, notified_line, status_text}
+use Rattle.boot_script.proofs.Common.{ap, on_ok_weaker, numbered_lines, queue_line, chain_line, element_line, gauge_line, notified_line, status_text}
 use Rattle.boot_script.proofs.LineWords.KnownBytes.{appends_join, appends_as}
 use Rattle.boot_script.proofs.printing.print_lines.Goals as goal
 

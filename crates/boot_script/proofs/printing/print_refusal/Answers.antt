@@ -1,7 +1,4 @@
-use Rattle.std.proofs.Common.{ap, codes, ◌++◌, ◌∙◌}
-use Rattle.std.proofs.lemmas.Result.{on_ok_weaker}
-use Rattle.std.specs.Fmt.{decimal}
-use Rattle.boot_script.specs.Printed.{refused_text}
+use Rattle.boot_script.proofs.Common.{ap, codes, ◌++◌, ◌∙◌, on_ok_weaker, decimal, refused_text}
 use Rattle.boot_script.proofs.LineWords.KnownBytes.{appends_join, appends_word, appends_as}
 use Rattle.boot_script.proofs.printing.print_refusal.Goals as goal
 

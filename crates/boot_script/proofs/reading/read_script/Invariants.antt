@@ -1,5 +1,4 @@
-use Rattle.std.proofs.Common.{◌≡◌, ◌≤◌, length, take}
-use Rattle.std.specs.Io.KnownBytes.{Consumes}
+use Rattle.boot_script.proofs.Common.{◌≡◌, ◌≤◌, length, take, Consumes}
 use Rattle.boot_script.proofs.Input.Calling.{SoFar}
 use Rattle.boot_script.proofs.reading.read_script.Given as goal
 

@@ -1,5 +1,4 @@
-use Rattle.std.proofs.Common.{◌≡◌, ◌++◌, drop}
-use Rattle.boot_script.specs.Reports.{heard_text}
+use Rattle.boot_script.proofs.Common.{◌≡◌, ◌++◌, drop, heard_text}
 use Rattle.boot_script.proofs.report_printing.add_bytes.Given as goal
 
 -- With the bytes that are left, all bytes are added.

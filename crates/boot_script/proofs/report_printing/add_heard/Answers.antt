@@ -1,5 +1,4 @@
-use Rattle.std.proofs.lemmas.Result.{on_ok_weaker}
-use Rattle.boot_script.specs.Heard.{shown}
+use Rattle.boot_script.proofs.Common.{on_ok_weaker, shown}
 use Rattle.boot_script.proofs.LineWords.HeardLines.{line_added}
 use Rattle.boot_script.proofs.report_printing.add_heard.Goals as goal
 

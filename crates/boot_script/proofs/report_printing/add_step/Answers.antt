@@ -1,5 +1,4 @@
-use Rattle.std.proofs.Common.{◌++◌, ◌∙◌, ap, arith}
-use Rattle.std.proofs.lemmas.Result.{on_ok_weaker}
+use Rattle.boot_script.proofs.Common.{◌++◌, ◌∙◌, ap, arith, on_ok_weaker}
 use Rattle.boot_script.proofs.LineWords.HeardLines.{one_digit, two_digits}
 use Rattle.boot_script.proofs.report_printing.add_step.Goals as goal
 

@@ -1,6 +1,4 @@
-use Rattle.std.proofs.Common.{ℕ, List, Option, drop}
-use Rattle.std.specs.Io.KnownBytes.{Appends}
-use Rattle.boot_script.specs.Reports.{heard_text}
+use Rattle.boot_script.proofs.Common.{ℕ, List, Option, drop, Appends, heard_text}
 use Rattle.boot_script.proofs.report_printing.print_bytes.Given as goal
 
 -- Whoever appends the bytes that are left has appended all bytes.

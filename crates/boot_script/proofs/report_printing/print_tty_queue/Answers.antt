@@ -1,5 +1,4 @@
-use Rattle.std.proofs.lemmas.Result.{on_ok_weaker}
-use Rattle.boot_script.specs.Reports.{tty_queue}
+use Rattle.boot_script.proofs.Common.{on_ok_weaker, tty_queue}
 use Rattle.boot_script.proofs.LineWords.KnownBytes.{appends_join, appends_as}
 use Rattle.boot_script.proofs.report_printing.print_tty_queue.Goals as goal
 

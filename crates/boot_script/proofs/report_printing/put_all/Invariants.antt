@@ -1,6 +1,4 @@
-use Rattle.std.proofs.Common.{ℕ, List, Option, drop}
-use Rattle.std.specs.Io.KnownBytes.{Appends, append_known}
-use Rattle.std.specs.List.{flat_map}
+use Rattle.boot_script.proofs.Common.{ℕ, List, Option, drop, Appends, append_known, flat_map}
 use Rattle.boot_script.proofs.report_printing.put_all.Given as goal
 
 -- Whoever appends the lines that are left has appended all lines.

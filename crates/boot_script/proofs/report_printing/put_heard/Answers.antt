@@ -1,5 +1,4 @@
-use Rattle.boot_script.specs.Heard.{shown}
-use Rattle.boot_script.specs.Reports.{heard_line}
+use Rattle.boot_script.proofs.Common.{shown, heard_line}
 use Rattle.boot_script.proofs.LineWords.KnownBytes.{texts_more}
 use Rattle.boot_script.proofs.report_printing.put_heard.Goals as goal
 

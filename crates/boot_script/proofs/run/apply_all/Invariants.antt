@@ -1,7 +1,4 @@
-use Rattle.std.proofs.Common.{take}
-use Rattle.event_theory.specs.Schedules.{Reaches}
-use Rattle.quaject_core.specs.ShownCores.{state}
-use Rattle.boot_script.specs.Replays.{alone}
+use Rattle.boot_script.proofs.Common.{take, Reaches, state, alone}
 use Rattle.boot_script.proofs.run.apply_all.Given as goal
 
 -- The events so far lead from the first state to this one.

@@ -1,6 +1,4 @@
-use Rattle.std.proofs.Common.{subst}
-use Rattle.quaject_core.specs.ShownCores.{state}
-use Rattle.boot_script.specs.Replays.{Replays}
+use Rattle.boot_script.proofs.Common.{subst, state, Replays}
 use Rattle.boot_script.proofs.run.run_events.Goals as goal
 
 pub returns-clause-ok : goal.returns-clause-ok

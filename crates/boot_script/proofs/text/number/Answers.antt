@@ -1,8 +1,6 @@
-use Rattle.std.proofs.Common.{arith, slice_index_or}
+use Rattle.boot_script.proofs.Common.{arith, slice_index_or, nat_tests, IsInRange}
 use Rattle.std.proofs.lemmas.Grind.{common_steps}
-use Rattle.std.proofs.lemmas.Bool.Decides.{nat_tests}
 use Rattle.std.proofs.lemmas.Str.{digit_value_digit}
-use Rattle.std.specs.Int.{IsInRange}
 use Rattle.boot_script.proofs.LineWords.Numbers.{refused_empty, refused_byte, refused_zero, refused_above, above_after, past_end, all_at_end, read}
 use Rattle.boot_script.proofs.text.number.Goals as goal
 

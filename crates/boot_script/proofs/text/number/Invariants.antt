@@ -1,5 +1,4 @@
-use Rattle.std.proofs.Common.{◌≡◌, drop}
-use Rattle.std.specs.Str.Parse.{AllDigits, digits_value, digits_value_after}
+use Rattle.boot_script.proofs.Common.{◌≡◌, drop, AllDigits, digits_value, digits_value_after}
 use Rattle.boot_script.proofs.text.number.Given as goal
 
 -- The digits so far, and those to come, are those of the word.

@@ -1,5 +1,4 @@
-use Rattle.std.proofs.Common.{◌-◌, arith, sym}
-use Rattle.std.proofs.lemmas.Bool.Decides.{nat_tests}
+use Rattle.boot_script.proofs.Common.{◌-◌, arith, sym, nat_tests}
 use Rattle.boot_script.proofs.Basics.SameWords.{other_length, other_byte, same_none, same_from, same_whole}
 use Rattle.boot_script.proofs.text.same_word.Goals as goal
 

@@ -1,8 +1,4 @@
-use Rattle.std.proofs.Common.{◌≡◌, ◌<◌, ◌≤◌, ◌-◌, sym, ap, ◌∙◌, arith, length, take, drop, slice_index_or, true, false, Ok, Err}
-use Rattle.std.proofs.Math.Dec.{eqb}
-use Rattle.std.proofs.lemmas.Bool.Decides.{nat_tests}
-use Rattle.boot_script.specs.Words.{◌>>=◌}
-use Rattle.boot_script.specs.Texts.{escape_of, before, bytes_of}
+use Rattle.boot_script.proofs.Common.{◌≡◌, ◌<◌, ◌≤◌, ◌-◌, sym, ap, ◌∙◌, arith, length, take, drop, slice_index_or, true, false, Ok, Err, eqb, nat_tests, ◌>>=◌, escape_of, before, bytes_of}
 use Rattle.boot_script.proofs.Escaping.Unescaped.{following, first_plain, first_short, first_escaped}
 use Rattle.boot_script.proofs.unescaping.next_byte.Goals as goal
 

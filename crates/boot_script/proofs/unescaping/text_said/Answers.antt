@@ -1,8 +1,4 @@
-use Rattle.std.proofs.Common.{◌≡◌, [], sym, ap, ◌∙◌, arith, length, Ok}
-use Rattle.std.proofs.lemmas.Bool.Decides.{nat_tests}
-use Rattle.std.specs.List.{join_with_byte}
-use Rattle.boot_script.specs.Words.{◌>>=◌}
-use Rattle.boot_script.specs.Texts.{bytes_of, within_of}
+use Rattle.boot_script.proofs.Common.{◌≡◌, [], sym, ap, ◌∙◌, arith, length, Ok, nat_tests, join_with_byte, ◌>>=◌, bytes_of, within_of}
 use Rattle.boot_script.proofs.Escaping.Unescaped.{none_read, pushed_read, full_read, not_read, all_read, fits_within, too_long, no_room}
 use Rattle.boot_script.proofs.unescaping.text_said.Goals as goal
 

@@ -1,6 +1,4 @@
-use Rattle.std.proofs.Common.{length}
-use Rattle.boot_script.specs.Texts.{bytes_of}
-use Rattle.std.specs.List.{join_with_byte}
+use Rattle.boot_script.proofs.Common.{length, bytes_of, join_with_byte}
 use Rattle.boot_script.proofs.Escaping.Unescaped.{IsReadSoFar}
 use Rattle.boot_script.proofs.unescaping.text_said.Given as goal
 

@@ -1,6 +1,5 @@
-use Rattle.boot_threads.proofs.Common.{◌+◌, ◌≤◌, vec_len, vec_capacity, AllZip, into_iter_len, StartReports}
+use Rattle.boot_threads.proofs.Common.{◌+◌, ◌≤◌, vec_len, vec_capacity, AllZip, into_iter_len, StartReports, into_iter_items}
 use Rattle.std.proofs.Common.{All}
-use Rattle.std.specs.Vec.Iter.{into_iter_items}
 use Rattle.boot_threads.proofs.crew.start_all.Given as goal
 
 abbrev pub invariant-loop-job : goal.invariant-loop-job

@@ -1,5 +1,4 @@
-use Rattle.boot_threads.proofs.Common.{SameOut}
-use Rattle.spsc_line.specs.Lines.{ReceivesNothing}
+use Rattle.boot_threads.proofs.Common.{SameOut, ReceivesNothing}
 use Rattle.boot_threads.proofs.device.next_byte.Given as goal
 
 abbrev pub invariant-loop : goal.invariant-loop

@@ -1,6 +1,5 @@
-use Rattle.boot_threads.proofs.Common.{◌-◌, ℕ, subst, ◌∙◌, range_with_len, claims, Moved, call_of}
+use Rattle.boot_threads.proofs.Common.{◌-◌, ℕ, subst, ◌∙◌, range_with_len, claims, Moved, call_of, view_of}
 use Rattle.boot_threads.proofs.Handling.{prepared}
-use Rattle.thread_table.specs.Handles.{view_of}
 use Rattle.boot_threads.proofs.elements.prepare.Goals as goal
 
 pub returns-clause-prepared : goal.returns-clause-prepared

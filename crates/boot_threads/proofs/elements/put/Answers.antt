@@ -1,6 +1,5 @@
-use Rattle.boot_threads.proofs.Common.{ℕ, [], rules, refl, subst, ◌∙◌, Ok, ring_of, MoveAnswer, call_of}
+use Rattle.boot_threads.proofs.Common.{ℕ, [], rules, refl, subst, ◌∙◌, Ok, ring_of, MoveAnswer, call_of, view_of}
 use Rattle.boot_threads.proofs.Handling.{move_refused, moved_none, moved_on, put_into}
-use Rattle.thread_table.specs.Handles.{view_of}
 use Rattle.boot_threads.proofs.elements.put.Goals as goal
 
 pub loop-init : goal.loop-init

@@ -1,5 +1,4 @@
-use Rattle.boot_threads.proofs.Common.{[], HoldsSame, IsHandOf, IsSameHand, Moved}
-use Rattle.thread_table.specs.Handles.{view_of}
+use Rattle.boot_threads.proofs.Common.{[], HoldsSame, IsHandOf, IsSameHand, Moved, view_of}
 use Rattle.boot_threads.proofs.elements.put.Given as goal
 
 abbrev pub invariant-loop : goal.invariant-loop

@@ -1,6 +1,5 @@
-use Rattle.boot_threads.proofs.Common.{◌≡◌, ◌-◌, ℕ, rules, refl, subst, arith, range_with_len, ring_of, claims, Moved, PutInto, HoldsFrom, call_of}
+use Rattle.boot_threads.proofs.Common.{◌≡◌, ◌-◌, ℕ, rules, refl, subst, arith, range_with_len, ring_of, claims, Moved, PutInto, HoldsFrom, call_of, view_of}
 use Rattle.boot_threads.proofs.Handling.{moved_none, put_more, holds_less}
-use Rattle.thread_table.specs.Handles.{view_of}
 use Rattle.boot_threads.proofs.elements.put_all.Goals as goal
 
 pub loop-number-init : goal.loop-number-init

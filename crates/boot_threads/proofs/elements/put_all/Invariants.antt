@@ -1,5 +1,4 @@
-use Rattle.boot_threads.proofs.Common.{◌≤◌, ◌-◌, range_with_len, call_of, IsHandOf, IsSameHand, ring_of, claims, Moved, HoldsFrom}
-use Rattle.thread_table.specs.Handles.{view_of}
+use Rattle.boot_threads.proofs.Common.{◌≤◌, ◌-◌, range_with_len, call_of, IsHandOf, IsSameHand, ring_of, claims, Moved, HoldsFrom, view_of}
 use Rattle.boot_threads.proofs.elements.put_all.Given as goal
 
 abbrev pub invariant-loop-number : goal.invariant-loop-number

@@ -1,6 +1,5 @@
-use Rattle.boot_threads.proofs.Common.{◌≡◌, ℕ, true, rules, refl, subst, arith, has}
+use Rattle.boot_threads.proofs.Common.{◌≡◌, ℕ, true, rules, refl, subst, arith, has, view_of}
 use Rattle.boot_threads.proofs.Handling.{took_none, took_on, holds_more, holds_all, HoldsBelow}
-use Rattle.thread_table.specs.Handles.{view_of}
 use Rattle.boot_threads.proofs.elements.take_all.Goals as goal
 
 pub loop-number-init : goal.loop-number-init

@@ -1,5 +1,4 @@
-use Rattle.boot_threads.proofs.Common.{IsHandOf, IsSameHand, TookFree}
-use Rattle.thread_table.specs.Handles.{view_of}
+use Rattle.boot_threads.proofs.Common.{IsHandOf, IsSameHand, TookFree, view_of}
 use Rattle.boot_threads.proofs.Handling.{HoldsBelow}
 use Rattle.boot_threads.proofs.elements.take_all.Given as goal
 

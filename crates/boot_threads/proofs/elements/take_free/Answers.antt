@@ -1,6 +1,5 @@
-use Rattle.boot_threads.proofs.Common.{rules, refl, call_of}
+use Rattle.boot_threads.proofs.Common.{rules, refl, call_of, view_of}
 use Rattle.boot_threads.proofs.Handling.{take_took, took_none, took_on}
-use Rattle.thread_table.specs.Handles.{view_of}
 use Rattle.boot_threads.proofs.elements.take_free.Goals as goal
 
 pub loop-init : goal.loop-init

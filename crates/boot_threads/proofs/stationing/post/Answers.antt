@@ -1,13 +1,12 @@
-use Rattle.boot_threads.proofs.Common.{◌≡◌, ◌<◌, ◌≤◌, ◌*◌, ◌^◌, ◌%◌, ◌∙◌, ℕ, refl, sym, ap, subst, IsFree, is_in, AreSplit}
-use Rattle.thread_table.specs.Handles.{view_of}
+use Rattle.boot_threads.proofs.Common.{◌≡◌, ◌<◌, ◌≤◌, ◌*◌, ◌^◌, ◌%◌, ◌∙◌, ℕ, refl, sym, ap, subst, IsFree, is_in, AreSplit, view_of}
 use Rattle.boot_threads.proofs.Posting.{one_mask, divisible, only_free, born_free}
 use Rattle.boot_threads.proofs.stationing.post.Goals as goal
 
-pub split-requires-clause-divisible : goal.split-requires-clause-divisible
-split-requires-clause-divisible g c = divisible c.args.station.now.parts c.requires.split
+pub split_station-requires-clause-divisible : goal.split_station-requires-clause-divisible
+split_station-requires-clause-divisible g c = divisible c.args.station.now.parts c.requires.split
 
-pub split-requires-clause-free : goal.split-requires-clause-free
-split-requires-clause-free g c k below at =
+pub split_station-requires-clause-free : goal.split_station-requires-clause-free
+split_station-requires-clause-free g c k below at =
     only_free c.number.result (view_of c.args.station.now.parts.hand)
     (subst (λ (z : ℕ). (k : ℕ) → z ≤ k → k < 8 → IsFree k (view_of c.args.station.now.parts.hand)) (sym c.number.ensures.value) c.requires.free)
     k below (ap (λ (m : ℕ). is_in m k) (sym (one_mask c.number.result c.number.ensures.within)) ∙ at)
@@ -23,7 +22,7 @@ returns-clause-posted g c =
       is = refl;
       manned = record {
         parts_are = c.in_ok-born.ensures.born;
-        free = born_free c.args.p c.args.station.now.parts c.split.new.self.parts c.in_ok-born.born.parts s (subst (λ (z : ℕ). z < 8) c.number.ensures.value c.number.ensures.within);
+        free = born_free c.args.p c.args.station.now.parts c.split_station.new.station.parts c.in_ok-born.born.parts s (subst (λ (z : ℕ). z < 8) c.number.ensures.value c.number.ensures.within);
         room = c.in_ok-born.ensures.room;
       };
       fresh = c.in_ok-born.ensures.fresh;

@@ -1,6 +1,5 @@
-use Rattle.boot_threads.proofs.Common.{◌≡◌, ℕ, ◌++◌, ◌∷◌, [], ◌+◌, ◌∙◌, List, rules, refl, sym, ap, subst, arith, into_iter_len, Work, CanSplit, IsPosted, ArePosted}
+use Rattle.boot_threads.proofs.Common.{◌≡◌, ℕ, ◌++◌, ◌∷◌, [], ◌+◌, ◌∙◌, List, rules, refl, sym, ap, subst, arith, into_iter_len, Work, CanSplit, IsPosted, ArePosted, View}
 use Rattle.std.proofs.Common.{length-append}
-use Rattle.thread_table.specs.Own.{View}
 use Rattle.boot_threads.proofs.Posting.{posted_more, fewer, can_split, still_free, still_prepared}
 use Rattle.boot_threads.proofs.stationing.post_all.Goals as goal
 

@@ -1,6 +1,4 @@
-use Rattle.boot_threads.proofs.Common.{◌≡◌, ◌+◌, ◌<◌, ◌≤◌, ℕ, length, vec_len, vec_capacity, into_iter_len, IsFree, IsPrepared, BootPlan, CanSplit, NoneOn, ArePosted}
-use Rattle.processor.specs.Stations.{ArePartsOf}
-use Rattle.thread_table.specs.Handles.{view_of}
+use Rattle.boot_threads.proofs.Common.{◌≡◌, ◌+◌, ◌<◌, ◌≤◌, ℕ, length, vec_len, vec_capacity, into_iter_len, IsFree, IsPrepared, BootPlan, CanSplit, NoneOn, ArePosted, ArePartsOf, view_of}
 use Rattle.boot_threads.proofs.stationing.post_all.Given as goal
 
 abbrev pub invariant-loop-gate : goal.invariant-loop-gate

@@ -1,6 +1,4 @@
-use Rattle.std.proofs.Common.{◌≡◌, ◌≤◌, vec_len, vec_capacity}
-use Rattle.std.specs.List.{All}
-use Rattle.boot_view.specs.Views.{IsEmpty}
+use Rattle.boot_view.proofs.Common.{◌≡◌, ◌≤◌, vec_len, vec_capacity, All, IsEmpty}
 use Rattle.boot_view.proofs.booting.recorders.Given as goal
 
 abbrev pub invariant-loop-number : goal.invariant-loop-number

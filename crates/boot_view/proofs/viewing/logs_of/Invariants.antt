@@ -1,6 +1,4 @@
-use Rattle.std.proofs.Common.{◌≡◌, take}
-use Rattle.boot_log.specs.Kept.{kept_in}
-use Rattle.boot_view.specs.Views.{logs_in}
+use Rattle.boot_view.proofs.Common.{◌≡◌, take, kept_in, logs_in}
 use Rattle.boot_view.proofs.viewing.logs_of.Given as goal
 
 abbrev pub invariant-loop-gate : goal.invariant-loop-gate

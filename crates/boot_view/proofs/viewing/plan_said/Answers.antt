@@ -1,9 +1,7 @@
-use Rattle.std.proofs.Common.{◌≡◌, ℕ, List}
-use Rattle.std.proofs.Common.{inl, inr, IsOk}
+use Rattle.boot_view.proofs.Common.{◌≡◌, ℕ, List, inl, inr, IsOk, text_plan}
 use Rattle.boot_script.specs.declared.fault.ScriptFault.{ScriptFault}
 use Rattle.boot_script.specs.declared.fault.ScriptRefusal.TheVariants.{OutOfMemory}
 use Rattle.boot_script.specs.Answers.{IsFault}
-use Rattle.boot_script.specs.Plans.{text_plan}
 use Rattle.boot_script.proofs.BootScripts.Faults.{text_plan_known}
 use Rattle.boot_view.proofs.viewing.plan_said.Goals as goal
 

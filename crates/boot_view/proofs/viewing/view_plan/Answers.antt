@@ -1,6 +1,4 @@
-use Rattle.std.proofs.Common.{◌≤◌, ℕ, List, length, sym, subst}
-use Rattle.boot_log.specs.declared.recorder.Recorder.{Recorder}
-use Rattle.boot_view.specs.Views.{IsPageOf, logs_in}
+use Rattle.boot_view.proofs.Common.{◌≤◌, ℕ, List, length, sym, subst, Recorder, IsPageOf, logs_in}
 use Rattle.boot_view.proofs.Answering.{back_many, one_plan}
 use Rattle.boot_view.proofs.viewing.view_plan.Goals as goal
 

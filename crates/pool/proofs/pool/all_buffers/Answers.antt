@@ -1,5 +1,4 @@
-use Rattle.std.proofs.Common.{◌∷◌, ◌++◌, ◌∙◌, [], List, ℕ, ap, sym}
-use Rattle.table_theory.proofs.Times.{one_more}
+use Rattle.pool.proofs.Common.{◌∷◌, ◌++◌, ◌∙◌, [], List, ℕ, ap, sym, one_more}
 use Rattle.pool.proofs.pool.all_buffers.Goals as goal
 
 pub loop-buffer-preserved : goal.loop-buffer-preserved

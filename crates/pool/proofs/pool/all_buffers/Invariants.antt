@@ -1,5 +1,4 @@
-use Rattle.std.proofs.Common.{◌≡◌}
-use Rattle.pool.specs.Buffers.{all_buffers}
+use Rattle.pool.proofs.Common.{◌≡◌, all_buffers}
 use Rattle.pool.proofs.pool.all_buffers.Given as goal
 
 abbrev pub invariant-loop-buffer : goal.invariant-loop-buffer

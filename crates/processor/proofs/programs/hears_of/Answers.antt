@@ -1,5 +1,4 @@
-use Rattle.processor.proofs.Common.{ap, subst, ◌∙◌, ◌≡◌, ◌<◌, List, length, arith, get_or, count_by, PlannedThread, is_hear, hears_in}
-use Rattle.std.proofs.lemmas.List.Sums.{sum_by_more_le, sum_by-take-le}
+use Rattle.processor.proofs.Common.{ap, subst, ◌∙◌, ◌≡◌, ◌<◌, List, length, arith, get_or, count_by, PlannedThread, is_hear, hears_in, sum_by_more_le, sum_by-take-le}
 use Rattle.processor.proofs.Hearing.{few_hears}
 use Rattle.processor.proofs.programs.hears_of.Goals as goal
 

@@ -1,11 +1,8 @@
-use Rattle.processor.proofs.Common.{rules, ◌≡◌, true, false, Err, refl, subst}
+use Rattle.processor.proofs.Common.{rules, ◌≡◌, true, false, Err, refl, subst, HeardAt, count_of, is_over}
 use Rattle.claim_queue.specs.declared.take.TakeRefusal.{TakeRefusal}
 use Rattle.claim_queue.specs.declared.take.TakeRefusal.TheVariants as takes
-use Rattle.turn_io.specs.QueueEnds.{HeardAt}
 use Rattle.processor.specs.declared.phases.HearAnswer.TheVariants as hears
 use Rattle.processor.specs.declared.step_outcome.StepOutcome.TheVariants as step_outcomes
-use Rattle.processor.specs.Orders.{count_of}
-use Rattle.processor.specs.Refusals.{is_over}
 use Rattle.processor.proofs.Ordering.{queues_tried, tried_between}
 use Rattle.processor.proofs.queue_steps.hear_step.Goals as goal
 

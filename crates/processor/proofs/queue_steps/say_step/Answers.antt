@@ -1,11 +1,8 @@
-use Rattle.processor.proofs.Common.{rules, ◌≡◌, ℕ, true, false, List, Ok, Err, refl, subst}
+use Rattle.processor.proofs.Common.{rules, ◌≡◌, ℕ, true, false, List, Ok, Err, refl, subst, SaidAt, count_of, is_shut}
 use Rattle.claim_queue.specs.declared.claim.ClaimRefusal.{ClaimRefusal}
 use Rattle.claim_queue.specs.declared.claim.ClaimRefusal.TheVariants as claims
-use Rattle.turn_io.specs.QueueEnds.{SaidAt}
 use Rattle.processor.specs.declared.phases.SayAnswer.TheVariants as says
 use Rattle.processor.specs.declared.step_outcome.StepOutcome.TheVariants as step_outcomes
-use Rattle.processor.specs.Orders.{count_of}
-use Rattle.processor.specs.Refusals.{is_shut}
 use Rattle.processor.proofs.Ordering.{queues_tried, tried_between}
 use Rattle.processor.proofs.queue_steps.say_step.Goals as goal
 

@@ -1,7 +1,5 @@
-use Rattle.processor.proofs.Common.{rules, ◌≡◌, inr, ℕ, Option, Some, None, sym, subst, ◌∙◌, TakesOff, view_of, call_of, running}
+use Rattle.processor.proofs.Common.{rules, ◌≡◌, inr, ℕ, Option, Some, None, sym, subst, ◌∙◌, TakesOff, view_of, call_of, running, Parts, Count, InOrder}
 use Rattle.turn_dispatch.proofs.Calm as calm
-use Rattle.processor.specs.declared.station.Parts.{Parts}
-use Rattle.processor.specs.Orders.{Count, InOrder}
 use Rattle.processor.proofs.Ordering.{put_counts}
 use Rattle.processor.proofs.Tallying.{tried_on}
 use Rattle.processor.proofs.running.run_step.Goals as goal

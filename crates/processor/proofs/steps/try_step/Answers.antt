@@ -1,8 +1,5 @@
-use Rattle.processor.proofs.Common.{rules, refl, sym, subst, with_items_is}
-use Rattle.std.specs.List.{All}
-use Rattle.turn_io.specs.EndLists.{AreSameChainEnds, IsIdle}
+use Rattle.processor.proofs.Common.{rules, refl, sym, subst, with_items_is, All, AreSameChainEnds, IsIdle, same_ends_still}
 use Rattle.turn_io.specs.Outcomes.{PokedAt}
-use Rattle.turn_io.proofs.Queues.{same_ends_still}
 use Rattle.processor.proofs.Placing.{of_same}
 use Rattle.processor.proofs.steps.try_step.Goals as goal
 

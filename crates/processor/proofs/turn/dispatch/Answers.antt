@@ -1,9 +1,7 @@
-use Rattle.processor.proofs.Common.{rules, ◌≡◌, ◌≤◌, ℕ, List, length, Some, refl, sym, subst, Step}
+use Rattle.processor.proofs.Common.{rules, ◌≡◌, ◌≤◌, ℕ, List, length, Some, refl, sym, subst, Step, slice_get_read, CameInOrder}
 use Rattle.std.proofs.Common.{slice_get}
-use Rattle.std.proofs.lemmas.Option.{slice_get_read}
 use Rattle.processor.specs.declared.outcome.TurnOutcome.TheVariants as outcomes
 use Rattle.processor.specs.declared.outcome.TurnResult.TheVariants as hads
-use Rattle.processor.specs.Orders.{CameInOrder}
 use Rattle.processor.proofs.Keeping.{stays_on}
 use Rattle.processor.proofs.turn.dispatch.Goals as goal
 

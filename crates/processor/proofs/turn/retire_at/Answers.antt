@@ -1,5 +1,4 @@
-use Rattle.processor.proofs.Common.{rules, ◌<◌, refl, view_of}
-use Rattle.turn_dispatch.proofs.Sends.{retired_goes}
+use Rattle.processor.proofs.Common.{rules, ◌<◌, refl, view_of, retired_goes}
 use Rattle.processor.proofs.Keeping.{rest_stays}
 use Rattle.processor.proofs.Rising.{fallen}
 use Rattle.processor.proofs.turn.retire_at.Goals as goal

@@ -1,7 +1,5 @@
-use Rattle.processor.proofs.Common.{◌+◌, ℕ, [], ◌∷◌, ◌++◌, length, rules, refl, sym, ap, ◌∙◌, subst, Turn}
+use Rattle.processor.proofs.Common.{◌+◌, ℕ, [], ◌∷◌, ◌++◌, length, rules, refl, sym, ap, ◌∙◌, subst, Turn, length-append, calls}
 use Rattle.std.proofs.Math.Nat.{zero-add}
-use Rattle.std.proofs.lemmas.List.{length-append}
-use Rattle.processor.specs.Points.{calls}
 use Rattle.processor.proofs.Keeping.{stays_on, stays_still}
 use Rattle.processor.proofs.Ordering.{turns_more}
 use Rattle.processor.proofs.turn.run.Goals as goal

@@ -1,6 +1,4 @@
-use Rattle.processor.proofs.Common.{◌≡◌, List, length, LogEntry, KeepsStation}
-use Rattle.processor.specs.Orders.{TurnsInOrder}
-use Rattle.processor.specs.Points.{calls}
+use Rattle.processor.proofs.Common.{◌≡◌, List, length, LogEntry, KeepsStation, TurnsInOrder, calls}
 use Rattle.processor.proofs.turn.run.Given as goal
 
 abbrev pub invariant-loop-number : goal.invariant-loop-number

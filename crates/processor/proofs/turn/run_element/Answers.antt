@@ -1,13 +1,5 @@
-use Rattle.processor.proofs.Common.{◌≡◌, ◌<◌, ◌≤◌, ℕ, true, List, length, ◌++◌, map, rules, sym, ap, ◌∙◌, subst, arith, AllByRecursion, view_of, call_of, StepOutcome, Rescheduled, Parts, is_done, heard_by, is_heard, Key, AreHears, hear_count, program, key_of, IsPast, Goes, is_last}
-use Rattle.std.proofs.lemmas.List.{length-map}
-use Rattle.boot_data.specs.Hearing.{Heard}
-use Rattle.turn_io.proofs.Queues.{shares_still}
+use Rattle.processor.proofs.Common.{◌≡◌, ◌<◌, ◌≤◌, ℕ, true, List, length, ◌++◌, map, rules, sym, ap, ◌∙◌, subst, arith, AllByRecursion, view_of, call_of, StepOutcome, Rescheduled, Parts, is_done, heard_by, is_heard, Key, AreHears, hear_count, program, key_of, IsPast, Goes, is_last, length-map, Heard, shares_still, longest_line, InOrder, count_of, one_more, EndsDid, AreSameParts, RanStep}
 use Rattle.processor.specs.declared.phases.StepCounted.{StepCounted}
-use Rattle.processor.specs.Programs.{longest_line}
-use Rattle.processor.specs.Orders.{InOrder, count_of, one_more}
-use Rattle.processor.specs.Running.{EndsDid}
-use Rattle.processor.specs.Stations.{AreSameParts}
-use Rattle.processor.specs.Turns.{RanStep}
 use Rattle.processor.proofs.Keeping.{free_still, parts_still}
 use Rattle.processor.proofs.Longest.{heard_within}
 use Rattle.processor.proofs.Placing.{queues_worked, chains_worked, seat_worked}

@@ -1,6 +1,5 @@
-use Rattle.processor.proofs.Common.{rules, refl}
+use Rattle.processor.proofs.Common.{rules, refl, raised_goes}
 use Rattle.meters.specs.Handles as seats
-use Rattle.turn_dispatch.proofs.Raised.{raised_goes}
 use Rattle.processor.proofs.Keeping.{rest_stays}
 use Rattle.processor.proofs.Rising.{fallen}
 use Rattle.processor.proofs.Ticking.{tended_remains}

@@ -1,6 +1,4 @@
-use Rattle.processor.proofs.Common.{List, ℕ, LogEntry, subst}
-use Rattle.event_theory.specs.declared.alarm.Alarm.{Alarm}
-use Rattle.processor.specs.Entries.{entry_of}
+use Rattle.processor.proofs.Common.{List, ℕ, LogEntry, subst, Alarm, entry_of}
 use Rattle.processor.proofs.Keeping.{stays_on}
 use Rattle.processor.proofs.turn.turn.Goals as goal
 

@@ -1,6 +1,4 @@
-use Rattle.std.proofs.Common.{◌≡◌, ◌++◌, ℕ, List, drop, map}
-use Rattle.event_theory.specs.Statuses.{element_statuses}
-use Rattle.quaject_core.specs.ShownThreads.{thread}
+use Rattle.quaject_core.proofs.Common.{◌≡◌, ◌++◌, ℕ, List, drop, map, element_statuses, thread}
 use Rattle.quaject_core.proofs.Stored.Numbers.{parts}
 use Rattle.quaject_core.proofs.placing.statuses.Given as goal
 

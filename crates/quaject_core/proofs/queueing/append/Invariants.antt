@@ -1,5 +1,4 @@
-use Rattle.std.proofs.Common.{◌≡◌, ◌+◌, ◌-◌, ◌≤◌, ◌++◌, length, map, take, vec_len, vec_capacity}
-use Rattle.quaject_core.specs.Layout.{fresh}
+use Rattle.quaject_core.proofs.Common.{◌≡◌, ◌+◌, ◌-◌, ◌≤◌, ◌++◌, length, map, take, vec_len, vec_capacity, fresh}
 use Rattle.quaject_core.proofs.queueing.append.Given as goal
 
 -- The items so far have places, and there is room for the others.

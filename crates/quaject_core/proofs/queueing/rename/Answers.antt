@@ -1,5 +1,4 @@
-use Rattle.std.proofs.Common.{◌≡◌, ap, arith, length}
-use Rattle.quaject_core.specs.Joined.{renamed_span}
+use Rattle.quaject_core.proofs.Common.{◌≡◌, ap, arith, length, renamed_span}
 use Rattle.quaject_core.proofs.Stored.Joins.{changed_whole, renamed_more}
 use Rattle.quaject_core.proofs.queueing.rename.Goals as goal
 

@@ -1,5 +1,4 @@
-use Rattle.std.proofs.Common.{◌≡◌}
-use Rattle.quaject_core.specs.Joined.{renamed_span}
+use Rattle.quaject_core.proofs.Common.{◌≡◌, renamed_span}
 use Rattle.quaject_core.proofs.Stored.Joins.{changed_up_to}
 use Rattle.quaject_core.proofs.queueing.rename.Given as goal
 

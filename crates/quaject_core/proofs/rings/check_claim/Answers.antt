@@ -1,7 +1,4 @@
-use Rattle.std.proofs.Common.{length, true, false, refl, sym, ap, subst, ◌∙◌, arith}
-use Rattle.std.specs.Prelude.{IsOk}
-use Rattle.std.proofs.lemmas.Bool.{lt-ltb, le-ltb}
-use Rattle.quaject_core.specs.Shown.{queue}
+use Rattle.quaject_core.proofs.Common.{length, true, false, refl, sym, ap, subst, ◌∙◌, arith, IsOk, lt-ltb, le-ltb, queue}
 use Rattle.quaject_core.proofs.Stored.Rings.{claim_tested, no_room, some_room}
 use Rattle.quaject_core.proofs.rings.check_claim.Goals as goal
 

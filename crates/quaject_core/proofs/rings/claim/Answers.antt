@@ -1,6 +1,4 @@
-use Rattle.std.proofs.Common.{arith}
-use Rattle.event_theory.specs.Queues.{claim}
-use Rattle.quaject_core.specs.Shown.{queue}
+use Rattle.quaject_core.proofs.Common.{arith, claim, queue}
 use Rattle.quaject_core.proofs.Stored.Lifts.{place_changes}
 use Rattle.quaject_core.proofs.rings.claim.Goals as goal
 

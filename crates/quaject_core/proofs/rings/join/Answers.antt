@@ -1,8 +1,5 @@
-use Rattle.std.proofs.Common.{◌≡◌, length, map, refl, sym, ap, ◌∙◌, arith}
-use Rattle.std.proofs.lemmas.List.{map-set, length-map}
+use Rattle.quaject_core.proofs.Common.{◌≡◌, length, map, refl, sym, ap, ◌∙◌, arith, map-set, length-map, join_queue, queue}
 use Rattle.std.proofs.Math.ListN.{get_or-map}
-use Rattle.event_theory.specs.Queues.{join_queue}
-use Rattle.quaject_core.specs.Shown.{queue}
 use Rattle.quaject_core.proofs.Lists.Mapped.{mapped_set, mapped_all, written_back}
 use Rattle.quaject_core.proofs.rings.join.Goals as goal
 

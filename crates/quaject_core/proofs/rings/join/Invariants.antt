@@ -1,6 +1,4 @@
-use Rattle.std.proofs.Common.{◌≡◌, map}
-use Rattle.event_theory.specs.Queues.{join_queue}
-use Rattle.quaject_core.specs.Shown.{queue}
+use Rattle.quaject_core.proofs.Common.{◌≡◌, map, join_queue, queue}
 use Rattle.quaject_core.proofs.Lists.Mapped.{mapped}
 use Rattle.quaject_core.proofs.rings.join.Given as goal
 

@@ -1,6 +1,4 @@
-use Rattle.std.proofs.Common.{◌∷◌, sym, ap, ◌∙◌, arith}
-use Rattle.event_theory.specs.Queues.{Queue, empty_queue, full_queue}
-use Rattle.quaject_core.specs.Shown.{queue}
+use Rattle.quaject_core.proofs.Common.{◌∷◌, sym, ap, ◌∙◌, arith, Queue, empty_queue, full_queue, queue}
 use Rattle.quaject_core.proofs.Stored.Lifts.{shown_push, repeat_more}
 use Rattle.quaject_core.proofs.rings.new.Goals as goal
 

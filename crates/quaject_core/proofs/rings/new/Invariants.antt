@@ -1,7 +1,4 @@
-use Rattle.std.proofs.Common.{◌≡◌, [], ◌∷◌, ◌+◌, map, vec_len}
-use Rattle.std.specs.List.{repeat}
-use Rattle.event_theory.specs.Queues.{empty_queue, full_queue}
-use Rattle.quaject_core.specs.Shown.{queue}
+use Rattle.quaject_core.proofs.Common.{◌≡◌, [], ◌∷◌, ◌+◌, map, vec_len, repeat, empty_queue, full_queue, queue}
 use Rattle.quaject_core.proofs.rings.new.Given as goal
 
 -- The first two rings and so many wait queues.

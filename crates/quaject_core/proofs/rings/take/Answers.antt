@@ -1,6 +1,4 @@
-use Rattle.std.proofs.Common.{arith}
-use Rattle.event_theory.specs.Queues.{take_first}
-use Rattle.quaject_core.specs.Shown.{queue}
+use Rattle.quaject_core.proofs.Common.{arith, take_first, queue}
 use Rattle.quaject_core.proofs.Stored.Lifts.{place_changes}
 use Rattle.quaject_core.proofs.rings.take.Goals as goal
 

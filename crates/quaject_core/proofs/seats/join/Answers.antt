@@ -1,5 +1,4 @@
-use Rattle.std.proofs.Common.{option_map, arith}
-use Rattle.event_theory.specs.Elements.{join_hold}
+use Rattle.quaject_core.proofs.Common.{option_map, arith, join_hold}
 use Rattle.quaject_core.proofs.Lists.Mapped.{mapped_set}
 use Rattle.quaject_core.proofs.seats.join.Goals as goal
 

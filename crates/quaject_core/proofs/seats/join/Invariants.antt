@@ -1,5 +1,4 @@
-use Rattle.std.proofs.Common.{◌≡◌, option_map}
-use Rattle.event_theory.specs.Elements.{join_hold}
+use Rattle.quaject_core.proofs.Common.{◌≡◌, option_map, join_hold}
 use Rattle.quaject_core.proofs.Lists.Mapped.{mapped}
 use Rattle.quaject_core.proofs.seats.join.Given as goal
 

@@ -1,5 +1,4 @@
-use Rattle.event_theory.specs.Chains.{join_chain}
-use Rattle.quaject_core.specs.ShownChains.{chain}
+use Rattle.quaject_core.proofs.Common.{join_chain, chain}
 use Rattle.quaject_core.proofs.Stored.Parts.{over_more, over_all}
 use Rattle.quaject_core.proofs.store.join_chains.Goals as goal
 

@@ -1,6 +1,4 @@
-use Rattle.std.proofs.Common.{◌≡◌, map, take, drop, ◌++◌}
-use Rattle.event_theory.specs.Chains.{join_chain}
-use Rattle.quaject_core.specs.ShownChains.{chain}
+use Rattle.quaject_core.proofs.Common.{◌≡◌, map, take, drop, ◌++◌, join_chain, chain}
 use Rattle.quaject_core.proofs.store.join_chains.Given as goal
 
 -- Those so far are joined, and the others are as they were.

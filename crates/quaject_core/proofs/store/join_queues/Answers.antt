@@ -1,5 +1,4 @@
-use Rattle.event_theory.specs.Queues.{join_queue}
-use Rattle.quaject_core.specs.Shown.{queue}
+use Rattle.quaject_core.proofs.Common.{join_queue, queue}
 use Rattle.quaject_core.proofs.Stored.Parts.{over_more, over_all}
 use Rattle.quaject_core.proofs.store.join_queues.Goals as goal
 

@@ -1,6 +1,4 @@
-use Rattle.std.proofs.Common.{◌≡◌, map, take, drop, ◌++◌}
-use Rattle.event_theory.specs.Queues.{join_queue}
-use Rattle.quaject_core.specs.Shown.{queue}
+use Rattle.quaject_core.proofs.Common.{◌≡◌, map, take, drop, ◌++◌, join_queue, queue}
 use Rattle.quaject_core.proofs.store.join_queues.Given as goal
 
 -- Those so far are joined, and the others are as they were.

@@ -1,6 +1,4 @@
-use Rattle.std.proofs.Common.{sym, ◌∙◌}
-use Rattle.event_theory.specs.Elements.{Thread, new_thread}
-use Rattle.quaject_core.specs.ShownThreads.{thread}
+use Rattle.quaject_core.proofs.Common.{sym, ◌∙◌, Thread, new_thread, thread}
 use Rattle.quaject_core.proofs.Stored.Lifts.{shown_push, repeat_more}
 use Rattle.quaject_core.proofs.threading.new_threads.Goals as goal
 

@@ -1,7 +1,4 @@
-use Rattle.std.proofs.Common.{◌≡◌, [], ◌∷◌, map}
-use Rattle.std.specs.List.{repeat}
-use Rattle.event_theory.specs.Elements.{new_thread}
-use Rattle.quaject_core.specs.ShownThreads.{thread}
+use Rattle.quaject_core.proofs.Common.{◌≡◌, [], ◌∷◌, map, repeat, new_thread, thread}
 use Rattle.quaject_core.proofs.threading.new_threads.Given as goal
 
 -- So many elements.

@@ -1,5 +1,4 @@
-use Rattle.std.proofs.Common.{ℕ, subst}
-use Rattle.quajects.specs.Homes.{IsHome}
+use Rattle.quajects.proofs.Common.{ℕ, subst, IsHome}
 use Rattle.quajects.proofs.Homing.{came_home}
 use Rattle.quajects.proofs.home.retire.Goals as goal
 

@@ -1,7 +1,5 @@
-use Rattle.std.proofs.Common.{rules, [], refl, ◌∙◌}
+use Rattle.quajects.proofs.Common.{rules, [], refl, ◌∙◌, suits, makes, MadeOf, Fits}
 use Rattle.proc_chain.specs.Handles.{pact_of, me_of}
-use Rattle.proc_chain.specs.Rules.{suits, makes}
-use Rattle.quajects.specs.Anys.{MadeOf, Fits}
 use Rattle.quajects.proofs.Noting.{none_lost, tries_more, noted_run, noted_left, noted_spent, noted_full}
 use Rattle.quajects.proofs.raw.tell.Goals as goal
 

@@ -1,7 +1,6 @@
-use Rattle.std.proofs.Common.{◌≡◌, List, false}
+use Rattle.quajects.proofs.Common.{◌≡◌, List, false, LostTry}
 use Rattle.table_theory.specs.Seating.{IsSame}
 use Rattle.proc_chain.specs.Handles.{turn_of, me_of, IsEndOf}
-use Rattle.proc_chain.specs.Links.{LostTry}
 use Rattle.quajects.proofs.Noting.{WereLost}
 use Rattle.quajects.proofs.raw.tell.Given as goal
 

@@ -1,5 +1,4 @@
-use Rattle.std.proofs.Common.{rules, refl}
-use Rattle.claim_queue.specs.Handles.{view_of}
+use Rattle.quajects.proofs.Common.{rules, refl, view_of}
 use Rattle.quajects.proofs.Joining.{alone_has, join_more}
 use Rattle.quajects.proofs.settling.join_all.Goals as goal
 

@@ -1,5 +1,4 @@
-use Rattle.claim_queue.specs.Handles.{view_of, IsSameEnd}
-use Rattle.quajects.specs.Settled.{views_of, HasAll}
+use Rattle.quajects.proofs.Common.{view_of, IsSameEnd, views_of, HasAll}
 use Rattle.quajects.proofs.settling.join_all.Given as goal
 
 abbrev pub invariant-loop-other : goal.invariant-loop-other

@@ -1,5 +1,4 @@
-use Rattle.std.proofs.Common.{◌∙◌}
-use Rattle.claim_queue.specs.Handles.{view_of}
+use Rattle.quajects.proofs.Common.{◌∙◌, view_of}
 use Rattle.quajects.proofs.Joining.{settled_now, still_open, if_ok, if_err}
 use Rattle.quajects.proofs.settling.settle.Goals as goal
 

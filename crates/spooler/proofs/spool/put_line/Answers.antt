@@ -1,6 +1,4 @@
-use Rattle.std.proofs.Common.{rules, [], ◌∷◌, List, ℕ, subst}
-use Rattle.claim_queue.specs.Handles.{view_of}
-use Rattle.spooler.specs.Doings.{HasPut}
+use Rattle.spooler.proofs.Common.{rules, [], ◌∷◌, List, ℕ, subst, view_of, HasPut}
 use Rattle.spooler.proofs.Putting.{put_one, put_lost, put_on}
 use Rattle.spooler.proofs.spool.put_line.Goals as goal
 

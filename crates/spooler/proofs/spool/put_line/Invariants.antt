@@ -1,6 +1,4 @@
-use Rattle.std.proofs.Common.{[]}
-use Rattle.claim_queue.specs.Handles.{view_of, IsEndOf}
-use Rattle.spooler.specs.Doings.{HasPut}
+use Rattle.spooler.proofs.Common.{[], view_of, IsEndOf, HasPut}
 use Rattle.spooler.proofs.spool.put_line.Given as goal
 
 abbrev pub invariant-loop : goal.invariant-loop

@@ -1,8 +1,4 @@
-use Rattle.std.proofs.Common.{rules, ◌≡◌, ℕ, zero, suc, ◌+◌, ◌<◌, [], ◌∷◌, ◌++◌, List, take, get_or, length, ap, sym, subst, arith}
-use Rattle.claim_queue.specs.Handles.{view_of}
-use Rattle.spooler.specs.declared.line.Line.{Line}
-use Rattle.spooler.specs.Doings.{HasPut}
-use Rattle.spooler.specs.Lines.{lines_of}
+use Rattle.spooler.proofs.Common.{rules, ◌≡◌, ℕ, zero, suc, ◌+◌, ◌<◌, [], ◌∷◌, ◌++◌, List, take, get_or, length, ap, sym, subst, arith, view_of, Line, HasPut, lines_of}
 use Rattle.spooler.proofs.Putting.{put_on}
 use Rattle.spooler.proofs.spool.put_lines.Goals as goal
 

@@ -1,7 +1,4 @@
-use Rattle.std.proofs.Common.{take}
-use Rattle.claim_queue.specs.Handles.{view_of, IsEndOf}
-use Rattle.spooler.specs.Doings.{HasPut}
-use Rattle.spooler.specs.Lines.{lines_of}
+use Rattle.spooler.proofs.Common.{take, view_of, IsEndOf, HasPut, lines_of}
 use Rattle.spooler.proofs.spool.put_lines.Given as goal
 
 abbrev pub invariant-loop-line : goal.invariant-loop-line

@@ -1,17 +1,5 @@
-use Rattle.std.specs.Global.{Vec}
-use Rattle.std.specs.Prelude.{Some, None}
+use Rattle.spooler.proofs.Common.{Vec, Some, None, ◌≡◌, ◌+◌, ◌++◌, ◌∙◌, List, Option, Result, IfOk, IfSome, sym, ap, subst, arith, Batch, given, kept, valid_end, join_grows, join_grows_other, view_of, SplitBy, IsNewEnd, JoinedBy, View, Line, HasTaken, lines_of}
 use Rattle.std.specs.Option.{ok_or, option_zip}
-use Rattle.std.proofs.Common.{◌≡◌, ◌+◌, ◌++◌, ◌∙◌, List, Option, Result, IfOk, IfSome, sym, ap, subst, arith}
-use Rattle.table_theory.specs.declared.queues.Batch.{Batch}
-use Rattle.table_theory.specs.Sharing.{given, kept}
-use Rattle.claim_queue.proofs.Certain.{valid_end}
-use Rattle.claim_queue.proofs.Ordered.{join_grows, join_grows_other}
-use Rattle.claim_queue.specs.Handles.{view_of}
-use Rattle.claim_queue.specs.Endings.{SplitBy, IsNewEnd, JoinedBy}
-use Rattle.claim_queue.specs.Own.{View}
-use Rattle.spooler.specs.declared.line.Line.{Line}
-use Rattle.spooler.specs.Doings.{HasTaken}
-use Rattle.spooler.specs.Lines.{lines_of}
 use Rattle.spooler.proofs.Settling.{Idle, spooled, produced, taken, same_share, grown_two}
 use Rattle.spooler.proofs.spool.run_spool.Goals as goal
 

@@ -1,13 +1,5 @@
-use Rattle.std.specs.Global.{Vec}
+use Rattle.spooler.proofs.Common.{Vec, rules, ◌≡◌, ◌∙◌, ◌++◌, ◌∷◌, [], List, Bool, Option, IfSome, true, false, refl, sym, ap, subst, if◌then◌else◌, map-append, view_of, Line, HasTaken, lines_of, valid_end}
 use Rattle.std.specs.Bool.{then_some}
-use Rattle.std.proofs.Common.{rules, ◌≡◌, ◌∙◌, ◌++◌, ◌∷◌, [], List, Bool, Option, IfSome, true, false, refl, sym, ap, subst}
-use Rattle.std.specs.Prelude.{if◌then◌else◌}
-use Rattle.std.proofs.lemmas.List.{map-append}
-use Rattle.claim_queue.specs.Handles.{view_of}
-use Rattle.spooler.specs.declared.line.Line.{Line}
-use Rattle.spooler.specs.Doings.{HasTaken}
-use Rattle.spooler.specs.Lines.{lines_of}
-use Rattle.claim_queue.proofs.Certain.{valid_end}
 use Rattle.spooler.proofs.Wholes.{line_whole}
 use Rattle.spooler.proofs.Taking.{more_taken, puts_through, all_taken, refused_ordered, took_ordered, took_few}
 use Rattle.spooler.proofs.spool.take_lines.Goals as goal

@@ -1,9 +1,4 @@
-use Rattle.std.proofs.Common.{◌≡◌, true, ◌++◌}
-use Rattle.claim_queue.specs.Handles.{view_of, IsEndOf}
-use Rattle.claim_queue.specs.Lines.{lines_taken}
-use Rattle.claim_queue.specs.Orders.{TakesInOrder}
-use Rattle.spooler.specs.Doings.{KeepsPuts}
-use Rattle.spooler.specs.Lines.{lines_of}
+use Rattle.spooler.proofs.Common.{◌≡◌, true, ◌++◌, view_of, IsEndOf, lines_taken, TakesInOrder, KeepsPuts, lines_of}
 use Rattle.spooler.proofs.spool.take_lines.Given as goal
 
 abbrev pub invariant-loop : goal.invariant-loop

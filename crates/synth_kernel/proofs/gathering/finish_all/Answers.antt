@@ -1,6 +1,4 @@
-use Rattle.synth_kernel.proofs.Common.{arith, [], ◌∷◌, ◌++◌, length, ap, subst, sym, ◌∙◌, map-append, into_iter_items, IsLine, AllThree, tty_of, TotalsAre}
-use Rattle.std.proofs.Common.{rules}
-use Rattle.boot_objects.proofs.Drawing.{drawn_more}
+use Rattle.synth_kernel.proofs.Common.{arith, [], ◌∷◌, ◌++◌, length, ap, subst, sym, ◌∙◌, map-append, into_iter_items, IsLine, AllThree, tty_of, TotalsAre, rules, drawn_more}
 use Rattle.synth_kernel.proofs.Placing.{zip_head, zip_tail, zip_long}
 use Rattle.synth_kernel.proofs.gathering.finish_all.Goals as goal
 

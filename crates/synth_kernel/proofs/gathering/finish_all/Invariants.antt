@@ -1,5 +1,4 @@
-use Rattle.synth_kernel.proofs.Common.{◌≡◌, ◌≤◌, ◌+◌, map, vec_len, vec_capacity, length, AllZip, into_iter_items, into_iter_len, IsLine, tty_of, TotalsAre}
-use Rattle.boot_objects.proofs.Drawing.{Drawn}
+use Rattle.synth_kernel.proofs.Common.{◌≡◌, ◌≤◌, ◌+◌, map, vec_len, vec_capacity, length, AllZip, into_iter_items, into_iter_len, IsLine, tty_of, TotalsAre, Drawn}
 use Rattle.synth_kernel.proofs.gathering.finish_all.Given as goal
 
 abbrev pub invariant-loop-one : goal.invariant-loop-one

@@ -4,18 +4,18 @@ use Rattle.synth_kernel.proofs.Sorting.{joined_more}
 use Rattle.synth_kernel.proofs.Placing.{here}
 use Rattle.synth_kernel.proofs.gathering.join_stations.Goals as goal
 
-pub join-requires-clause-other : goal.join-requires-clause-other
-join-requires-clause-other g c =
+pub join_station-requires-clause-other : goal.join_station-requires-clause-other
+join_station-requires-clause-other g c =
     here parts_of (ArePartsOf c.args.shared.now) c.loop-one.yielded c.in-Some.one (into_iter_items c.next.new.self) c.args.processed.items
     (ap (λ z. c.loop-one.yielded ++ z) (sym c.in-Some.ensures.steps.0) ∙ c.loop-one.invariant.parts) c.requires.stations
 
 pub loop-one-preserved : goal.loop-one-preserved
-loop-one-preserved g c = let v = c.loop-one.invariant in let j = c.join.ensures in record {
+loop-one-preserved g c = let v = c.loop-one.invariant in let j = c.join_station.ensures in record {
   first = j.parts;
-  joined = subst (λ (z : List Parts). AllJoined c.args.first.parts z c.join.new.self.parts) (sym (map-append parts_of c.loop-one.yielded (c.in-Some.one ∷ [])))
-      (joined_more c.args.first.parts (map parts_of c.loop-one.yielded) c.loop-one.first.parts c.in-Some.one.station.parts c.join.new.self.parts v.joined j.joined);
+  joined = subst (λ (z : List Parts). AllJoined c.args.first.parts z c.join_station.new.station.parts) (sym (map-append parts_of c.loop-one.yielded (c.in-Some.one ∷ [])))
+      (joined_more c.args.first.parts (map parts_of c.loop-one.yielded) c.loop-one.first.parts c.in-Some.one.station.parts c.join_station.new.station.parts v.joined j.joined);
   heard = ap (flat_map lines_of) c.push_reserved.ensures.items
-      ∙ (flat_map-append lines_of c.loop-one.heards.items (c.join.result ∷ [])
+      ∙ (flat_map-append lines_of c.loop-one.heards.items (c.join_station.result ∷ [])
       ∙ ((λ i. v.heard i ++ (lines_of (j.heard i) ++ []))
       ∙ (sym (flat_map-append heard_lines (map parts_of c.loop-one.yielded) (c.in-Some.one.station.parts ∷ []))
       ∙ ap (flat_map heard_lines) (sym (map-append parts_of c.loop-one.yielded (c.in-Some.one ∷ []))))));

@@ -1,7 +1,5 @@
-use Rattle.synth_kernel.proofs.Common.{sym, subst}
+use Rattle.synth_kernel.proofs.Common.{sym, subst, Ended, CameBackPlain, IsBootAnswer}
 use Rattle.synth_kernel.proofs.Answering.{alone}
-use Rattle.synth_kernel.specs.declared.outcome.Ended.{Ended}
-use Rattle.synth_kernel.specs.Boots.{CameBackPlain, IsBootAnswer}
 use Rattle.synth_kernel.proofs.kernel.boot.Goals as goal
 
 pub returns-clause-ok : goal.returns-clause-ok

@@ -1,7 +1,5 @@
-use Rattle.synth_kernel.proofs.Common.{sym, subst, calls}
+use Rattle.synth_kernel.proofs.Common.{sym, subst, calls, Ended, BootWithHooks, IsBootAnswer}
 use Rattle.synth_kernel.proofs.Answering.{alone}
-use Rattle.synth_kernel.specs.declared.outcome.Ended.{Ended}
-use Rattle.synth_kernel.specs.Boots.{BootWithHooks, IsBootAnswer}
 use Rattle.synth_kernel.proofs.kernel.boot_with.Goals as goal
 
 pub returns-clause-ok : goal.returns-clause-ok

@@ -1,5 +1,4 @@
-use Rattle.synth_kernel.proofs.Common.{◌≡◌, ℕ, List}
-use Rattle.std.proofs.Common.{inl, inr, IsOk}
+use Rattle.synth_kernel.proofs.Common.{◌≡◌, ℕ, List, inl, inr, IsOk}
 use Rattle.boot_script.specs.declared.fault.ScriptFault.{ScriptFault}
 use Rattle.boot_script.specs.declared.fault.ScriptRefusal.TheVariants.{OutOfMemory}
 use Rattle.boot_script.specs.Answers.{IsFault}

@@ -1,8 +1,4 @@
-use Rattle.synth_kernel.proofs.Common.{◌+◌, ℕ, length, ap, subst, ◌∙◌, arith, as_many_posts, AreServing}
-use Rattle.boot_threads.proofs.Firstness.{can_split_eight, all_free}
-use Rattle.boot_threads.proofs.Preparedness.{first_prepared}
-use Rattle.boot_threads.proofs.Allowing.{all_may, as_many_works}
-use Rattle.synth_kernel.specs.Readies.{HasPlaces}
+use Rattle.synth_kernel.proofs.Common.{◌+◌, ℕ, length, ap, subst, ◌∙◌, arith, as_many_posts, AreServing, can_split_eight, all_free, first_prepared, all_may, as_many_works, HasPlaces}
 use Rattle.synth_kernel.proofs.ready.get_ready.Goals as goal
 
 pub post_all-requires-clause-split : goal.post_all-requires-clause-split

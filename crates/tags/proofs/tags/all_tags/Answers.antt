@@ -1,6 +1,4 @@
-use Rattle.std.proofs.Common.{◌∷◌, ◌++◌, ◌∙◌, ◌<◌, [], List, ℕ, ap, sym, length, rules, arith}
-use Rattle.std.proofs.lemmas.List.FromFn.{length-range_with_len}
-use Rattle.table_theory.proofs.Times.{one_more}
+use Rattle.tags.proofs.Common.{◌∷◌, ◌++◌, ◌∙◌, ◌<◌, [], List, ℕ, ap, sym, length, rules, arith, length-range_with_len, one_more}
 use Rattle.tags.proofs.tags.all_tags.Goals as goal
 
 pub push-requires : goal.push-requires

@@ -1,5 +1,4 @@
-use Rattle.std.proofs.Common.{◌≡◌}
-use Rattle.tags.specs.Lending.{all_tags}
+use Rattle.tags.proofs.Common.{◌≡◌, all_tags}
 use Rattle.tags.proofs.tags.all_tags.Given as goal
 
 abbrev pub invariant-loop-tag : goal.invariant-loop-tag

@@ -1,5 +1,4 @@
-use Rattle.std.proofs.Common.{◌≡◌, ◌≤◌, ℕ, List, length, map, take}
-use Rattle.std.specs.Prelude.{Some}
+use Rattle.tags.proofs.Common.{◌≡◌, ◌≤◌, ℕ, List, length, map, take, Some}
 use Rattle.tags.proofs.tags.left_tags.Given as goal
 
 abbrev pub invariant-loop-place : goal.invariant-loop-place

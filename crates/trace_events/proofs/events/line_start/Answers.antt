@@ -1,5 +1,4 @@
-use Rattle.std.proofs.Common.{refl, arith}
-use Rattle.trace_events.specs.Events.{line_start_json}
+use Rattle.trace_events.proofs.Common.{refl, arith, line_start_json}
 use Rattle.trace_events.proofs.Growing.{alone_join, alone_text}
 use Rattle.trace_events.proofs.events.line_start.Goals as goal
 

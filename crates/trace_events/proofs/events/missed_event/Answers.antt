@@ -1,5 +1,4 @@
-use Rattle.std.proofs.Common.{refl, arith}
-use Rattle.trace_events.specs.Events.{missed_json}
+use Rattle.trace_events.proofs.Common.{refl, arith, missed_json}
 use Rattle.trace_events.proofs.Growing.{alone_join, ended_text}
 use Rattle.trace_events.proofs.events.missed_event.Goals as goal
 

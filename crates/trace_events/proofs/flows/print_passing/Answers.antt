@@ -1,7 +1,4 @@
-use Rattle.std.proofs.Common.{ℕ, ap, subst, ◌∙◌}
-use Rattle.trace_events.specs.Documents.{IsEvent}
-use Rattle.trace_events.specs.Events.{line_end_json, line_start_json}
-use Rattle.trace_events.specs.Turns.{thread_track}
+use Rattle.trace_events.proofs.Common.{ℕ, ap, subst, ◌∙◌, IsEvent, line_end_json, line_start_json, thread_track}
 use Rattle.trace_events.proofs.Printing.{prints_shown, prints_text, then_prints}
 use Rattle.trace_events.proofs.flows.print_passing.Goals as goal
 

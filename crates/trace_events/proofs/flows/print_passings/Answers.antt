@@ -1,5 +1,4 @@
-use Rattle.trace_events.specs.Traces.{passing_events}
-use Rattle.trace_events.specs.Tracks.{slice_start}
+use Rattle.trace_events.proofs.Common.{passing_events, slice_start}
 use Rattle.trace_events.proofs.Printing.{events_done, events_more}
 use Rattle.trace_events.proofs.flows.print_passings.Goals as goal
 

@@ -1,7 +1,4 @@
-use Rattle.std.proofs.Common.{ℕ, List, Option, drop}
-use Rattle.trace_events.specs.Documents.{Prints}
-use Rattle.trace_events.specs.Traces.{numbered_events, passing_events}
-use Rattle.trace_events.specs.Tracks.{slice_start}
+use Rattle.trace_events.proofs.Common.{ℕ, List, Option, drop, Prints, numbered_events, passing_events, slice_start}
 use Rattle.trace_events.proofs.flows.print_passings.Given as goal
 
 -- Whoever prints the events of those that are left has printed the events of all.

@@ -1,7 +1,4 @@
-use Rattle.std.proofs.Common.{subst, sym, ◌∙◌, List, [], ◌∷◌, ℕ}
-use Rattle.json.specs.Print.{IsNumber}
-use Rattle.json.specs.Token.{key, number}
-use Rattle.trace_events.specs.Objects.{Grown}
+use Rattle.trace_events.proofs.Common.{subst, sym, ◌∙◌, List, [], ◌∷◌, ℕ, IsNumber, key, number, Grown}
 use Rattle.trace_events.proofs.Growing.{two_written}
 use Rattle.trace_events.proofs.Numbers.{IsNumber-micros}
 use Rattle.trace_events.proofs.members.put_time.Goals as goal

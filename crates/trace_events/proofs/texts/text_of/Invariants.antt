@@ -1,5 +1,4 @@
-use Rattle.std.proofs.Common.{◌≡◌, ◌++◌, drop, string_bytes}
-use Rattle.boot_script.specs.Reports.{heard_text}
+use Rattle.trace_events.proofs.Common.{◌≡◌, ◌++◌, drop, string_bytes, heard_text}
 use Rattle.trace_events.proofs.texts.text_of.Given as goal
 
 -- With the bytes that are left, all bytes are written.

@@ -1,8 +1,4 @@
-use Rattle.std.proofs.Common.{◌≡◌, ◌+◌, ◌-◌, ap, sym, subst, ◌∙◌, ◌∷◌, ◌++◌, List, ℕ, Bool, true, arith, string_bytes}
-use Rattle.std.specs.Prelude.{if◌then◌else◌}
-use Rattle.std.specs.List.{slice_get}
-use Rattle.boot_script.specs.Reports.{heard_text}
-use Rattle.trace_events.specs.Names.{name_of_thread, thread_names, thread_text, threads_text}
+use Rattle.trace_events.proofs.Common.{◌≡◌, ◌+◌, ◌-◌, ap, sym, subst, ◌∙◌, ◌∷◌, ◌++◌, List, ℕ, Bool, true, arith, string_bytes, if◌then◌else◌, slice_get, heard_text, name_of_thread, thread_names, thread_text, threads_text}
 use Rattle.trace_events.proofs.Masks.{joined, name_less, name_more, names_done, spaced}
 use Rattle.trace_events.proofs.threads.text_of_threads.Goals as goal
 use Rattle.trace_events.proofs.threads.text_of_threads.Goals.{in-Some+in_ok-name+in_ok-add_name, in_default}

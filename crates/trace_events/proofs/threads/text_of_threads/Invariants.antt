@@ -1,5 +1,4 @@
-use Rattle.std.proofs.Common.{◌≡◌, ◌-◌, ◌++◌, string_bytes}
-use Rattle.trace_events.specs.Names.{thread_names, threads_text}
+use Rattle.trace_events.proofs.Common.{◌≡◌, ◌-◌, ◌++◌, string_bytes, thread_names, threads_text}
 use Rattle.trace_events.proofs.Masks.{spaced}
 use Rattle.trace_events.proofs.threads.text_of_threads.Given as goal
 

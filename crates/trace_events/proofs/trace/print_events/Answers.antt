@@ -1,12 +1,6 @@
-use Rattle.std.proofs.Common.{◌≤◌, ℕ, length, subst, sym, List}
+use Rattle.trace_events.proofs.Common.{◌≤◌, ℕ, length, subst, sym, List, OnOk, Kept, kept_in, ThreadTurn, Prints, log_events, numbered_events, passing_events, thread_events, all_thread_turns}
 use Rattle.boot_data.specs.declared.plan.PlannedThread.{PlannedThread}
-use Rattle.std.specs.Prelude.{OnOk}
-use Rattle.boot_log.specs.Kept.{Kept, kept_in}
 use Rattle.boot_log.specs.Lines.{passings}
-use Rattle.trace_events.specs.declared.tracks.ThreadTurn.{ThreadTurn}
-use Rattle.trace_events.specs.Documents.{Prints}
-use Rattle.trace_events.specs.Traces.{log_events, numbered_events, passing_events, thread_events}
-use Rattle.trace_events.specs.Tracks.{all_thread_turns}
 use Rattle.trace_events.proofs.Plans.{few_threads}
 use Rattle.trace_events.proofs.Printing.{prints_join, then_prints}
 use Rattle.trace_events.proofs.Starts.{starts-IsPermutation}

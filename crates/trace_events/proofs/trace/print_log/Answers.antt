@@ -1,10 +1,4 @@
-use Rattle.std.proofs.Common.{ℕ, List, ap, subst, ◌∙◌}
-use Rattle.std.specs.Prelude.{OnOk}
-use Rattle.boot_log.specs.declared.entry.Entry.{Entry}
-use Rattle.boot_log.specs.Kept.{end_of}
-use Rattle.trace_events.specs.Documents.{Prints}
-use Rattle.trace_events.specs.Tracks.{slice_start}
-use Rattle.trace_events.specs.Turns.{missed_events, runs_events, runs_of}
+use Rattle.trace_events.proofs.Common.{ℕ, List, ap, subst, ◌∙◌, OnOk, Entry, end_of, Prints, slice_start, missed_events, runs_events, runs_of}
 use Rattle.trace_events.proofs.Printing.{then_prints}
 use Rattle.trace_events.proofs.trace.print_log.Goals as goal
 

@@ -1,7 +1,4 @@
-use Rattle.std.proofs.Common.{Bor}
-use Rattle.boot_log.specs.Kept.{Kept}
-use Rattle.trace_events.specs.Traces.{log_events}
-use Rattle.trace_events.specs.Tracks.{slice_start}
+use Rattle.trace_events.proofs.Common.{Bor, Kept, log_events, slice_start}
 use Rattle.trace_events.proofs.Printing.{mapped_done, mapped_more}
 use Rattle.trace_events.proofs.trace.print_logs.Goals as goal
 

@@ -1,10 +1,4 @@
-use Rattle.std.proofs.Common.{Bool, List, [], ◌∷◌, ℕ, ap, subst, sym}
-use Rattle.std.proofs.lemmas.Bool.{ne_eqb}
-use Rattle.std.specs.Prelude.{OnOk, if◌then◌else◌}
-use Rattle.json.specs.Json.{Json}
-use Rattle.trace_events.specs.Documents.{IsEvent, Prints}
-use Rattle.trace_events.specs.Events.{missed_json}
-use Rattle.trace_events.specs.Turns.{processor_track}
+use Rattle.trace_events.proofs.Common.{Bool, List, [], ◌∷◌, ℕ, ap, subst, sym, ne_eqb, OnOk, if◌then◌else◌, Json, IsEvent, Prints, missed_json, processor_track}
 use Rattle.trace_events.proofs.Printing.{prints_text}
 use Rattle.trace_events.proofs.trace.print_missed.Goals as goal
 

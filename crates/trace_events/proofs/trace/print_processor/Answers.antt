@@ -1,6 +1,4 @@
-use Rattle.std.proofs.Common.{subst, ◌∙◌, ◌++◌, List, ℕ, codes, decimal}
-use Rattle.trace_events.specs.Documents.{IsEvent}
-use Rattle.trace_events.specs.Events.{metadata_json}
+use Rattle.trace_events.proofs.Common.{subst, ◌∙◌, ◌++◌, List, ℕ, codes, decimal, IsEvent, metadata_json}
 use Rattle.trace_events.proofs.Printing.{prints_text}
 use Rattle.trace_events.proofs.trace.print_processor.Goals as goal
 

@@ -1,6 +1,4 @@
-use Rattle.std.proofs.Common.{Bor}
-use Rattle.boot_log.specs.Kept.{Kept}
-use Rattle.trace_events.specs.Traces.{processor_events}
+use Rattle.trace_events.proofs.Common.{Bor, Kept, processor_events}
 use Rattle.trace_events.proofs.Printing.{mapped_done, mapped_each}
 use Rattle.trace_events.proofs.trace.print_processors.Goals as goal
 

@@ -1,7 +1,4 @@
-use Rattle.std.proofs.Common.{ℕ, List, Option, drop}
-use Rattle.boot_log.specs.Kept.{kept_in}
-use Rattle.trace_events.specs.Documents.{Prints}
-use Rattle.trace_events.specs.Traces.{numbered_events, processor_events}
+use Rattle.trace_events.proofs.Common.{ℕ, List, Option, drop, kept_in, Prints, numbered_events, processor_events}
 use Rattle.trace_events.proofs.trace.print_processors.Given as goal
 
 -- Whoever prints the events of those that are left has printed the events of all.

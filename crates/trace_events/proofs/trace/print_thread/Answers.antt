@@ -1,7 +1,4 @@
-use Rattle.std.proofs.Common.{subst, ap, ◌∙◌, ◌+◌, List, ℕ, codes}
-use Rattle.boot_script.specs.Reports.{heard_text}
-use Rattle.trace_events.specs.Documents.{IsEvent}
-use Rattle.trace_events.specs.Events.{metadata_json}
+use Rattle.trace_events.proofs.Common.{subst, ap, ◌∙◌, ◌+◌, List, ℕ, codes, heard_text, IsEvent, metadata_json}
 use Rattle.trace_events.proofs.Printing.{prints_text}
 use Rattle.trace_events.proofs.trace.print_thread.Goals as goal
 

@@ -1,6 +1,4 @@
-use Rattle.std.proofs.Common.{ℕ, List, Option, drop}
-use Rattle.trace_events.specs.Documents.{Prints}
-use Rattle.trace_events.specs.Traces.{numbered_events, thread_events}
+use Rattle.trace_events.proofs.Common.{ℕ, List, Option, drop, Prints, numbered_events, thread_events}
 use Rattle.trace_events.proofs.trace.print_threads.Given as goal
 
 -- Whoever prints the events of those that are left has printed the events of all.

@@ -1,10 +1,4 @@
-use Rattle.std.proofs.Common.{ap, ◌∙◌, ◌++◌, List, ℕ, codes}
-use Rattle.std.proofs.KnownBytes.{Appends-trans}
-use Rattle.std.proofs.lemmas.Result.{on_ok_weaker}
-use Rattle.boot_log.specs.Kept.{kept_in}
-use Rattle.json.specs.Json.{Json}
-use Rattle.trace_events.specs.Documents.{later_texts}
-use Rattle.trace_events.specs.Traces.{boot_events, process_json}
+use Rattle.trace_events.proofs.Common.{ap, ◌∙◌, ◌++◌, List, ℕ, codes, Appends-trans, on_ok_weaker, kept_in, Json, later_texts, boot_events, process_json}
 use Rattle.trace_events.proofs.Documents.{trace_joined}
 use Rattle.trace_events.proofs.Printing.{then_appends}
 use Rattle.trace_events.proofs.Values.{trace_read}

@@ -1,5 +1,4 @@
-use Rattle.std.proofs.Common.{◌≡◌, ◌++◌, drop}
-use Rattle.trace_events.specs.Tracks.{thread_turns}
+use Rattle.trace_events.proofs.Common.{◌≡◌, ◌++◌, drop, thread_turns}
 use Rattle.trace_events.proofs.tracks.add_thread_turns.Given as goal
 
 -- with those of the turns that are left, all turns of threads are appended

@@ -1,6 +1,4 @@
-use Rattle.std.proofs.Common.{◌≡◌, ◌++◌, drop}
-use Rattle.boot_log.specs.Kept.{kept_in}
-use Rattle.trace_events.specs.Tracks.{all_thread_turns}
+use Rattle.trace_events.proofs.Common.{◌≡◌, ◌++◌, drop, kept_in, all_thread_turns}
 use Rattle.trace_events.proofs.tracks.all_thread_turns.Given as goal
 
 -- with those of the processors that are left, the turns of all threads are in the list

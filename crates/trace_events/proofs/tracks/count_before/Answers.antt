@@ -1,6 +1,4 @@
-use Rattle.std.proofs.Common.{rules}
-use Rattle.std.proofs.lemmas.List.Sorted.{IsPartitionPoint-from_clause}
-use Rattle.trace_events.specs.Tracks.{sorts_before}
+use Rattle.trace_events.proofs.Common.{rules, IsPartitionPoint-from_clause, sorts_before}
 use Rattle.trace_events.proofs.Starts.{parted_before}
 use Rattle.trace_events.proofs.tracks.count_before.Goals as goal
 

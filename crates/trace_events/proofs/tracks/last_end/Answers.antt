@@ -1,5 +1,4 @@
-use Rattle.std.proofs.Common.{sym}
-use Rattle.trace_events.specs.declared.tracks.ThreadTurn.{ThreadTurn}
+use Rattle.trace_events.proofs.Common.{sym, ThreadTurn}
 use Rattle.trace_events.proofs.Starts.{end_of_last, none_before}
 use Rattle.trace_events.proofs.tracks.last_end.Goals as goal
 

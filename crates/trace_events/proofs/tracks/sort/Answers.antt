@@ -1,5 +1,4 @@
-use Rattle.std.proofs.Common.{rules}
-use Rattle.std.proofs.lemmas.List.Sorted.{answers_always}
+use Rattle.trace_events.proofs.Common.{rules, answers_always}
 use Rattle.trace_events.proofs.Starts.{key_of, sorted_by_key}
 use Rattle.trace_events.proofs.tracks.sort.Goals as goal
 

@@ -1,6 +1,4 @@
-use Rattle.std.proofs.Common.{subst, [], ◌∷◌, List, codes}
-use Rattle.trace_events.specs.Objects.{Named, Writes, list_tokens, numbered}
-use Rattle.trace_events.specs.TurnArgs.{did_args, tick_args, fired_args}
+use Rattle.trace_events.proofs.Common.{subst, [], ◌∷◌, List, codes, Named, Writes, list_tokens, numbered, did_args, tick_args, fired_args}
 use Rattle.trace_events.proofs.Growing.{grown_join, then_writes, three_listed}
 use Rattle.trace_events.proofs.turn_args.put_turn.Goals as goal
 

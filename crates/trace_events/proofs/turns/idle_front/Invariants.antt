@@ -1,6 +1,4 @@
-use Rattle.std.proofs.Common.{◌≡◌, ◌+◌, drop}
-use Rattle.std.specs.List.{prefix_len}
-use Rattle.boot_log.specs.Idling.{is_idle}
+use Rattle.trace_events.proofs.Common.{◌≡◌, ◌+◌, drop, prefix_len, is_idle}
 use Rattle.trace_events.proofs.turns.idle_front.Given as goal
 
 -- The turns so far are all idle.

@@ -1,8 +1,4 @@
-use Rattle.std.proofs.Common.{subst, ap, append_assoc, ◌∙◌, [], ◌∷◌, ◌++◌, List, ℕ, codes, IfOk, arith}
-use Rattle.json.specs.Token.{end_object}
-use Rattle.trace_events.specs.Objects.{Named, list_tokens, numbered}
-use Rattle.trace_events.specs.Documents.{IsEvent}
-use Rattle.trace_events.specs.Events.{turn_json, turn_opening}
+use Rattle.trace_events.proofs.Common.{subst, ap, append_assoc, ◌∙◌, [], ◌∷◌, ◌++◌, List, ℕ, codes, IfOk, arith, end_object, Named, list_tokens, numbered, IsEvent, turn_json, turn_opening}
 use Rattle.trace_events.proofs.Growing.{alone_join, ended_text, turn_closed}
 use Rattle.trace_events.proofs.turns.idle_text.Goals as goal
 

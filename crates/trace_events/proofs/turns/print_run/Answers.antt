@@ -1,9 +1,4 @@
-use Rattle.std.proofs.Common.{subst, sym, ◌∙◌, List, ℕ, length, arith}
-use Rattle.std.specs.Prelude.{OnOk}
-use Rattle.json.specs.Json.{Json}
-use Rattle.trace_events.specs.Documents.{IsEvent, Prints}
-use Rattle.trace_events.specs.Tracks.{slice_start}
-use Rattle.trace_events.specs.Turns.{idle_event}
+use Rattle.trace_events.proofs.Common.{subst, sym, ◌∙◌, List, ℕ, length, arith, OnOk, Json, IsEvent, Prints, slice_start, idle_event}
 use Rattle.trace_events.proofs.Printing.{prints_text}
 use Rattle.trace_events.proofs.Runs.{idle_run}
 use Rattle.trace_events.proofs.turns.print_run.Goals as goal

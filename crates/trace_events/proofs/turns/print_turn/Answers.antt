@@ -1,15 +1,4 @@
-use Rattle.std.proofs.Common.{subst, ◌∷◌, ℕ, Option}
-use Rattle.std.specs.Prelude.{OnOk}
-use Rattle.json.specs.Json.{Json}
-use Rattle.boot_log.specs.Kept.{part_of}
-use Rattle.boot_log.specs.Values.{line_part}
-use Rattle.trace_events.specs.declared.tracks.ThreadTurn.{ThreadTurn}
-use Rattle.trace_events.specs.Documents.{IsEvent, Prints}
-use Rattle.trace_events.specs.Events.{turn_json}
-use Rattle.trace_events.specs.Tracks.{slice_start, thread_turn_of}
-use Rattle.trace_events.specs.TurnArgs.{turn_args}
-use Rattle.trace_events.specs.TurnNames.{turn_name}
-use Rattle.trace_events.specs.Turns.{on_thread, processor_track, thread_track}
+use Rattle.trace_events.proofs.Common.{subst, ◌∷◌, ℕ, Option, OnOk, Json, part_of, line_part, ThreadTurn, IsEvent, Prints, turn_json, slice_start, thread_turn_of, turn_args, turn_name, on_thread, processor_track, thread_track}
 use Rattle.trace_events.proofs.Printing.{prints_shown, prints_text, then_prints}
 use Rattle.trace_events.proofs.turns.print_turn.Goals as goal
 

@@ -1,5 +1,4 @@
-use Rattle.std.proofs.Common.{sym, ◌∙◌, arith, refl}
-use Rattle.trace_events.specs.Tracks.{slice_start}
+use Rattle.trace_events.proofs.Common.{sym, ◌∙◌, arith, refl, slice_start}
 use Rattle.trace_events.proofs.Turning.{some_left, turns_done, turns_more}
 use Rattle.trace_events.proofs.turns.print_turns.Goals as goal
 

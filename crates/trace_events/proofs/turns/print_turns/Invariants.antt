@@ -1,7 +1,4 @@
-use Rattle.std.proofs.Common.{◌≡◌, ◌+◌, ℕ, List, Option, length}
-use Rattle.trace_events.specs.Documents.{Prints}
-use Rattle.trace_events.specs.Tracks.{slice_start}
-use Rattle.trace_events.specs.Turns.{runs_of, runs_events}
+use Rattle.trace_events.proofs.Common.{◌≡◌, ◌+◌, ℕ, List, Option, length, Prints, slice_start, runs_of, runs_events}
 use Rattle.trace_events.proofs.turns.print_turns.Given as goal
 
 -- Whoever prints the events of the turns that are left has printed those of all turns. The number is that of the next.

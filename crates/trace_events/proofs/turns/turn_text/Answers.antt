@@ -1,9 +1,4 @@
-use Rattle.std.proofs.Common.{◌≡◌, subst, ap, ◌∙◌, List, ℕ, IfOk, arith}
-use Rattle.trace_events.specs.Documents.{IsEvent}
-use Rattle.trace_events.specs.Events.{turn_json}
-use Rattle.trace_events.specs.TurnArgs.{turn_args}
-use Rattle.boot_log.specs.Kept.{part_of}
-use Rattle.boot_log.specs.Values.{line_part}
+use Rattle.trace_events.proofs.Common.{◌≡◌, subst, ap, ◌∙◌, List, ℕ, IfOk, arith, IsEvent, turn_json, turn_args, part_of, line_part}
 use Rattle.trace_events.proofs.Flat.{turn_depth, turn_flat}
 use Rattle.trace_events.proofs.Growing.{alone_join, ended_text, turn_closed}
 use Rattle.trace_events.proofs.turns.turn_text.Goals as goal

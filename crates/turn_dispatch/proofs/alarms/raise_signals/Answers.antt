@@ -1,5 +1,4 @@
-use Rattle.turn_dispatch.proofs.Common.{take, view_of, call_of}
-use Rattle.std.proofs.Common.{◌∙◌}
+use Rattle.turn_dispatch.proofs.Common.{take, view_of, call_of, ◌∙◌}
 use Rattle.turn_dispatch.proofs.Raised.{raised_again, taken_one}
 use Rattle.turn_dispatch.proofs.alarms.raise_signals.Goals as goal
 

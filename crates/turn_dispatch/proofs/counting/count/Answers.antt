@@ -1,5 +1,4 @@
-use Rattle.turn_dispatch.proofs.Common.{rules, view_of, call_of}
-use Rattle.std.proofs.Common.{sym}
+use Rattle.turn_dispatch.proofs.Common.{rules, view_of, call_of, sym}
 use Rattle.turn_dispatch.proofs.Stepped.{step_is, spent_is, steady_spent, found_steps}
 use Rattle.turn_dispatch.proofs.counting.count.Goals as goal
 

@@ -1,5 +1,4 @@
-use Rattle.turn_dispatch.proofs.Common.{view_of, call_of}
-use Rattle.std.proofs.Common.{◌∙◌, ap, get_or, false}
+use Rattle.turn_dispatch.proofs.Common.{view_of, call_of, ◌∙◌, ap, get_or, false}
 use Rattle.turn_dispatch.proofs.Beginnings.{took_has}
 use Rattle.turn_dispatch.proofs.OnlyLoads.{park_looks, runs_looks}
 use Rattle.turn_dispatch.proofs.dispatch.awake.Goals as goal

@@ -1,5 +1,4 @@
-use Rattle.turn_dispatch.proofs.Common.{rules, view_of, call_of, Begun, Began, mask_of, no_events, one_delivery}
-use Rattle.std.proofs.Common.{refl}
+use Rattle.turn_dispatch.proofs.Common.{rules, view_of, call_of, Begun, Began, mask_of, no_events, one_delivery, refl}
 use Rattle.turn_dispatch.proofs.Beginnings.{began_is, idle_is}
 use Rattle.turn_dispatch.proofs.Calm.{steady}
 use Rattle.turn_dispatch.proofs.Stepped.{found_steps}

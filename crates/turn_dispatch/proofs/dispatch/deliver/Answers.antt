@@ -1,5 +1,4 @@
-use Rattle.turn_dispatch.proofs.Common.{rules, set, bit_or, Shows, delivery}
-use Rattle.std.proofs.Common.{◌≡◌, ◌<◌, ℕ, subst, get_or, length}
+use Rattle.turn_dispatch.proofs.Common.{rules, set, bit_or, Shows, delivery, ◌≡◌, ◌<◌, ℕ, subst, get_or, length}
 use Rattle.turn_dispatch.proofs.Delivered.{shows_more}
 use Rattle.turn_dispatch.proofs.dispatch.deliver.Goals as goal
 

@@ -1,5 +1,4 @@
-use Rattle.turn_dispatch.proofs.Common.{view_of, call_of, no_events}
-use Rattle.std.proofs.Common.{arith, refl}
+use Rattle.turn_dispatch.proofs.Common.{view_of, call_of, no_events, arith, refl}
 use Rattle.turn_dispatch.proofs.Calm.{steady}
 use Rattle.turn_dispatch.proofs.Sends.{sent_goes, sent_holds}
 use Rattle.turn_dispatch.proofs.moving.make_ready.Goals as goal

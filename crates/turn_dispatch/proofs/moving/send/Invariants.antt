@@ -1,5 +1,4 @@
-use Rattle.turn_dispatch.proofs.Common.{view_of, call_of, IsSameHand, has, LostTries, ring_of}
-use Rattle.std.proofs.Common.{◌≡◌, ℕ, true}
+use Rattle.turn_dispatch.proofs.Common.{view_of, call_of, IsSameHand, has, LostTries, ring_of, ◌≡◌, ℕ, true}
 use Rattle.turn_dispatch.proofs.moving.send.Given as goal
 
 abbrev pub invariant-loop : goal.invariant-loop

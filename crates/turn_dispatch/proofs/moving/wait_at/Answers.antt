@@ -1,5 +1,4 @@
-use Rattle.turn_dispatch.proofs.Common.{view_of, call_of, no_events}
-use Rattle.std.proofs.Common.{refl}
+use Rattle.turn_dispatch.proofs.Common.{view_of, call_of, no_events, refl}
 use Rattle.turn_dispatch.proofs.Calm.{steady}
 use Rattle.turn_dispatch.proofs.Sends.{waited_goes}
 use Rattle.turn_dispatch.proofs.moving.wait_at.Goals as goal

@@ -1,5 +1,4 @@
-use Rattle.turn_dispatch.proofs.Common.{view_of, call_of}
-use Rattle.std.proofs.Common.{◌∙◌}
+use Rattle.turn_dispatch.proofs.Common.{view_of, call_of, ◌∙◌}
 use Rattle.turn_dispatch.proofs.Sends.{lost_wait_again}
 use Rattle.turn_dispatch.proofs.moving.wait_or_ready.Goals as goal
 

@@ -1,5 +1,4 @@
-use Rattle.turn_dispatch.proofs.Common.{view_of, call_of, IsSameHand, has, LostWaits}
-use Rattle.std.proofs.Common.{◌≡◌, ℕ, true}
+use Rattle.turn_dispatch.proofs.Common.{view_of, call_of, IsSameHand, has, LostWaits, ◌≡◌, ℕ, true}
 use Rattle.turn_dispatch.proofs.moving.wait_or_ready.Given as goal
 
 abbrev pub invariant-loop : goal.invariant-loop

@@ -1,5 +1,4 @@
-use Rattle.turn_dispatch.proofs.Common.{view_of, call_of}
-use Rattle.std.proofs.Common.{◌∙◌, false, get_or, ap}
+use Rattle.turn_dispatch.proofs.Common.{view_of, call_of, ◌∙◌, false, get_or, ap}
 use Rattle.turn_dispatch.proofs.Placed.{off_is}
 use Rattle.turn_dispatch.proofs.placing.take_off.Goals as goal
 

@@ -1,7 +1,5 @@
-use Rattle.turn_dispatch.proofs.Common.{view_of, call_of, IsSameHand, has, Sent}
-use Rattle.std.proofs.Common.{◌+◌, ◌∙◌, ℕ, Bool, true, false, refl, sym, ap, subst}
+use Rattle.turn_dispatch.proofs.Common.{view_of, call_of, IsSameHand, has, Sent, ◌+◌, ◌∙◌, ℕ, Bool, true, false, refl, sym, ap, subst, IsMember}
 use Rattle.thread_table.specs.declared.hand.Hand.{Hand}
-use Rattle.turn_dispatch.specs.Wakings.{IsMember}
 use Rattle.turn_dispatch.proofs.Wakes.{Sending, sending_none, sending_passed, sending_kept, sending_ready, still_held}
 use Rattle.turn_dispatch.proofs.waking.ready_all.Goals.{in-Some+then-make_ready, in-Some+else-make_ready, in_default}
 use Rattle.turn_dispatch.proofs.waking.ready_all.Goals as goal

@@ -1,5 +1,4 @@
-use Rattle.turn_dispatch.proofs.Common.{view_of, call_of, Woken, no_events}
-use Rattle.std.proofs.Common.{refl}
+use Rattle.turn_dispatch.proofs.Common.{view_of, call_of, Woken, no_events, refl}
 use Rattle.turn_dispatch.proofs.Calm.{steady}
 use Rattle.turn_dispatch.proofs.Wakes.{can_wake, woke, woken_is}
 use Rattle.turn_dispatch.proofs.waking.wake.Goals as goal

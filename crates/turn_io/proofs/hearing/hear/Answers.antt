@@ -1,5 +1,4 @@
-use Rattle.turn_io.proofs.Common.{rules}
-use Rattle.std.proofs.Common.{Ok}
+use Rattle.turn_io.proofs.Common.{rules, Ok}
 use Rattle.turn_io.proofs.Shares.{heard_long}
 use Rattle.turn_io.proofs.hearing.hear.Goals as goal
 

@@ -1,6 +1,5 @@
-use Rattle.turn_io.proofs.Common.{[], refl, ap, me_of}
+use Rattle.turn_io.proofs.Common.{[], refl, ap, me_of, pact_of}
 use Rattle.proc_chain.specs.Answers.{is_run as chained_run}
-use Rattle.proc_chain.specs.Handles.{pact_of}
 use Rattle.proc_chain.specs.Rules.{suits, makes}
 use Rattle.quajects.specs.Anys.{MadeOf, Fits}
 use Rattle.quajects.proofs.Noting.{none_lost, is_run, is_left}

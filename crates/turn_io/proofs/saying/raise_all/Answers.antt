@@ -1,5 +1,4 @@
-use Rattle.turn_io.proofs.Common.{rules, ◌<◌, length}
-use Rattle.claim_queue.proofs.Putting.{none_raised, raised_more}
+use Rattle.turn_io.proofs.Common.{rules, ◌<◌, length, none_raised, raised_more}
 use Rattle.turn_io.proofs.Shares.{raised_next}
 use Rattle.turn_io.proofs.saying.raise_all.Goals as goal
 

@@ -1,5 +1,4 @@
-use Rattle.turn_io.proofs.Common.{◌≡◌, Owns, RaisedFrom}
-use Rattle.claim_queue.specs.Handles.{view_of, IsSameEnd}
+use Rattle.turn_io.proofs.Common.{◌≡◌, Owns, RaisedFrom, view_of, IsSameEnd}
 use Rattle.turn_io.proofs.saying.raise_all.Given as goal
 
 abbrev pub invariant-loop-i : goal.invariant-loop-i

@@ -1,5 +1,4 @@
-use Rattle.claim_queue.specs.Handles.{view_of}
-use Rattle.claim_queue.proofs.Certain.{distinct_end}
+use Rattle.turn_io.proofs.Common.{view_of, distinct_end}
 use Rattle.turn_io.proofs.Shares.{said_put}
 use Rattle.turn_io.proofs.saying.say.Goals as goal
 

@@ -1,6 +1,5 @@
-use Rattle.boot_objects.proofs.Common.{arith, sym, subst, refl, rules, Home, homes_in, small_ports, large_ports}
+use Rattle.boot_objects.proofs.Common.{arith, sym, subst, refl, rules, Home, homes_in, small_ports, large_ports, QueuesGained}
 use Rattle.turn_io.specs.declared.queue_ends.QueueEnds.{QueueEnds}
-use Rattle.boot_objects.specs.Gains.{QueuesGained}
 use Rattle.boot_objects.proofs.PortGains.{gained_raised, all_up}
 use Rattle.boot_objects.proofs.Whole.{only_hand, only_seat, only_chains, small_whole, large_whole, homes_up, all_tell}
 use Rattle.boot_objects.proofs.closing.all.close_all.Goals as goal

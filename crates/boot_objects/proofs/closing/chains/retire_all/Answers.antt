@@ -1,5 +1,4 @@
-use Rattle.boot_objects.proofs.Common.{arith, length, ap, subst, sym, length_push, into_iter_items, chain_table, chain_end_table, IsIdle, as_long, nil_from_length, HasRetired, IsFew, All-push}
-use Rattle.std.specs.List.{All}
+use Rattle.boot_objects.proofs.Common.{arith, length, ap, subst, sym, length_push, into_iter_items, chain_table, chain_end_table, IsIdle, as_long, nil_from_length, HasRetired, IsFew, All-push, All}
 use Rattle.proc_chain.specs.Handles.{IsOnlyEnd}
 use Rattle.turn_io.proofs.Chains.{idle_end}
 use Rattle.boot_objects.proofs.Drawing.{drawn_more, rest_long, all_drawn, next_fit, next_holds}

@@ -1,5 +1,4 @@
-use Rattle.boot_objects.proofs.Common.{◌≡◌, ◌≤◌, length, vec_len, vec_capacity, into_iter_items, into_iter_len, HasRetired, IsFew}
-use Rattle.std.specs.List.{All}
+use Rattle.boot_objects.proofs.Common.{◌≡◌, ◌≤◌, length, vec_len, vec_capacity, into_iter_items, into_iter_len, HasRetired, IsFew, All}
 use Rattle.boot_objects.proofs.Drawing.{Drawn}
 use Rattle.boot_objects.proofs.closing.chains.retire_all.Given as goal
 

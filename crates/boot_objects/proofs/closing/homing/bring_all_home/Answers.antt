@@ -1,5 +1,4 @@
-use Rattle.boot_objects.proofs.Common.{arith, ◌∷◌, ◌++◌, [], length, sym, ap, ◌∙◌, append_assoc, length_push, map-append, into_iter_items, homes_in, Home}
-use Rattle.quajects.specs.Homes.{home_in}
+use Rattle.boot_objects.proofs.Common.{arith, ◌∷◌, ◌++◌, [], length, sym, ap, ◌∙◌, append_assoc, length_push, map-append, into_iter_items, homes_in, Home, home_in}
 use Rattle.turn_io.proofs.Queues.{same_ends_on}
 use Rattle.boot_objects.proofs.PortGains.{home_more}
 use Rattle.boot_objects.proofs.closing.homing.bring_all_home.Goals as goal

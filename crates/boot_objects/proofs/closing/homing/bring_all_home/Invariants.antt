@@ -1,5 +1,4 @@
-use Rattle.boot_objects.proofs.Common.{◌≡◌, ◌≤◌, ◌++◌, length, vec_len, vec_capacity, into_iter_items, into_iter_len, homes_in, small_ports, large_ports}
-use Rattle.boot_objects.specs.Gains.{QueuesGained}
+use Rattle.boot_objects.proofs.Common.{◌≡◌, ◌≤◌, ◌++◌, length, vec_len, vec_capacity, into_iter_items, into_iter_len, homes_in, small_ports, large_ports, QueuesGained}
 use Rattle.turn_io.specs.QueueEnds.{AreQueueEndsOf, AreSameQueueEnds}
 use Rattle.boot_objects.proofs.closing.homing.bring_all_home.Given as goal
 

@@ -1,6 +1,4 @@
-use Rattle.boot_objects.proofs.Common.{arith, IsJoined, used_at}
-use Rattle.claim_queue.specs.Handles.{IsEndOf}
-use Rattle.turn_io.proofs.Using.{its_end, in_ends, ends_same, ends_fit}
+use Rattle.boot_objects.proofs.Common.{arith, IsJoined, used_at, IsEndOf, its_end, in_ends, ends_same, ends_fit}
 use Rattle.boot_objects.proofs.Gaining.{its_own, gained_at, known_at}
 use Rattle.boot_objects.proofs.closing.joining.join_at.Goals as goal
 

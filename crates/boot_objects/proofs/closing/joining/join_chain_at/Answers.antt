@@ -1,8 +1,6 @@
-use Rattle.boot_objects.proofs.Common.{IsIdle, IsChainJoined, rests}
+use Rattle.boot_objects.proofs.Common.{IsIdle, IsChainJoined, rests, took_in, still_idle, on_end}
 use Rattle.proc_chain.specs.Handles.{IsEndOf}
-use Rattle.turn_io.proofs.ChainParting.{took_in, still_idle}
 use Rattle.turn_io.proofs.Chains.{its_end, in_ends, is_idle, ends_same, ends_fit}
-use Rattle.turn_io.proofs.Places.{on_end}
 use Rattle.boot_objects.proofs.Gaining.{its_own, chains_gained_at}
 use Rattle.boot_objects.proofs.closing.joining.join_chain_at.Goals as goal
 

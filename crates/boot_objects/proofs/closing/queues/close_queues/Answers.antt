@@ -1,6 +1,4 @@
-use Rattle.boot_objects.proofs.Common.{arith, length, ap, length_push, into_iter_items, queue_table, end_table, as_long, nil_from_length, IsClosed}
-use Rattle.std.proofs.Common.{length-append}
-use Rattle.claim_queue.specs.Handles.{IsOnlyEnd}
+use Rattle.boot_objects.proofs.Common.{arith, length, ap, length_push, into_iter_items, queue_table, end_table, as_long, nil_from_length, IsClosed, length-append, IsOnlyEnd}
 use Rattle.boot_objects.proofs.Drawing.{drawn_more, rest_long, all_drawn, next_fit, next_holds}
 use Rattle.boot_objects.proofs.closing.queues.close_queues.Goals as goal
 

@@ -1,5 +1,4 @@
-use Rattle.boot_objects.proofs.Common.{◌≡◌, ◌+◌, ◌++◌, length, into_iter_items, into_iter_len, TookRaws}
-use Rattle.processor.specs.Stations.{ArePartsOf}
+use Rattle.boot_objects.proofs.Common.{◌≡◌, ◌+◌, ◌++◌, length, into_iter_items, into_iter_len, TookRaws, ArePartsOf}
 use Rattle.boot_objects.proofs.closing.raws.join_raws.Given as goal
 
 abbrev pub invariant-loop-tty : goal.invariant-loop-tty

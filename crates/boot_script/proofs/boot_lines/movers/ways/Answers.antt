@@ -1,8 +1,4 @@
-use Rattle.std.proofs.Common.{◌≡◌, ◌<◌, [], sym, ap, subst, ◌∙◌, arith, length, true, false, Ok, slice_set}
-use Rattle.std.proofs.lemmas.List.{get_or-replicate, length-set, length-replicate}
-use Rattle.boot_script.specs.Words.{◌>>=◌}
-use Rattle.boot_script.specs.Grammar.{at_most_of}
-use Rattle.boot_script.specs.BootLines.{ways_from}
+use Rattle.boot_script.proofs.Common.{◌≡◌, ◌<◌, [], sym, ap, subst, ◌∙◌, arith, length, true, false, Ok, slice_set, get_or-replicate, length-set, length-replicate, ◌>>=◌, at_most_of, ways_from}
 use Rattle.boot_script.proofs.Escaping.Unescaped.{no_room}
 use Rattle.boot_script.proofs.BootScripts.WaysSoFar.{AreReadSoFar, no_way_yet, pushed_way, full_way, way_refused, ways_read, ways_said, few_ways, many_ways, reported}
 use Rattle.boot_script.proofs.boot_lines.movers.ways.Goals as goal

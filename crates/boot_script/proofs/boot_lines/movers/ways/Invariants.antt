@@ -1,5 +1,4 @@
-use Rattle.std.proofs.Common.{◌≡◌, length, []}
-use Rattle.boot_script.specs.BootLines.{ways_from}
+use Rattle.boot_script.proofs.Common.{◌≡◌, length, [], ways_from}
 use Rattle.boot_script.proofs.BootScripts.WaysSoFar.{AreReadSoFar}
 use Rattle.boot_script.proofs.boot_lines.movers.ways.Given as goal
 

@@ -1,7 +1,5 @@
-use Rattle.std.proofs.Common.{◌<◌, ◌++◌, ◌∷◌, [], sym, ap, subst, ◌∙◌, arith}
-use Rattle.boot_script.specs.BootNames.{count_of, most_of}
+use Rattle.boot_script.proofs.Common.{◌<◌, ◌++◌, ◌∷◌, [], sym, ap, subst, ◌∙◌, arith, count_of, most_of, Three}
 use Rattle.boot_script.specs.Counted.{AreCounted}
-use Rattle.boot_script.specs.declared.version.Version.TheVariants.{Three}
 use Rattle.boot_script.proofs.Drafts.NamesSoFar.{room_in, counted_more, most_three}
 use Rattle.boot_script.proofs.declared_names.Names.add.Goals as goal
 

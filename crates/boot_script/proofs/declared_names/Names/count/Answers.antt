@@ -1,6 +1,4 @@
-use Rattle.std.proofs.Common.{◌∙◌, ◌+◌, sym, ap}
-use Rattle.std.proofs.lemmas.List.Sums.{count_by_more_yes, count_by_more_no}
-use Rattle.boot_script.specs.BootNames.{same_kind}
+use Rattle.boot_script.proofs.Common.{◌∙◌, ◌+◌, sym, ap, count_by_more_yes, count_by_more_no, same_kind}
 use Rattle.boot_script.proofs.declared_names.Names.count.Goals as goal
 use Rattle.boot_script.proofs.declared_names.Names.count.Goals.{then-same_kind, else-same_kind}
 

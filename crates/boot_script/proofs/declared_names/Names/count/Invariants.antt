@@ -1,5 +1,4 @@
-use Rattle.std.proofs.Common.{◌≡◌, take}
-use Rattle.boot_script.specs.BootNames.{count_of}
+use Rattle.boot_script.proofs.Common.{◌≡◌, take, count_of}
 use Rattle.boot_script.proofs.declared_names.Names.count.Given as goal
 
 -- The names so far are counted.

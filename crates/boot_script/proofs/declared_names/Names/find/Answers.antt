@@ -1,6 +1,4 @@
-use Rattle.std.proofs.Common.{◌≡◌, refl, sym, ap, ◌∙◌, true, false, Ok, Err}
-use Rattle.std.specs.Str.{bytes_eq}
-use Rattle.boot_script.specs.BootNames.{if_kind}
+use Rattle.boot_script.proofs.Common.{◌≡◌, refl, sym, ap, ◌∙◌, true, false, Ok, Err, bytes_eq, if_kind}
 use Rattle.boot_script.proofs.Drafts.NamesSoFar.{find_more, find_here, find_nowhere}
 use Rattle.boot_script.proofs.declared_names.Names.find.Goals as goal
 

@@ -1,5 +1,4 @@
-use Rattle.std.proofs.Common.{◌≡◌, drop}
-use Rattle.boot_script.specs.BootNames.{find}
+use Rattle.boot_script.proofs.Common.{◌≡◌, drop, find}
 use Rattle.boot_script.proofs.declared_names.Names.find.Given as goal
 
 -- The name is still to be found among the names that are left.

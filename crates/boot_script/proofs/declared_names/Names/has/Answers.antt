@@ -1,5 +1,4 @@
-use Rattle.std.proofs.Common.{◌≡◌, sym, ap, ◌∙◌, true, false}
-use Rattle.std.specs.Str.{bytes_eq}
+use Rattle.boot_script.proofs.Common.{◌≡◌, sym, ap, ◌∙◌, true, false, bytes_eq}
 use Rattle.boot_script.proofs.Drafts.NamesSoFar.{has_more, has_here, has_nowhere}
 use Rattle.boot_script.proofs.declared_names.Names.has.Goals as goal
 

@@ -1,7 +1,4 @@
-use Rattle.std.proofs.Common.{◌≡◌, ◌∷◌, refl, sym, ap, ◌∙◌, Ok}
-use Rattle.std.specs.Option.{option_copied}
-use Rattle.boot_script.specs.Words.{pieces_left}
-use Rattle.boot_script.specs.BootNames.{name_of}
+use Rattle.boot_script.proofs.Common.{◌≡◌, ◌∷◌, refl, sym, ap, ◌∙◌, Ok, option_copied, pieces_left, name_of}
 use Rattle.boot_script.proofs.Drafts.NamesSoFar.{queue_by_part}
 use Rattle.boot_script.proofs.declared_names.Names.queue.Goals as goal
 

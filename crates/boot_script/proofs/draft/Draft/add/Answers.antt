@@ -1,6 +1,4 @@
-use Rattle.std.proofs.Common.{sym, subst, Ok}
-use Rattle.boot_script.specs.Plans.{added}
-use Rattle.boot_script.specs.Drafts.{Added}
+use Rattle.boot_script.proofs.Common.{sym, subst, Ok, added, Added}
 use Rattle.boot_script.proofs.draft.Draft.add.Goals as goal
 
 pub returns-in-Types : goal.returns-in-Types

@@ -1,6 +1,4 @@
-use Rattle.std.proofs.Common.{◌<◌, ◌≤◌, ◌∷◌, ◌++◌, ◌+◌, [], sym, ap, ◌∙◌, arith, length, length-append}
-use Rattle.boot_script.specs.Plans.{added}
-use Rattle.boot_script.specs.Drafts.{kept_plan}
+use Rattle.boot_script.proofs.Common.{◌<◌, ◌≤◌, ◌∷◌, ◌++◌, ◌+◌, [], sym, ap, ◌∙◌, arith, length, length-append, added, kept_plan}
 use Rattle.boot_script.proofs.Drafts.Drawn.{goes_ok, goes_wrong, alarm_fits, alarm_many, with_alarms}
 use Rattle.boot_script.proofs.draft.Draft.add_alarm.Goals as goal
 

@@ -1,8 +1,5 @@
-use Rattle.std.proofs.Common.{◌∷◌, ◌++◌, [], refl, sym, ap, ◌∙◌}
+use Rattle.boot_script.proofs.Common.{◌∷◌, ◌++◌, [], refl, sym, ap, ◌∙◌, room_of, with_name, added, kept_plan}
 use Rattle.boot_data.specs.declared.kind.Kind.TheVariants as kind
-use Rattle.boot_script.specs.BootNames.{room_of, with_name}
-use Rattle.boot_script.specs.Plans.{added}
-use Rattle.boot_script.specs.Drafts.{kept_plan}
 use Rattle.boot_script.proofs.Drafts.Drawn.{goes_ok, goes_wrong, count_other, with_gauges}
 use Rattle.boot_script.proofs.draft.Draft.add_gauge.Goals as goal
 

@@ -1,9 +1,4 @@
-use Rattle.std.proofs.Common.{◌≡◌, ◌<◌, ◌+◌, sym, ap, ◌∙◌, arith, length, slice_index_or, slice_set}
-use Rattle.std.proofs.lemmas.List.{length-set}
-use Rattle.std.specs.Prelude.{nat_lt, if◌then◌else◌}
-use Rattle.boot_data.specs.Plans.{steps_at}
-use Rattle.boot_script.specs.Plans.{change_at, with_step}
-use Rattle.boot_script.specs.Drafts.{kept_plan}
+use Rattle.boot_script.proofs.Common.{◌≡◌, ◌<◌, ◌+◌, sym, ap, ◌∙◌, arith, length, slice_index_or, slice_set, length-set, nat_lt, if◌then◌else◌, steps_at, change_at, with_step, kept_plan}
 use Rattle.boot_script.proofs.Drafts.Drawn.{goes_ok, step_fits, counts_of_steps, change_length, with_threads}
 use Rattle.boot_script.proofs.draft.Draft.add_step.Goals as goal
 

@@ -1,10 +1,5 @@
-use Rattle.std.proofs.Common.{◌≡◌, ◌<◌, ◌≤◌, ◌+◌, sym, ap, ◌∙◌, arith, length, slice_index_or, slice_set}
-use Rattle.std.proofs.lemmas.List.{length-set}
-use Rattle.std.specs.Prelude.{nat_lt, if◌then◌else◌}
+use Rattle.boot_script.proofs.Common.{◌≡◌, ◌<◌, ◌≤◌, ◌+◌, sym, ap, ◌∙◌, arith, length, slice_index_or, slice_set, length-set, nat_lt, if◌then◌else◌, count_of, added, typed_at, change_at, with_text, kept_plan}
 use Rattle.boot_data.specs.declared.kind.Kind.TheVariants as kind
-use Rattle.boot_script.specs.BootNames.{count_of}
-use Rattle.boot_script.specs.Plans.{added, typed_at, change_at, with_text}
-use Rattle.boot_script.specs.Drafts.{kept_plan}
 use Rattle.boot_script.proofs.Drafts.Drawn.{goes_ok, goes_wrong, text_fits, text_long, typed_counts, change_length, with_ttys}
 use Rattle.boot_script.proofs.draft.Draft.add_text.Goals as goal
 

@@ -1,8 +1,5 @@
-use Rattle.std.proofs.Common.{◌∷◌, ◌++◌, ◌+◌, [], refl, sym, ap, ◌∙◌, Some, length, length-append}
+use Rattle.boot_script.proofs.Common.{◌∷◌, ◌++◌, ◌+◌, [], refl, sym, ap, ◌∙◌, Some, length, length-append, count_of, room_of, with_name, added, kept_plan}
 use Rattle.boot_data.specs.declared.kind.Kind.TheVariants as kind
-use Rattle.boot_script.specs.BootNames.{count_of, room_of, with_name}
-use Rattle.boot_script.specs.Plans.{added}
-use Rattle.boot_script.specs.Drafts.{kept_plan}
 use Rattle.boot_script.proofs.Drafts.Drawn.{goes_ok, goes_wrong, count_other, count_same, steps_more, with_threads, element_of, few_threads}
 use Rattle.boot_script.proofs.draft.Draft.add_thread.Goals as goal
 

@@ -1,7 +1,5 @@
-use Rattle.std.proofs.Common.{subst}
+use Rattle.boot_script.proofs.Common.{subst, added, Added}
 use Rattle.boot_script.specs.declared.boot_lines.Line.TheVariants.{Types}
-use Rattle.boot_script.specs.Plans.{added}
-use Rattle.boot_script.specs.Drafts.{Added}
 use Rattle.boot_script.proofs.draft.Draft.add_typed.Goals as goal
 
 pub returns : goal.returns

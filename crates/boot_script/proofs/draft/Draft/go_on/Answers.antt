@@ -1,5 +1,4 @@
-use Rattle.std.proofs.Common.{refl}
-use Rattle.boot_script.specs.Plans.{added}
+use Rattle.boot_script.proofs.Common.{refl, added}
 use Rattle.boot_script.proofs.draft.Draft.go_on.Goals as goal
 
 pub returns : goal.returns

@@ -1,5 +1,4 @@
-use Rattle.std.proofs.Common.{ℕ, refl}
-use Rattle.std.proofs.lemmas.List.{get_or-replicate, length-replicate}
+use Rattle.boot_script.proofs.Common.{ℕ, refl, get_or-replicate, length-replicate}
 use Rattle.boot_script.proofs.Drafts.Drawn.{empty_plan}
 use Rattle.boot_script.proofs.draft.Draft.new.Goals as goal
 

@@ -1,6 +1,4 @@
-use Rattle.std.proofs.Common.{◌≡◌, ◌++◌, ◌∷◌, ◌∙◌, [], length-append, ap, refl, arith, rules}
-use Rattle.std.proofs.lemmas.Bool.Decides.{nat_tests}
-use Rattle.boot_script.specs.Words.{number_of}
+use Rattle.boot_script.proofs.Common.{◌≡◌, ◌++◌, ◌∷◌, ◌∙◌, [], length-append, ap, refl, arith, rules, nat_tests, number_of}
 use Rattle.boot_script.proofs.Basics.Gathered.{none_yet, pushed}
 use Rattle.boot_script.proofs.EventScripts.Items.{number_more, items_refused}
 use Rattle.boot_script.proofs.event_lines.queues.items.Goals as goal

@@ -1,6 +1,4 @@
-use Rattle.std.proofs.Common.{◌≡◌, ℕ, length, min}
-use Rattle.boot_script.specs.declared.fault.ScriptRefusal.{ScriptRefusal}
-use Rattle.boot_script.specs.Grammar.{numbers_of}
+use Rattle.boot_script.proofs.Common.{◌≡◌, ℕ, length, min, ScriptRefusal, numbers_of}
 use Rattle.boot_script.proofs.Basics.Gathered.{IsGathered}
 use Rattle.boot_script.proofs.event_lines.queues.items.Given as goal
 

@@ -1,8 +1,4 @@
-use Rattle.std.proofs.Common.{arith, codes, false, ◌≡◌}
-use Rattle.std.proofs.Math.Dec.{eqb}
-use Rattle.std.proofs.lemmas.Bool.Decides.{nat_tests}
-use Rattle.std.proofs.lemmas.Result.{on_ok_weaker}
-use Rattle.boot_script.specs.Reports.{alarms_line}
+use Rattle.boot_script.proofs.Common.{arith, codes, false, ◌≡◌, eqb, nat_tests, on_ok_weaker, alarms_line}
 use Rattle.boot_script.proofs.LineWords.KnownBytes.{appends_join, appends_word}
 use Rattle.boot_script.proofs.report_printing.AlarmCountsLines.print.Goals as goal
 

@@ -1,5 +1,4 @@
-use Rattle.std.proofs.Common.{codes}
-use Rattle.std.proofs.lemmas.Result.{on_ok_weaker}
+use Rattle.boot_script.proofs.Common.{codes, on_ok_weaker}
 use Rattle.boot_script.specs.Reports.{gauge_line}
 use Rattle.boot_script.proofs.LineWords.KnownBytes.{appends_join, appends_word}
 use Rattle.boot_script.proofs.report_printing.GaugeLineLines.print.Goals as goal

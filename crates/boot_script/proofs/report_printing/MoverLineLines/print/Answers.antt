@@ -1,6 +1,4 @@
-use Rattle.std.proofs.Common.{ap, codes}
-use Rattle.std.proofs.lemmas.Result.{on_ok_weaker}
-use Rattle.boot_script.specs.Reports.{named, mover_line}
+use Rattle.boot_script.proofs.Common.{ap, codes, on_ok_weaker, named, mover_line}
 use Rattle.boot_script.proofs.LineWords.KnownBytes.{appends_join, appends_word, appends_as}
 use Rattle.boot_script.proofs.report_printing.MoverLineLines.print.Goals as goal
 

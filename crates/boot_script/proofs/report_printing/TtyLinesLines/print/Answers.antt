@@ -1,5 +1,4 @@
-use Rattle.std.proofs.Common.{refl}
-use Rattle.boot_script.specs.Reports.{tty_lines}
+use Rattle.boot_script.proofs.Common.{refl, tty_lines}
 use Rattle.boot_script.proofs.LineWords.KnownBytes.{appends_join, then_appends}
 use Rattle.boot_script.proofs.report_printing.TtyLinesLines.print.Goals as goal
 

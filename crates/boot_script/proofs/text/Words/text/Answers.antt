@@ -1,8 +1,4 @@
-use Rattle.std.proofs.Common.{sym, ap, ◌∙◌}
-use Rattle.std.specs.List.{join_with_byte}
-use Rattle.std.specs.Option.{option_copied}
-use Rattle.std.proofs.lemmas.List.Splits.{join_with_byte-slice_split}
-use Rattle.boot_script.specs.Words.{pieces_left}
+use Rattle.boot_script.proofs.Common.{sym, ap, ◌∙◌, join_with_byte, option_copied, join_with_byte-slice_split, pieces_left}
 use Rattle.boot_script.proofs.text.Words.text.Goals as goal
 
 pub returns-in-Some : goal.returns-in-Some

@@ -1,6 +1,4 @@
-use Rattle.std.proofs.Common.{◌∙◌}
-use Rattle.batch_queue.specs.Handles.{view_of}
-use Rattle.batch_queue.specs.Own.{View}
+use Rattle.pool.proofs.Common.{◌∙◌, view_of, View}
 use Rattle.pool.proofs.Acquiring.{took, acquire_fair, acquire_effect, acquire_holds}
 use Rattle.pool.proofs.Holding.{lists_same, stocked_since}
 use Rattle.pool.proofs.Permits.{acquire_ours}

@@ -1,6 +1,4 @@
-use Rattle.std.proofs.Common.{◌∙◌}
-use Rattle.batch_queue.specs.Handles.{view_of}
-use Rattle.batch_queue.specs.Own.{View}
+use Rattle.pool.proofs.Common.{◌∙◌, view_of, View}
 use Rattle.pool.proofs.Holding.{lists_same, same_fair, same_held, stocked_since}
 use Rattle.pool.proofs.Joining.{all_there, open_same, same_pool, same_takes}
 use Rattle.pool.proofs.pool.Pool.close.Goals as goal

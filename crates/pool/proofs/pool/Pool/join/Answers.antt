@@ -1,7 +1,4 @@
-use Rattle.std.proofs.Common.{◌∙◌}
-use Rattle.std.proofs.Math.Logic.{∥∥₁_elim}
-use Rattle.batch_queue.specs.Handles.{view_of}
-use Rattle.batch_queue.specs.Own.{View}
+use Rattle.pool.proofs.Common.{◌∙◌, ∥∥₁_elim, view_of, View}
 use Rattle.pool.proofs.Holding.{both_fair, both_held, both_list, stocked_on}
 use Rattle.pool.proofs.pool.Pool.join.Goals as goal
 

@@ -1,8 +1,4 @@
-use Rattle.std.proofs.Common.{◌≡◌, ◌∙◌, ℕ, List, ap, refl, subst, length, arith}
-use Rattle.std.proofs.lemmas.List.FromFn.{length-range_with_len}
-use Rattle.batch_queue.specs.Handles.{view_of}
-use Rattle.batch_queue.specs.Own.{View}
-use Rattle.batch_queue.specs.Puts.{IsPut, RefusedPut}
+use Rattle.pool.proofs.Common.{◌≡◌, ◌∙◌, ℕ, List, ap, refl, subst, length, arith, length-range_with_len, view_of, View, IsPut, RefusedPut}
 use Rattle.pool.proofs.Filling.{HeadSays, filled, never_refused, power_fits}
 use Rattle.pool.proofs.Permits.{may_stock}
 use Rattle.pool.proofs.pool.Pool.new.Goals as goal

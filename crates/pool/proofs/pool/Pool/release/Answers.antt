@@ -1,6 +1,4 @@
-use Rattle.std.proofs.Common.{◌∙◌}
-use Rattle.batch_queue.specs.Handles.{view_of}
-use Rattle.batch_queue.specs.Own.{View}
+use Rattle.pool.proofs.Common.{◌∙◌, view_of, View}
 use Rattle.pool.proofs.Releasing.{HeadsRise, release_fair, release_lists, release_ok, release_stocked}
 use Rattle.pool.proofs.Permits.{may_put}
 use Rattle.pool.proofs.pool.Pool.release.Goals as goal

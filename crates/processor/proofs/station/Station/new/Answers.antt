@@ -1,5 +1,4 @@
-use Rattle.processor.proofs.Common.{ℕ, ◌≤◌, ◌∙◌, subst, sym, arith}
-use Rattle.processor.specs.Programs.{hear_count, longest_line}
+use Rattle.processor.proofs.Common.{ℕ, ◌≤◌, ◌∙◌, subst, sym, arith, hear_count, longest_line}
 use Rattle.processor.proofs.Rooming.{room_new}
 use Rattle.processor.proofs.station.Station.new.Goals as goal
 

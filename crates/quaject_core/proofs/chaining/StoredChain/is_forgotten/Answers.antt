@@ -1,5 +1,4 @@
-use Rattle.std.proofs.Common.{sym, ◌∙◌, ap, not, ◌&&◌}
-use Rattle.quaject_core.specs.ShownChains.{chain}
+use Rattle.quaject_core.proofs.Common.{sym, ◌∙◌, ap, not, ◌&&◌, chain}
 use Rattle.quaject_core.proofs.Stored.Owners.{forgotten_by}
 use Rattle.quaject_core.proofs.chaining.StoredChain.is_forgotten.Goals as goal
 

@@ -1,7 +1,4 @@
-use Rattle.std.proofs.Common.{List, map, Ok, refl, sym, ap, ◌∙◌}
-use Rattle.quaject_core.specs.Shown.{queue}
-use Rattle.event_theory.specs.declared.hold.Hold.{Hold}
-use Rattle.quaject_core.specs.ShownElements.{elements}
+use Rattle.quaject_core.proofs.Common.{List, map, Ok, refl, sym, ap, ◌∙◌, queue, Hold, elements}
 use Rattle.quaject_core.proofs.Stored.Lifts.{changes_err}
 use Rattle.quaject_core.proofs.Stored.Rings.{claimed_whole, claimed_not_held, claimed_why}
 use Rattle.quaject_core.proofs.elements.StoredElements.claim.Goals as goal

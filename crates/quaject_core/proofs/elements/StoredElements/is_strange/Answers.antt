@@ -1,7 +1,4 @@
-use Rattle.std.proofs.Common.{◌≡◌, length, leb, map, ap, ◌∙◌, arith}
-use Rattle.std.proofs.lemmas.List.{length-map}
-use Rattle.std.specs.List.{list_any}
-use Rattle.quaject_core.specs.ShownThreads.{thread}
+use Rattle.quaject_core.proofs.Common.{◌≡◌, length, leb, map, ap, ◌∙◌, arith, length-map, list_any, thread}
 use Rattle.quaject_core.proofs.elements.StoredElements.is_strange.Goals as goal
 
 pub returns : goal.returns

@@ -1,7 +1,4 @@
-use Rattle.std.proofs.Common.{arith}
-use Rattle.event_theory.specs.Elements.{new_thread}
-use Rattle.quaject_core.specs.ShownThreads.{thread}
-use Rattle.event_theory.proofs.Keeping.Rooms.{so_many}
+use Rattle.quaject_core.proofs.Common.{arith, new_thread, thread, so_many}
 use Rattle.quaject_core.proofs.elements.StoredElements.new.Goals as goal
 
 pub invariant_of-result : goal.invariant_of-result

@@ -1,7 +1,4 @@
-use Rattle.std.proofs.Common.{true, false, List, Some, Ok, set, refl, sym, ap, ◌∙◌, arith}
-use Rattle.event_theory.specs.Elements.{hold}
-use Rattle.quaject_core.specs.ShownElements.{elements}
-use Rattle.event_theory.specs.declared.hold.Hold.{Hold}
+use Rattle.quaject_core.proofs.Common.{true, false, List, Some, Ok, set, refl, sym, ap, ◌∙◌, arith, hold, elements, Hold}
 use Rattle.quaject_core.proofs.Stored.Elements.{known, stored_not_put, stored_put}
 use Rattle.quaject_core.proofs.elements.StoredElements.put_on.Goals as goal
 

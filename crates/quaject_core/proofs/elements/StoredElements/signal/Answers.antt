@@ -1,6 +1,4 @@
-use Rattle.std.proofs.Common.{true, Ok, ap, sym, arith}
-use Rattle.event_theory.specs.Chains.{with_number}
-use Rattle.event_theory.specs.Elements.{Thread}
+use Rattle.quaject_core.proofs.Common.{true, Ok, ap, sym, arith, with_number, Thread}
 use Rattle.quaject_core.proofs.Stored.Elements.{stored_changed, known}
 use Rattle.quaject_core.proofs.elements.StoredElements.signal.Goals as goal
 

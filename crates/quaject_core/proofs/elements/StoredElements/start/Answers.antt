@@ -1,10 +1,6 @@
-use Rattle.std.proofs.Common.{refl, sym, ◌∙◌, arith}
+use Rattle.quaject_core.proofs.Common.{refl, sym, ◌∙◌, arith, length-map, elements, thread, started_room}
 use Rattle.quaject_core.proofs.Stored.Elements.{stored_started, stored_not_started, shown_at}
-use Rattle.std.proofs.lemmas.List.{length-map}
 use Rattle.std.proofs.lemmas.Option.{slice_get_within as found_within}
-use Rattle.quaject_core.specs.ShownElements.{elements}
-use Rattle.quaject_core.specs.ShownThreads.{thread}
-use Rattle.event_theory.proofs.Keeping.Rooms.{started_room}
 use Rattle.quaject_core.proofs.elements.StoredElements.start.Goals as goal
 
 pub returns-then-not-is_stopping-clause-change : goal.returns-then-not-is_stopping-clause-change

@@ -1,5 +1,4 @@
-use Rattle.std.proofs.Common.{true, Ok, ap, sym, arith}
-use Rattle.event_theory.specs.Elements.{Thread}
+use Rattle.quaject_core.proofs.Common.{true, Ok, ap, sym, arith, Thread}
 use Rattle.quaject_core.proofs.Stored.Elements.{stored_changed, known}
 use Rattle.quaject_core.proofs.elements.StoredElements.stop.Goals as goal
 

@@ -1,8 +1,4 @@
-use Rattle.std.proofs.Common.{arith}
-use Rattle.std.proofs.lemmas.List.{length-map}
-use Rattle.quaject_core.specs.ShownElements.{elements}
-use Rattle.quaject_core.specs.ShownThreads.{thread}
-use Rattle.event_theory.proofs.Keeping.Rooms.{taken_room}
+use Rattle.quaject_core.proofs.Common.{arith, length-map, elements, thread, taken_room}
 use Rattle.quaject_core.proofs.elements.StoredElements.take.Goals as goal
 
 pub push-requires : goal.push-requires

@@ -1,9 +1,5 @@
-use Rattle.std.proofs.Common.{◌≡◌, Some, None, Ok, set, refl, sym, ◌∙◌, arith, slice_get}
-use Rattle.std.proofs.lemmas.List.{length-map}
-use Rattle.quaject_core.specs.ShownElements.{elements}
-use Rattle.quaject_core.specs.ShownThreads.{thread}
+use Rattle.quaject_core.proofs.Common.{◌≡◌, Some, None, Ok, set, refl, sym, ◌∙◌, arith, slice_get, length-map, elements, thread, none_taken_off, other_put_on, taken_off_ok, taken_off_room}
 use Rattle.quaject_core.proofs.Stored.Elements.{read_at}
-use Rattle.event_theory.proofs.Keeping.Rooms.{none_taken_off, other_put_on, taken_off_ok, taken_off_room}
 use Rattle.quaject_core.proofs.elements.StoredElements.take_off.Goals as goal
 
 pub returns-in_default-clause-change : goal.returns-in_default-clause-change

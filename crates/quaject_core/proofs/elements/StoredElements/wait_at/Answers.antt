@@ -1,9 +1,4 @@
-use Rattle.std.proofs.Common.{List, map, remove, Ok, refl, sym, ap, subst, ◌∙◌, arith}
-use Rattle.event_theory.specs.Queues.{Queue}
-use Rattle.event_theory.specs.Results.{◌>>=◌, IsWhy}
-use Rattle.quaject_core.specs.Shown.{queue}
-use Rattle.event_theory.specs.declared.hold.Hold.{Hold}
-use Rattle.quaject_core.specs.ShownElements.{elements}
+use Rattle.quaject_core.proofs.Common.{List, map, remove, Ok, refl, sym, ap, subst, ◌∙◌, arith, Queue, ◌>>=◌, IsWhy, queue, Hold, elements}
 use Rattle.quaject_core.proofs.Stored.Elements.{known}
 use Rattle.quaject_core.proofs.Stored.Lifts.{changes_err, why_then}
 use Rattle.quaject_core.proofs.Stored.Rings.{stored_waits, stored_not_waiting, stored_moved}

@@ -1,6 +1,4 @@
-use Rattle.std.proofs.Common.{◌≡◌, length, get_or, ap, ◌∙◌, arith}
-use Rattle.event_theory.specs.Elements.{join_hold}
-use Rattle.event_theory.specs.declared.hold.Hold.{Hold}
+use Rattle.quaject_core.proofs.Common.{◌≡◌, length, get_or, ap, ◌∙◌, arith, join_hold, Hold}
 use Rattle.quaject_core.proofs.Lists.Mapped.{mapped_set, mapped_all, length-mapped, written_back}
 use Rattle.quaject_core.proofs.holding.HeldList.join.Goals as goal
 

@@ -1,5 +1,4 @@
-use Rattle.std.proofs.Common.{◌≡◌}
-use Rattle.event_theory.specs.Elements.{join_hold}
+use Rattle.quaject_core.proofs.Common.{◌≡◌, join_hold}
 use Rattle.quaject_core.proofs.Lists.Mapped.{mapped}
 use Rattle.quaject_core.proofs.holding.HeldList.join.Given as goal
 

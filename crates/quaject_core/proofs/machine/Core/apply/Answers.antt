@@ -1,5 +1,4 @@
-use Rattle.quaject_core.specs.ShownStates.{stored_state}
-use Rattle.event_theory.proofs.Keeping.Steps.{changed_law}
+use Rattle.quaject_core.proofs.Common.{stored_state, changed_law}
 use Rattle.quaject_core.proofs.Stored.Past.{next_history}
 use Rattle.quaject_core.proofs.machine.Core.apply.Goals as goal
 

@@ -1,8 +1,4 @@
-use Rattle.std.proofs.Common.{◌≡◌, ◌∙◌, ◌++◌, ◌∷◌, [], ◌+◌, ap, sym, subst, take}
-use Rattle.std.proofs.lemmas.List.{take_more}
-use Rattle.event_theory.specs.Schedules.{Reaches}
-use Rattle.quaject_core.specs.ShownCores.{state}
-use Rattle.event_theory.proofs.Keeping.Steps.{reaches_more}
+use Rattle.quaject_core.proofs.Common.{◌≡◌, ◌∙◌, ◌++◌, ◌∷◌, [], ◌+◌, ap, sym, subst, take, take_more, Reaches, state, reaches_more}
 use Rattle.quaject_core.proofs.machine.Core.run.Goals as goal
 
 pub loop-index-preserved : goal.loop-index-preserved

@@ -1,6 +1,4 @@
-use Rattle.std.proofs.Common.{take}
-use Rattle.event_theory.specs.Schedules.{Reaches}
-use Rattle.quaject_core.specs.ShownCores.{state}
+use Rattle.quaject_core.proofs.Common.{take, Reaches, state}
 use Rattle.quaject_core.proofs.machine.Core.run.Given as goal
 
 -- The events so far were each allowed.

@@ -1,6 +1,4 @@
-use Rattle.std.proofs.Common.{sym, subst}
-use Rattle.event_theory.specs.Lawful.{IsLawful}
-use Rattle.event_theory.proofs.Keeping.Steps.{first_law}
+use Rattle.quaject_core.proofs.Common.{sym, subst, IsLawful, first_law}
 use Rattle.quaject_core.proofs.Stored.Past.{first_history}
 use Rattle.quaject_core.proofs.machine.Core.with_elements.Goals as goal
 

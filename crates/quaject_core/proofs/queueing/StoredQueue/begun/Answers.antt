@@ -1,8 +1,4 @@
-use Rattle.std.proofs.Common.{rules, sym, subst, leb, List}
-use Rattle.std.specs.List.Sorted.{IsPartitionedBy}
-use Rattle.std.proofs.lemmas.List.Sorted.{IsPartitionPoint-from_clause}
-use Rattle.quaject_core.specs.Owners.{AreBegun}
-use Rattle.quaject_core.specs.declared.queueing.Span.{Span}
+use Rattle.quaject_core.proofs.Common.{rules, sym, subst, leb, List, IsPartitionedBy, IsPartitionPoint-from_clause, AreBegun, Span}
 use Rattle.quaject_core.proofs.Stored.Owners.{starts_parted, parted_by}
 use Rattle.quaject_core.proofs.queueing.StoredQueue.begun.Goals as goal
 

@@ -1,7 +1,4 @@
-use Rattle.std.proofs.Common.{◌≡◌, ◌<◌, ◌≤◌, ◌+◌, length, arith}
-use Rattle.std.proofs.lemmas.Bool.Decides.{nat_tests}
-use Rattle.event_theory.specs.Queues.{left}
-use Rattle.quaject_core.specs.Shown.{queue}
+use Rattle.quaject_core.proofs.Common.{◌≡◌, ◌<◌, ◌≤◌, ◌+◌, length, arith, nat_tests, left, queue}
 use Rattle.quaject_core.proofs.Stored.Queues.{Claimed, claimed_by, claimed_laid, claimed_lawful, claimed_ok}
 use Rattle.quaject_core.proofs.queueing.StoredQueue.claim.Goals as goal
 

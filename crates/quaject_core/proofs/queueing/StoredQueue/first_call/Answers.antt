@@ -1,6 +1,4 @@
-use Rattle.std.proofs.Common.{◌∙◌, ◌<◌, ap, sym, arith, length, Some}
-use Rattle.quaject_core.specs.Shown.{queue}
-use Rattle.quaject_core.specs.declared.queueing.Span.{Span}
+use Rattle.quaject_core.proofs.Common.{◌∙◌, ◌<◌, ap, sym, arith, length, Some, queue, Span}
 use Rattle.quaject_core.proofs.Stored.Layout.{left_stored}
 use Rattle.quaject_core.proofs.Stored.Owners.{no_owner, point_owner}
 use Rattle.quaject_core.proofs.queueing.StoredQueue.first_call.Goals as goal

@@ -1,6 +1,4 @@
-use Rattle.std.proofs.Common.{◌∙◌, refl, sym, ap, length, option_map, slice_get}
-use Rattle.std.proofs.lemmas.Option.{slice_get_past, slice_get_read}
-use Rattle.quaject_core.specs.Layout.{item_of}
+use Rattle.quaject_core.proofs.Common.{◌∙◌, refl, sym, ap, length, option_map, slice_get, slice_get_past, slice_get_read, item_of}
 use Rattle.quaject_core.proofs.Stored.Layout.{first_item}
 use Rattle.quaject_core.proofs.queueing.StoredQueue.first_left.Goals as goal
 

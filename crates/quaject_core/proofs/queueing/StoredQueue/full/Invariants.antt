@@ -1,5 +1,4 @@
-use Rattle.std.proofs.Common.{◌≡◌, map}
-use Rattle.std.specs.List.{range_with_len}
+use Rattle.quaject_core.proofs.Common.{◌≡◌, map, range_with_len}
 use Rattle.quaject_core.proofs.Stored.Full.{single_span, raised_place}
 use Rattle.quaject_core.proofs.queueing.StoredQueue.full.Given as goal
 

@@ -1,11 +1,4 @@
-use Rattle.std.proofs.Common.{◌≡◌, ℕ, Bool, ◌||◌, ◌==◌, List, [], ◌∷◌, ◌∙◌, map, length, drop, refl, sym, ap, subst}
-use Rattle.std.proofs.lemmas.List.{drop-map, length-map}
-use Rattle.std.specs.List.{list_any}
-use Rattle.event_theory.specs.Runs.{flat}
-use Rattle.event_theory.specs.Queues.{left}
-use Rattle.quaject_core.specs.Layout.{Laid, item_of}
-use Rattle.quaject_core.specs.Shown.{queue}
-use Rattle.quaject_core.specs.declared.queueing.StoredQueue.{StoredQueue}
+use Rattle.quaject_core.proofs.Common.{◌≡◌, ℕ, Bool, ◌||◌, ◌==◌, List, [], ◌∷◌, ◌∙◌, map, length, drop, refl, sym, ap, subst, drop-map, length-map, list_any, flat, left, Laid, item_of, queue, StoredQueue}
 use Rattle.quaject_core.proofs.Stored.Layout.{items_laid}
 use Rattle.quaject_core.proofs.queueing.StoredQueue.has_left.Goals as goal
 

@@ -1,9 +1,4 @@
-use Rattle.std.proofs.Common.{◌≡◌, ap, ◌∙◌, length, map, count_by, arith}
-use Rattle.std.proofs.lemmas.List.{length-map}
-use Rattle.quaject_core.specs.Layout.{flag_of, item_of, run_at}
-use Rattle.event_theory.specs.Runs.{flat}
-use Rattle.event_theory.specs.Queues.{left, left_pairs, is_raised}
-use Rattle.quaject_core.specs.Shown.{queue}
+use Rattle.quaject_core.proofs.Common.{◌≡◌, ap, ◌∙◌, length, map, count_by, arith, length-map, flag_of, item_of, run_at, flat, left, left_pairs, is_raised, queue}
 use Rattle.quaject_core.proofs.Stored.Layout.{length_queue, raised_stored}
 use Rattle.quaject_core.proofs.queueing.StoredQueue.status.Goals as goal
 

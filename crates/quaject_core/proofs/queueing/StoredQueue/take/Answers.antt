@@ -1,8 +1,5 @@
-use Rattle.std.proofs.Common.{arith}
-use Rattle.event_theory.proofs.Keeping.Queues.{take_ok}
+use Rattle.quaject_core.proofs.Common.{arith, take_ok, queue, after_take}
 use Rattle.quaject_core.proofs.Stored.Queues.{taken_lawful, first_enough}
-use Rattle.quaject_core.specs.Shown.{queue}
-use Rattle.event_theory.specs.Queues.{after_take}
 use Rattle.quaject_core.proofs.queueing.StoredQueue.take.Goals as goal
 
 pub overflow_add-self : goal.overflow_add-self

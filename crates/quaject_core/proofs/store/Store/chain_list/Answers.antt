@@ -1,9 +1,5 @@
-use Rattle.std.proofs.Common.{◌≡◌, ◌<◌, ◌∙◌, ◌++◌, ◌∷◌, [], ◌+◌, ap, sym, map, take, get_or, length, arith}
-use Rattle.std.proofs.lemmas.List.{map_more, take_all}
+use Rattle.quaject_core.proofs.Common.{◌≡◌, ◌<◌, ◌∙◌, ◌++◌, ◌∷◌, [], ◌+◌, ap, sym, map, take, get_or, length, arith, map_more, take_all, chain_status, chain, StoredChain}
 use Rattle.quaject_core.proofs.Stored.Parts.{map-map}
-use Rattle.event_theory.specs.Statuses.{chain_status}
-use Rattle.quaject_core.specs.ShownChains.{chain}
-use Rattle.quaject_core.specs.declared.chaining.StoredChain.{StoredChain}
 use Rattle.event_theory.specs.declared.status.ChainStatus.{ChainStatus}
 use Rattle.quaject_core.proofs.store.Store.chain_list.Goals as goal
 

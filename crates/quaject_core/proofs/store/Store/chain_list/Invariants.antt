@@ -1,6 +1,4 @@
-use Rattle.std.proofs.Common.{◌≡◌, map, take}
-use Rattle.event_theory.specs.Statuses.{chain_status}
-use Rattle.quaject_core.specs.ShownChains.{chain}
+use Rattle.quaject_core.proofs.Common.{◌≡◌, map, take, chain_status, chain}
 use Rattle.quaject_core.proofs.store.Store.chain_list.Given as goal
 
 -- The numbers so far.

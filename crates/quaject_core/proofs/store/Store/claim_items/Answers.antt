@@ -1,6 +1,4 @@
-use Rattle.std.proofs.Common.{ap, ◌∙◌, arith}
-use Rattle.event_theory.specs.Queues.{claim}
-use Rattle.quaject_core.specs.Shown.{queue}
+use Rattle.quaject_core.proofs.Common.{ap, ◌∙◌, arith, claim, queue}
 use Rattle.quaject_core.proofs.Stored.Parts.{queue_changes}
 use Rattle.quaject_core.proofs.store.Store.claim_items.Goals as goal
 

@@ -1,10 +1,5 @@
-use Rattle.std.proofs.Common.{◌≡◌, ◌<◌, ◌∙◌, ◌++◌, ◌∷◌, [], ◌+◌, ap, sym, map, take, get_or, length, arith}
-use Rattle.std.proofs.lemmas.List.{map_more, take_all}
+use Rattle.quaject_core.proofs.Common.{◌≡◌, ◌<◌, ◌∙◌, ◌++◌, ◌∷◌, [], ◌+◌, ap, sym, map, take, get_or, length, arith, map_more, take_all, queue_status, queue, StoredQueue, QueueStatus}
 use Rattle.quaject_core.proofs.Stored.Parts.{map-map}
-use Rattle.event_theory.specs.Statuses.{queue_status}
-use Rattle.quaject_core.specs.Shown.{queue}
-use Rattle.quaject_core.specs.declared.queueing.StoredQueue.{StoredQueue}
-use Rattle.event_theory.specs.declared.status.QueueStatus.{QueueStatus}
 use Rattle.quaject_core.proofs.store.Store.queue_list.Goals as goal
 
 abbrev numbers : StoredQueue → QueueStatus

@@ -1,6 +1,4 @@
-use Rattle.std.proofs.Common.{◌≡◌, map, take}
-use Rattle.event_theory.specs.Statuses.{queue_status}
-use Rattle.quaject_core.specs.Shown.{queue}
+use Rattle.quaject_core.proofs.Common.{◌≡◌, map, take, queue_status, queue}
 use Rattle.quaject_core.proofs.store.Store.queue_list.Given as goal
 
 -- The numbers so far.

@@ -1,5 +1,4 @@
-use Rattle.std.proofs.Common.{refl, ◌∙◌, arith}
-use Rattle.event_theory.specs.Queues.{raise}
+use Rattle.quaject_core.proofs.Common.{refl, ◌∙◌, arith, raise}
 use Rattle.quaject_core.proofs.Stored.Parts.{queue_changes}
 use Rattle.quaject_core.proofs.store.Store.raise_item.Goals as goal
 

@@ -1,5 +1,4 @@
-use Rattle.std.proofs.Common.{◌∙◌, arith}
-use Rattle.event_theory.specs.Chains.{raise_note}
+use Rattle.quaject_core.proofs.Common.{◌∙◌, arith, raise_note}
 use Rattle.quaject_core.proofs.Stored.Parts.{chain_changes}
 use Rattle.quaject_core.proofs.store.Store.raise_note.Goals as goal
 

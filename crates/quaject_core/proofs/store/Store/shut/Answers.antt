@@ -1,7 +1,4 @@
-use Rattle.std.proofs.Common.{sym, ap, ◌∙◌, arith, Ok, Result}
-use Rattle.event_theory.specs.Queues.{Queue}
-use Rattle.event_theory.specs.Marks.{shut}
-use Rattle.event_theory.specs.declared.refusal.Refusal.{Refusal}
+use Rattle.quaject_core.proofs.Common.{sym, ap, ◌∙◌, arith, Ok, Result, Queue, shut, Refusal}
 use Rattle.quaject_core.proofs.Stored.Parts.{queue_changed}
 use Rattle.quaject_core.proofs.store.Store.shut.Goals as goal
 

@@ -1,6 +1,4 @@
-use Rattle.std.proofs.Common.{ap, ◌∙◌, arith}
-use Rattle.event_theory.specs.Queues.{take_first}
-use Rattle.quaject_core.specs.Shown.{queue}
+use Rattle.quaject_core.proofs.Common.{ap, ◌∙◌, arith, take_first, queue}
 use Rattle.quaject_core.proofs.Stored.Parts.{queue_changes}
 use Rattle.quaject_core.proofs.store.Store.take_items.Goals as goal
 

@@ -1,6 +1,4 @@
-use Rattle.std.proofs.Common.{◌≡◌, ◌-◌}
-use Rattle.quaject_core.specs.Layout.{set_of}
-use Rattle.event_theory.specs.Statuses.{bits_from}
+use Rattle.quaject_core.proofs.Common.{◌≡◌, ◌-◌, set_of, bits_from}
 use Rattle.quaject_core.proofs.threading.StoredThread.pending.Given as goal
 
 -- The bits from the last signal that was seen on.

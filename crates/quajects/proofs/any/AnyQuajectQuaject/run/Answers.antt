@@ -1,7 +1,5 @@
-use Rattle.std.proofs.Common.{subst}
-use Rattle.quajects.specs.declared.any.AnyQuaject.{AnyQuaject}
+use Rattle.quajects.proofs.Common.{subst, AnyQuaject, MadeOf}
 use Rattle.quajects.specs.declared.any.AnyQuaject.TheVariants as any
-use Rattle.quajects.specs.Anys.{MadeOf}
 use Rattle.quajects.proofs.Making.{any_more}
 use Rattle.quajects.proofs.any.AnyQuajectQuaject.run.Goals as goal
 

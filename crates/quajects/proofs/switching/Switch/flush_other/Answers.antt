@@ -1,6 +1,4 @@
-use Rattle.std.proofs.Common.{◌≡◌, ℕ, List, ap, ◌∙◌, ◌++◌, ◌∷◌, [], if◌then◌else◌, Bool}
-use Rattle.claim_queue.specs.Handles.{view_of}
-use Rattle.claim_queue.specs.Lines.{lines_put}
+use Rattle.quajects.proofs.Common.{◌≡◌, ℕ, List, ap, ◌∙◌, ◌++◌, ◌∷◌, [], if◌then◌else◌, Bool, view_of, lines_put}
 use Rattle.quajects.proofs.Routes.{each_other, rest_put}
 use Rattle.quajects.proofs.switching.Switch.flush_other.Goals as goal
 

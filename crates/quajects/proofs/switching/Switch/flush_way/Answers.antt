@@ -1,8 +1,5 @@
 use Rattle.std.proofs.Common.{◌≡◌, ℕ, List, Some, length-set, rules, ap, ◌∙◌, ◌++◌, ◌∷◌, [], if◌then◌else◌, Bool}
-use Rattle.std.specs.List.{slice_get}
-use Rattle.claim_queue.specs.Handles.{view_of}
-use Rattle.quajects.specs.declared.ways.Way.{Way}
-use Rattle.claim_queue.specs.Lines.{lines_put}
+use Rattle.quajects.proofs.Common.{slice_get, view_of, Way, lines_put}
 use Rattle.quajects.proofs.Routes.{apart_after, each_refused, each_put, rest_same, rest_gone, keys_same, posts_same, way_read, fits_way, fit_after, tried_as}
 use Rattle.quajects.proofs.switching.Switch.flush_way.Goals as goal
 

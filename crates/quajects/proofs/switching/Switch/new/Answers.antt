@@ -1,7 +1,4 @@
-use Rattle.std.proofs.Common.{◌≡◌, [], map, refl, ap, ◌∙◌, subst, sym}
-use Rattle.claim_queue.specs.Handles.{view_of}
-use Rattle.claim_queue.specs.Lines.{line_of, lines_put, lines_taken}
-use Rattle.quajects.specs.Routes.{KeysDiffer}
+use Rattle.quajects.proofs.Common.{◌≡◌, [], map, refl, ap, ◌∙◌, subst, sym, view_of, line_of, lines_put, lines_taken, KeysDiffer}
 use Rattle.quajects.proofs.Routes.{given_keys, given_indexes, given_ends, each_new, rest_new, given_fit, end_at}
 use Rattle.quajects.proofs.switching.Switch.new.Goals as goal
 

@@ -1,7 +1,4 @@
-use Rattle.std.proofs.Common.{arith}
-use Rattle.claim_queue.specs.Handles.{view_of}
-use Rattle.claim_queue.specs.Lines.{lines_put}
-use Rattle.quajects.specs.Routes.{puts_of}
+use Rattle.quajects.proofs.Common.{arith, view_of, lines_put, puts_of}
 use Rattle.quajects.proofs.Counts.{counted_place}
 use Rattle.quajects.proofs.switching.Switch.put.Goals as goal
 

@@ -1,9 +1,4 @@
-use Rattle.std.proofs.Common.{◌≡◌, ◌++◌, take}
-use Rattle.std.specs.List.{flat_map}
-use Rattle.claim_queue.specs.Handles.{view_of}
-use Rattle.claim_queue.specs.Lines.{lines_put}
-use Rattle.quajects.specs.Lines.{counted}
-use Rattle.quajects.specs.Routes.{puts_of}
+use Rattle.quajects.proofs.Common.{◌≡◌, ◌++◌, take, flat_map, view_of, lines_put, counted, puts_of}
 use Rattle.quajects.proofs.switching.Switch.put.Given as goal
 
 abbrev pub invariant-loop-way : goal.invariant-loop-way

@@ -1,6 +1,5 @@
 use Rattle.std.proofs.Common.{◌<◌, ℕ, Some, arith, subst, sym, ap, ◌∙◌}
-use Rattle.std.specs.Prelude.{Option}
-use Rattle.quajects.specs.declared.ways.Way.{Way}
+use Rattle.quajects.proofs.Common.{Option, Way}
 use Rattle.quajects.proofs.Named.{got}
 use Rattle.quajects.proofs.Routes.{key_more, not_here, not_default, got_below}
 use Rattle.quajects.proofs.switching.Switch.way_of.Goals as goal

@@ -1,5 +1,4 @@
-use Rattle.claim_queue.specs.Handles.{view_of}
-use Rattle.claim_queue.specs.Lines.{lines_put}
+use Rattle.quajects.proofs.Common.{view_of, lines_put}
 use Rattle.quajects.proofs.Counts.{counted_both}
 use Rattle.quajects.proofs.terminal.CookedTty.put.Goals as goal
 

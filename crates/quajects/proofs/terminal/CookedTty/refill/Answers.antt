@@ -1,5 +1,4 @@
-use Rattle.std.proofs.Common.{rules, ◌≡◌, [], false, length, ◌<◌, ap, ◌∙◌}
-use Rattle.quajects.specs.Cooked.{cooked}
+use Rattle.quajects.proofs.Common.{rules, ◌≡◌, [], false, length, ◌<◌, ap, ◌∙◌, cooked}
 use Rattle.quajects.proofs.Cooks.{no_items, cooked_more, nothing_held, nothing_held_if, some_taken, cooked_some, not_in, as_not_in, cooked_raw}
 use Rattle.quajects.proofs.terminal.CookedTty.refill.Goals as goal
 

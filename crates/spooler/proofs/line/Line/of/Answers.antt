@@ -1,6 +1,4 @@
-use Rattle.std.proofs.Common.{◌≡◌, ◌∷◌, ◌++◌, ◌∙◌, [], ap, sym, subst, List, ℕ, arith}
-use Rattle.std.proofs.lemmas.List.{take_all}
-use Rattle.spooler.specs.Wholes.{IsWhole}
+use Rattle.spooler.proofs.Common.{◌≡◌, ◌∷◌, ◌++◌, ◌∙◌, [], ap, sym, subst, List, ℕ, arith, take_all, IsWhole}
 use Rattle.spooler.proofs.Wholes.{whole_of}
 use Rattle.spooler.proofs.line.Line.of.Goals as goal
 

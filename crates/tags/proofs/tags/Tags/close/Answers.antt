@@ -1,9 +1,4 @@
-use Rattle.std.proofs.Common.{ℕ, ◌∙◌, sym, ap}
-use Rattle.table_theory.specs.declared.queues.Positions.{Positions}
-use Rattle.claim_queue.specs.Handles.{view_of}
-use Rattle.claim_queue.specs.Own.{View}
-use Rattle.table_theory.specs.Times.{times}
-use Rattle.tags.specs.Lending.{all_tags}
+use Rattle.tags.proofs.Common.{ℕ, ◌∙◌, sym, ap, Positions, view_of, View, times, all_tags}
 use Rattle.tags.proofs.Calls.{looked_held, looked_holding}
 use Rattle.tags.proofs.Ends.{all_there, open_did}
 use Rattle.tags.proofs.tags.Tags.close.Goals as goal

@@ -1,6 +1,4 @@
-use Rattle.std.proofs.Common.{rules}
-use Rattle.claim_queue.specs.Handles.{view_of}
-use Rattle.claim_queue.specs.Own.{View}
+use Rattle.tags.proofs.Common.{rules, view_of, View}
 use Rattle.tags.proofs.Calls.{HeadsRise, give_holding, give_ok, may_put}
 use Rattle.tags.proofs.tags.Tags.give_back.Goals as goal
 

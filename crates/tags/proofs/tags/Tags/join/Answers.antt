@@ -1,7 +1,4 @@
-use Rattle.std.proofs.Common.{◌≡◌, ◌∙◌, sym}
-use Rattle.claim_queue.specs.Handles.{view_of}
-use Rattle.claim_queue.specs.Own.{View}
-use Rattle.tags.specs.Holdings.{count_in}
+use Rattle.tags.proofs.Common.{◌≡◌, ◌∙◌, sym, view_of, View, count_in}
 use Rattle.tags.proofs.Ends.{join_held, join_holding}
 use Rattle.tags.proofs.tags.Tags.join.Goals as goal
 

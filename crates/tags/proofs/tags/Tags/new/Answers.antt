@@ -1,8 +1,4 @@
-use Rattle.std.proofs.Common.{rules, ◌≡◌, ◌∙◌, ap, length, sym, arith}
-use Rattle.std.proofs.lemmas.List.FromFn.{length-range_with_len}
-use Rattle.claim_queue.specs.Handles.{view_of}
-use Rattle.claim_queue.specs.Own.{View}
-use Rattle.tags.specs.Lending.{all_tags}
+use Rattle.tags.proofs.Common.{rules, ◌≡◌, ◌∙◌, ap, length, sym, arith, length-range_with_len, view_of, View, all_tags}
 use Rattle.tags.proofs.Filling.{HeadSays, TailSays, may_fill, never_refused, new_raised, put_count, put_holding, put_lines, put_none, put_whole}
 use Rattle.tags.proofs.tags.Tags.new.Goals as goal
 

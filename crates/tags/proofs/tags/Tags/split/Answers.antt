@@ -1,5 +1,4 @@
-use Rattle.claim_queue.specs.Handles.{view_of}
-use Rattle.claim_queue.specs.Own.{View}
+use Rattle.tags.proofs.Common.{view_of, View}
 use Rattle.tags.proofs.Ends.{born_holding, born_none, split_held, split_holding, split_share}
 use Rattle.tags.proofs.tags.Tags.split.Goals as goal
 

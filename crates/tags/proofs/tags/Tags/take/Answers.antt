@@ -1,7 +1,4 @@
-use Rattle.std.proofs.Common.{◌∙◌, ap}
-use Rattle.table_theory.specs.declared.queues.Positions.{Positions}
-use Rattle.claim_queue.specs.Handles.{view_of}
-use Rattle.claim_queue.specs.Own.{View}
+use Rattle.tags.proofs.Common.{◌∙◌, ap, Positions, view_of, View}
 use Rattle.tags.proofs.Calls.{take_effect, take_first, take_holding, take_holds, take_result}
 use Rattle.tags.proofs.tags.Tags.take.Goals as goal
 

@@ -1,9 +1,4 @@
-use Rattle.turn_io.proofs.Common.{rules, ◌≡◌, refl, set, sym, subst, arith}
-use Rattle.std.specs.Vec.{with_items}
-use Rattle.std.proofs.lemmas.List.{with_items_is}
-use Rattle.boot_data.specs.declared.plan.QueueIndex.{QueueIndex}
-use Rattle.turn_io.specs.QueueEnds.{IsThere, SaidAt}
-use Rattle.turn_io.specs.Outcomes.{Said}
+use Rattle.turn_io.proofs.Common.{rules, ◌≡◌, refl, set, sym, subst, arith, with_items, with_items_is, QueueIndex, IsThere, SaidAt, Said}
 use Rattle.turn_io.proofs.Using.{vec_end, vec_same, vec_used}
 use Rattle.turn_io.proofs.queue_ends.QueueEnds.say.Goals as goal
 

@@ -1,13 +1,5 @@
-use Rattle.std.specs.Array.Iter.{array_into_iter_items}
-use Rattle.std.proofs.Common.{rules, ◌≡◌, ◌∙◌, suc, List, [], ◌∷◌, ◌++◌, map, length, get_or, refl, sym, ap, subst, arith, append_assoc}
-use Rattle.std.proofs.lemmas.List.{append-nil, map-append}
+use Rattle.spooler.proofs.Common.{array_into_iter_items, rules, ◌≡◌, ◌∙◌, suc, List, [], ◌∷◌, ◌++◌, map, length, get_or, refl, sym, ap, subst, arith, append_assoc, append-nil, map-append, QueueEnd, View, view_of, IsEndOf, HasPut, AreEndsOf, Gathered, lines_of}
 use Rattle.claim_queue.specs.Plain.{ClaimQueue}
-use Rattle.claim_queue.specs.declared.ends.QueueEnd.{QueueEnd}
-use Rattle.claim_queue.specs.Own.{View}
-use Rattle.claim_queue.specs.Handles.{view_of, IsEndOf}
-use Rattle.spooler.specs.Doings.{HasPut}
-use Rattle.spooler.specs.Ends.{AreEndsOf, Gathered}
-use Rattle.spooler.specs.Lines.{lines_of}
 use Rattle.spooler.proofs.Gathering.{gathered_none, gathered_more, gathered_same, puts_each}
 use Rattle.spooler.proofs.spool.fn.run_spool.putting.Goals as goal
 

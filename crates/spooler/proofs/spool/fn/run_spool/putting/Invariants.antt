@@ -1,7 +1,4 @@
-use Rattle.std.proofs.Common.{◌≡◌, ◌++◌, map}
-use Rattle.std.specs.Array.Iter.{array_into_iter_items}
-use Rattle.claim_queue.specs.Handles.{view_of, IsEndOf}
-use Rattle.spooler.specs.Ends.{AreEndsOf, Gathered}
+use Rattle.spooler.proofs.Common.{◌≡◌, ◌++◌, map, array_into_iter_items, view_of, IsEndOf, AreEndsOf, Gathered}
 use Rattle.spooler.proofs.spool.fn.run_spool.putting.Given as goal
 
 abbrev pub invariant-loop-end : goal.invariant-loop-end

@@ -77,7 +77,7 @@ pub use Rattle.thread_table.proofs.Lists.Counts.{by_bool, find_it, is_less, many
 pub use Rattle.thread_table.proofs.Lists.Shuffles.{filed_shuffle}
 pub use Rattle.thread_table.proofs.Schedule.Schedules.{after_none, allowed_before}
 pub use Rattle.thread_table.specs.Makers.{numbered, signals_of}
-pub use Rattle.thread_table.specs.Schedules.{IsAllowed, after, begun, state_after}
+unfoldable pub use Rattle.thread_table.specs.Schedules.{IsAllowed, after, begun, state_after}
 pub use Rattle.thread_table.specs.declared.places.Place.{Place}
 pub use Rattle.turn_dispatch.proofs.MadeBy.{delivered_by, done_by, signalled_by}
 pub use Rattle.turn_dispatch.specs.Countings.{counted_step}

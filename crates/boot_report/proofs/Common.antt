@@ -3,7 +3,8 @@ pub use Rattle.std.proofs.Common.{Bool, IfSome, IsPermutation, List, None, Optio
 pub use Rattle.std.proofs.lemmas.List.{append-nil, append_assoc, drop_all, length-append, length-drop, length-map, length-take, length-take-le, map-append, take-append-drop, with_items_is}
 pub use Rattle.std.proofs.lemmas.List.Sorted.{All-permutation, IsPermutation-map, answers_always, length_permutation, searchable_from_sorted}
 pub use Rattle.std.proofs.lemmas.Option.{get_or_from_slice_get, slice_get_within}
-pub use Rattle.std.specs.List.{AllByRecursion, IsDistinct, sum_by}
+pub use Rattle.std.specs.List.{AllByRecursion, sum_by}
+unfoldable pub use Rattle.std.specs.List.{IsDistinct}
 pub use Rattle.std.specs.Vec.Iter.{into_iter_items, into_iter_len}
 pub use Rattle.boot_data.specs.Hearing.{Heard, IsPlace, Key, Line, NamedLine, bytes_in, heard_at, nothing_heard}
 pub use Rattle.boot_data.specs.declared.boot_plan.BootPlan.{BootPlan}

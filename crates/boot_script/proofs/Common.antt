@@ -39,24 +39,37 @@ pub use Rattle.event_theory.specs.declared.event.Event.{Event}
 pub use Rattle.event_theory.specs.declared.names.QueueName.{QueueName}
 pub use Rattle.quaject_core.specs.ShownCores.{state}
 pub use Rattle.boot_script.specs.Answers.{Fails, IsFault}
-pub use Rattle.boot_script.specs.BootLines.{AreSeen, boot_line, is_key, key_of, line_of, say_words, switch_words, type_words, way_of, ways_from, ways_of, words_line}
-pub use Rattle.boot_script.specs.BootNames.{count_of, find, if_kind, if_new, is_declared, is_letter, is_name, is_name_byte, most_of, name_of, new_name, number_named, part_of, queue_named, queue_or_part, room_of, same_kind, tty_part, with_name}
+pub use Rattle.boot_script.specs.BootLines.{AreSeen, is_key, key_of, way_of, ways_of, words_line}
+unfoldable pub use Rattle.boot_script.specs.BootLines.{boot_line, line_of, say_words, switch_words, type_words, ways_from}
+pub use Rattle.boot_script.specs.BootNames.{count_of, if_kind, if_new, is_letter, is_name, is_name_byte, most_of, name_of, new_name, number_named, part_of, queue_or_part, room_of, same_kind, tty_part, with_name}
+unfoldable pub use Rattle.boot_script.specs.BootNames.{find, is_declared, queue_named}
 pub use Rattle.boot_script.specs.BootSpellings.{AreInOrder, EndsInText, FitWays, FitsLine, FitsMover, FitsQueue, FitsStep, FitsWaits, FollowInOrder, IsNew, IsSpelling, IsText, SpellFrom, SpellsPlan, digit_for, escape, mover_words, name_of_number, part_name, queue_word, queue_words, way_words}
-pub use Rattle.boot_script.specs.BootWords.{boot_word, boot_word_of, boot_words, has_word, if_had, word_named}
-pub use Rattle.boot_script.specs.Commands.{command_of, command_word, commands, knows}
+pub use Rattle.boot_script.specs.BootWords.{boot_word, has_word, if_had}
+unfoldable pub use Rattle.boot_script.specs.BootWords.{boot_word_of, boot_words, word_named}
+pub use Rattle.boot_script.specs.Commands.{command_of, command_word, knows}
+unfoldable pub use Rattle.boot_script.specs.Commands.{commands}
 pub use Rattle.boot_script.specs.Drafts.{Added, Draws, kept_plan}
-pub use Rattle.boot_script.specs.Grammar.{Reader, at_most_of, claim_words, event_of, four_words, is_printable, items_of, line_event, no_more_of, no_words, notify_event, numbers_of, one_word, three_words, two_words, words_event}
+pub use Rattle.boot_script.specs.Grammar.{Reader, at_most_of, is_printable, items_of, no_more_of, notify_event, numbers_of, words_event}
+unfoldable pub use Rattle.boot_script.specs.Grammar.{claim_words, event_of, four_words, line_event, no_words, one_word, three_words, two_words}
 pub use Rattle.boot_script.specs.Heard.{shown}
-pub use Rattle.boot_script.specs.Names.{byte_queue_of, call_of, chain_of, element_of, gauge_of, in_a_name, listener_of, numbered_name, processor_of, queue_of, signal_of, the_word, wait_of, ◌or◌}
-pub use Rattle.boot_script.specs.Plans.{Draft, add_step, added, alarm_room, change_at, first_draft, goes_on, line_added, no_plan, plan_from, plan_only, step_room, text_plan, text_room, typed_at, typed_in, with_step, with_text}
-pub use Rattle.boot_script.specs.Printed.{alarm_line, chain_line, clock_line, element_line, element_words, end_of_line, gauge_line, notified_line, numbered_lines, queue_line, refused_text, status_text}
+pub use Rattle.boot_script.specs.Names.{byte_queue_of, call_of, chain_of, element_of, gauge_of, in_a_name, numbered_name, processor_of, signal_of, the_word, wait_of, ◌or◌}
+unfoldable pub use Rattle.boot_script.specs.Names.{listener_of, queue_of}
+pub use Rattle.boot_script.specs.Plans.{Draft, add_step, alarm_room, change_at, first_draft, goes_on, no_plan, plan_only, step_room, text_room, typed_at, typed_in, with_step, with_text}
+unfoldable pub use Rattle.boot_script.specs.Plans.{added, line_added, plan_from, text_plan}
+pub use Rattle.boot_script.specs.Printed.{element_line, end_of_line, numbered_lines}
+unfoldable pub use Rattle.boot_script.specs.Printed.{alarm_line, chain_line, clock_line, element_words, gauge_line, notified_line, queue_line, refused_text, status_text}
 pub use Rattle.boot_script.specs.Replays.{IsReplay, IsReplayFault, Replays, alone}
-pub use Rattle.boot_script.specs.Reports.{alarms_line, counts_words, heard_line, heard_text, mover_line, named, thread_line, tty_line, tty_lines, tty_queue, written_byte}
-pub use Rattle.boot_script.specs.Scripts.{at_line, events_from, opening_of, says_nothing, text_events, version_of, versioned}
-pub use Rattle.boot_script.specs.Spellings.{Fits, Spells, SpellsText, call_name, event_words, spelling}
-pub use Rattle.boot_script.specs.Texts.{before, bytes_of, digit_of, escape_of, text_of, within_of}
+pub use Rattle.boot_script.specs.Reports.{heard_text, written_byte}
+unfoldable pub use Rattle.boot_script.specs.Reports.{alarms_line, counts_words, heard_line, mover_line, named, thread_line, tty_line, tty_lines, tty_queue}
+pub use Rattle.boot_script.specs.Scripts.{at_line, says_nothing}
+unfoldable pub use Rattle.boot_script.specs.Scripts.{events_from, opening_of, text_events, version_of, versioned}
+pub use Rattle.boot_script.specs.Spellings.{Fits, Spells, SpellsText, call_name, event_words}
+unfoldable pub use Rattle.boot_script.specs.Spellings.{spelling}
+pub use Rattle.boot_script.specs.Texts.{before, digit_of, escape_of, text_of, within_of}
+unfoldable pub use Rattle.boot_script.specs.Texts.{bytes_of}
 pub use Rattle.boot_script.specs.Versions.{elements_of, is_later, last_element, last_processor, last_wait, version_line}
-pub use Rattle.boot_script.specs.Words.{first_word, later_words, lines_of, number_of, pieces, pieces_left, without_last_empty, word_at, words_from, words_of, ◌>>=◌}
+pub use Rattle.boot_script.specs.Words.{first_word, later_words, pieces, pieces_left, without_last_empty, word_at, words_from, words_of, ◌>>=◌}
+unfoldable pub use Rattle.boot_script.specs.Words.{lines_of, number_of}
 pub use Rattle.boot_script.specs.declared.boot_lines.Line.{Line}
 pub use Rattle.boot_script.specs.declared.boot_words.BootWord.{BootWord}
 pub use Rattle.boot_script.specs.declared.commands.Command.{Command}

@@ -9,7 +9,8 @@ pub use Rattle.std.proofs.lemmas.List.{append-nil, append_assoc, length-append, 
 pub use Rattle.std.proofs.lemmas.List.Folds.{list_any-append}
 pub use Rattle.std.proofs.lemmas.List.Sums.{count_by-le-length, sum_by-cons, sum_by-take-le, sum_by_more_le}
 pub use Rattle.std.proofs.lemmas.Option.{same_Some, slice_get_read, slice_get_within}
-pub use Rattle.std.specs.List.{All, AllByRecursion, IsDistinct, count_by, list_any, slice_get, sum_by}
+pub use Rattle.std.specs.List.{All, AllByRecursion, count_by, list_any, slice_get, sum_by}
+unfoldable pub use Rattle.std.specs.List.{IsDistinct}
 pub use Rattle.std.specs.Prelude.{nat_lt, not, slice_index_or}
 pub use Rattle.boot_data.specs.BootPlans.{plan_of}
 pub use Rattle.boot_data.specs.Hearing.{Heard, Key, Line}

@@ -15,12 +15,16 @@ pub use Rattle.boot_log.specs.Values.{line_part}
 pub use Rattle.boot_log.specs.declared.entry.Entry.{Entry}
 pub use Rattle.boot_script.specs.Reports.{heard_text}
 pub use Rattle.json.specs.Json.{Items, Json, Members, document}
-pub use Rattle.json.specs.Print.{IsNumber, IsPrintable, ends, escape_byte, print, print_from}
+pub use Rattle.json.specs.Print.{IsNumber, IsPrintable, ends, print}
+unfoldable pub use Rattle.json.specs.Print.{escape_byte, print_from}
 pub use Rattle.json.specs.Token.{Token, begin_object, end_array, end_object, key, number, string}
 pub use Rattle.json.specs.Tree.{HasNumbers, ItemsHaveNumbers, MembersHaveNumbers, depth, items_depth, items_tokens, json_tokens, members_depth, members_tokens}
-pub use Rattle.trace_events.specs.Documents.{IsEvent, Prints, json_text, later_texts, trace_json, trace_text}
-pub use Rattle.trace_events.specs.Events.{head, line_end_json, line_start_json, metadata_json, missed_json, turn_json, turn_opening}
-pub use Rattle.trace_events.specs.Names.{name_of_thread, thread_names, thread_text, threads_text}
+pub use Rattle.trace_events.specs.Documents.{IsEvent, Prints, json_text, later_texts, trace_json}
+unfoldable pub use Rattle.trace_events.specs.Documents.{trace_text}
+pub use Rattle.trace_events.specs.Events.{head, line_end_json, line_start_json, metadata_json, missed_json, turn_json}
+unfoldable pub use Rattle.trace_events.specs.Events.{turn_opening}
+pub use Rattle.trace_events.specs.Names.{name_of_thread, thread_text, threads_text}
+unfoldable pub use Rattle.trace_events.specs.Names.{thread_names}
 pub use Rattle.trace_events.specs.Objects.{Grown, IsAlone, Named, Writes, items_of, list_tokens, member_tokens, members_of, numbered, object_of, timed}
 pub use Rattle.trace_events.specs.Traces.{boot_events, log_events, numbered_events, passing_events, process_json, processor_events, thread_events}
 pub use Rattle.trace_events.specs.Tracks.{AreApart, all_thread_turns, comes_before, element_of, is_first_of, last_end, precedes, slice_start, sorts_before, thread_turn_of, thread_turns}

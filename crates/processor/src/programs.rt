@@ -62,7 +62,7 @@ fn one_hears_large(threads: &[PlannedThread]) -> bool
         .any(|thread| hears_large(thread.steps.as_slice()))
 }
 
-// The most items of a line that a step of a plan can hear: 256 if one hears from a large queue, else 64.
+/// The most items of a line that a step of a plan can hear: 256 if one hears from a large queue, else 64.
 pub fn longest_line(plan: &BootPlan) -> usize
     ensures result { result ≡ longest_line plan.now }
     ensures few { result ≤ 256 }

@@ -32,9 +32,10 @@ def files_of(crate, parts):
 
 
 @functools.cache
-def kit():
-    """The line of the kit."""
-    return subprocess.run(["rt", "version"], check=True, capture_output=True).stdout
+def logic():
+    """The sum of the kit's logic, or the whole line of a kit that names none."""
+    line = subprocess.run(["rt", "version"], check=True, capture_output=True).stdout
+    return line.partition(b" logic ")[2] or line
 
 
 def line_of(crate, sums):
@@ -43,7 +44,7 @@ def line_of(crate, sums):
     files = [listed.ROOT / "tools" / "wrong-bodies", listed.ROOT / "tools" / "crates.py", *files_of(crate, listed.PARTS), *edits]
     for name in listed.below(crate, needs):
         files += [it for it in files_of(name, listed.PARTS) if it.name not in OF_FUNCTION]
-    found = hashlib.sha256(kit())
+    found = hashlib.sha256(logic())
     found.update(listed.rows()[crate].encode())
     for file in files:
         sums[file] = sums.get(file) or hashlib.sha256(file.read_bytes()).hexdigest()

@@ -1,10 +1,11 @@
 """Which crates are as they were when all their wrong bodies were refused.
 
-What comes of a wrong body is a function of what its check reads: the sources of its crate, the edits, the sources of the
-crates below without the proofs of their functions, which no other crate can name, the tools that try it, and the kit.
-`tried.txt` has a sum of all that for each crate of which all edits were refused. tools/wrong-bodies writes it, and leaves
-out what hasn't changed if it is asked to. The gate has it written to another file, which SYNTHESIS_TRIED names, since it
-changes no file of the repository.
+The goals that a wrong body leaves open are stated by the sources and the specs of its crate and of all crates below, in the
+logic of the kit. A lemma helps to find a proof, and states nothing; so does a kit's search. A goal that doesn't hold has a
+proof by no lemma and in no kit of the same logic. So `tried.txt` has, for each crate of which all edits were refused, a sum of
+its sources, specs, proofs and edits, of the sources and specs of all crates below, of the tools that try them, and of the
+logic. tools/wrong-bodies writes it, and leaves out what hasn't changed if it is asked to. The gate has it written to another
+file, which SYNTHESIS_TRIED names, since it changes no file of the repository.
 """
 
 import functools
@@ -20,8 +21,8 @@ NOTED = pathlib.Path(os.environ.get("SYNTHESIS_TRIED") or RECORD)
 HEAD = """# The crates of which all wrong bodies were refused: how many files they are, and the sum of all that their checks read.
 # tools/wrong-bodies writes it; tools/tried.py says what is in the sum.
 """
-# The proof of a function, which is private to it.
-OF_FUNCTION = ("Answers.antt", "Invariants.antt", "Proof.antt")
+# What states the contracts of a crate.
+STATED = ("src", "specs")
 # Of so many commits one, by its number, has a crate tried again that hasn't changed.
 TURNS = 12
 
@@ -33,7 +34,7 @@ def files_of(crate, parts):
 
 @functools.cache
 def logic():
-    """The sum of the kit's logic, or the whole line of a kit that names none."""
+    """The sum of the kit's logic, or the whole line of a kit that names no logic."""
     line = subprocess.run(["rt", "version"], check=True, capture_output=True).stdout
     return line.partition(b" logic ")[2] or line
 
@@ -43,7 +44,7 @@ def line_of(crate, sums):
     needs, edits = listed.uses(), files_of(crate, ["wrong-bodies"])
     files = [listed.ROOT / "tools" / "wrong-bodies", listed.ROOT / "tools" / "crates.py", *files_of(crate, listed.PARTS), *edits]
     for name in listed.below(crate, needs):
-        files += [it for it in files_of(name, listed.PARTS) if it.name not in OF_FUNCTION]
+        files += files_of(name, STATED)
     found = hashlib.sha256(logic())
     found.update(listed.rows()[crate].encode())
     for file in files:

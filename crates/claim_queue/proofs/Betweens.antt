@@ -1,25 +1,16 @@
 -- A state for which the rule holds is a lawful queue of the core, shown by the words and the views.
-use Rattle.claim_queue.proofs.Common.{◌≡◌, ℕ, ◌+◌, ◌%◌, ◌<◌, ◌≤◌, Bool, false, List, ◌∙◌, map, length, get_or, refl, sym, ap, subst, arith, get_or-map, Batch, Positions, stage_at, blank, place_at, Owned, ListedOnce, all_places, Shape, mark, data_in, flag_in, part_of, Rule, IsUsed}
+use Rattle.claim_queue.proofs.Common.{◌≡◌, ℕ, ◌+◌, ◌%◌, ◌<◌, ◌≤◌, ◌∙◌, map, length, refl, sym, ap, subst, arith, Positions, stage_at, ListedOnce, Shape, mark, data_in, flag_in, part_of, Rule, IsUsed}
 use Rattle.table_theory.specs.Unused.{AreZero}
 use Rattle.std.proofs.lemmas.Simd.{map-map}
 use Rattle.std.proofs.lemmas.Bool.{leb-true, leb-false}
-use Rattle.event_theory.specs.Runs.{flat, pairs}
-use Rattle.event_theory.specs.Queues.{is_raised}
+use Rattle.event_theory.specs.Runs.{flat}
 use Rattle.table_theory.specs.Listing.{runs_of, takes_of, Adjacent}
-use Rattle.table_theory.specs.QueueOf.{run_in, is_published, queue_of}
-use Rattle.event_theory.proofs.Lists.Histories.{length-pairs_from}
-use Rattle.table_theory.proofs.Batches.{item_is, taken_items}
-use Rattle.table_theory.proofs.QueueOf.{up_of, long_is, is_lawful_queue}
+use Rattle.table_theory.specs.QueueOf.{run_in, queue_of}
+use Rattle.table_theory.proofs.Batches.{item_is, up_is, taken_items}
+use Rattle.table_theory.proofs.QueueOf.{long_is, is_lawful_queue}
 use Rattle.table_theory.proofs.QueueEvents.{history_of}
-use Rattle.claim_queue.specs.Between.{pair_at, PlaceIs, ShowsQueue, ShowsEnds}
+use Rattle.claim_queue.specs.Between.{PlaceIs, ShowsQueue, ShowsEnds}
 use Rattle.claim_queue.proofs.Stepping.{St, seen_grows}
-
--- whether the item with the number i is raised
-module _ (q : Positions) (runs : List (Owned Batch)) (same : all_places runs ≡ q.places) (i : ℕ) (below : i < length q.places) where
-  up_is : is_raised (queue_of q runs) (pair_at (queue_of q runs) i) ≡ is_published (place_at q i)
-  up_is = let n = length-pairs_from 0 (map run_in runs) in let m = long_is q runs same in
-      sym (get_or-map (is_raised (queue_of q runs)) (pairs (map run_in runs)) i (0, 0) false (omega arith))
-      ∙ (ap (λ (z : List Bool). get_or z i false) (up_of q runs ∙ ap (map is_published) same) ∙ get_or-map is_published q.places i blank false below)
 
 place_is : (key : Shape) (s : St) (k : Rule key s) (i : ℕ) → k.now.object.taken ≤ i → i < length k.now.object.places → PlaceIs (queue_of k.now.object k.listed.lists.runs) key.room s.words i (key.first + i)
 place_is key s k i from below = let q : Positions = k.now.object in let l = k.listed.lists in let u = up_is q l.runs l.runs_are.flat i below in let x = item_is q l.runs l.runs_are.flat i below in

@@ -6,10 +6,10 @@ use mathlib.Core.Option as maybe
 use Rattle.event_theory.specs.Runs.{flat}
 use Rattle.table_theory.specs.Filing.{ListedOnce}
 use Rattle.table_theory.specs.Listing.{takes_of}
-use Rattle.table_theory.proofs.Batches.{item_is, taken_is, taken_items}
+use Rattle.table_theory.proofs.Batches.{item_is, up_is, taken_is, taken_items}
 use Rattle.proc_chain.specs.Between.{pair_at, PlaceIs, ShowsChain, ShowsEnds}
 use Rattle.proc_chain.proofs.Gates.{others_still}
-use Rattle.proc_chain.proofs.Events.{runner_none, runner_at, up_is, not_idle, chain_is_lawful}
+use Rattle.proc_chain.proofs.Events.{runner_none, runner_at, not_idle, chain_is_lawful}
 
 -- a view has the turn exactly if its end is the runner
 runner_is : (q : Positions) (gate : ℕ) (views : List View) → GateShows q gate views → (call : ℕ) (v : View) → get_elem? views call ≡ maybe.some v → v.own.runner ≡ is_call call (runner_from 0 views)

@@ -1,8 +1,7 @@
 -- Each step is one event of the chain that the gate and the views show.
-use Rattle.proc_chain.proofs.Common.{◌≡◌, ◌≢◌, ℕ, zero, suc, ◌+◌, ◌<◌, ◌≤◌, Bool, true, false, ◌&&◌, eq-eqb, ne_eqb, List, [], ◌∷◌, ◌++◌, map, length, get_or, set, sym, refl, ap, ◌∙◌, subst, arith, Option, Some, None, ⊎_elim, if◌then◌else◌, length-map, some, some-ne-none, dite, ℕ_discrete, dec_lt, get_elem?, Idle, Cell, Batch, Positions, is_raised, Chain, is_call, raise_note, is_idle, blank, Grows, item_of, place_at, stage_at, head_of, Lawful, fresh, with_write, Owned, all_places, runs_of, Adjacent, ViewsShow, with_stage, long_is, history_of, got, at_map, at_set, set_here, set_else, at_below, grows_refl, with_turn, GatedQueue, View, part_of, with_note, with_taken, with_gate, taking, IsSettled, GateShows, gate_of, runner_from, owes_in, chain_of, AreShown, IsChainEvent}
+use Rattle.proc_chain.proofs.Common.{◌≡◌, ◌≢◌, ℕ, zero, suc, ◌+◌, ◌<◌, ◌≤◌, Bool, true, false, ◌&&◌, eq-eqb, ne_eqb, List, [], ◌∷◌, ◌++◌, map, length, get_or, set, sym, refl, ap, ◌∙◌, subst, arith, Option, Some, None, ⊎_elim, if◌then◌else◌, length-map, some, some-ne-none, dite, ℕ_discrete, dec_lt, get_elem?, Idle, Cell, Batch, Positions, is_raised, Chain, is_call, raise_note, is_idle, blank, Grows, item_of, place_at, stage_at, head_of, Lawful, fresh, with_write, Owned, runs_of, Adjacent, ViewsShow, with_stage, long_is, history_of, got, at_map, at_set, set_here, set_else, at_below, grows_refl, with_turn, GatedQueue, View, part_of, with_note, with_taken, with_gate, taking, IsSettled, GateShows, gate_of, runner_from, owes_in, chain_of, AreShown, IsChainEvent}
 use Rattle.std.proofs.Common.{not, ltb, zero-add, add-zero, slice_get, option_map, Ok, Result}
 use Rattle.std.specs.Option.{is_some}
-use Rattle.std.proofs.lemmas.List.{get_or-map}
 use Rattle.std.proofs.lemmas.Bool.Decides.{nat_tests}
 use Rattle.std.proofs.lemmas.Option.{slice_get-get_or, slice_get_past, slice_get-map}
 use mathlib.Core.Option.{some-injective}
@@ -15,7 +14,8 @@ use Rattle.table_theory.specs.QueueOf.{run_in, is_published, queue_of}
 use Rattle.event_theory.proofs.Lists.Histories.{length-pairs_from, length-pairs_of}
 use Rattle.table_theory.proofs.Logs.{lies}
 use Rattle.event_theory.proofs.Lists.Histories.{slice_get-drop}
-use Rattle.table_theory.proofs.QueueOf.{Log, up_of, left_long, is_lawful_queue}
+use Rattle.table_theory.proofs.Batches.{up_is}
+use Rattle.table_theory.proofs.QueueOf.{Log, left_long, is_lawful_queue}
 use Rattle.table_theory.proofs.QueueEvents.{claimed_is, claim_goes, set_got, set_other, raised_is, raise_goes, take_goes, first_raised}
 use Rattle.table_theory.proofs.Listing.{listed_look, listed_claim, listed_write, listed_take}
 use Rattle.event_theory.specs.declared.refusal.Refusal.{Refusal}
@@ -82,12 +82,6 @@ pair_there number first p (suc k) i (x ∷ xs) o c at below is =
     let e : number + 1 + k ≡ number + suc k = omega arith in
     back (pairs_of number 0 (map item_of x.2.places)) (pairs_from (number + 1) (map run_in xs)) (s.at + i) p (omega arith)
     ∙ (pair_there (number + 1) (first + length x.2.places) (s.at + i) k i xs o c.1 at below (omega arith) ∙ ap (λ (z : ℕ). Some (z, i)) e)
-
--- whether the note with the number i is raised
-pub up_is : (q : Positions) (runs : Log) → all_places runs ≡ q.places → (i : ℕ) → i < length q.places → is_raised (queue_of q runs) (get_or (pairs (map run_in runs)) i (0, 0)) ≡ is_published (place_at q i)
-up_is q runs same i below = let n = length-pairs_from 0 (map run_in runs) in let m = long_is q runs same in
-    sym (get_or-map (is_raised (queue_of q runs)) (pairs (map run_in runs)) i (0, 0) false (omega arith))
-    ∙ (ap (λ (z : List Bool). get_or z i false) (up_of q runs ∙ ap (map is_published) same) ∙ get_or-map is_published q.places i blank false below)
 
 pub and_false : (a : Bool) → (a && false) ≡ false
 and_false true = refl

@@ -7,10 +7,13 @@ use Rattle.turn_dispatch.specs.Holdings.{IsFree}
 use Rattle.boot_objects.specs.declared.device.Device.{Device}
 use Rattle.boot_objects.specs.Devices.{AreDevicesOf}
 use Rattle.boot_objects.specs.Objects.{AreQuajectsOf, HaveAll, IsFirstHand, IsFirstSeat}
+use Rattle.boot_objects.specs.declared.making.Objects.{Objects}
 use Rattle.boot_objects.specs.Shares.{quajects_of}
 use Rattle.processor.specs.declared.shared.Shared.{Shared}
 use Rattle.processor.specs.declared.station.Parts.{Parts}
-use Rattle.processor.specs.Stations.{ArePartsOf}
+use Rattle.boot_objects.specs.Stocks.{CanGive, shares, chain_shares}
+use Rattle.processor.specs.Accounts.{account, nothing}
+use Rattle.processor.specs.Stations.{ArePartsOf, IsUnused}
 use Rattle.processor.specs.Preparing.{IsPrepared}
 use Rattle.boot_report.specs.Rooms as reporting
 use Rattle.thread_table.specs.Handles.{view_of}
@@ -34,6 +37,21 @@ pub record HasPlaces {G : Type 0} (shared : Shared) (processors : ℕ) (room : R
   pub reported : (room.reported.items ≡ []) × (length shared.plan.ttys ≤ vec_capacity room.reported)
   pub answers : closing.HaveRoom shared room.answers
   pub report : reporting.HasAllRoom shared.plan room.report
+
+-- These are all objects of their plan, as they were made. The first station is that of its shared objects, has done
+-- nothing, and can give of each share. It, the devices and the quajects have all shares
+pub record AreMade (objects : Objects) : Type 0 where
+  pub parts : ArePartsOf objects.shared objects.station.parts
+  pub unused : IsUnused objects.station.parts
+  pub hand : IsFirstHand objects.shared.threads objects.station.parts.hand
+  pub seat : IsFirstSeat objects.shared.meters objects.station.parts.meters
+  pub effect : account objects.station.parts ≡ nothing
+  pub quajects : AreQuajectsOf objects.shared.plan objects.shared.queues (quajects_of objects.shared.chains.items)
+  pub devices : AreDevicesOf objects.shared.plan objects.shared.queues objects.shared.chains.items objects.devices.items
+  pub splits : CanGive 1000 (shares objects.station.parts.queues.small.items)
+      × CanGive 1000 (shares objects.station.parts.queues.large.items)
+      × CanGive 1000 (chain_shares objects.station.parts.chains.items)
+  pub whole : HaveAll objects.shared objects.station.parts objects.devices.items
 
 -- All objects of the plan were made; the first station, the devices and the quajects have all their shares. The first
 -- station was prepared, and gave each processor a station of its own. Each processor and each device has its work,

@@ -6,9 +6,20 @@ use Rattle.boot_threads.specs.Typings.{AreTyped}
 use Rattle.boot_threads.specs.Works.{Back, HasWorked, RunsOf, RefusalsOf}
 use Rattle.processor.specs.Points.{Calls}
 use Rattle.spsc_line.specs.declared.line_in.LineIn.{LineIn}
+use Rattle.synth_kernel.specs.declared.gathering.Lists.{Lists}
 use Rattle.synth_kernel.specs.declared.ready.Ready.{Ready}
+use Rattle.synth_kernel.specs.declared.ready.Room.{Room}
 use Rattle.synth_kernel.specs.declared.running.Stopped.{Stopped}
 use Rattle.synth_kernel.specs.Gatherings.{IsGathered}
+
+-- these are the lists of the room for what is gathered
+pub record AreListsOf {G : Type 0} (room : Room G) (lists : Lists G) : Type 0 where
+  pub processed : lists.processed ≡ room.processed
+  pub served : lists.served ≡ room.served
+  pub ttys : lists.ttys ≡ room.ttys
+  pub heards : lists.heards ≡ room.heards
+  pub gates : lists.gates ≡ room.gates
+  pub reported : lists.reported ≡ room.reported
 
 -- A thread did each work and was joined, or was refused. Meanwhile the ttys' bytes were typed into the inputs of the
 -- devices, whose works follow those of so many processors. The results were gathered. The objects, and the room for

@@ -156,7 +156,9 @@ where
     ensures write { IfErr result (λ fault. fault ≡ BootFault.Write → (last : O) × IsWriteFault O.fails last) }
 {
     let booted = boot_on(rt, alloc, &mut reader, &mut writer, processors, turns)?;
-    Ok(booted.ended())
+    let ended = booted.ended();
+    drop(booted);
+    Ok(ended)
 }
 
 /// Boots the script as `boot_on_with` does, with a reader and a writer that are handed over. The gates don't come back.
@@ -194,5 +196,7 @@ where
         turns,
         gates,
     )?;
-    Ok(booted.ended())
+    let ended = booted.ended();
+    drop(booted);
+    Ok(ended)
 }

@@ -104,13 +104,21 @@ where
 {
     let (report, gates, closed) = boot_plan(rt, alloc, plan, turns, gates)?;
     match print_report(&report, writer) {
-        Ok(()) => Ok(Booted {
-            ended: ended_by(&report),
-            gates,
-            closed,
-            processors,
-            turns,
-        }),
-        Err(_) => Err(BootFault::Write),
+        Ok(()) => {
+            let ended = ended_by(&report);
+            drop(report);
+            Ok(Booted {
+                ended,
+                gates,
+                closed,
+                processors,
+                turns,
+            })
+        }
+        Err(_) => {
+            drop(report);
+            drop(closed);
+            Err(BootFault::Write)
+        }
     }
 }

@@ -1,16 +1,17 @@
 //! The threads of a boot, from their start to the gathering of their results.
-ghost use Rattle.std.specs.Prelude.{IfOk};
+ghost use Rattle.std.specs.Prelude.{◌≡◌, ◌≤◌, [], vec_capacity, vec_len, IfOk, IfSome};
 ghost use Rattle.processor.specs.Points.{calls};
 ghost use Rattle.synth_kernel.specs.Readies.{IsReadyFor};
-ghost use Rattle.synth_kernel.specs.Stops.{HasStopped};
+ghost use Rattle.synth_kernel.specs.Stops.{AreListsOf, HasStopped};
 
 use crate::gathering::{Gathered, Lists, gather};
 use crate::ready::{Ready, Room};
 use boot_objects::Answers;
 use boot_report::Lines;
-use boot_threads::{Witness, Work, Worked, run_kernel};
+use boot_threads::{Back, Started, Witness, Work, Worked, run_kernel};
 use event_theory::OutOfMemory;
 use processor::{Shared, TurnGate};
+use spsc_line::LineIn;
 use std::alloc::Global;
 use std::sync::Wait;
 
@@ -22,6 +23,80 @@ pub(crate) struct Stopped<G> {
     pub(crate) gathered: Gathered<G>,
     pub(crate) answers: Answers,
     pub(crate) report: Lines,
+}
+
+// The lists of a room: those for the results of the threads, for the inputs, and for what is gathered. The answers and
+// the report follow.
+fn part_room<G>(room: Room<G>) -> (Vec<Back<G>>, Vec<LineIn>, Lists<G>, Answers, Lines)
+    ensures backs { result.0 ≡ room.backs }
+    ensures typed { result.1 ≡ room.typed }
+    ensures lists { AreListsOf room result.2 }
+    ensures answers { result.3 ≡ room.answers }
+    ensures report { result.4 ≡ room.report }
+{
+    let Room {
+        backs,
+        typed,
+        processed,
+        served,
+        ttys,
+        heards,
+        gates,
+        reported,
+        answers,
+        report,
+    } = room;
+    let lists = Lists {
+        processed,
+        served,
+        ttys,
+        heards,
+        gates,
+        reported,
+    };
+    (backs, typed, lists, answers, report)
+}
+
+// Runs a thread for each work, types the ttys' bytes meanwhile, and gathers the results. None if a thread could not be
+// started. All lists have room.
+//
+// Conditions: all is ready for so many processors, and there is room for a handle of each thread.
+fn run_works<R, G>(
+    rt: &R,
+    ready: Ready<G>,
+    processors: usize,
+    handles: Vec<Started<Shared, Worked<G>, Work<G>>>,
+) -> Option<Stopped<G>>
+where
+    R: Witness<Shared, Worked<G>, Work<G>> + Wait + Sync,
+    G: TurnGate + Send + Drop,
+    requires ready { IsReadyFor processors ready }
+    requires handles { (handles.items ≡ []) × (vec_len ready.works ≤ vec_capacity handles) }
+    ensures { IfSome result (HasStopped R.ran R.refused (calls G.observes G.learns) processors ready) }
+{
+    let Ready {
+        shared,
+        station,
+        works,
+        inputs,
+        room,
+    } = ready;
+    let (backs, typed, lists, answers, report) = part_room(room);
+    let (backs, inputs) = run_kernel(
+        rt, &shared, works, processors, handles, backs, inputs, typed,
+    );
+    let Some(gathered) = gather(&shared, station, backs, inputs, lists) else {
+        drop(shared);
+        drop(answers);
+        drop(report);
+        return None;
+    };
+    Some(Stopped {
+        shared,
+        gathered,
+        answers,
+        report,
+    })
 }
 
 /// Runs a thread for each work, types the ttys' bytes meanwhile, and gathers the results. `OutOfMemory` is returned
@@ -41,44 +116,12 @@ where
     requires ready { IsReadyFor processors ready }
     ensures { IfOk result (HasStopped R.ran R.refused (calls G.observes G.learns) processors ready) }
 {
-    let handles = Vec::with_capacity(alloc, ready.works.len())?;
-    let Ready {
-        shared,
-        station,
-        works,
-        inputs,
-        room,
-    } = ready;
-    let Room {
-        backs,
-        typed,
-        processed,
-        served,
-        ttys,
-        heards,
-        gates,
-        reported,
-        answers,
-        report,
-    } = room;
-    let (backs, inputs) = run_kernel(
-        rt, &shared, works, processors, handles, backs, inputs, typed,
-    );
-    let lists = Lists {
-        processed,
-        served,
-        ttys,
-        heards,
-        gates,
-        reported,
+    let Ok(handles) = Vec::with_capacity(alloc, ready.works.len()) else {
+        drop(ready);
+        return Err(OutOfMemory);
     };
-    match gather(&shared, station, backs, inputs, lists) {
-        Some(gathered) => Ok(Stopped {
-            shared,
-            gathered,
-            answers,
-            report,
-        }),
+    match run_works(rt, ready, processors, handles) {
+        Some(stopped) => Ok(stopped),
         None => Err(OutOfMemory),
     }
 }

@@ -1,4 +1,4 @@
-use Rattle.synth_kernel.proofs.Common.{◌++◌, [], ◌∷◌, length, Ok, append_assoc, sym, ap, ◌∙◌, arith, into_iter_items, processed_in, served_in, all_there}
+use Rattle.synth_kernel.proofs.Common.{◌++◌, [], ◌∷◌, length, Ok, append_assoc, sym, refl, rules, ap, ◌∙◌, arith, into_iter_items, processed_in, served_in, all_there}
 use Rattle.synth_kernel.proofs.Sorting.{processed_append, served_append, there_more, there_none, none_processed, none_served, room_for}
 use Rattle.synth_kernel.proofs.gathering.sort_backs.Goals as goal
 
@@ -32,4 +32,15 @@ loop-back-preserved g c = let v = c.loop-back.invariant in record {
   all = sym (ap (λ z. all_there (c.loop-back.yielded ++ z ∷ [])) c.in-Err.is ∙ there_none c.loop-back.yielded c.in-Err._lost);
   room = v.room;
   served_room = v.served_room;
+}
+
+pub loop-back-init : goal.loop-back-init
+loop-back-init g c = record {
+  parts = c.into_iter-back-iterator.ensures.into_iter_gives.0;
+  left = search rules;
+  processed = c.requires.processed.0;
+  served = c.requires.served.0;
+  all = refl;
+  room = refl;
+  served_room = refl;
 }

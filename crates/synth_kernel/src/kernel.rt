@@ -157,6 +157,7 @@ where
 {
     let booted = boot_on(rt, alloc, &mut reader, &mut writer, processors, turns)?;
     let ended = booted.ended();
+    // A call drops all fields. Without it the proof goes through each of them here, which takes long.
     drop(booted);
     Ok(ended)
 }

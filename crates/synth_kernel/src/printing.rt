@@ -106,6 +106,7 @@ where
     match print_report(&report, writer) {
         Ok(()) => {
             let ended = ended_by(&report);
+            // A call drops all fields. Without it the proof goes through each of them here, which takes long.
             drop(report);
             Ok(Booted {
                 ended,

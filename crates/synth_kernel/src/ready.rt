@@ -107,9 +107,16 @@ fn post_works<G: Gate + Drop>(
         → IsPrepared plan r.0.parts) }
 {
     let devices = shared.plan.ttys.as_slice().len();
-    let works = Vec::with_capacity(alloc, gates.len() + devices)?;
+    let Ok(works) = Vec::with_capacity(alloc, gates.len() + devices) else {
+        // A call drops all fields. Without it the proof goes through each of them here, which takes long.
+        drop(station);
+        return Err(OutOfMemory);
+    };
     let mut station = station;
-    let works = post_all(alloc, shared, &mut station, turns, gates, works)?;
+    let Ok(works) = post_all(alloc, shared, &mut station, turns, gates, works) else {
+        drop(station);
+        return Err(OutOfMemory);
+    };
     Ok((station, works))
 }
 

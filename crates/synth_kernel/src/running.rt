@@ -1,5 +1,5 @@
 //! The threads of a boot, from their start to the gathering of their results.
-ghost use Rattle.std.specs.Prelude.{◌≡◌, ◌≤◌, [], vec_capacity, vec_len, IfOk, IfSome};
+ghost use Rattle.std.specs.Prelude.{◌≡◌, IfOk};
 ghost use Rattle.processor.specs.Points.{calls};
 ghost use Rattle.synth_kernel.specs.Readies.{IsReadyFor};
 ghost use Rattle.synth_kernel.specs.Stops.{AreListsOf, HasStopped};
@@ -8,7 +8,7 @@ use crate::gathering::{Gathered, Lists, gather};
 use crate::ready::{Ready, Room};
 use boot_objects::Answers;
 use boot_report::Lines;
-use boot_threads::{Back, Started, Witness, Work, Worked, run_kernel};
+use boot_threads::{Back, Witness, Work, Worked, run_kernel};
 use event_theory::OutOfMemory;
 use processor::{Shared, TurnGate};
 use spsc_line::LineIn;
@@ -57,48 +57,6 @@ fn part_room<G>(room: Room<G>) -> (Vec<Back<G>>, Vec<LineIn>, Lists<G>, Answers,
     (backs, typed, lists, answers, report)
 }
 
-// Runs a thread for each work, types the ttys' bytes meanwhile, and gathers the results. None if a thread could not be
-// started. All lists have room.
-//
-// Conditions: all is ready for so many processors, and there is room for a handle of each thread.
-fn run_works<R, G>(
-    rt: &R,
-    ready: Ready<G>,
-    processors: usize,
-    handles: Vec<Started<Shared, Worked<G>, Work<G>>>,
-) -> Option<Stopped<G>>
-where
-    R: Witness<Shared, Worked<G>, Work<G>> + Wait + Sync,
-    G: TurnGate + Send + Drop,
-    requires ready { IsReadyFor processors ready }
-    requires handles { (handles.items ≡ []) × (vec_len ready.works ≤ vec_capacity handles) }
-    ensures { IfSome result (HasStopped R.ran R.refused (calls G.observes G.learns) processors ready) }
-{
-    let Ready {
-        shared,
-        station,
-        works,
-        inputs,
-        room,
-    } = ready;
-    let (backs, typed, lists, answers, report) = part_room(room);
-    let (backs, inputs) = run_kernel(
-        rt, &shared, works, processors, handles, backs, inputs, typed,
-    );
-    let Some(gathered) = gather(&shared, station, backs, inputs, lists) else {
-        drop(shared);
-        drop(answers);
-        drop(report);
-        return None;
-    };
-    Some(Stopped {
-        shared,
-        gathered,
-        answers,
-        report,
-    })
-}
-
 /// Runs a thread for each work, types the ttys' bytes meanwhile, and gathers the results. `OutOfMemory` is returned
 /// only if the allocation of the list of threads was refused, before the first starts, or a thread could not be
 /// started.
@@ -117,11 +75,31 @@ where
     ensures { IfOk result (HasStopped R.ran R.refused (calls G.observes G.learns) processors ready) }
 {
     let Ok(handles) = Vec::with_capacity(alloc, ready.works.len()) else {
+        // A call drops all fields. Without it the proof goes through each of them here, which takes long.
         drop(ready);
         return Err(OutOfMemory);
     };
-    match run_works(rt, ready, processors, handles) {
-        Some(stopped) => Ok(stopped),
-        None => Err(OutOfMemory),
-    }
+    let Ready {
+        shared,
+        station,
+        works,
+        inputs,
+        room,
+    } = ready;
+    let (backs, typed, lists, answers, report) = part_room(room);
+    let (backs, inputs) = run_kernel(
+        rt, &shared, works, processors, handles, backs, inputs, typed,
+    );
+    let Some(gathered) = gather(&shared, station, backs, inputs, lists) else {
+        drop(shared);
+        drop(answers);
+        drop(report);
+        return Err(OutOfMemory);
+    };
+    Ok(Stopped {
+        shared,
+        gathered,
+        answers,
+        report,
+    })
 }

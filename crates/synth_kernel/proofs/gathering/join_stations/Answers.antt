@@ -1,4 +1,4 @@
-use Rattle.synth_kernel.proofs.Common.{◌++◌, [], ◌∷◌, map, flat_map, length, List, append_assoc, sym, ap, subst, ◌∙◌, arith, map-append, into_iter_items, Parts, ArePartsOf, parts_of, gate_of, heard_lines, AllJoined, lines_of}
+use Rattle.synth_kernel.proofs.Common.{◌++◌, [], ◌∷◌, map, flat_map, length, List, append_assoc, refl, rules, sym, ap, subst, ◌∙◌, arith, map-append, into_iter_items, Parts, ArePartsOf, parts_of, gate_of, heard_lines, AllJoined, lines_of}
 use Rattle.std.proofs.lemmas.Grind.{flat_map-append}
 use Rattle.synth_kernel.proofs.Sorting.{joined_more}
 use Rattle.synth_kernel.proofs.Placing.{here}
@@ -24,4 +24,16 @@ loop-one-preserved g c = let v = c.loop-one.invariant in let j = c.join_station.
   gate_room = let was = v.gate_room in let put = c.push_reserved-in-loop-one.ensures.len in let same = c.push_reserved-in-loop-one.ensures.capacity in let gone = c.in-Some.ensures.steps.1 in let left = v.left in let short = ap length c.in-Some.ensures.steps.0 in omega arith;
   parts = append_assoc c.loop-one.yielded (c.in-Some.one ∷ []) (into_iter_items c.next.new.self) ∙ (ap (λ z. c.loop-one.yielded ++ z) (sym c.in-Some.ensures.steps.0) ∙ v.parts);
   left = let was = v.left in let gone = c.in-Some.ensures.steps.1 in let short = ap length c.in-Some.ensures.steps.0 in omega arith;
+}
+
+pub loop-one-init : goal.loop-one-init
+loop-one-init g c = let none = ap length c.requires.room.0 in let no_gate = ap length c.requires.gates.0 in record {
+  first = c.requires.first;
+  joined = refl;
+  heard = ap (flat_map lines_of) c.requires.room.0;
+  gates = c.requires.gates.0;
+  room = search rules;
+  gate_room = search rules;
+  parts = c.into_iter-one-iterator.ensures.into_iter_gives.0;
+  left = search rules;
 }

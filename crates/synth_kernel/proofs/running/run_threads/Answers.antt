@@ -1,6 +1,6 @@
 use Rattle.synth_kernel.proofs.Common.{ℕ, drop, length, vec_capacity, ap, subst, ◌∙◌, refl, arith, length-map, input_of, AreTyped, calls}
 use Rattle.synth_kernel.proofs.Shut.{few_came, lines_came, parts_came}
-use Rattle.synth_kernel.proofs.running.run_works.Goals as goal
+use Rattle.synth_kernel.proofs.running.run_threads.Goals as goal
 
 pub run_kernel-backs-requires-clause-number : goal.run_kernel-backs-requires-clause-number
 run_kernel-backs-requires-clause-number g c = let n = c.requires.ready.3.number in let p = c.requires.ready.2 in let l = c.args.ready.works.ok.0 in omega arith

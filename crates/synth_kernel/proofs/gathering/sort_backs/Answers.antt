@@ -1,4 +1,4 @@
-use Rattle.synth_kernel.proofs.Common.{◌++◌, [], ◌∷◌, length, Ok, append_assoc, sym, refl, rules, ap, ◌∙◌, arith, into_iter_items, processed_in, served_in, all_there}
+use Rattle.synth_kernel.proofs.Common.{◌≡◌, ◌++◌, [], append-nil, nil_from_length, ◌∷◌, length, Ok, append_assoc, sym, refl, rules, ap, ◌∙◌, arith, into_iter_items, processed_in, served_in, all_there}
 use Rattle.synth_kernel.proofs.Sorting.{processed_append, served_append, there_more, there_none, none_processed, none_served, room_for}
 use Rattle.synth_kernel.proofs.gathering.sort_backs.Goals as goal
 
@@ -44,3 +44,21 @@ loop-back-init g c = record {
   room = refl;
   served_room = refl;
 }
+
+pub returns-then-all : goal.returns-then-all
+returns-then-all g c = let v = c.loop-back.invariant in
+    let empty : into_iter_items c.loop-back.back-iterator ≡ [] = nil_from_length _ (sym v.left ∙ c.in-None.ensures.steps.0) in
+    let every : c.loop-back.yielded ≡ c.args.backs.items = sym (append-nil c.loop-back.yielded) ∙ (ap (λ z. c.loop-back.yielded ++ z) (sym empty) ∙ v.parts) in
+    record {
+      sorted = (v.processed ∙ (λ i. processed_in (every i)), v.served ∙ (λ i. served_in (every i)), (λ i. all_there (sym every i)) ∙ (sym v.all ∙ c.if-all.true));
+      missing = λ none. absurd cc;
+    }
+
+pub returns-else-all : goal.returns-else-all
+returns-else-all g c = let v = c.loop-back.invariant in
+    let empty : into_iter_items c.loop-back.back-iterator ≡ [] = nil_from_length _ (sym v.left ∙ c.in-None.ensures.steps.0) in
+    let every : c.loop-back.yielded ≡ c.args.backs.items = sym (append-nil c.loop-back.yielded) ∙ (ap (λ z. c.loop-back.yielded ++ z) (sym empty) ∙ v.parts) in
+    record {
+      sorted = tt;
+      missing = λ _. (λ i. all_there (sym every i)) ∙ (sym v.all ∙ c.if-all.false);
+    }

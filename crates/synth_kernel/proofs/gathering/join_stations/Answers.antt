@@ -1,4 +1,4 @@
-use Rattle.synth_kernel.proofs.Common.{◌++◌, [], ◌∷◌, map, flat_map, length, List, append_assoc, refl, rules, sym, ap, subst, ◌∙◌, arith, map-append, into_iter_items, Parts, ArePartsOf, parts_of, gate_of, heard_lines, AllJoined, lines_of}
+use Rattle.synth_kernel.proofs.Common.{◌≡◌, ◌++◌, [], append-nil, nil_from_length, Processed, ◌∷◌, map, flat_map, length, List, append_assoc, refl, rules, sym, ap, subst, ◌∙◌, arith, map-append, into_iter_items, Parts, ArePartsOf, parts_of, gate_of, heard_lines, AllJoined, lines_of}
 use Rattle.std.proofs.lemmas.Grind.{flat_map-append}
 use Rattle.synth_kernel.proofs.Sorting.{joined_more}
 use Rattle.synth_kernel.proofs.Placing.{here}
@@ -37,3 +37,14 @@ loop-one-init g c = let none = ap length c.requires.room.0 in let no_gate = ap l
   parts = c.into_iter-one-iterator.ensures.into_iter_gives.0;
   left = search rules;
 }
+
+pub returns : goal.returns
+returns g c = let v = c.loop-one.invariant in
+    let empty : into_iter_items c.loop-one.one-iterator ≡ [] = nil_from_length _ (sym v.left ∙ c.in-None.ensures.steps.0) in
+    let every : c.loop-one.yielded ≡ c.args.processed.items = sym (append-nil c.loop-one.yielded) ∙ (ap (λ z. c.loop-one.yielded ++ z) (sym empty) ∙ v.parts) in
+    record {
+      parts = v.first;
+      joined = subst (λ (z : List (Processed g.row.G.Denot)). AllJoined c.args.first.parts (map parts_of z) c.loop-one.first.parts) every v.joined;
+      heard = v.heard ∙ (λ i. flat_map heard_lines (map parts_of (every i)));
+      gates = v.gates ∙ (λ i. map gate_of (every i));
+    }

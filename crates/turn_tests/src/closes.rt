@@ -1,7 +1,8 @@
 //! Ends that are joined at the close, and what each table closes with.
 ghost use Rattle.std.specs.Prelude.{◌≡◌, ◌+◌, length};
 ghost use Rattle.std.specs.List.{All};
-ghost use Rattle.turn_io.specs.EndLists.{AreChainEndsOf, AreChainsOver, end_share, share_at};
+ghost use Rattle.boot_objects.specs.Comings.{FitsHome};
+ghost use Rattle.turn_io.specs.EndLists.{AreEndsOf, AreChainEndsOf, AreChainsOver, end_share, share_at};
 ghost use Rattle.turn_io.specs.QueueEnds.{AreQueueEndsOf};
 ghost use Rattle.proc_chain.specs.Handles.{IsOnlyEnd};
 ghost use Rattle.quajects.specs.Ports.{IsEndAt};
@@ -10,13 +11,15 @@ ghost use Rattle.table_theory.specs.Sharing.{IsWhole};
 use crate::pumps::{Pumped, make_pump};
 use boot_data::plan::QueueIndex;
 use boot_objects::*;
-use claim_queue::{ClaimQueue, QueueEnd};
+use claim_queue::{ClaimQueue, Closed, QueueEnd};
 use event_theory::OutOfMemory;
 use meters::Meters;
 use proc_chain::{ChainEnd, ProcChain};
-use quajects::{AnyQuaject, Queues};
+use quajects::{AnyQuaject, Came, Home, Queues};
 use std::alloc::Global;
+use std::panic::Expect;
 use std::process::Abort;
+use std::sync::Wait;
 use std::test::*;
 use thread_table::{Place, Places, ThreadTable};
 use turn_io::{LineRoom, NoGate, QueueEnds, poke};
@@ -89,21 +92,48 @@ fn whole_pump<R: Abort>(rt: &R, alloc: Global) -> Result<Whole, OutOfMemory> {
     })
 }
 
+/// Two lines are said at the one small queue, and the first is heard. Then the queue is shut.
+fn say_hear_and_shut<R: Abort>(rt: &R, world: &Queues, ends: &mut QueueEnds)
+    requires one { length world.now.small.items ≡ 1 }
+    requires ends { AreQueueEndsOf world.now ends.old }
+    ensures ends { AreQueueEndsOf world.now ends.new }
+    ensures share { share_at ends.new.small.items 0 ≡ share_at ends.old.small.items 0 }
+{
+    let queue = QueueIndex::Small(0);
+    assert!(rt; ends.say(world, queue, &[104, 105, 10], 0, &mut NoGate) == Ok(()));
+    assert!(rt; ends.say(world, queue, &[33, 10], 0, &mut NoGate) == Ok(()));
+    let mut room = LineRoom::new();
+    assert!(rt; ends.hear(world, queue, &mut room, 0, &mut NoGate) == Ok(()));
+    assert!(rt; room.line.as_slice() == [104, 105, 10].as_slice());
+    assert!(rt; ends.shut(world, queue));
+}
+
+/// Joins the two ends of the only queue, and closes it.
+fn join_and_close<R: Abort>(
+    rt: &R,
+    alloc: Global,
+    queues: Vec<ClaimQueue<64>>,
+    ends: Vec<QueueEnd<64>>,
+    other: QueueEnd<64>,
+) -> Vec<Closed<64>>
+    requires one { length queues.items ≡ 1 }
+    requires fit { AreEndsOf queues.items ends.items }
+    requires at { IsEndAt queues.items 0 other }
+    requires whole { IsWhole (share_at ends.items 0 + end_share other) }
+{
+    let mut ends = ends;
+    join_at(queues.as_slice(), ends.as_mut_slice(), 0, other);
+    let room = Vec::with_capacity(alloc, 1).expect(rt, "memory");
+    close_queues(queues, ends, room)
+}
+
 /// A line that was said at the one end is heard at the other, and the two are one end at the close.
 #[test]
 fn closes_queues(rt: HostRuntime) -> Result<(), Fail> {
     let Shared { world, ends, other } = shared_queue(rt.alloc())?;
     let mut ends = ends;
-    let queue = QueueIndex::Small(0);
-    assert!(rt; ends.say(&world, queue, &[104, 105, 10], 0, &mut NoGate) == Ok(()));
-    assert!(rt; ends.say(&world, queue, &[33, 10], 0, &mut NoGate) == Ok(()));
-    let mut room = LineRoom::new();
-    assert!(rt; ends.hear(&world, queue, &mut room, 0, &mut NoGate) == Ok(()));
-    assert!(rt; room.line.as_slice() == [104, 105, 10].as_slice());
-    assert!(rt; ends.shut(&world, queue));
-    join_at(world.small.as_slice(), ends.small.as_mut_slice(), 0, other);
-    let room = Vec::with_capacity(rt.alloc(), 1)?;
-    let closed = close_queues(world.small, ends.small, room);
+    say_hear_and_shut(&rt, &world, &mut ends);
+    let closed = join_and_close(&rt, rt.alloc(), world.small, ends.small, other);
     assert!(rt; closed.len() == 1);
     let [queue] = closed.as_slice() else {
         panic!(rt; "one")
@@ -111,6 +141,52 @@ fn closes_queues(rt: HostRuntime) -> Result<(), Fail> {
     assert!(rt; (queue.first, queue.put, queue.taken) == (0, 5, 3));
     assert!(rt; queue.left.as_slice() == [Some(33), Some(10)].as_slice());
     Ok(())
+}
+
+/// Says a line at the first of two small queues.
+fn say_first<R: Abort>(rt: &R, world: &Queues, ends: &mut QueueEnds)
+    requires two { length world.now.small.items ≡ 2 }
+    requires ends { AreQueueEndsOf world.now ends.old }
+    ensures { AreQueueEndsOf world.now ends.new }
+{
+    let said = ends.say(world, QueueIndex::Small(0), &[104, 10], 0, &mut NoGate);
+    assert!(rt; said == Ok(()));
+}
+
+/// Pokes the only chain, and retires it.
+fn poke_and_retire<R: Abort + Wait>(
+    rt: &R,
+    alloc: Global,
+    world: &Queues,
+    chains: Vec<ProcChain<AnyQuaject>>,
+    ends: Vec<ChainEnd<AnyQuaject>>,
+) -> Vec<Home>
+    requires one { length chains.items ≡ 1 }
+    requires fit { AreChainEndsOf chains.items ends.items }
+    requires over { AreChainsOver world.now chains.items }
+    requires whole { All IsOnlyEnd ends.items }
+    ensures { All (FitsHome world.now) result.items }
+{
+    let mut ends = ends;
+    let poked = poke(rt, world, chains.as_slice(), &mut ends, 0, 0, &mut NoGate);
+    assert!(rt; poked.is_ok());
+    let room = Vec::with_capacity(alloc, 1).expect(rt, "memory");
+    retire_all(chains, ends, room)
+}
+
+/// Brings home what was retired: its numbers.
+fn bring_each_home<R: Abort>(
+    rt: &R,
+    alloc: Global,
+    world: &Queues,
+    ends: &mut QueueEnds,
+    homes: Vec<Home>,
+) -> Vec<Came>
+    requires ends { AreQueueEndsOf world.now ends.old }
+    requires fits { All (FitsHome world.now) homes.items }
+{
+    let room = Vec::with_capacity(alloc, homes.len()).expect(rt, "memory");
+    bring_all_home(world, ends, homes, room)
 }
 
 /// A pump that moved a line comes home with its numbers, and its ends are joined.
@@ -122,24 +198,11 @@ fn retires_a_pump(rt: HostRuntime) -> Result<(), Fail> {
         chains,
         chain_ends,
     } = whole_pump(&rt, rt.alloc())?;
-    let (mut ends, mut chain_ends) = (ends, chain_ends);
-    let queue = QueueIndex::Small(0);
-    assert!(rt; ends.say(&world, queue, &[104, 10], 0, &mut NoGate) == Ok(()));
-    let poked = poke(
-        &rt,
-        &world,
-        chains.as_slice(),
-        &mut chain_ends,
-        0,
-        0,
-        &mut NoGate,
-    );
-    assert!(rt; poked.is_ok());
-    let room = Vec::with_capacity(rt.alloc(), 1)?;
-    let homes = retire_all(chains, chain_ends, room);
+    let mut ends = ends;
+    say_first(&rt, &world, &mut ends);
+    let homes = poke_and_retire(&rt, rt.alloc(), &world, chains, chain_ends);
     assert!(rt; homes.len() == 1);
-    let room = Vec::with_capacity(rt.alloc(), homes.len())?;
-    let counts = bring_all_home(&world, &mut ends, homes, room);
+    let counts = bring_each_home(&rt, rt.alloc(), &world, &mut ends, homes);
     let [came] = counts.as_slice() else {
         panic!(rt; "one")
     };

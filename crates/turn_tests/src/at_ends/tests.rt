@@ -1,6 +1,7 @@
 ghost use Rattle.std.specs.Prelude.{◌≡◌, length};
 ghost use Rattle.std.specs.List.{All};
 ghost use Rattle.turn_io.specs.EndLists.{AreEndsOf, AreChainEndsOf, AreChainsOver, IsDivisible, IsChainDivisible};
+ghost use Rattle.turn_io.specs.QueueEnds.{AreQueueEndsOf};
 
 use super::fixtures::{
     Chain, End, Poker, Pumped, Recorder, SIXTY_FOUR, TwoQueues, Watcher, close_queue, make_pump,
@@ -63,6 +64,33 @@ fn says_and_hears(rt: HostRuntime) {
     assert!(rt; gate.points.as_slice() == points.as_slice());
 }
 
+/// A line is said in the second queue: the watcher finds it claimed and not raised, and then raised.
+fn watch_a_say<R: Abort>(rt: &R, world: &Queues, ends: &mut QueueEnds, gate: &mut Watcher)
+    requires two { length world.now.small.items ≡ 2 }
+    requires ends { AreQueueEndsOf world.now ends.old }
+    ensures { AreQueueEndsOf world.now ends.new }
+{
+    assert!(rt; puts_by(world, ends, SECOND, &[104, 105, 10], 0, gate) == Ok(()));
+    let full = Err(ClaimRefusal::Full { head: 3, tail: 0 });
+    let between = [
+        (Point::Claimed, full, Err(TakeRefusal::Empty { at: 0 }), 0),
+        (Point::Raised, full, Ok(()), 3),
+    ];
+    assert!(rt; gate.seen.as_slice() == between.as_slice());
+}
+
+/// A line is heard from the second queue: the watcher finds it taken.
+fn watch_a_hear<R: Abort>(rt: &R, world: &Queues, ends: &mut QueueEnds, gate: &mut Watcher)
+    requires two { length world.now.small.items ≡ 2 }
+    requires ends { AreQueueEndsOf world.now ends.old }
+    ensures { AreQueueEndsOf world.now ends.new }
+{
+    gate.seen.clear();
+    assert!(rt; takes_by(world, ends, SECOND, &[10], 0, gate) == (Ok(()), true));
+    let following = [(Point::TakeAnswered, Ok(()), Ok(()), 64)];
+    assert!(rt; gate.seen.as_slice() == following.as_slice());
+}
+
 /// Other ends find the line claimed and not raised, then raised; and then a line taken.
 #[test]
 fn gate_between_the_parts(rt: HostRuntime) {
@@ -76,18 +104,9 @@ fn gate_between_the_parts(rt: HostRuntime) {
         small: 1,
         seen: Vec::new(rt.alloc()),
     };
-    let full = Err(ClaimRefusal::Full { head: 3, tail: 0 });
-    assert!(rt; puts_by(&world, &mut ends, SECOND, &[104, 105, 10], 0, &mut gate) == Ok(()));
-    let between = [
-        (Point::Claimed, full, Err(TakeRefusal::Empty { at: 0 }), 0),
-        (Point::Raised, full, Ok(()), 3),
-    ];
-    assert!(rt; gate.seen.as_slice() == between.as_slice());
+    watch_a_say(&rt, &world, &mut ends, &mut gate);
     assert!(rt; puts(&world, &mut ends, SECOND, &[10]) == Ok(()));
-    gate.seen.clear();
-    assert!(rt; takes_by(&world, &mut ends, SECOND, &[10], 0, &mut gate) == (Ok(()), true));
-    let following = [(Point::TakeAnswered, Ok(()), Ok(()), 64)];
-    assert!(rt; gate.seen.as_slice() == following.as_slice());
+    watch_a_hear(&rt, &world, &mut ends, &mut gate);
 }
 
 /// As many items as a large queue has places.

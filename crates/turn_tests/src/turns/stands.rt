@@ -1,10 +1,8 @@
 //! The objects that the processors of a plan share, and a first station, over queues and chains that a test makes.
 ghost use Rattle.std.specs.Prelude.{◌≡◌, ◌≤◌, [], length, IfOk};
 ghost use Rattle.std.specs.List.{All};
-ghost use Rattle.thread_table.specs.Handles.{view_of, IsHandOf, IsSameHand};
-ghost use Rattle.thread_table.specs.Handles as threads;
-ghost use Rattle.meters.specs.Handles.{IsSeatOf, IsSameSeat};
-ghost use Rattle.meters.specs.Handles as seats;
+ghost use Rattle.thread_table.specs.Handles.{view_of, IsHandOf, IsSameHand, IsDivisible as IsHandDivisible};
+ghost use Rattle.meters.specs.Handles.{IsSeatOf, IsSameSeat, IsDivisible as IsSeatDivisible};
 ghost use Rattle.turn_dispatch.specs.Holdings.{IsFree};
 ghost use Rattle.turn_io.specs.EndLists.{AreEndsOf, AreChainEndsOf, AreChainsOver, IsDivisible};
 ghost use Rattle.processor.specs.Manning.{IsRunnable};
@@ -160,6 +158,33 @@ fn station_of(alloc: Global, shared: &Shared, ends: Ends) -> Result<Station, Out
     }
 }
 
+/// A thread table and meters, with the only end of each.
+#[derive(Drop)]
+struct Tables {
+    threads: ThreadTable,
+    hand: Hand,
+    meters: Meters,
+    seat: MeterSeat,
+    ghost hand_fits: { IsHandOf threads hand },
+    ghost hand_divides: { IsHandDivisible hand },
+    ghost seat_fits: { IsSeatOf meters seat },
+    ghost seat_divides: { IsSeatDivisible seat },
+}
+
+/// The tables of a plan with nothing done: the element queues begin at this position, and the clock at this tick.
+fn make_tables(alloc: Global, begin: (u32, u32)) -> Result<Tables, OutOfMemory>
+    requires { begin.0 ≤ 4294967231 }
+{
+    let (threads, hand) = ThreadTable::new_at(alloc, begin.0)?;
+    let (meters, seat) = Meters::new(alloc, begin.1)?;
+    Ok(Tables {
+        threads,
+        hand,
+        meters,
+        seat,
+    })
+}
+
 /// The objects that the processors of a plan without ttys share, over these queues and chains, with the element queues
 /// at this position and the clock at this tick; and a first station, with nothing done.
 pub(super) fn first_station<R: Abort>(
@@ -175,12 +200,19 @@ pub(super) fn first_station<R: Abort>(
     ensures small { IfOk result (λ r. r.1.parts.queues.small ≡ ways.small) }
     ensures large { IfOk result (λ r. r.1.parts.queues.large ≡ ways.large) }
     ensures chain_ends { IfOk result (λ r. r.1.parts.chains ≡ ways.ends) }
-    ensures hand { IfOk result (λ r. threads.IsDivisible r.1.parts.hand) }
-    ensures seat { IfOk result (λ r. seats.IsDivisible r.1.parts.meters) }
+    ensures hand { IfOk result (λ r. IsHandDivisible r.1.parts.hand) }
+    ensures seat { IfOk result (λ r. IsSeatDivisible r.1.parts.meters) }
     ensures heard { IfOk result (λ r. r.1.parts.heard.lines ≡ []) }
     ensures room { IfOk result (λ r. hear_count r.0.plan ≤ r.1.parts.heard.room) }
     ensures longest { IfOk result (λ r. longest_line r.0.plan ≤ r.1.parts.heard.longest) }
 {
+    must_have(rt, &plan, ways.queues.small.len(), ways.chains.len());
+    let Tables {
+        threads,
+        hand,
+        meters,
+        seat,
+    } = make_tables(alloc, begin)?;
     let Ways {
         queues,
         small,
@@ -188,9 +220,6 @@ pub(super) fn first_station<R: Abort>(
         chains,
         ends: chain_ends,
     } = ways;
-    must_have(rt, &plan, queues.small.len(), chains.len());
-    let (threads, hand) = ThreadTable::new_at(alloc, begin.0)?;
-    let (meters, seat) = Meters::new(alloc, begin.1)?;
     let shared = Shared {
         queues,
         chains,

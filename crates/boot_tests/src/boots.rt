@@ -7,6 +7,7 @@ mod memory;
 mod passes;
 mod streams;
 
+use boot_script::Sink;
 use std::alloc::Global;
 use std::process::Abort;
 use std::sync::Wait;
@@ -36,6 +37,20 @@ fn unfinished(live: usize, printed: &str) -> Wanted<'_> {
     }
 }
 
+/// Boots a script on one processor with so many turns, and asserts that it had so many.
+fn boot_alone<R: Threads + Wait + Sync + Abort, O: Sink>(
+    rt: &R,
+    alloc: Global,
+    script: &[u8],
+    output: &mut O,
+    turns: u32,
+) -> Result<Ended, BootFault> {
+    let mut reader = script;
+    let booted = boot_on(rt, alloc, &mut reader, output, 1, turns)?;
+    assert!(rt; booted.processors() == 1 && booted.turns() == turns);
+    Ok(booted.ended())
+}
+
 /// Asserts the outcome and the output of a script that is booted on one processor with so many turns.
 fn assert_boot<R: Threads + Wait + Sync + Abort>(
     rt: &R,
@@ -44,14 +59,10 @@ fn assert_boot<R: Threads + Wait + Sync + Abort>(
     turns: u32,
     wanted: Wanted<'_>,
 ) {
-    let mut reader = script.as_bytes();
-    let mut output = Vec::new(alloc);
-    match boot_on(rt, alloc, &mut reader, &mut output, 1, turns) {
-        Ok(booted) => {
-            assert!(rt; booted.ended() == wanted.ended);
-            assert!(rt; booted.processors() == 1 && booted.turns() == turns);
-        }
-        Err(_) => panic!(rt; "no boot"),
-    }
+    let mut output: Vec<u8> = Vec::new(alloc);
+    let Ok(ended) = boot_alone(rt, alloc, script.as_bytes(), &mut output, turns) else {
+        panic!(rt; "no boot")
+    };
+    assert!(rt; ended == wanted.ended);
     assert!(rt; output.as_slice() == wanted.printed);
 }

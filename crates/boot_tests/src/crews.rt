@@ -1,5 +1,5 @@
 //! Elements, alarms, jobs and a device on real objects and threads.
-ghost use Rattle.std.specs.Prelude.{◌≡◌, ◌+◌, ◌%◌, ◌^◌, false};
+ghost use Rattle.std.specs.Prelude.{◌≡◌, ◌+◌, ◌%◌, ◌^◌, false, vec_len};
 ghost use Rattle.std.specs.Thread.{IsSync};
 ghost use Rattle.proc_chain.specs.Handles.{turn_of, world_of, IsEndOf};
 ghost use Rattle.quajects.specs.Ports.{IsEndAt, IsUnused};
@@ -14,7 +14,7 @@ use claim_queue::{ClaimQueue, QueueEnd, TakeRefusal};
 use event_theory::{Alarm, Element, Signal};
 use meters::Meters;
 use proc_chain::{ChainEnd, ProcChain};
-use quajects::{AnyQuaject, CookedTty, Queues, RawTty, retire};
+use quajects::{AnyQuaject, CookedTty, Home, Queues, RawTty, retire};
 use spsc_line::{LineIn, LineOut, finish, line};
 use std::alloc::Global;
 use std::panic::Expect;
@@ -203,6 +203,24 @@ fn type_and_serve<R: Threads + Wait + Sync>(
     )
 }
 
+/// Joins the device's end of the chain to the other.
+fn join_device(chain: &Chain, end: ChainEnd<AnyQuaject>, tty: RawTty) -> ChainEnd<AnyQuaject>
+    requires end { IsEndOf chain.now end × (turn_of end ≡ false) }
+    requires tty { IsEndOf chain.now tty.chain }
+    ensures { IsEndOf chain.now result × (turn_of result ≡ false) }
+{
+    let mut end = end;
+    let (_device, mine) = tty.into_parts();
+    chain.join(&mut end, mine);
+    end
+}
+
+/// How many notes were chained, how many were run, and how many items were taken and put.
+fn counts_of(home: Home) -> (u32, u64, u64, u64) {
+    let (_ports, came) = home.take_apart();
+    (came.chained(), came.notes(), came.taken(), came.put())
+}
+
 /// Joins the device's end of the chain to the other, and closes the chain. Returns how many notes were chained, how
 /// many were run, and how many items were taken and put.
 fn close_chain<R: Abort>(
@@ -214,14 +232,25 @@ fn close_chain<R: Abort>(
     requires end { IsEndOf chain end × (turn_of end ≡ false) }
     requires tty { IsEndOf chain tty.chain }
 {
-    let mut end = end;
-    let (_device, mine) = tty.into_parts();
-    chain.join(&mut end, mine);
+    let end = join_device(&chain, end, tty);
     let Ok(home) = retire(chain, end) else {
         panic!(rt; "close")
     };
-    let (_ports, came) = home.take_apart();
-    (came.chained(), came.notes(), came.taken(), came.put())
+    counts_of(home)
+}
+
+/// Five bytes, forty times over: of each five, three are left once they are cooked.
+fn typed_bytes<R: Abort>(rt: &R, alloc: Global) -> Vec<u8> {
+    [97, 98, 127, 99, 10].repeat(alloc, 40).expect(rt, "memory")
+}
+
+/// Asserts that the next line of the first line queue has these items.
+fn assert_heard<R: Abort>(rt: &R, queues: &Queues, reader: &mut QueueEnd<256>, wanted: &[u64])
+    requires { IsEndAt queues.now.large.items 0 reader.old }
+{
+    let mut heard = ArrayVec::new();
+    assert!(rt; hear_first(queues, reader, &mut heard) == Ok(wanted.len()));
+    assert!(rt; heard.as_slice() == wanted);
 }
 
 /// Two hundred bytes go over a line of 64 places, and come out cooked.
@@ -235,18 +264,14 @@ fn typed_bytes_arrive(rt: HostRuntime) {
         mut reader,
     } = make_cooked(&rt, rt.alloc());
     let ends = line(rt.alloc(), 64).expect(&rt, "memory");
-    let bytes = [97, 98, 127, 99, 10]
-        .repeat(rt.alloc(), 40)
-        .expect(&rt, "memory");
+    let bytes = typed_bytes(&rt, rt.alloc());
     let bytes = bytes.as_slice();
     let (input, (output, tty)) = type_and_serve(&rt, &queues, &chain, tty, ends, bytes);
     let totals = finish(input, output);
     assert!(rt; (totals.sent, totals.received, totals.left) == (200, 200, 0));
     assert!(rt; tty.overruns() == 0);
     assert!(rt; close_chain(&rt, chain, end, tty) == (200, 200, 200, 240));
-    let mut heard = ArrayVec::new();
-    assert!(rt; hear_first(&queues, &mut reader, &mut heard) == Ok(3));
-    assert!(rt; heard.as_slice() == [97, 99, 10].as_slice());
+    assert_heard(&rt, &queues, &mut reader, [97, 99, 10].as_slice());
 }
 
 /// A job that meets the others, and returns its number with what all share added.
@@ -271,6 +296,18 @@ impl Job<Meeting, u64> for Meet {
     }
 }
 
+/// Jobs with the numbers from 0 to 3.
+fn four_jobs<R: Abort>(rt: &R, alloc: Global) -> Vec<Meet>
+    ensures { vec_len result ≡ 4 }
+{
+    let mut jobs = Vec::new(alloc);
+    jobs.push(Meet(0)).expect(rt, "memory");
+    jobs.push(Meet(1)).expect(rt, "memory");
+    jobs.push(Meet(2)).expect(rt, "memory");
+    jobs.push(Meet(3)).expect(rt, "memory");
+    jobs
+}
+
 /// Four jobs meet, which they can only in four threads, and their results are in their order.
 #[test]
 fn jobs_meet(rt: HostRuntime) {
@@ -278,11 +315,7 @@ fn jobs_meet(rt: HostRuntime) {
         barrier: Barrier::new(4),
         add: 10,
     };
-    let mut jobs = Vec::new(rt.alloc());
-    jobs.push(Meet(0)).expect(&rt, "memory");
-    jobs.push(Meet(1)).expect(&rt, "memory");
-    jobs.push(Meet(2)).expect(&rt, "memory");
-    jobs.push(Meet(3)).expect(&rt, "memory");
+    let jobs = four_jobs(&rt, rt.alloc());
     let handles = Vec::with_capacity(rt.alloc(), 4).expect(&rt, "memory");
     let backs = Vec::with_capacity(rt.alloc(), 4).expect(&rt, "memory");
     let backs = run_all(&rt, &shared, jobs, handles, backs);

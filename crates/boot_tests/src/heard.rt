@@ -1,7 +1,7 @@
 //! Sorting the lines heard, and room for a report.
 
 use crate::fixtures::plan_if_given;
-use boot_data::HeardPlace;
+use boot_data::{BootPlan, HeardPlace};
 use boot_report::*;
 use event_theory::OutOfMemory;
 use std::alloc::Global;
@@ -39,17 +39,22 @@ fn sorts_what_was_heard(rt: HostRuntime) {
     assert_place(&rt, third, (1, 0), (0, 0));
 }
 
-/// Takes the room once, and returns whether there was memory.
-fn has_room<R: Abort>(rt: &R, alloc: Global) -> bool {
-    let Some(plan) = plan_if_given(rt, alloc, SCRIPT) else {
-        return false;
-    };
-    match Lines::new(alloc, &plan) {
+/// Takes the room for this plan, and returns whether there was memory.
+fn has_lines<R: Abort>(rt: &R, alloc: Global, plan: &BootPlan) -> bool {
+    match Lines::new(alloc, plan) {
         Ok(_) => true,
         Err(error) => {
             assert!(rt; error == OutOfMemory);
             false
         }
+    }
+}
+
+/// Takes the room once, and returns whether there was memory.
+fn has_room<R: Abort>(rt: &R, alloc: Global) -> bool {
+    match plan_if_given(rt, alloc, SCRIPT) {
+        Some(plan) => has_lines(rt, alloc, &plan),
+        None => false,
     }
 }
 

@@ -13,6 +13,7 @@ use std::alloc::Global;
 use std::panic::Expect;
 use std::process::Abort;
 use std::sync::Wait;
+use std::thread::Threads;
 use turn_io::NoGate;
 
 /// Two ttys, bytes for one of them, and a thread that hears a line.
@@ -63,6 +64,34 @@ fn make_kernel<R: Abort + Wait>(rt: &R, alloc: Global, gates: Vec<NoGate>, turns
     }
 }
 
+/// The gates of two processors.
+fn two_gates<R: Abort>(rt: &R, alloc: Global) -> Vec<NoGate>
+    ensures { vec_len result ≡ 2 }
+{
+    let Ok(gates) = vec![in alloc; NoGate, NoGate] else {
+        panic!(rt; "memory")
+    };
+    gates
+}
+
+/// Runs the works of two processors and of the devices, and returns what comes back.
+fn run_works<R: Threads + Wait + Sync + Abort>(
+    rt: &R,
+    alloc: Global,
+    shared: &Shared,
+    works: Vec<Work<NoGate>>,
+    lines: Vec<LineIn>,
+) -> (Vec<Back<NoGate>>, Vec<LineIn>)
+    requires may { All (MayWork shared.now) works.items }
+    requires number { vec_len works ≡ 2 + length shared.now.plan.ttys }
+    requires lines { vec_len lines ≡ length shared.now.plan.ttys }
+{
+    let handles = room_for(rt, alloc, works.len());
+    let backs = room_for(rt, alloc, works.len());
+    let typed = room_for(rt, alloc, lines.len());
+    run_kernel(rt, shared, works, 2, handles, backs, lines, typed)
+}
+
 /// How many processors came back, how many devices, and how many bytes these refused.
 fn counted(backs: &[Back<NoGate>]) -> (u64, u64, u64) {
     let mut counts = (0u64, 0u64, 0u64);
@@ -82,19 +111,14 @@ fn counted(backs: &[Back<NoGate>]) -> (u64, u64, u64) {
 /// Two processors and the devices of two ttys run, and all come back; no byte was refused.
 #[test]
 fn all_come_back(rt: HostRuntime) {
-    let Ok(gates) = vec![in rt.alloc(); NoGate, NoGate] else {
-        panic!(rt; "memory")
-    };
+    let gates = two_gates(&rt, rt.alloc());
     let Kernel {
         shared,
         station: _rest,
         works,
         lines,
     } = make_kernel(&rt, rt.alloc(), gates, 3);
-    let handles = room_for(&rt, rt.alloc(), works.len());
-    let backs = room_for(&rt, rt.alloc(), works.len());
-    let typed = room_for(&rt, rt.alloc(), lines.len());
-    let (backs, typed) = run_kernel(&rt, &shared, works, 2, handles, backs, lines, typed);
+    let (backs, typed) = run_works(&rt, rt.alloc(), &shared, works, lines);
     assert!(rt; counted(backs.as_slice()) == (2, 2, 0));
     assert!(rt; typed.len() == 2);
 }

@@ -1,4 +1,5 @@
 //! Processors that are held at points of their turns until others are at points of their turns.
+ghost use Rattle.std.specs.Prelude.{◌≡◌, ◌≤◌, vec_len};
 
 use super::*;
 use crossbeam_utils::Backoff;
@@ -78,8 +79,27 @@ fn were_reported(gates: &[Hold<'_>], processors: u8, turns: u32) -> bool {
     p == processors
 }
 
-/// Boots a script with a gate for each processor, and returns the answer and the output. If the boot returns `Ok`, the
-/// gates come back, each with its turns counted.
+/// Boots a script with a gate for each processor. If the boot returns `Ok`, the gates come back, each with its turns
+/// counted.
+fn boot_counted<R: Threads + Wait + Sync + Abort>(
+    rt: &R,
+    alloc: Global,
+    script: &str,
+    output: &mut Vec<u8>,
+    processors: u8,
+    turns: u32,
+    gates: Vec<Hold<'_>>,
+) -> Result<Ended, BootFault>
+    requires number { (1 ≤ processors) × (processors ≤ 8) }
+    requires gates { vec_len gates ≡ processors }
+{
+    let mut reader = script.as_bytes();
+    let booted = boot_on_with(rt, alloc, &mut reader, output, processors, turns, gates)?;
+    assert!(rt; were_reported(booted.gates(), processors, turns));
+    Ok(booted.ended())
+}
+
+/// Boots a script with a gate for each processor, and returns the answer and the output.
 fn boot_held<R: Threads + Wait + Sync + Abort>(
     rt: &R,
     alloc: Global,
@@ -91,16 +111,9 @@ fn boot_held<R: Threads + Wait + Sync + Abort>(
     if processors < 1 || 8 < processors || gates.len() != processors as usize {
         panic!(rt; "gates");
     }
-    let mut reader = script.as_bytes();
     let mut output = Vec::new(alloc);
-    let (input, printed) = (&mut reader, &mut output);
-    match boot_on_with(rt, alloc, input, printed, processors, turns, gates) {
-        Ok(booted) => {
-            assert!(rt; were_reported(booted.gates(), processors, turns));
-            (Ok(booted.ended()), output)
-        }
-        Err(fault) => (Err(fault), output),
-    }
+    let answer = boot_counted(rt, alloc, script, &mut output, processors, turns, gates);
+    (answer, output)
 }
 
 /// The gates of two processors. The second is held until the first is at the first point. The first is held there until

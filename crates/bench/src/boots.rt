@@ -7,11 +7,38 @@ use std::rt::Clock;
 use std::sync::Wait;
 use std::thread::Threads;
 use std::time::Duration;
-use synth_kernel::boot_on;
+use synth_kernel::{BootFault, Booted, NoGate, boot_on};
 
 // The number of turns of each processor when turns are measured.
 fn turns_each(script: Script, processors: u8) -> u32 {
     (script.turns() / processors.max(1) as u64).min(1_000_000) as u32
+}
+
+// Whether there was a boot. The clock is stopped by now, so what came back may be let go.
+fn is_booted(booted: Result<Booted<NoGate>, BootFault>) -> bool {
+    booted.is_ok()
+}
+
+// The time of a boot of this text with so many turns on each processor.
+fn time_boot<R: Threads + Wait + Clock + Sync>(
+    rt: &R,
+    alloc: Global,
+    text: &str,
+    report: &mut Vec<u8>,
+    processors: u8,
+    turns: u32,
+) -> Result<Duration, Fault> {
+    let mut reader = text.as_bytes();
+    let processors = processors.max(1).min(8);
+    let watch = Watch::start(rt)?;
+    let booted = boot_on(rt, alloc, &mut reader, report, processors, turns);
+    let stopped = watch.stop(rt, 0);
+    let is_booted = is_booted(booted);
+    let measured = stopped?;
+    if !is_booted {
+        return Err(Fault::Miscount);
+    }
+    Ok(measured.time)
 }
 
 // The time of a boot with so many turns on each processor, and the counts of its report.
@@ -23,16 +50,9 @@ fn time_of<R: Threads + Wait + Clock + Sync>(
     turns: u32,
 ) -> Result<(Duration, Counted), Fault> {
     let text = script.text(alloc)?;
-    let mut reader = text.as_str().as_bytes();
     let mut report = Vec::new(alloc);
-    let processors = processors.max(1).min(8);
-    let watch = Watch::start(rt)?;
-    let booted = boot_on(rt, alloc, &mut reader, &mut report, processors, turns);
-    let measured = watch.stop(rt, 0)?;
-    match booted {
-        Ok(_booted) => Ok((measured.time, counts_of(report.as_slice()))),
-        Err(_fault) => Err(Fault::Miscount),
-    }
+    let time = time_boot(rt, alloc, text.as_str(), &mut report, processors, turns)?;
+    Ok((time, counts_of(report.as_slice())))
 }
 
 /// Measures a boot on so many processors, 1 to 8, with no turn, once.

@@ -72,14 +72,19 @@ fn run_notes<R: Wait>(rt: &R, queue: &Queue, notes: u64) -> u64 {
     runner.sum()
 }
 
+// Pushes so many notes, and pops and runs each at once.
+fn push_and_run<R: Wait>(rt: &R, queue: &Queue, runner: &mut Runner, notes: u64) {
+    for number in 0..notes {
+        push_one(rt, queue, note_of(number));
+        runner.take(pop_one(rt, queue));
+    }
+}
+
 fn array_alone<R: Wait + Clock>(rt: &R, alloc: Global) -> Result<Measured, Fault> {
     let queue = Queue::new(alloc, PLACES)?;
     let mut runner = Runner::new();
     let watch = Watch::start(rt)?;
-    for number in 0..NOTES {
-        push_one(rt, &queue, note_of(number));
-        runner.take(pop_one(rt, &queue));
-    }
+    push_and_run(rt, &queue, &mut runner, NOTES);
     watch.stop(rt, runner.sum())
 }
 

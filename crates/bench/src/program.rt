@@ -2,7 +2,7 @@
 use crate::fault::Fault;
 use crate::figures::{Figure, Spread, Unit, spread_of};
 use crate::measure::{Tenths, each_second};
-use crate::rows::{ROWS, Rows};
+use crate::rows::{Rows, all_rows};
 use std::alloc::Global;
 use std::rt::Clock;
 use std::sync::Wait;
@@ -86,7 +86,7 @@ fn print_named<R: Threads + Wait + Clock + Print + Sync>(
     word: &str,
 ) -> Result<bool, Fault> {
     let mut any = false;
-    for rows in &ROWS {
+    for rows in all_rows() {
         if word == "all" || word == rows.word {
             print_rows(rt, alloc, rows)?;
             any = true;

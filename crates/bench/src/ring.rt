@@ -5,7 +5,7 @@ ghost use Rattle.table_theory.specs.Sharing.{kept};
 ghost use Rattle.thread_table.specs.Handles.{view_of, IsDivisible, IsHandOf, IsSameHand};
 
 use crate::fault::Fault;
-use crate::measure::{Done, Watch};
+use crate::measure::{Done, Measured, Watch};
 use boot_threads::{Job, NotStarted, prepare, run_all};
 use crossbeam_utils::Backoff;
 use event_theory::{Element, Processor};
@@ -168,6 +168,22 @@ fn count_ready(table: &ThreadTable, hand: Hand) -> u8
     count
 }
 
+// The time in which these passers make their passes, each in a thread, and the number of their passes.
+fn time_passers<R: Threads + Wait + Clock + Sync>(
+    rt: &R,
+    alloc: Global,
+    table: &ThreadTable,
+    passers: Vec<Passer>,
+) -> Result<Measured, Fault>
+    requires { All (λ passer. IsHandOf table.now passer.hand) passers.items }
+{
+    let handles = Vec::with_capacity(alloc, passers.len())?;
+    let backs = Vec::with_capacity(alloc, passers.len())?;
+    let watch = Watch::start(rt)?;
+    let backs = run_all(rt, table, passers, handles, backs);
+    watch.stop(rt, sum_of(backs))
+}
+
 /// Measures passes on so many processors, 1 to 8, each in a thread, once.
 pub fn measure_passes<R: Threads + Wait + Clock + Sync>(
     rt: &R,
@@ -178,11 +194,7 @@ pub fn measure_passes<R: Threads + Wait + Clock + Sync>(
     let (table, mut first) = ThreadTable::new(alloc)?;
     let passers = parts(alloc, &table, &mut first, processors)?;
     let first = prepare(rt, &table, first, ELEMENTS);
-    let handles = Vec::with_capacity(alloc, passers.len())?;
-    let backs = Vec::with_capacity(alloc, passers.len())?;
-    let watch = Watch::start(rt)?;
-    let backs = run_all(rt, &table, passers, handles, backs);
-    let measured = watch.stop(rt, sum_of(backs))?;
+    let measured = time_passers(rt, alloc, &table, passers)?;
     if count_ready(&table, first) != ELEMENTS {
         return Err(Fault::Miscount);
     }

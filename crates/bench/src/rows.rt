@@ -24,7 +24,7 @@ const SIZES: [u8; 4] = [1, 4, 16, 64];
 
 /// All rows, in the order in which they are printed.
 #[rattlefmt::skip]
-pub static ROWS: [Rows; 11] = [
+static ROWS: [Rows; 11] = [
     Rows { word: "alone", numbers: &LENGTHS, figures: &[
         Figure { name: "alone ClaimQueue", task: Task::Lines(Course::Alone, Structure::ClaimQueue), unit: Unit::Each("item") },
         Figure { name: "alone BatchQueue", unit: Unit::Each("item"),
@@ -78,3 +78,8 @@ pub static ROWS: [Rows; 11] = [
         Figure { name: "replay KiB", task: Task::Replay, unit: Unit::Rate("events") },
     ] },
 ];
+
+/// All rows, in the order in which they are printed.
+pub fn all_rows() -> &'static [Rows] {
+    &ROWS
+}

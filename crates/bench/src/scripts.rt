@@ -41,10 +41,10 @@ impl Script {
         let mut text = String::new(alloc);
         text.push_str("synthesis 3\n")?;
         for queue in 0..8u64 {
-            text.push_str(format!(in alloc; "queue q{queue}\n")?.as_str())?;
+            add_queue(alloc, &mut text, queue)?;
         }
         for thread in 0..THREADS {
-            text.push_str(format!(in alloc; "thread t{thread}\n")?.as_str())?;
+            add_thread(alloc, &mut text, thread)?;
             self.add_steps(alloc, &mut text, thread)?;
         }
         Ok(text)
@@ -83,6 +83,18 @@ impl Script {
             Script::Listen => 200_000,
         }
     }
+}
+
+// The line that names a queue.
+fn add_queue(alloc: Global, text: &mut String, queue: u64) -> Result<(), AllocError> {
+    let line = format!(in alloc; "queue q{queue}\n")?;
+    text.push_str(line.as_str())
+}
+
+// The line that names a thread.
+fn add_thread(alloc: Global, text: &mut String, thread: u64) -> Result<(), AllocError> {
+    let line = format!(in alloc; "thread t{thread}\n")?;
+    text.push_str(line.as_str())
 }
 
 // The step of a thread that talks: a thread with an even number says, and one with an odd number hears.

@@ -145,8 +145,11 @@ where
         // the view says so
         by_time: false,
     };
-    let page = page_of(alloc, &boot, command.view, from, booted.gates())?;
-    Ok((booted.ended(), page))
+    let page = page_of(alloc, &boot, command.view, from, booted.gates());
+    let ended = booted.ended();
+    // A call drops all fields. Without it the proof goes through each of them here, which takes long.
+    drop(booted);
+    Ok((ended, page?))
 }
 
 /// Boots a script, and returns how the boot has ended, and the page with this view of it.

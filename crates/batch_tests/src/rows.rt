@@ -51,6 +51,9 @@ pub(crate) const EDGES_OF_1: &[Script] = &[
         taken: 4,
         left: &[],
     },
+];
+
+pub(crate) const WHOLE_OF_1: &[Script] = &[
     // A batch of the whole room from each place on, past the last place to the first.
     Script {
         room: Room::Of1,
@@ -68,7 +71,7 @@ pub(crate) const EDGES_OF_1: &[Script] = &[
     },
 ];
 
-pub(crate) const ROWS_OF_1: &[Script] = &[
+pub(crate) const BUFFERS_OF_1: &[Script] = &[
     // Buffers of each length, at batches of several lengths: whole batches are taken, as many as fit.
     Script {
         room: Room::Of1,
@@ -105,6 +108,9 @@ pub(crate) const ROWS_OF_1: &[Script] = &[
         taken: 2,
         left: &[],
     },
+];
+
+pub(crate) const SHUT_OF_1: &[Script] = &[
     // A shut queue refuses puts, in the order of the refusals, until all is taken, and then takings too.
     Script {
         room: Room::Of1,
@@ -162,7 +168,7 @@ pub(crate) const ROWS_OF_1: &[Script] = &[
     },
 ];
 
-pub(crate) const PARTS_OF_1: &[Script] = &[
+pub(crate) const PARTED_OF_1: &[Script] = &[
     // Takings of so many items, each of which may part a batch, beside takings of whole batches.
     Script {
         room: Room::Of1,
@@ -196,6 +202,9 @@ pub(crate) const PARTS_OF_1: &[Script] = &[
         taken: 6,
         left: &[],
     },
+];
+
+pub(crate) const BY_TWOS_OF_1: &[Script] = &[
     // A batch of the whole room from each place on, taken by twos, and put again as soon as there is room.
     Script {
         room: Room::Of1,
@@ -284,6 +293,9 @@ pub(crate) const EDGES_OF_2: &[Script] = &[
         taken: 9,
         left: &[],
     },
+];
+
+pub(crate) const WHOLE_OF_2: &[Script] = &[
     // A batch of the whole room from each place on, past the last place to the first.
     Script {
         room: Room::Of2,
@@ -307,7 +319,7 @@ pub(crate) const EDGES_OF_2: &[Script] = &[
     },
 ];
 
-pub(crate) const ROWS_OF_2: &[Script] = &[
+pub(crate) const BUFFERS_OF_2: &[Script] = &[
     // Buffers of each length, at batches of several lengths: whole batches are taken, as many as fit.
     Script {
         room: Room::Of2,
@@ -354,6 +366,9 @@ pub(crate) const ROWS_OF_2: &[Script] = &[
         taken: 5,
         left: &[],
     },
+];
+
+pub(crate) const SHUT_OF_2: &[Script] = &[
     // A shut queue refuses puts, in the order of the refusals, until all is taken, and then takings too.
     Script {
         room: Room::Of2,
@@ -412,7 +427,7 @@ pub(crate) const ROWS_OF_2: &[Script] = &[
     },
 ];
 
-pub(crate) const PARTS_OF_2: &[Script] = &[
+pub(crate) const PARTED_OF_2: &[Script] = &[
     // Takings of so many items, each of which may part a batch, beside takings of whole batches.
     Script {
         room: Room::Of2,
@@ -458,6 +473,9 @@ pub(crate) const PARTS_OF_2: &[Script] = &[
         taken: 12,
         left: &[],
     },
+];
+
+pub(crate) const BY_TWOS_OF_2: &[Script] = &[
     // A batch of the whole room from each place on, taken by twos, and put again as soon as there is room.
     Script {
         room: Room::Of2,
@@ -579,6 +597,9 @@ pub(crate) const EDGES_OF_4: &[Script] = &[
         taken: 25,
         left: &[],
     },
+];
+
+pub(crate) const WHOLE_OF_4: &[Script] = &[
     // A batch of the whole room from each place on, past the last place to the first.
     Script {
         room: Room::Of4,
@@ -614,7 +635,7 @@ pub(crate) const EDGES_OF_4: &[Script] = &[
     },
 ];
 
-pub(crate) const ROWS_OF_4: &[Script] = &[
+pub(crate) const BUFFERS_OF_4: &[Script] = &[
     // Buffers of each length, at batches of several lengths: whole batches are taken, as many as fit.
     Script {
         room: Room::Of4,
@@ -681,6 +702,9 @@ pub(crate) const ROWS_OF_4: &[Script] = &[
         taken: 11,
         left: &[],
     },
+];
+
+pub(crate) const SHUT_OF_4: &[Script] = &[
     // A shut queue refuses puts, in the order of the refusals, until all is taken, and then takings too.
     Script {
         room: Room::Of4,
@@ -739,7 +763,7 @@ pub(crate) const ROWS_OF_4: &[Script] = &[
     },
 ];
 
-pub(crate) const PARTS_OF_4: &[Script] = &[
+pub(crate) const PARTED_OF_4: &[Script] = &[
     // Takings of so many items, each of which may part a batch, beside takings of whole batches.
     Script {
         room: Room::Of4,
@@ -809,6 +833,9 @@ pub(crate) const PARTS_OF_4: &[Script] = &[
         taken: 30,
         left: &[],
     },
+];
+
+pub(crate) const BY_TWOS_OF_4: &[Script] = &[
     // A batch of the whole room from each place on, taken by twos, and put again as soon as there is room.
     Script {
         room: Room::Of4,
@@ -1002,6 +1029,9 @@ pub(crate) const EDGES_OF_8: &[Script] = &[
         taken: 81,
         left: &[],
     },
+];
+
+pub(crate) const WHOLE_OF_8: &[Script] = &[
     // A batch of the whole room from each place on, past the last place to the first.
     Script {
         room: Room::Of8,
@@ -1061,7 +1091,7 @@ pub(crate) const EDGES_OF_8: &[Script] = &[
     },
 ];
 
-pub(crate) const ROWS_OF_8: &[Script] = &[
+pub(crate) const BUFFERS_OF_8: &[Script] = &[
     // Buffers of each length, at batches of several lengths: whole batches are taken, as many as fit.
     Script {
         room: Room::Of8,
@@ -1163,6 +1193,9 @@ pub(crate) const ROWS_OF_8: &[Script] = &[
         taken: 23,
         left: &[],
     },
+];
+
+pub(crate) const SHUT_OF_8: &[Script] = &[
     // A shut queue refuses puts, in the order of the refusals, until all is taken, and then takings too.
     Script {
         room: Room::Of8,
@@ -1227,7 +1260,7 @@ pub(crate) const ROWS_OF_8: &[Script] = &[
     },
 ];
 
-pub(crate) const PARTS_OF_8: &[Script] = &[
+pub(crate) const PARTED_OF_8: &[Script] = &[
     // Takings of so many items, each of which may part a batch, beside takings of whole batches.
     Script {
         room: Room::Of8,
@@ -1337,6 +1370,9 @@ pub(crate) const PARTS_OF_8: &[Script] = &[
         taken: 90,
         left: &[],
     },
+];
+
+pub(crate) const BY_TWOS_OF_8: &[Script] = &[
     // A batch of the whole room from each place on, taken by twos, and put again as soon as there is room.
     Script {
         room: Room::Of8,

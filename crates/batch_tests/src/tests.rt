@@ -2,10 +2,7 @@ ghost use Rattle.std.specs.Prelude.{◌≡◌};
 ghost use Rattle.batch_queue.specs.Handles.{IsEndOf};
 
 use crate::fixtures::{Room, close_queue, is_printed, new_queue};
-use crate::rows::{
-    EDGES_OF_1, EDGES_OF_2, EDGES_OF_4, EDGES_OF_8, PARTS_OF_1, PARTS_OF_2, PARTS_OF_4, PARTS_OF_8,
-    ROWS_OF_1, ROWS_OF_2, ROWS_OF_4, ROWS_OF_8,
-};
+use crate::rows::*;
 use crate::scripts::{Act, Script, does, plays, plays_in_turn};
 use batch_queue::*;
 use event_theory::OutOfMemory;
@@ -28,8 +25,63 @@ fn edges_of_one_and_two_places(rt: HostRuntime) {
 }
 
 #[test]
+fn whole_batches_in_one_and_two_places(rt: HostRuntime) {
+    plays_all(&rt, rt.alloc(), WHOLE_OF_1);
+    plays_all(&rt, rt.alloc(), WHOLE_OF_2);
+}
+
+#[test]
+fn buffers_at_one_and_two_places(rt: HostRuntime) {
+    plays_all(&rt, rt.alloc(), BUFFERS_OF_1);
+    plays_all(&rt, rt.alloc(), BUFFERS_OF_2);
+}
+
+#[test]
+fn shut_queues_of_one_and_two_places(rt: HostRuntime) {
+    plays_all(&rt, rt.alloc(), SHUT_OF_1);
+    plays_all(&rt, rt.alloc(), SHUT_OF_2);
+}
+
+#[test]
+fn parts_in_one_and_two_places(rt: HostRuntime) {
+    plays_all(&rt, rt.alloc(), PARTED_OF_1);
+    plays_all(&rt, rt.alloc(), PARTED_OF_2);
+}
+
+#[test]
+fn takings_by_twos_of_one_and_two_places(rt: HostRuntime) {
+    plays_all(&rt, rt.alloc(), BY_TWOS_OF_1);
+    plays_all(&rt, rt.alloc(), BY_TWOS_OF_2);
+}
+
+#[test]
 fn edges_of_four_places(rt: HostRuntime) {
     plays_all(&rt, rt.alloc(), EDGES_OF_4);
+}
+
+#[test]
+fn whole_batches_in_four_places(rt: HostRuntime) {
+    plays_all(&rt, rt.alloc(), WHOLE_OF_4);
+}
+
+#[test]
+fn buffers_at_four_places(rt: HostRuntime) {
+    plays_all(&rt, rt.alloc(), BUFFERS_OF_4);
+}
+
+#[test]
+fn shut_queues_of_four_places(rt: HostRuntime) {
+    plays_all(&rt, rt.alloc(), SHUT_OF_4);
+}
+
+#[test]
+fn parts_in_four_places(rt: HostRuntime) {
+    plays_all(&rt, rt.alloc(), PARTED_OF_4);
+}
+
+#[test]
+fn takings_by_twos_of_four_places(rt: HostRuntime) {
+    plays_all(&rt, rt.alloc(), BY_TWOS_OF_4);
 }
 
 #[test]
@@ -38,35 +90,28 @@ fn edges_of_eight_places(rt: HostRuntime) {
 }
 
 #[test]
-fn rows_of_one_and_two_places(rt: HostRuntime) {
-    plays_all(&rt, rt.alloc(), ROWS_OF_1);
-    plays_all(&rt, rt.alloc(), ROWS_OF_2);
+fn whole_batches_in_eight_places(rt: HostRuntime) {
+    plays_all(&rt, rt.alloc(), WHOLE_OF_8);
 }
 
 #[test]
-fn rows_of_four_places(rt: HostRuntime) {
-    plays_all(&rt, rt.alloc(), ROWS_OF_4);
+fn buffers_at_eight_places(rt: HostRuntime) {
+    plays_all(&rt, rt.alloc(), BUFFERS_OF_8);
 }
 
 #[test]
-fn rows_of_eight_places(rt: HostRuntime) {
-    plays_all(&rt, rt.alloc(), ROWS_OF_8);
-}
-
-#[test]
-fn parts_in_one_and_two_places(rt: HostRuntime) {
-    plays_all(&rt, rt.alloc(), PARTS_OF_1);
-    plays_all(&rt, rt.alloc(), PARTS_OF_2);
-}
-
-#[test]
-fn parts_in_four_places(rt: HostRuntime) {
-    plays_all(&rt, rt.alloc(), PARTS_OF_4);
+fn shut_queues_of_eight_places(rt: HostRuntime) {
+    plays_all(&rt, rt.alloc(), SHUT_OF_8);
 }
 
 #[test]
 fn parts_in_eight_places(rt: HostRuntime) {
-    plays_all(&rt, rt.alloc(), PARTS_OF_8);
+    plays_all(&rt, rt.alloc(), PARTED_OF_8);
+}
+
+#[test]
+fn takings_by_twos_of_eight_places(rt: HostRuntime) {
+    plays_all(&rt, rt.alloc(), BY_TWOS_OF_8);
 }
 
 /// The calls of an end before it is dropped.

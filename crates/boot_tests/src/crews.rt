@@ -239,7 +239,7 @@ fn close_chain<R: Abort>(
     counts_of(home)
 }
 
-/// Five bytes, forty times over: of each five, three are left once they are cooked.
+/// The bytes that are typed: five of them, forty times over.
 fn typed_bytes<R: Abort>(rt: &R, alloc: Global) -> Vec<u8> {
     [97, 98, 127, 99, 10].repeat(alloc, 40).expect(rt, "memory")
 }

@@ -4,7 +4,7 @@ use crate::fixtures::plan_if_given;
 use boot_objects::{Objects, make_objects};
 use boot_script::parse_boot;
 use event_theory::OutOfMemory;
-use processor::Shared;
+use processor::{Shared, Station};
 use std::alloc::Global;
 use std::panic::Expect;
 use std::process::Abort;
@@ -21,16 +21,20 @@ fn assert_shared<R: Abort>(rt: &R, shared: &Shared, devices: usize) {
     assert!(rt; shared.plan.threads.as_slice().len() == 1);
 }
 
-/// Asserts how many of each there are.
-fn assert_counts<R: Abort>(rt: &R, made: Objects) {
-    assert_shared(rt, &made.shared, made.devices.len());
-    let parts = made.station.into_parts();
-    let counts = (
+/// How many ends of queues of each size a station has, and how many ends of chains.
+fn count_ends(station: Station) -> (usize, usize, usize) {
+    let parts = station.into_parts();
+    (
         parts.queues.small.len(),
         parts.queues.large.len(),
         parts.chains.len(),
-    );
-    assert!(rt; counts == (5, 4, 4));
+    )
+}
+
+/// Asserts how many of each there are.
+fn assert_counts<R: Abort>(rt: &R, made: Objects) {
+    assert_shared(rt, &made.shared, made.devices.len());
+    assert!(rt; count_ends(made.station) == (5, 4, 4));
 }
 
 /// There are as many of each as the script asks for.

@@ -149,7 +149,8 @@ where
     let ended = booted.ended();
     // A call drops all fields. Without it the proof goes through each of them here, which takes long.
     drop(booted);
-    Ok((ended, page?))
+    let page = page?;
+    Ok((ended, page))
 }
 
 /// Boots a script, and returns how the boot has ended, and the page with this view of it.

@@ -18,7 +18,7 @@ import crates as listed
 
 RECORD = listed.ROOT / "tools" / "tried.txt"
 NOTED = pathlib.Path(os.environ.get("SYNTHESIS_TRIED") or RECORD)
-HEAD = """# The crates of which all wrong bodies were refused: how many files they are, and the sum of all that their checks read.
+HEAD = """# The crates of which all wrong bodies were refused: how many files they are, and the sum of what states and proves their goals.
 # tools/wrong-bodies writes it; tools/tried.py says what is in the sum.
 """
 # What states the contracts of a crate.
@@ -40,7 +40,7 @@ def logic():
 
 
 def line_of(crate, sums):
-    """The crate's line: its name, how many edits it has, and the sum of all that their checks read. `sums` has those of files."""
+    """The crate's line: its name, how many edits it has, and the sum of what states and proves their goals. `sums` has those of files."""
     needs, edits = listed.uses(), files_of(crate, ["wrong-bodies"])
     files = [listed.ROOT / "tools" / "wrong-bodies", listed.ROOT / "tools" / "crates.py", *files_of(crate, listed.PARTS), *edits]
     for name in listed.below(crate, needs):

@@ -1,5 +1,5 @@
 -- How many steps a call makes at most, by its evidence.
-use Rattle.claim_queue.proofs.Common.{◌≡◌, ℕ, zero, suc, ◌+◌, ◌*◌, ◌≤◌, ◌<◌, Bool, List, [], ◌∷◌, ◌++◌, length, length-append, ap, subst, ◌∙◌, arith, inl, inr, length-map, Result, Ok, Err, Positions, AbsState, Step, load, change, ExtendsTrace, with_claim, with_take, ClaimRefusal, NoItems, TooLong, Closed, Spent, Full, Lost, TakeRefusal, Empty, ClaimedItems, Refused, RefusedBy, IsPut, Raised, TookItems, RefusedTake, IsNone, IsOne, scanned, stopping, stop_position, head_word, tail_word, data_word, flag_word, View, OnlyLoads}
+use Rattle.claim_queue.proofs.Common.{◌≡◌, ℕ, ◌+◌, ◌*◌, ◌≤◌, List, [], ◌∷◌, length, length-append, ap, arith, inl, inr, length-map, Positions, Step, load, change, with_take, ClaimRefusal, NoItems, TooLong, Closed, Spent, Full, Lost, TakeRefusal, Empty, ClaimedItems, Refused, IsPut, Raised, TookItems, RefusedTake, IsNone, IsOne, scanned, stopping, stop_position, head_word, tail_word, flag_word, View, OnlyLoads}
 use Rattle.table_theory.proofs.Moments.{steps_by}
 use Rattle.table_theory.specs.Moments.{StepsAtMost}
 use Rattle.claim_queue.specs.declared.take.TakeRefusal.TheVariants as takes

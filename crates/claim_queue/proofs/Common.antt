@@ -4,6 +4,7 @@ pub use Rattle.std.proofs.Math.Bool.{Bool-set}
 pub use Rattle.std.proofs.Math.Bridge.{le_prop}
 pub use Rattle.std.proofs.Math.Logic.{∥∥₁_elim, ∥∥₁_map}
 pub use Rattle.std.proofs.Math.Nat.{ℕ_set}
+pub use Rattle.std.proofs.lemmas.Grind.{merely}
 pub use Rattle.std.proofs.lemmas.Bool.{le-ltb, lt-ltb}
 pub use Rattle.std.proofs.lemmas.List.{append_assoc, get_or-drop, get_or-map, length-map, length-take-le, map-append, map-set}
 pub use Rattle.std.specs.Mem.Slots.{slots_items}

@@ -28,3 +28,4 @@ pub mod Under
 pub mod Vacant
 pub mod Clients
 pub mod Common
+pub mod Staying

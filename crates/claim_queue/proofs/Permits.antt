@@ -1,6 +1,6 @@
 -- What a client's protocol allows a claim, and what it says of the items that were taken.
-use Rattle.claim_queue.proofs.Common.{◌≡◌, ℕ, ◌+◌, ◌<◌, ◌≤◌, List, [], ◌∷◌, ◌++◌, map, length, sym, refl, ap, ◌∙◌, subst, arith, some, get_elem?, at_last, at_map, ℕ_set, le_prop, Try, tried, ∥∥₁_elim, Batch, Positions, AbsState, QueueView, Performed, Grows, head_of, run_stands, QueueOps, View, Shape, IsWhole, QueueEnd, view_of, head_word, tail_word, load, part_of, taking, TookItems, line_of, Found, Rule}
-use Rattle.table_theory.specs.Protocols.{Condition, IsKept, Placed, WasPut, placed_lines}
+use Rattle.claim_queue.proofs.Common.{◌≡◌, ℕ, ◌<◌, ◌≤◌, List, [], ◌∷◌, ◌++◌, map, length, sym, refl, ap, ◌∙◌, subst, arith, some, get_elem?, at_last, at_map, ℕ_set, le_prop, Try, tried, ∥∥₁_elim, Batch, Positions, AbsState, QueueView, Performed, head_of, QueueOps, View, IsWhole, QueueEnd, view_of, head_word, tail_word, load, part_of, taking, TookItems, line_of, Found, Rule}
+use Rattle.table_theory.specs.Protocols.{Condition, IsKept, WasPut, placed_lines}
 use mathlib.Core.HLevel.{⊥_prop}
 use Rattle.table_theory.proofs.Carried.{putter}
 use Rattle.table_theory.proofs.Owned.{at_map_back}

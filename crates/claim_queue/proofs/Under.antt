@@ -1,12 +1,12 @@
 -- Each step under a client's protocol: what the table's rule allows, the protocol allows too.
-use Rattle.claim_queue.proofs.Common.{◌≡◌, ◌≢◌, ℕ, ◌+◌, ◌-◌, ◌%◌, ◌<◌, ◌≤◌, eqb, List, [], ◌∷◌, ◌++◌, map, length, set, sym, refl, ap, ◌∙◌, subst, arith, zero, suc, map-append, map-set, dite, none, either, some, get_elem?, Me, step, Allows, set_again, at_map, Cell, Batch, Positions, tail_of, stage_at, fresh, emptied, both, QueueOps, Shape, View, nothing_did, did_both, run, taking, with_run, with_stage, blank, number_of, get_or, line_of, Rule, newcomer, InvHeldOf, head_word, tail_word, ends_word, data_word, flag_word}
+use Rattle.claim_queue.proofs.Common.{◌≡◌, ℕ, ◌+◌, ◌-◌, ◌%◌, ◌<◌, ◌≤◌, eqb, List, [], ◌∷◌, ◌++◌, map, length, set, sym, refl, ap, ◌∙◌, subst, arith, zero, suc, map-append, map-set, dite, none, either, some, get_elem?, Me, step, Allows, set_again, at_map, Cell, Batch, Positions, tail_of, stage_at, fresh, emptied, both, QueueOps, Shape, View, nothing_did, did_both, run, taking, with_run, with_stage, blank, number_of, get_or, line_of, Rule, newcomer, InvHeldOf, head_word, tail_word, ends_word, data_word, flag_word}
 use Rattle.std.proofs.Common.{replicate}
 use Rattle.std.specs.Int.Bits.{bit_or}
 use native.Mathlib.Decide.{ℕ_discrete}
 use Rattle.atomic_table.specs.Table.{Splits, Joins, Final, Seen, opening}
 use Rattle.table_theory.specs.Ledgers.{rest_of, newborn}
 use Rattle.table_theory.specs.Plays.{HasTallied, counts, counts_up, counts_down}
-use Rattle.table_theory.specs.Protocols.{Condition, Placed, HoldsWith, IsKept, placed_lines}
+use Rattle.table_theory.specs.Protocols.{Condition, Placed, placed_lines}
 use Rattle.table_theory.proofs.Leaving.{fresh_items}
 use Rattle.table_theory.proofs.Protocols.{allows_with, splits_with, joins_with, opens_with}
 use Rattle.claim_queue.specs.Layout.{width}

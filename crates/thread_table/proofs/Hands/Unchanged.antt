@@ -1,5 +1,5 @@
 -- What a call leaves to its hand as it was.
-use Rattle.thread_table.proofs.Common.{◌≡◌, ⊎_elim, ℕ, zero, suc, Bool, true, false, List, Option, Some, None, Result, Ok, Err, [], ◌∷◌, refl, ap, ◌∙◌, Part, View, NextRefusal, Lost, quiet, tail_word, load, Step, PerformsEvents, TakeAnswer, MoveAnswer, WaitAnswer, IsTicket, StartAnswer, ParkAnswer, DeliverAnswer, ReadPc, DoneAnswer, NotifiedNow, BeforeAnswer}
+use Rattle.thread_table.proofs.Common.{◌≡◌, ⊎_elim, ℕ, zero, suc, Bool, true, false, List, Option, Some, None, Result, Ok, Err, [], ◌∷◌, refl, ap, ◌∙◌, Part, View, NextRefusal, Lost, quiet, tail_word, load, Step, PerformsEvents, TakeAnswer, MoveAnswer, WaitAnswer, IsTicket, StartAnswer, ParkAnswer, DeliverAnswer, ReadPc, DoneAnswer, NotifiedNow, BeforeAnswer, Elements, Event, HandState, HandDid}
 use Rattle.thread_table.specs.declared.takings.NextRefusal.TheVariants as nexts
 use Rattle.thread_table.specs.declared.moves.MoveRefusal.{MoveRefusal}
 use Rattle.thread_table.specs.declared.moves.MoveRefusal.TheVariants as moves
@@ -8,6 +8,8 @@ use Rattle.thread_table.specs.declared.states.Started.TheVariants as started
 use Rattle.thread_table.specs.declared.states.Signalled.{Signalled}
 use Rattle.thread_table.specs.declared.states.Signalled.TheVariants as signalled
 use Rattle.thread_table.specs.declared.programs.Spent.{Spent}
+use Rattle.thread_table.specs.Schedules.{elements_after}
+use Rattle.thread_table.specs.Views.{held_after, on_after, claimed_after}
 use Rattle.thread_table.specs.Answers.{TakesAfter, StoppedNow, SignalAnswer}
 use Rattle.thread_table.specs.Keeping.{Keeps, Stays}
 
@@ -91,3 +93,28 @@ pub before_keeps : (call ring head : ℕ) (v w : View) (r : Result (Option ℕ) 
 before_keeps call ring head v w (Ok None) a = (stays_by v w _ a.3).keeps
 before_keeps call ring head v w (Ok (Some element)) a = after_keeps (load (tail_word ring) a.0 a.1 ∷ []) call ring v w (Ok element) a.3
 before_keeps call ring head v w (Err r) a = after_keeps (load (tail_word ring) a.0 a.1 ∷ []) call ring v w (Err r) a.3
+
+-- what a hand's own fields say of its view is the same after these entries
+pub record Alike (v w : View) : Type 0 where
+  pub ends : w.member.ends ≡ v.member.ends
+  pub claimed : w.own.claimed ≡ v.own.claimed
+  pub fresh : w.own.fresh ≡ true
+  pub held : w.own.held ≡ v.own.held
+  pub serves : w.own.serves ≡ v.own.serves
+  pub on : w.own.on ≡ v.own.on
+
+pub alike : (v w now : View) (es : List Step) → PerformsEvents v es now w → now.member ≡ v.member → now.own.claimed ≡ v.own.claimed → now.own.held ≡ v.own.held → now.own.serves ≡ v.own.serves → now.own.on ≡ v.own.on → Alike v w
+alike v w now es a member claimed held serves on = record { ends = ap (λ (z : View). z.member.ends) a.has ∙ ap (λ (m : Part). m.ends) member; claimed = ap (λ (z : View). z.own.claimed) a.has ∙ claimed; fresh = ap (λ (z : View). z.own.fresh) a.has; held = ap (λ (z : View). z.own.held) a.has ∙ held; serves = ap (λ (z : View). z.own.serves) a.has ∙ serves; on = ap (λ (z : View). z.own.on) a.has ∙ on }
+
+pub alike_by_look : (v w : View) (es : List Step) → PerformsEvents v es (quiet v) w → Alike v w
+alike_by_look v w es a = alike v w (quiet v) es a refl refl refl refl refl
+
+-- an event that leaves its hand what it holds, has on processors and has claimed
+abbrev pub LeavesHand : Event → Type 0
+LeavesHand event = (own : HandState) (e : Elements) → (held_after event own e ≡ own.held) × (on_after event own ≡ own.on) × (claimed_after event own e ≡ own.claimed)
+
+pub alike_by_event : (call word found : ℕ) (event : Event) (v w : View) → LeavesHand event → HandDid call v word found event w → Alike v w
+alike_by_event call word found event v w leaves d = let l = leaves v.own (elements_after d.before.object) in alike v w _ _ d.step.acts refl l.2 l.0 refl l.1
+
+pub alike_by_both : (v m w : View) → Alike v m → Alike m w → Alike v w
+alike_by_both v m w a b = record { ends = b.ends ∙ a.ends; claimed = b.claimed ∙ a.claimed; fresh = b.fresh; held = b.held ∙ a.held; serves = b.serves ∙ a.serves; on = b.on ∙ a.on }

@@ -1,7 +1,8 @@
-use Rattle.claim_queue.proofs.Common.{rules, arith, length, inr, Fits}
+use Rattle.claim_queue.proofs.Common.{rules, arith, length, inr, Fits, ap, ◌∙◌, Part, Positions}
 use Rattle.claim_queue.proofs.Following.{shut_meanwhile, was_lost, claimed_items}
 use Rattle.claim_queue.proofs.Permits.{may_claim}
 use Rattle.claim_queue.proofs.Raising.{owns_claimed}
+use Rattle.claim_queue.proofs.Staying.{stays_both}
 use Rattle.claim_queue.proofs.ends.ClaimQueue.claim_places.Goals as goal
 
 pub returns-clause-trace : goal.returns-clause-trace
@@ -25,3 +26,15 @@ returns-then-found-head-clause-owns g c = (owns_claimed _ _ _ _ (c.exchange_head
 
 pub exchange_head-found-requires-clause-protocol : goal.exchange_head-found-requires-clause-protocol
 exchange_head-found-requires-clause-protocol g c = may_claim c.args.end.now g.C.Protocol.allows c.args.items.now _ _ _ _ c.requires.protocol c.load_head-head.ensures.found c.load_tail-tail.ensures.found (omega arith)
+
+pub invariant_of-end : goal.invariant_of-end
+invariant_of-end g c = let h = c.args.end.now in let s = c.load_head-head.ensures.queue.1 in record { room = ap (λ (q : Positions). q.room) s.1 ∙ h.room; bare = s.0 ∙ h.bare; one = ap (λ (m : Part). m.ends) s.2 ∙ h.one; ruled = s.3 }
+
+pub invariant_of-end-then-new-ge-SHUT : goal.invariant_of-end-then-new-ge-SHUT
+invariant_of-end-then-new-ge-SHUT g c = let h = c.args.end.now in let s = c.load_head-head.ensures.queue.1 in record { room = ap (λ (q : Positions). q.room) s.1 ∙ h.room; bare = s.0 ∙ h.bare; one = ap (λ (m : Part). m.ends) s.2 ∙ h.one; ruled = s.3 }
+
+pub invariant_of-end-then-new-tail : goal.invariant_of-end-then-new-tail
+invariant_of-end-then-new-tail g c = let h = c.args.end.now in let s = stays_both h.seat.me c.load_head-head.new.seat.me c.load_tail-tail.new.seat.me c.load_head-head.ensures.queue.1 c.load_tail-tail.ensures.queue.1 in record { room = ap (λ (q : Positions). q.room) s.1 ∙ h.room; bare = s.0 ∙ h.bare; one = ap (λ (m : Part). m.ends) s.2 ∙ h.one; ruled = s.3 }
+
+pub invariant_of-end-2 : goal.invariant_of-end-2
+invariant_of-end-2 g c = let h = c.args.end.now in let s = stays_both h.seat.me c.load_tail-tail.new.seat.me c.exchange_head-found.new.seat.me (stays_both h.seat.me c.load_head-head.new.seat.me c.load_tail-tail.new.seat.me c.load_head-head.ensures.queue.1 c.load_tail-tail.ensures.queue.1) c.exchange_head-found.ensures.queue.1 in record { room = ap (λ (q : Positions). q.room) s.1 ∙ h.room; bare = s.0 ∙ h.bare; one = ap (λ (m : Part). m.ends) s.2 ∙ h.one; ruled = s.3 }

@@ -1,4 +1,4 @@
-use Rattle.claim_queue.proofs.Common.{rules, refl, sym, subst, arith, ◌∙◌, ◌+◌, ◌-◌, ◌%◌, ◌≤◌, ℕ, slots_items, left_from, ends_word}
+use Rattle.claim_queue.proofs.Common.{rules, refl, sym, subst, arith, ◌∙◌, ◌+◌, ◌-◌, ◌%◌, ◌≤◌, ℕ, slots_items, left_from, ends_word, ap, Part, Positions, merely}
 use Rattle.table_theory.proofs.Moments.{why_open}
 use Rattle.table_theory.specs.Ledgers.{WereOpen}
 use Rattle.claim_queue.proofs.Settling.{spans, closes}
@@ -30,3 +30,6 @@ returns-clause-closed g c = let k = c.args.self.table.shared.key in let first = 
 
 pub returns-in-Err-clause-error : goal.returns-in-Err-clause-error
 returns-in-Err-clause-error g c = let others : WereOpen ends_word c.args.end.seat.me.0 (c.in-Err.ends - 1) c.in-Err.seat.me.0 = search rules in why_open ends_word (c.in-Err.ends - 1) _ _ others
+
+pub invariant_of-result : goal.invariant_of-result
+invariant_of-result g c = let h = c.args.end in let s = c.in-Err.ensures.frame in let t = s.3.1.made in record { room = ap (λ (q : Positions). q.room) t.adds.first ∙ h.room; bare = s.2 ∙ h.bare; one = ap (λ (m : Part). m.ends) t.member ∙ h.one; ruled = merely s.3.0 }

@@ -1,4 +1,4 @@
-use Rattle.claim_queue.proofs.Common.{refl, inr, rules, arith, [], ◌∷◌, ap, IsNone, IsOne, QueueOps}
+use Rattle.claim_queue.proofs.Common.{refl, inr, rules, arith, [], ◌∷◌, ap, IsNone, IsOne, QueueOps, ◌∙◌, Part, Positions}
 use Rattle.claim_queue.proofs.Brevity.{one_steps, took_steps}
 use Rattle.claim_queue.proofs.Clients.{take_error, take_result, took_shuts}
 use Rattle.claim_queue.proofs.Emptying.{refused_few, refused_unpaused, passed_meanwhile, took_after}
@@ -6,6 +6,7 @@ use Rattle.claim_queue.proofs.Lining.{took_line}
 use Rattle.claim_queue.proofs.Permits.{each_keeps, were_put}
 use Rattle.claim_queue.proofs.Scanning.{stopped, none_scanned, scanned_more, nothing_found, found_more}
 use Rattle.claim_queue.specs.declared.take.TakeRefusal.TheVariants as takes
+use Rattle.claim_queue.proofs.Staying.{stays_both}
 use Rattle.claim_queue.proofs.ends.ClaimQueue.take_first.Goals as goal
 
 pub returns-then-flag-tail-clause-trace : goal.returns-then-flag-tail-clause-trace
@@ -59,3 +60,9 @@ returns-then-flag-tail-clause-shuts_nothing g c = ap (λ (z : QueueOps). z.shuts
 
 pub returns-then-flag-tail-clause-steps : goal.returns-then-flag-tail-clause-steps
 returns-then-flag-tail-clause-steps g c = one_steps _ _ _ _ (returns-then-flag-tail-clause-trace g c)
+
+pub invariant_of-end : goal.invariant_of-end
+invariant_of-end g c = let h = c.args.end.now in let s = stays_both h.seat.me c.load_tail-tail.new.seat.me c.load_flag-flag.new.seat.me c.load_tail-tail.ensures.queue.1 c.load_flag-flag.ensures.queue.1 in record { room = ap (λ (q : Positions). q.room) s.1 ∙ h.room; bare = s.0 ∙ h.bare; one = ap (λ (m : Part). m.ends) s.2 ∙ h.one; ruled = s.3 }
+
+pub invariant_of-end-2 : goal.invariant_of-end-2
+invariant_of-end-2 g c = let h = c.args.end.now in let s = stays_both h.seat.me c.load_data-item.new.seat.me c.exchange_tail-found.new.seat.me (stays_both h.seat.me c.load_flag-flag.new.seat.me c.load_data-item.new.seat.me (stays_both h.seat.me c.load_tail-tail.new.seat.me c.load_flag-flag.new.seat.me c.load_tail-tail.ensures.queue.1 c.load_flag-flag.ensures.queue.1) c.load_data-item.ensures.queue.1) c.exchange_tail-found.ensures.queue.1 in record { room = ap (λ (q : Positions). q.room) s.1 ∙ h.room; bare = s.0 ∙ h.bare; one = ap (λ (m : Part). m.ends) s.2 ∙ h.one; ruled = s.3 }

@@ -1,4 +1,4 @@
-use Rattle.claim_queue.proofs.Common.{rules, ap, ◌≡◌, ◌+◌, inr, arith, ℕ, length, IsBegun, IsLine, QueueOps}
+use Rattle.claim_queue.proofs.Common.{rules, ap, ◌≡◌, ◌+◌, inr, arith, ℕ, length, IsBegun, IsLine, QueueOps, ◌∙◌, Part, Positions}
 use Rattle.claim_queue.proofs.Brevity.{took_steps}
 use Rattle.claim_queue.proofs.Clients.{line_error, take_result, took_shuts}
 use Rattle.claim_queue.proofs.Emptying.{refused_few, passed_meanwhile, took_after}
@@ -48,3 +48,9 @@ returns-then-not-scan-clause-shuts_nothing g c = ap (λ (z : QueueOps). z.shuts)
 
 pub returns-then-found-tail-clause-shuts_nothing : goal.returns-then-found-tail-clause-shuts_nothing
 returns-then-found-tail-clause-shuts_nothing g c = ap (λ (z : QueueOps). z.shuts) (returns-then-found-tail-clause-error g c).0
+
+pub invariant_of-end : goal.invariant_of-end
+invariant_of-end g c = let h = c.args.end.now in let s = c.load_tail-tail.ensures.queue.1 in record { room = ap (λ (q : Positions). q.room) s.1 ∙ h.room; bare = s.0 ∙ h.bare; one = ap (λ (m : Part). m.ends) s.2 ∙ h.one; ruled = s.3 }
+
+pub invariant_of-end-2 : goal.invariant_of-end-2
+invariant_of-end-2 g c = let h = c.scan.new.end in let s = c.exchange_tail-found.ensures.queue.1 in record { room = ap (λ (q : Positions). q.room) s.1 ∙ h.room; bare = s.0 ∙ h.bare; one = ap (λ (m : Part). m.ends) s.2 ∙ h.one; ruled = s.3 }

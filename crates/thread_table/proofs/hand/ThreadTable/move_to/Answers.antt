@@ -2,7 +2,7 @@ use Rattle.thread_table.proofs.Common.{rules, Ok, Err, ◌<◌, ◌∙◌, set, 
 use Rattle.thread_table.proofs.Events.Answering.{was_spent, overtaken, claim_known, claim_moves, moved_to}
 use Rattle.thread_table.specs.declared.moves.MoveRefusal.TheVariants as moves
 use Rattle.thread_table.proofs.Clients.{move_effect, move_error}
-use Rattle.thread_table.proofs.Hands.Unchanged.{move_keeps}
+use Rattle.thread_table.proofs.Hands.Unchanged.{move_keeps, alike_by_look, alike_by_both}
 use Rattle.thread_table.proofs.ClientBounds.{move_bound}
 use Rattle.thread_table.proofs.hand.ThreadTable.move_to.Goals as goal
 
@@ -15,9 +15,6 @@ returns-then-found-word-clause-trace c = (
   overtaken _ _ _ _ _ c.of-head.result.head c.of-head.result.mark _ c.load_head-word.ensures.found c.of-head.ensures.0 c.of-head.ensures.1 c.if-head.false
       (c.exchange_head-found.ensures.miss c.if-found-word.true).0 c.if-found-word.true,
 )
-
-pub invariant_of-hand-then-found-word-clause-bare : goal.invariant_of-hand-then-found-word-clause-bare
-invariant_of-hand-then-found-word-clause-bare c = c.exchange_head-found.ensures.queue.1 ∙ (c.load_head-word.ensures.queue.1 ∙ c.args.hand.now.bare)
 
 pub raise-requires-clause-claimed : goal.raise-requires-clause-claimed
 raise-requires-clause-claimed c = let hit = c.exchange_head-found.ensures.hit c.if-found-word.false in
@@ -79,3 +76,9 @@ returns-then-found-word-clause-steps c = move_bound c.args.hand.now.seat.id c.ar
 
 pub returns-clause-steps : goal.returns-clause-steps
 returns-clause-steps c = move_bound c.args.hand.now.seat.id c.args.ring c.args.element _ _ (Ok tt) (returns-clause-trace c)
+
+pub invariant_of-hand : goal.invariant_of-hand
+invariant_of-hand c = let h = c.args.hand.now in let a = c.load_head-word.ensures in let s = alike_by_look _ _ _ a.found.acts in record { bare = a.queue.1 ∙ h.bare; one = s.ends ∙ h.one; none = s.claimed ∙ h.none; fresh = s.fresh; holding = h.holding ∙ sym s.held; serving = h.serving ∙ sym s.serves; putting = h.putting ∙ sym s.on; valid = merely a.found.valid; stands = a.stands }
+
+pub invariant_of-hand-then-found-word : goal.invariant_of-hand-then-found-word
+invariant_of-hand-then-found-word c = let h = c.args.hand.now in let a = c.load_head-word.ensures in let x = c.exchange_head-found.ensures in let e = (x.miss c.if-found-word.true).0 in let s = alike_by_both _ _ _ (alike_by_look _ _ _ a.found.acts) (alike_by_look _ _ _ e.acts) in record { bare = x.queue.1 ∙ (a.queue.1 ∙ h.bare); one = s.ends ∙ h.one; none = s.claimed ∙ h.none; fresh = s.fresh; holding = h.holding ∙ sym s.held; serving = h.serving ∙ sym s.serves; putting = h.putting ∙ sym s.on; valid = merely e.valid; stands = x.stands }

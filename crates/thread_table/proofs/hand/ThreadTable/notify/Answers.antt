@@ -1,7 +1,7 @@
-use Rattle.thread_table.proofs.Common.{WAITS, ◌<◌, rules, subst, call_of, view_of, NotifiedNow}
+use Rattle.thread_table.proofs.Common.{WAITS, ◌<◌, rules, subst, call_of, view_of, NotifiedNow, ◌∙◌, sym, merely, refl}
 use Rattle.thread_table.proofs.Events.Waking.{notified_now}
 use Rattle.thread_table.proofs.ClientWakes.{notify_effect, notify_result}
-use Rattle.thread_table.proofs.Hands.Unchanged.{notify_keeps}
+use Rattle.thread_table.proofs.Hands.Unchanged.{notify_keeps, alike_by_event}
 use Rattle.thread_table.proofs.ClientBounds.{notify_bound}
 use Rattle.thread_table.proofs.hand.ThreadTable.notify.Goals as goal
 
@@ -21,3 +21,6 @@ returns-clause-frame c = notify_keeps c.args.hand.now.seat.id c.args.wait _ _ _ 
 
 pub returns-clause-steps : goal.returns-clause-steps
 returns-clause-steps c = notify_bound c.args.hand.now.seat.id c.args.wait _ _ _ (returns-clause-trace c)
+
+pub invariant_of-hand : goal.invariant_of-hand
+invariant_of-hand c = let h = c.args.hand.now in let x = c.add_notify-found.ensures in let s = alike_by_event _ _ _ _ _ _ (λ own e. (refl, refl, refl)) x.effect in record { bare = x.queue.1 ∙ h.bare; one = s.ends ∙ h.one; none = s.claimed ∙ h.none; fresh = s.fresh; holding = h.holding ∙ sym s.held; serving = h.serving ∙ sym s.serves; putting = h.putting ∙ sym s.on; valid = merely x.effect.step.valid; stands = x.stands }

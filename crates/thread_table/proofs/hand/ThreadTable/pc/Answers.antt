@@ -1,8 +1,8 @@
-use Rattle.thread_table.proofs.Common.{ELEMENTS, ◌<◌, rules, transport, view_of, arith}
+use Rattle.thread_table.proofs.Common.{ELEMENTS, ◌<◌, ◌∙◌, rules, refl, sym, transport, merely, view_of, arith}
 use Rattle.thread_table.specs.Steps.{ReadPc}
 use Rattle.thread_table.proofs.Events.StatesSeen.{read_pc}
 use Rattle.thread_table.proofs.Clients.{pc_effect, pc_result}
-use Rattle.thread_table.proofs.Hands.Unchanged.{counts_stay}
+use Rattle.thread_table.proofs.Hands.Unchanged.{alike, counts_stay}
 use Rattle.thread_table.proofs.ClientBounds.{pc_bound}
 use Rattle.thread_table.proofs.hand.ThreadTable.pc.Goals as goal
 
@@ -20,3 +20,6 @@ returns-clause-frame c = (counts_stay c.args.element _ _ _ (returns-clause-trace
 
 pub returns-clause-steps : goal.returns-clause-steps
 returns-clause-steps c = pc_bound 1 c.args.element _ _ _ (omega arith) (returns-clause-trace c)
+
+pub invariant_of-hand : goal.invariant_of-hand
+invariant_of-hand c = let h = c.args.hand.now in let a = c.load_done.ensures in let s = alike _ _ _ _ a.counted.acts refl refl refl refl refl in record { bare = a.queue.1 ∙ h.bare; one = s.ends ∙ h.one; none = s.claimed ∙ h.none; fresh = s.fresh; holding = h.holding ∙ sym s.held; serving = h.serving ∙ sym s.serves; putting = h.putting ∙ sym s.on; valid = merely a.counted.valid; stands = a.stands }

@@ -1,7 +1,7 @@
-use Rattle.thread_table.proofs.Common.{refl, ELEMENTS, ◌<◌, rules, ap, state_word}
+use Rattle.thread_table.proofs.Common.{refl, ELEMENTS, ◌<◌, rules, ap, state_word, ◌∙◌, sym, merely}
 use Rattle.thread_table.proofs.Events.Steps.{found_at}
 use Rattle.thread_table.proofs.Clients.{look_effect, pending_result}
-use Rattle.thread_table.proofs.Hands.Unchanged.{stays_by}
+use Rattle.thread_table.proofs.Hands.Unchanged.{stays_by, alike_by_look}
 use Rattle.thread_table.proofs.ClientBounds.{pending_bound}
 use Rattle.thread_table.proofs.hand.ThreadTable.pending.Goals as goal
 
@@ -19,3 +19,6 @@ returns-clause-frame c = let t = returns-clause-trace c in (stays_by _ _ _ t.3).
 
 pub returns-clause-steps : goal.returns-clause-steps
 returns-clause-steps c = pending_bound c.args.element _ _ _ (returns-clause-trace c)
+
+pub invariant_of-hand : goal.invariant_of-hand
+invariant_of-hand c = let h = c.args.hand.now in let a = c.load_state-word.ensures in let s = alike_by_look _ _ _ a.found.acts in record { bare = a.queue.1 ∙ h.bare; one = s.ends ∙ h.one; none = s.claimed ∙ h.none; fresh = s.fresh; holding = h.holding ∙ sym s.held; serving = h.serving ∙ sym s.serves; putting = h.putting ∙ sym s.on; valid = merely a.found.valid; stands = a.stands }

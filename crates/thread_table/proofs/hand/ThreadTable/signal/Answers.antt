@@ -1,9 +1,9 @@
-use Rattle.thread_table.proofs.Common.{ELEMENTS, ◌<◌, rules, ◌∙◌, sym, ap, transport, is_in, call_of, view_of, state_word, HandDid}
+use Rattle.thread_table.proofs.Common.{ELEMENTS, ◌<◌, rules, ◌∙◌, sym, ap, transport, is_in, call_of, view_of, state_word, HandDid, merely, refl}
 use Rattle.event_theory.specs.declared.event.Event.TheVariants as events
 use Rattle.thread_table.proofs.Events.StatesSeen.{bit_up, bit_down}
 use Rattle.thread_table.specs.declared.states.Signalled.TheVariants as signalled
 use Rattle.thread_table.proofs.Clients.{signal_effect, signal_result}
-use Rattle.thread_table.proofs.Hands.Unchanged.{signal_keeps}
+use Rattle.thread_table.proofs.Hands.Unchanged.{signal_keeps, alike_by_event}
 use Rattle.thread_table.proofs.ClientBounds.{signal_bound}
 use Rattle.thread_table.proofs.hand.ThreadTable.signal.Goals as goal
 
@@ -40,3 +40,6 @@ returns-then-is_pending-clause-steps c = signal_bound c.args.hand.now.seat.id c.
 
 pub returns-clause-steps : goal.returns-clause-steps
 returns-clause-steps c = signal_bound c.args.hand.now.seat.id c.args.element c.args.signal _ _ signalled.Raised (returns-clause-trace c)
+
+pub invariant_of-hand : goal.invariant_of-hand
+invariant_of-hand c = let h = c.args.hand.now in let x = c.or_signal-word.ensures in let s = alike_by_event _ _ _ _ _ _ (λ own e. (refl, refl, refl)) x.effect in record { bare = x.queue.1 ∙ h.bare; one = s.ends ∙ h.one; none = s.claimed ∙ h.none; fresh = s.fresh; holding = h.holding ∙ sym s.held; serving = h.serving ∙ sym s.serves; putting = h.putting ∙ sym s.on; valid = merely x.effect.step.valid; stands = x.stands }

@@ -1,4 +1,4 @@
-use Rattle.thread_table.proofs.Common.{ℕ, List, Bool, sym, ap, subst, View, SplitBy, IsNewEnd, rest_of}
+use Rattle.thread_table.proofs.Common.{ℕ, List, Bool, arith, ◌≡◌, ◌+◌, ◌-◌, ◌∙◌, sym, ap, subst, View, SplitBy, IsNewEnd, rest_of}
 use Rattle.thread_table.specs.Sets.{marks}
 use Rattle.thread_table.proofs.Lists.BitSets.{get_or-marks_any}
 use Rattle.thread_table.proofs.Hands.AfterSplits.{divided, born}
@@ -25,3 +25,21 @@ returns-clause-owns c = split_owns c.args.processors _ _ _ (returns-clause-trace
 
 pub returns-clause-steps : goal.returns-clause-steps
 returns-clause-steps c = split_bound c.args.processors _ _ _ (returns-clause-trace c) (returns-clause-born c)
+
+pub invariant_of-hand-clause-bare : goal.invariant_of-hand-clause-bare
+invariant_of-hand-clause-bare c = ap (λ z. z.1) c.split_off-seat.ensures.split.0 ∙ (c.count_up.ensures.queue.1 ∙ c.args.hand.now.bare)
+
+pub invariant_of-hand-clause-one : goal.invariant_of-hand-clause-one
+invariant_of-hand-clause-one c = let x : View = c.count_up.new.seat.me.0 in let two : x.member.ends ≡ c.args.hand.now.seat.me.0.member.ends + 1 = ap (λ (v : View). v.member.ends) c.count_up.ensures.counted.same in let one = c.args.hand.now.one in let left : x.member.ends - 1 ≡ 1 = omega arith in ap (λ z. z.0.member.ends) c.split_off-seat.ensures.split.0 ∙ left
+
+pub invariant_of-hand-clause-none : goal.invariant_of-hand-clause-none
+invariant_of-hand-clause-none c = ap (λ z. z.0.own.claimed) c.split_off-seat.ensures.split.0 ∙ (ap (λ (v : View). v.own.claimed) c.count_up.ensures.counted.same ∙ c.args.hand.now.none)
+
+pub invariant_of-hand-clause-fresh : goal.invariant_of-hand-clause-fresh
+invariant_of-hand-clause-fresh c = ap (λ z. z.0.own.fresh) c.split_off-seat.ensures.split.0 ∙ ap (λ (v : View). v.own.fresh) c.count_up.ensures.counted.same
+
+pub invariant_of-hand-clause-holding : goal.invariant_of-hand-clause-holding
+invariant_of-hand-clause-holding c = c.args.hand.now.holding ∙ sym (ap (λ z. z.0.own.held) c.split_off-seat.ensures.split.0 ∙ ap (λ (v : View). v.own.held) c.count_up.ensures.counted.same)
+
+pub invariant_of-hand-clause-putting : goal.invariant_of-hand-clause-putting
+invariant_of-hand-clause-putting c = c.args.hand.now.putting ∙ sym (ap (λ z. z.0.own.on) c.split_off-seat.ensures.split.0 ∙ ap (λ (v : View). v.own.on) c.count_up.ensures.counted.same)

@@ -1,9 +1,9 @@
-use Rattle.thread_table.proofs.Common.{Err, Ok, rules, ℕ, ◌<◌, subst, transport, ReadPc, view_of, call_of, done_word, HandDid, ELEMENTS}
+use Rattle.thread_table.proofs.Common.{Err, Ok, rules, ℕ, ◌<◌, subst, transport, ReadPc, view_of, call_of, done_word, HandDid, ELEMENTS, ◌∙◌, sym, merely, refl}
 use Rattle.event_theory.specs.declared.event.Event.TheVariants as events
 use Rattle.thread_table.specs.Steps as valid
 use Rattle.thread_table.proofs.Events.StatesSeen.{read_pc, counted_step}
 use Rattle.thread_table.proofs.Clients.{step_effect, step_result, step_error}
-use Rattle.thread_table.proofs.Hands.Unchanged.{done_keeps}
+use Rattle.thread_table.proofs.Hands.Unchanged.{done_keeps, alike, alike_by_both, alike_by_event}
 use Rattle.thread_table.proofs.ClientBounds.{step_bound}
 use Rattle.thread_table.proofs.hand.ThreadTable.step_done.Goals as goal
 
@@ -40,3 +40,9 @@ returns-then-done-clause-steps c = step_bound c.args.hand.now.seat.id c.args.ele
 
 pub returns-clause-steps : goal.returns-clause-steps
 returns-clause-steps c = step_bound c.args.hand.now.seat.id c.args.element _ _ (Ok _) (returns-clause-trace c)
+
+pub invariant_of-hand : goal.invariant_of-hand
+invariant_of-hand c = let h = c.args.hand.now in let a = c.load_done-done.ensures in let s = alike _ _ _ _ a.counted.acts refl refl refl refl refl in record { bare = a.queue.1 ∙ h.bare; one = s.ends ∙ h.one; none = s.claimed ∙ h.none; fresh = s.fresh; holding = h.holding ∙ sym s.held; serving = h.serving ∙ sym s.serves; putting = h.putting ∙ sym s.on; valid = merely a.counted.valid; stands = a.stands }
+
+pub invariant_of-hand-2 : goal.invariant_of-hand-2
+invariant_of-hand-2 c = let h = c.args.hand.now in let a = c.load_done-done.ensures in let x = c.store_done.ensures in let s = alike_by_both _ _ _ (alike _ _ _ _ a.counted.acts refl refl refl refl refl) (alike_by_event _ _ _ _ _ _ (λ own e. (refl, refl, refl)) x.effect.1) in record { bare = x.queue.1 ∙ (a.queue.1 ∙ h.bare); one = s.ends ∙ h.one; none = s.claimed ∙ h.none; fresh = s.fresh; holding = h.holding ∙ sym s.held; serving = h.serving ∙ sym s.serves; putting = h.putting ∙ sym s.on; valid = merely x.effect.1.step.valid; stands = x.stands }

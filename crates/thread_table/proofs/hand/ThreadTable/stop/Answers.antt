@@ -1,8 +1,8 @@
-use Rattle.thread_table.proofs.Common.{ELEMENTS, ◌<◌, rules, ap, not, transport, call_of, view_of, state_word, HandDid}
+use Rattle.thread_table.proofs.Common.{ELEMENTS, ◌<◌, rules, ap, not, transport, call_of, view_of, state_word, HandDid, ◌∙◌, sym, merely, refl}
 use Rattle.event_theory.specs.declared.event.Event.TheVariants as events
 use Rattle.thread_table.proofs.Events.StatesSeen.{bit_is}
 use Rattle.thread_table.proofs.Clients.{stop_effect, stop_result}
-use Rattle.thread_table.proofs.Hands.Unchanged.{stop_keeps}
+use Rattle.thread_table.proofs.Hands.Unchanged.{stop_keeps, alike_by_event}
 use Rattle.thread_table.proofs.ClientBounds.{stop_bound}
 use Rattle.thread_table.proofs.hand.ThreadTable.stop.Goals as goal
 
@@ -22,3 +22,6 @@ returns-clause-frame c = stop_keeps c.args.hand.now.seat.id c.args.element _ _ _
 
 pub returns-clause-steps : goal.returns-clause-steps
 returns-clause-steps c = stop_bound c.args.hand.now.seat.id c.args.element _ _ _ (returns-clause-trace c)
+
+pub invariant_of-hand : goal.invariant_of-hand
+invariant_of-hand c = let h = c.args.hand.now in let x = c.or_stop-word.ensures in let s = alike_by_event _ _ _ _ _ _ (λ own e. (refl, refl, refl)) x.effect in record { bare = x.queue.1 ∙ h.bare; one = s.ends ∙ h.one; none = s.claimed ∙ h.none; fresh = s.fresh; holding = h.holding ∙ sym s.held; serving = h.serving ∙ sym s.serves; putting = h.putting ∙ sym s.on; valid = merely x.effect.step.valid; stands = x.stands }

@@ -2,7 +2,7 @@ use Rattle.thread_table.proofs.Common.{Ok, Err, rules, [], ◌≡◌, ◌<◌, �
 use Rattle.thread_table.proofs.Events.Answering.{not_raised, passed_by, taken_first}
 use Rattle.thread_table.specs.declared.takings.NextRefusal.TheVariants as nexts
 use Rattle.thread_table.proofs.Clients.{take_effect, take_result, take_error}
-use Rattle.thread_table.proofs.Hands.Unchanged.{take_keeps}
+use Rattle.thread_table.proofs.Hands.Unchanged.{take_keeps, alike_by_look, alike_by_both}
 use Rattle.thread_table.proofs.ClientBounds.{take_bound}
 use Rattle.thread_table.proofs.hand.ThreadTable.take_first.Goals as goal
 use Rattle.thread_table.proofs.hand.ThreadTable.take_first.Goals.{After-new}
@@ -92,3 +92,9 @@ returns-then-found-tail-clause-steps c = take_bound 3 [] c.args.hand.now.seat.id
 
 pub returns-clause-steps : goal.returns-clause-steps
 returns-clause-steps c = take_bound 3 [] c.args.hand.now.seat.id c.args.ring _ _ (Ok c.in-Some.element) (omega arith) (returns-clause-trace c)
+
+pub invariant_of-hand : goal.invariant_of-hand
+invariant_of-hand c = let h = c.args.hand.now in let t = c.load_tail-tail.ensures in let p = c.load_place.ensures in let n = c.load_tail-now.ensures in let s = alike_by_both _ _ _ (alike_by_both _ _ _ (alike_by_look _ _ _ t.found.acts) (alike_by_look _ _ _ p.found.acts)) (alike_by_look _ _ _ n.found.acts) in record { bare = n.queue.1 ∙ (p.queue.1 ∙ (t.queue.1 ∙ h.bare)); one = s.ends ∙ h.one; none = s.claimed ∙ h.none; fresh = s.fresh; holding = h.holding ∙ sym s.held; serving = h.serving ∙ sym s.serves; putting = h.putting ∙ sym s.on; valid = merely n.found.valid; stands = n.stands }
+
+pub invariant_of-hand-then-found-tail : goal.invariant_of-hand-then-found-tail
+invariant_of-hand-then-found-tail c = let h = c.args.hand.now in let t = c.load_tail-tail.ensures in let p = c.load_place.ensures in let x = c.exchange_tail-found.ensures in let e = (x.miss c.if-found-tail.true).0 in let s = alike_by_both _ _ _ (alike_by_both _ _ _ (alike_by_look _ _ _ t.found.acts) (alike_by_look _ _ _ p.found.acts)) (alike_by_look _ _ _ e.acts) in record { bare = x.queue.1 ∙ (p.queue.1 ∙ (t.queue.1 ∙ h.bare)); one = s.ends ∙ h.one; none = s.claimed ∙ h.none; fresh = s.fresh; holding = h.holding ∙ sym s.held; serving = h.serving ∙ sym s.serves; putting = h.putting ∙ sym s.on; valid = merely e.valid; stands = x.stands }

@@ -1,7 +1,7 @@
-use Rattle.thread_table.proofs.Common.{rules, refl, ◌<◌, ◌+◌, ◌≡◌, ◌∙◌, ap, ℕ, WAITS, wait_ring}
+use Rattle.thread_table.proofs.Common.{rules, refl, ◌<◌, ◌+◌, ◌≡◌, ◌∙◌, ap, ℕ, WAITS, wait_ring, sym, merely}
 use Rattle.thread_table.proofs.Events.Answering.{found_in, is_ticket}
 use Rattle.thread_table.proofs.Clients.{look_effect, ticket_says}
-use Rattle.thread_table.proofs.Hands.Unchanged.{ticket_stays}
+use Rattle.thread_table.proofs.Hands.Unchanged.{ticket_stays, alike_by_look}
 use Rattle.thread_table.proofs.ClientBounds.{ticket_bound}
 use Rattle.thread_table.proofs.hand.ThreadTable.ticket.Goals as goal
 
@@ -20,3 +20,6 @@ returns-clause-frame c = (ticket_stays c.args.wait _ _ _ (returns-clause-trace c
 
 pub returns-clause-steps : goal.returns-clause-steps
 returns-clause-steps c = ticket_bound c.args.wait _ _ _ (returns-clause-trace c)
+
+pub invariant_of-hand : goal.invariant_of-hand
+invariant_of-hand c = let h = c.args.hand.now in let a = c.load_head.ensures in let s = alike_by_look _ _ _ a.found.acts in record { bare = a.queue.1 ∙ h.bare; one = s.ends ∙ h.one; none = s.claimed ∙ h.none; fresh = s.fresh; holding = h.holding ∙ sym s.held; serving = h.serving ∙ sym s.serves; putting = h.putting ∙ sym s.on; valid = merely a.found.valid; stands = a.stands }

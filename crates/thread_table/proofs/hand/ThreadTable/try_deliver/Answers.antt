@@ -1,10 +1,11 @@
-use Rattle.thread_table.proofs.Common.{Err, Ok, ◌<◌, ◌∙◌, rules, sym, ap, transport, state_word, HandDid, ELEMENTS}
+use Rattle.thread_table.proofs.Common.{Err, Ok, ◌<◌, ◌∙◌, rules, sym, ap, transport, state_word, HandDid, ELEMENTS, merely, refl, cases_eq, ⊎_elim}
 use Rattle.event_theory.specs.declared.event.Event.TheVariants as events
 use Rattle.thread_table.proofs.Schedule.Acting.{acts_two}
 use Rattle.thread_table.proofs.Events.StatesSeen.{has_signals, delivered}
 use Rattle.thread_table.proofs.Events.Steps.{found_at}
+use Rattle.thread_table.specs.Telling.{IsValidHandView}
 use Rattle.thread_table.proofs.Clients.{deliver_effect, deliver_result, deliver_error}
-use Rattle.thread_table.proofs.Hands.Unchanged.{deliver_keeps}
+use Rattle.thread_table.proofs.Hands.Unchanged.{Alike, deliver_keeps, alike_by_look, alike_by_both, alike_by_event}
 use Rattle.thread_table.proofs.ClientBounds.{deliver_bound}
 use Rattle.thread_table.proofs.hand.ThreadTable.try_deliver.Goals as goal
 
@@ -55,3 +56,16 @@ returns-then-seen-word-clause-steps c = deliver_bound c.args.hand.now.seat.id c.
 
 pub returns-clause-steps : goal.returns-clause-steps
 returns-clause-steps c = deliver_bound c.args.hand.now.seat.id c.args.element _ _ (Ok c.pending-pending.result) (returns-clause-trace c)
+
+pub invariant_of-hand : goal.invariant_of-hand
+invariant_of-hand c = let h = c.args.hand.now in let a = c.load_state-word.ensures in let s = alike_by_look _ _ _ a.found.acts in record { bare = a.queue.1 ∙ h.bare; one = s.ends ∙ h.one; none = s.claimed ∙ h.none; fresh = s.fresh; holding = h.holding ∙ sym s.held; serving = h.serving ∙ sym s.serves; putting = h.putting ∙ sym s.on; valid = merely a.found.valid; stands = a.stands }
+
+-- the compare-and-swap delivered the signals, or found another word; the hand has what it had
+tried : (c : goal.After-exchange_state-seen) → Alike c.load_state-word.new.seat.me.0 c.exchange_state-seen.new.seat.me.0 × ∥ IsValidHandView c.exchange_state-seen.new.seat.me.0 ∥₁
+tried c = let x = c.exchange_state-seen.ensures in ⊎_elim
+    (λ same. let d = x.hit same in (alike_by_event _ _ _ _ _ _ (λ own e. (refl, refl, refl)) d, merely d.step.valid))
+    (λ other. let e = (x.miss other).0 in (alike_by_look _ _ _ e.acts, merely e.valid))
+    (cases_eq c.exchange_state-seen.result c.load_state-word.result)
+
+pub invariant_of-hand-2 : goal.invariant_of-hand-2
+invariant_of-hand-2 c = let h = c.args.hand.now in let a = c.load_state-word.ensures in let x = c.exchange_state-seen.ensures in let e = tried c in let s = alike_by_both _ _ _ (alike_by_look _ _ _ a.found.acts) e.0 in record { bare = x.queue.1 ∙ (a.queue.1 ∙ h.bare); one = s.ends ∙ h.one; none = s.claimed ∙ h.none; fresh = s.fresh; holding = h.holding ∙ sym s.held; serving = h.serving ∙ sym s.serves; putting = h.putting ∙ sym s.on; valid = e.1; stands = x.stands }

@@ -1,10 +1,10 @@
-use Rattle.thread_table.proofs.Common.{false, true, Err, Ok, ◌<◌, rules, ap, transport, state_word, HandDid, ELEMENTS}
+use Rattle.thread_table.proofs.Common.{false, true, Err, Ok, ◌<◌, rules, ap, transport, state_word, HandDid, ELEMENTS, ◌∙◌, sym, merely, set, View, call_of, view_of, ParkAnswer}
 use Rattle.event_theory.specs.declared.event.Event.TheVariants as events
 use Rattle.thread_table.proofs.Schedule.Acting.{acts_two}
 use Rattle.thread_table.proofs.Events.StatesSeen.{bit_up, bit_down, parked}
 use Rattle.thread_table.proofs.Events.Steps.{found_at}
 use Rattle.thread_table.proofs.Clients.{park_effect, park_result, park_error}
-use Rattle.thread_table.proofs.Hands.Unchanged.{park_keeps}
+use Rattle.thread_table.proofs.Hands.Unchanged.{park_keeps, alike_by_look, alike_by_both}
 use Rattle.thread_table.proofs.ClientBounds.{park_bound}
 use Rattle.thread_table.proofs.hand.ThreadTable.try_park.Goals as goal
 
@@ -15,10 +15,14 @@ pub returns-then-seen-word-clause-trace : goal.returns-then-seen-word-clause-tra
 returns-then-seen-word-clause-trace c = let here = ap state_word c.number-number.ensures.value in let l = found_at here c.load_state-word.ensures.found in let e = found_at here (c.exchange_state-seen.ensures.miss c.if-seen-word.true).0 in
     (c.load_state-word.result, _, _, bit_up _ 16 c.if-not-is_stopping.ensures, c.if-seen-word.true, acts_two _ _ _ _ _ _ _ l e)
 
-pub returns-clause-trace : goal.returns-clause-trace
-returns-clause-trace c = let h = c.args.hand.now in let n = c.number-number.ensures.value in let l = c.load_state-word in let id = l.ensures.queue.0.1 in let u = l.new.seat.me.0 in let known : c.args.element < ELEMENTS = search rules in
+-- what the two steps say
+parks : (c : goal.After-set) → ParkAnswer (call_of c.args.hand.now) (view_of c.args.hand.now) c.args.element (Ok true) c.exchange_state-seen.new.seat.me.0
+parks c = let h = c.args.hand.now in let n = c.number-number.ensures.value in let l = c.load_state-word in let id = l.ensures.queue.0.1 in let u = l.new.seat.me.0 in let known : c.args.element < ELEMENTS = search rules in
     let d = transport (λ i. HandDid (id i) u (state_word (n i)) l.result (events.Park (id i) (n i)) c.exchange_state-seen.new.seat.me.0) (c.exchange_state-seen.ensures.hit c.if-seen-word.false) in let found = found_at (ap state_word n) l.ensures.found in
     parked _ _ _ _ _ _ h.fresh c.requires.holds known found c.if-not-is_stopping.ensures d
+
+pub returns-clause-trace : goal.returns-clause-trace
+returns-clause-trace c = parks c.before
 
 pub returns-then-not-is_stopping-clause-effect : goal.returns-then-not-is_stopping-clause-effect
 returns-then-not-is_stopping-clause-effect c = park_effect c.args.hand.now.seat.id c.args.element _ _ (Ok false) (returns-then-not-is_stopping-clause-trace c)
@@ -55,3 +59,12 @@ returns-then-seen-word-clause-steps c = park_bound c.args.hand.now.seat.id c.arg
 
 pub returns-clause-steps : goal.returns-clause-steps
 returns-clause-steps c = park_bound c.args.hand.now.seat.id c.args.element _ _ (Ok true) (returns-clause-trace c)
+
+pub invariant_of-hand : goal.invariant_of-hand
+invariant_of-hand c = let h = c.args.hand.now in let a = c.load_state-word.ensures in let s = alike_by_look _ _ _ a.found.acts in record { bare = a.queue.1 ∙ h.bare; one = s.ends ∙ h.one; none = s.claimed ∙ h.none; fresh = s.fresh; holding = h.holding ∙ sym s.held; serving = h.serving ∙ sym s.serves; putting = h.putting ∙ sym s.on; valid = merely a.found.valid; stands = a.stands }
+
+pub invariant_of-hand-then-seen-word : goal.invariant_of-hand-then-seen-word
+invariant_of-hand-then-seen-word c = let h = c.args.hand.now in let a = c.load_state-word.ensures in let x = c.exchange_state-seen.ensures in let e = (x.miss c.if-seen-word.true).0 in let s = alike_by_both _ _ _ (alike_by_look _ _ _ a.found.acts) (alike_by_look _ _ _ e.acts) in record { bare = x.queue.1 ∙ (a.queue.1 ∙ h.bare); one = s.ends ∙ h.one; none = s.claimed ∙ h.none; fresh = s.fresh; holding = h.holding ∙ sym s.held; serving = h.serving ∙ sym s.serves; putting = h.putting ∙ sym s.on; valid = merely e.valid; stands = x.stands }
+
+pub invariant_of-hand-2 : goal.invariant_of-hand-2
+invariant_of-hand-2 c = let h = c.args.hand.now in let a = c.load_state-word.ensures in let x = c.exchange_state-seen.ensures in let e = x.hit c.if-seen-word.false in let n = c.number-number.ensures.value in let has = (parks c).1.4.has in record { bare = x.queue.1 ∙ (a.queue.1 ∙ h.bare); one = ap (λ (z : View). z.member.ends) has ∙ h.one; none = ap (λ (z : View). z.own.claimed) has ∙ h.none; fresh = ap (λ (z : View). z.own.fresh) has; holding = c.set.ensures ∙ ((λ i. set (h.holding i) (n i) false) ∙ sym (ap (λ (z : View). z.own.held) has)); serving = h.serving ∙ sym (ap (λ (z : View). z.own.serves) has); putting = h.putting ∙ sym (ap (λ (z : View). z.own.on) has); valid = merely e.step.valid; stands = x.stands }

@@ -5,7 +5,7 @@ use Rattle.thread_table.proofs.Schedule.Acting.{acts_two}
 use Rattle.thread_table.proofs.Events.StatesSeen.{bit_up, bit_down, cleared, held_again}
 use Rattle.thread_table.proofs.Events.Steps.{found_at}
 use Rattle.thread_table.proofs.Clients.{start_effect, start_result, start_error}
-use Rattle.thread_table.proofs.Hands.Unchanged.{start_keeps}
+use Rattle.thread_table.proofs.Hands.Unchanged.{start_keeps, alike_by_look, alike_by_both}
 use Rattle.thread_table.proofs.ClientBounds.{start_bound}
 use Rattle.thread_table.proofs.hand.ThreadTable.try_start.Goals as goal
 
@@ -107,3 +107,9 @@ returns-then-not-is_parked-clause-steps c = start_bound c.args.hand.now.seat.id 
 
 pub returns-clause-steps : goal.returns-clause-steps
 returns-clause-steps c = start_bound c.args.hand.now.seat.id c.args.element _ _ (Ok started.Held) (returns-clause-trace c)
+
+pub invariant_of-hand : goal.invariant_of-hand
+invariant_of-hand c = let h = c.args.hand.now in let a = c.load_state-word.ensures in let s = alike_by_look _ _ _ a.found.acts in record { bare = a.queue.1 ∙ h.bare; one = s.ends ∙ h.one; none = s.claimed ∙ h.none; fresh = s.fresh; holding = h.holding ∙ sym s.held; serving = h.serving ∙ sym s.serves; putting = h.putting ∙ sym s.on; valid = merely a.found.valid; stands = a.stands }
+
+pub invariant_of-hand-then-seen-word : goal.invariant_of-hand-then-seen-word
+invariant_of-hand-then-seen-word c = let h = c.args.hand.now in let a = c.load_state-word.ensures in let x = c.exchange_state-seen.ensures in let e = (x.miss c.if-seen-word.true).0 in let s = alike_by_both _ _ _ (alike_by_look _ _ _ a.found.acts) (alike_by_look _ _ _ e.acts) in record { bare = x.queue.1 ∙ (a.queue.1 ∙ h.bare); one = s.ends ∙ h.one; none = s.claimed ∙ h.none; fresh = s.fresh; holding = h.holding ∙ sym s.held; serving = h.serving ∙ sym s.serves; putting = h.putting ∙ sym s.on; valid = merely e.valid; stands = x.stands }

@@ -3,7 +3,7 @@ use Rattle.event_theory.specs.declared.event.Event.TheVariants as events
 use Rattle.thread_table.proofs.Events.Answering.{found_in, was_spent, moved_before, moved_meanwhile, overtaken_at, claim_known, moved_to, word_parts}
 use Rattle.thread_table.specs.declared.moves.MoveRefusal.TheVariants as moves
 use Rattle.thread_table.proofs.Clients.{wait_effect, wait_result, wait_error}
-use Rattle.thread_table.proofs.Hands.Unchanged.{wait_keeps}
+use Rattle.thread_table.proofs.Hands.Unchanged.{wait_keeps, alike_by_look, alike_by_both}
 use Rattle.thread_table.proofs.ClientBounds.{wait_bound}
 use Rattle.thread_table.proofs.hand.ThreadTable.try_wait_at.Goals as goal
 
@@ -57,9 +57,6 @@ invariant_of-hand-2 c = let a = c.load_head-word.ensures in let x = c.exchange_h
 
 pub returns-clause-trace : goal.returns-clause-trace
 returns-clause-trace c = (c.load_head-word.result, (word_parts _ c.of-head.result.head c.of-head.result.mark c.of-head.ensures.0 c.of-head.ensures.1).1 ∙ c.if-mark-ticket.false, moved c.before)
-
-pub invariant_of-hand-then-found-word-clause-stands : goal.invariant_of-hand-then-found-word-clause-stands
-invariant_of-hand-then-found-word-clause-stands c = c.exchange_head_at-found.ensures.stands
 
 pub returns-then-head-clause-effect : goal.returns-then-head-clause-effect
 returns-then-head-clause-effect c = let known : c.args.wait < WAITS = search rules in wait_effect _ _ c.load_head-word.ensures.found.valid c.args.hand.now.seat.id c.args.wait c.args.element c.args.ticket (Err moves.Spent) known (returns-then-head-clause-trace c)
@@ -120,3 +117,12 @@ returns-then-found-word-clause-steps c = wait_bound c.args.hand.now.seat.id c.ar
 
 pub returns-clause-steps : goal.returns-clause-steps
 returns-clause-steps c = wait_bound c.args.hand.now.seat.id c.args.wait c.args.element c.args.ticket _ _ (Ok tt) (returns-clause-trace c)
+
+pub invariant_of-hand : goal.invariant_of-hand
+invariant_of-hand c = let h = c.args.hand.now in let a = c.load_head-word.ensures in let s = alike_by_look _ _ _ a.found.acts in record { bare = a.queue.1 ∙ h.bare; one = s.ends ∙ h.one; none = s.claimed ∙ h.none; fresh = s.fresh; holding = h.holding ∙ sym s.held; serving = h.serving ∙ sym s.serves; putting = h.putting ∙ sym s.on; valid = merely a.found.valid; stands = a.stands }
+
+pub invariant_of-hand-then-mark-ticket : goal.invariant_of-hand-then-mark-ticket
+invariant_of-hand-then-mark-ticket c = let h = c.args.hand.now in let a = c.load_head-word.ensures in let s = alike_by_look _ _ _ a.found.acts in record { bare = a.queue.1 ∙ h.bare; one = s.ends ∙ h.one; none = s.claimed ∙ h.none; fresh = s.fresh; holding = h.holding ∙ sym s.held; serving = h.serving ∙ sym s.serves; putting = h.putting ∙ sym s.on; valid = merely a.found.valid; stands = a.stands }
+
+pub invariant_of-hand-then-found-word : goal.invariant_of-hand-then-found-word
+invariant_of-hand-then-found-word c = let h = c.args.hand.now in let a = c.load_head-word.ensures in let x = c.exchange_head_at-found.ensures in let e = (x.miss c.if-found-word.true).0 in let s = alike_by_both _ _ _ (alike_by_look _ _ _ a.found.acts) (alike_by_look _ _ _ e.acts) in record { bare = x.queue.1 ∙ (a.queue.1 ∙ h.bare); one = s.ends ∙ h.one; none = s.claimed ∙ h.none; fresh = s.fresh; holding = h.holding ∙ sym s.held; serving = h.serving ∙ sym s.serves; putting = h.putting ∙ sym s.on; valid = merely e.valid; stands = x.stands }

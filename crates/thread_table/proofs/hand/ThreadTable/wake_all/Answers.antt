@@ -1,8 +1,9 @@
-use Rattle.thread_table.proofs.Common.{rules, ℕ, WAITS, View, ◌≡◌, ◌+◌, ◌<◌, ◌≤◌, sym, ap, subst, ◌∙◌, Ok, Err, transport, call_of, view_of, head_word, tail_word, wait_ring, HandDid, Found, TakeAnswer}
+use Rattle.thread_table.proofs.Common.{rules, ℕ, WAITS, View, ◌≡◌, ◌+◌, ◌<◌, ◌≤◌, sym, ap, subst, ◌∙◌, Ok, Err, transport, call_of, view_of, head_word, tail_word, wait_ring, HandDid, Found, TakeAnswer, merely, refl}
 use Rattle.event_theory.specs.declared.event.Event.TheVariants as events
 use Rattle.thread_table.proofs.Events.Answering.{word_parts}
 use Rattle.thread_table.proofs.Events.Waking.{Rounds, rounds_none, rounds_took, rounds_missed, woke_all}
 use Rattle.thread_table.proofs.ClientWakes.{wake_effect, wake_result, wake_bound, wake_keeps}
+use Rattle.thread_table.proofs.Hands.Unchanged.{alike_by_look, alike_by_event}
 use Rattle.thread_table.proofs.ClientTries.{wake_tries}
 use Rattle.thread_table.proofs.hand.ThreadTable.wake_all.Goals as goal
 
@@ -57,3 +58,9 @@ returns-then-tail-head-clause-owns g c = ap (λ (z : View). z.member) (returns-t
 pub returns-then-tail-head-clause-tries : goal.returns-then-tail-head-clause-tries
 returns-then-tail-head-clause-tries g c = let low : c.args.wait < WAITS = search rules in
     wake_tries (call_of c.args.hand.now) c.args.wait _ _ _ low c.load_tail-tail.ensures.found.valid (returns-then-tail-head-clause-trace g c)
+
+pub invariant_of-hand : goal.invariant_of-hand
+invariant_of-hand g c = let h = c.args.hand.now in let x = c.add_notify-word.ensures in let s = alike_by_event _ _ _ _ h.seat.me.0 c.add_notify-word.new.seat.me.0 (λ own e. (refl, refl, refl)) x.effect in record { bare = x.queue.1 ∙ h.bare; one = s.ends ∙ h.one; none = s.claimed ∙ h.none; fresh = s.fresh; holding = h.holding ∙ sym s.held; serving = h.serving ∙ sym s.serves; putting = h.putting ∙ sym s.on; valid = merely x.effect.step.valid; stands = x.stands }
+
+pub invariant_of-hand-in-loop : goal.invariant_of-hand-in-loop
+invariant_of-hand-in-loop g c = let h = c.loop.hand in let a = c.load_tail-tail.ensures in let s = alike_by_look _ _ _ a.found.acts in record { bare = a.queue.1 ∙ h.bare; one = s.ends ∙ h.one; none = s.claimed ∙ h.none; fresh = s.fresh; holding = h.holding ∙ sym s.held; serving = h.serving ∙ sym s.serves; putting = h.putting ∙ sym s.on; valid = merely a.found.valid; stands = a.stands }

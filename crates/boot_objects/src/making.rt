@@ -48,6 +48,24 @@ pub fn make_objects(alloc: Global, plan: BootPlan) -> Result<Objects, OutOfMemor
         × CanGive 1000 (chain_shares o.station.parts.chains.items)) }
     ensures whole { IfOk result (λ o. HaveAll o.shared o.station.parts o.devices.items) }
 {
+    // A call drops all fields of a value. Without it the proof goes through each of them at each way out, which takes
+    // long.
+    let Ok(stocked) = make_stocked(alloc, &plan) else {
+        drop(plan);
+        return Err(OutOfMemory);
+    };
+    let Ok((threads, hand)) = ThreadTable::new(alloc) else {
+        drop(stocked);
+        drop(plan);
+        return Err(OutOfMemory);
+    };
+    let Ok((meters, seat)) = Meters::new(alloc, 0) else {
+        drop(stocked);
+        drop(threads);
+        drop(hand);
+        drop(plan);
+        return Err(OutOfMemory);
+    };
     let Stocked {
         queues,
         small,
@@ -55,9 +73,7 @@ pub fn make_objects(alloc: Global, plan: BootPlan) -> Result<Objects, OutOfMemor
         chains,
         ends,
         devices,
-    } = make_stocked(alloc, &plan)?;
-    let (threads, hand) = ThreadTable::new(alloc)?;
-    let (meters, seat) = Meters::new(alloc, 0)?;
+    } = stocked;
     let shared = Shared {
         queues,
         chains,
@@ -71,6 +87,10 @@ pub fn make_objects(alloc: Global, plan: BootPlan) -> Result<Objects, OutOfMemor
             station,
             devices,
         }),
-        Err(_) => Err(OutOfMemory),
+        Err(_) => {
+            drop(shared);
+            drop(devices);
+            Err(OutOfMemory)
+        }
     }
 }

@@ -1,7 +1,7 @@
 use Rattle.proc_chain.proofs.Common.{refl, sym, subst, ◌∙◌, ◌≤◌, ℕ, ◌≡◌, true, false, true≢false, arith, ChainOps, suits, makes, with_turn, run}
 use Rattle.proc_chain.proofs.Finding.{gate_says, looks_found, looks_on, rests_on, seen_notes, reported_after, slot_on, slot_up}
 use Rattle.proc_chain.proofs.Clients.{same_only, run_here, left_there, why_full, why_lost, why_spent}
-use Rattle.proc_chain.proofs.Linking.{both_found, three_found, put_note, was_lost, just_claimed, claimed_at, link, chained, chained_seen, chained_rests, won_slot}
+use Rattle.proc_chain.proofs.Linking.{both_found, three_found, same_notes, put_note, was_lost, just_claimed, claimed_at, link, chained, chained_seen, chained_rests, won_slot}
 use Rattle.proc_chain.proofs.ends.ProcChain.try_chain.Goals as goal
 
 -- the refusals
@@ -99,3 +99,29 @@ returns-in-None-clause-ends g c = let end = c.args.end.now in let a = c.load-hea
 pub returns-in-None-clause-handle : goal.returns-in-None-clause-handle
 returns-in-None-clause-handle g c = let end = c.args.end.now in let a = c.load-head.ensures in let b = c.load-tail.ensures in let e = c.exchange_head-found.ensures in let h = e.hit c.if-found-head.false in let r = c.store_place.ensures.raised (run c.load-head.result c.args.note) (claimed_at _ _ _ _ h) in let w = c.in-None.ensures.notified in let then : ChainOps → ChainOps = λ d. d in let s = chained_seen _ _ _ _ _ _ _ c.args.note a.found b.found h r _ _ w.2.1.0 then w.2.1.1 in let x = c.store_place.ensures.frame.0 in let y = c.swap_more.ensures.frame.0 in
     ((y.0 ∙ (x.0 ∙ (e.frame.0.0 ∙ (b.frame.0.0 ∙ a.frame.0.0))), y.1 ∙ (x.1 ∙ (e.frame.0.1 ∙ (b.frame.0.1 ∙ a.frame.0.1)))), s.taken)
+
+pub invariant_of-end : goal.invariant_of-end
+invariant_of-end g c = let end = c.args.end.now in let a = c.load-head.ensures in let s = looks_found _ _ _ _ a.found in
+    record { turned = (λ i. (s.own i).runner) ∙ end.turned; rests = rests_on _ _ (λ i. (s.seen.member i).ends) (λ i. (s.own i).runs) (λ i. (s.own i).owes) end.rests; valid = ∣ a.frame.1.1 ∣₁ }
+
+pub invariant_of-end-then-head-tail : goal.invariant_of-end-then-head-tail
+invariant_of-end-then-head-tail g c = let end = c.args.end.now in let a = c.load-head.ensures in let b = c.load-tail.ensures in let s = looks_on _ _ _ (looks_found _ _ _ _ a.found) (looks_found _ _ _ _ b.found) in
+    record { turned = (λ i. (s.own i).runner) ∙ end.turned; rests = rests_on _ _ (λ i. (s.seen.member i).ends) (λ i. (s.own i).runs) (λ i. (s.own i).owes) end.rests; valid = ∣ b.frame.1.1 ∣₁ }
+
+pub returns-then-head-ge-POSITIONS-clause-trace : goal.returns-then-head-ge-POSITIONS-clause-trace
+returns-then-head-ge-POSITIONS-clause-trace g c = let f = c.load-head.ensures.found in (c.load-head.result, f.0, c.if-head-ge-POSITIONS.true, f.1.made)
+
+pub returns-then-head-tail-clause-trace : goal.returns-then-head-tail-clause-trace
+returns-then-head-tail-clause-trace g c = let f = c.load-head.ensures.found in let e = c.load-tail.ensures.found in (f.0, e.0, c.if-head-ge-POSITIONS.false, (let over = c.if-head-tail.true in omega arith), both_found _ _ _ _ _ f e)
+
+pub returns-then-head-ge-POSITIONS-clause-effect : goal.returns-then-head-ge-POSITIONS-clause-effect
+returns-then-head-ge-POSITIONS-clause-effect g c = same_notes _ _ c.load-head.ensures.found.1.made.did
+
+pub returns-then-head-tail-clause-effect : goal.returns-then-head-tail-clause-effect
+returns-then-head-tail-clause-effect g c = same_notes _ _ (both_found _ _ _ _ _ c.load-head.ensures.found c.load-tail.ensures.found).did
+
+pub returns-then-found-head-clause-effect : goal.returns-then-found-head-clause-effect
+returns-then-found-head-clause-effect g c = same_notes _ _ (three_found _ _ _ _ _ _ _ c.load-head.ensures.found c.load-tail.ensures.found (c.exchange_head-found.ensures.miss c.if-found-head.true)).did
+
+pub returns-then-head-ge-POSITIONS-clause-owns : goal.returns-then-head-ge-POSITIONS-clause-owns
+returns-then-head-ge-POSITIONS-clause-owns g c = c.load-head.ensures.found.1.made.member

@@ -20,6 +20,7 @@ mod Shutting
 mod Settling
 mod Betweens
 mod Walking
+mod Seated
 mod Turning
 mod Looking
 mod Dividing

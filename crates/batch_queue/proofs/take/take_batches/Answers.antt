@@ -5,6 +5,7 @@ use Rattle.batch_queue.specs.Walks.{LeadsOn}
 use Rattle.batch_queue.proofs.Growing.{grows_trans}
 use Rattle.batch_queue.proofs.Getting.{first_passed, followed_first, lost_error, lost_refused, has_taken, took_most}
 use Rattle.batch_queue.proofs.Glancing.{none_error, none_refused, short_error, short_refused}
+use Rattle.batch_queue.proofs.Stopping.{passed_stop}
 use Rattle.batch_queue.proofs.take.take_batches.Goals as goal
 
 pub returns-then-not-leads_on-clause-error : goal.returns-then-not-leads_on-clause-error
@@ -39,3 +40,7 @@ returns-clause-taken g c = let on : LeadsOn 0 c.load_tail-tail.result c.load_mar
 pub returns-clause-most : goal.returns-clause-most
 returns-clause-most g c = let on : LeadsOn 0 c.load_tail-tail.result c.load_mark-first.result = search rules in let past = on.1 in let fits = c.if-count-most.false in let w = c.walk-new.ensures in let is : c.min-most.result ≡ min c.args.most c.args.room = search rules in let low = w.on.0 in
     took_most c.args.room c.args.most _ _ _ _ _ _ _ _ _ _ c.load_tail-tail.ensures.found c.load_mark-first.ensures.found is (ap (λ (z : Part). z.share) w.trace.made.member) (w.trace.made.did ∙ (c.load_mark-first.ensures.found.made.did ∙ c.load_tail-tail.ensures.found.made.did)) (c.exchange_tail-found.ensures.hit c.if-found-tail.false) (omega arith) w.on.1 (w.stopped_up refl) refl
+
+pub exchange_tail-found-requires-clause-up : goal.exchange_tail-found-requires-clause-up
+exchange_tail-found-requires-clause-up g c = let on : LeadsOn 0 c.load_tail-tail.result c.load_mark-first.result = search rules in let past = on.1 in let w = c.walk-new.ensures in let low = w.on.0 in
+    (passed_stop c.walk-new.new.seat.me.0 _ _ w.passed, omega arith)

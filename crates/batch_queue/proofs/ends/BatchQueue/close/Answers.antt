@@ -1,7 +1,9 @@
-use Rattle.batch_queue.proofs.Common.{SHUT, [], ends_word, load, ◌∷◌, left_from, refl, sym, ◌%◌, ◌-◌, ◌∙◌}
+use Rattle.batch_queue.proofs.Common.{EndRecord, SHUT, [], ap, ends_word, load, ◌∷◌, left_from, refl, sym, ◌%◌, ◌-◌, ◌∙◌}
 use Rattle.std.specs.Mem.Slots.{slots_items}
+use Rattle.table_theory.specs.declared.views.Part.{Part}
 use Rattle.batch_queue.proofs.Going.{goes_made}
 use Rattle.batch_queue.proofs.Trying.{looks_lines}
+use Rattle.batch_queue.proofs.Seated.{room_on}
 use Rattle.batch_queue.proofs.Under.{final_under, tallies_as}
 use Rattle.batch_queue.proofs.Settling.{closes, spans}
 use Rattle.batch_queue.proofs.ends.BatchQueue.close.Goals as goal
@@ -18,3 +20,6 @@ returns-clause-effect g c = closes c.args.self.table.shared.key _ _ _ c.word-put
 
 pub returns-in-Err-clause-frame : goal.returns-in-Err-clause-frame
 returns-in-Err-clause-frame g c = let t = c.in-Err.ensures.frame.3 in let m = t.1.made in (looks_lines _ _ (load ends_word c.in-Err.ends t.1.found ∷ []) m, goes_made _ _ _ _ c.args.end.ruled ∣ t.0 ∣₁ refl m)
+
+pub invariant_of-result : goal.invariant_of-result
+invariant_of-result g c = let end = c.args.end in let f = c.in-Err.ensures.frame in let m = f.3.1.made in record { room = room_on end.seat c.in-Err.seat end.room f.1.0 m.adds.first; bare = f.2 ∙ end.bare; idle = ap (λ (z : EndRecord). z.held) m.did ∙ end.idle; one = ap (λ (z : Part). z.ends) m.member ∙ end.one; ruled = ∣ f.3.0 ∣₁ }

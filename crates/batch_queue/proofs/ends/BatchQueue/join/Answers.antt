@@ -1,7 +1,8 @@
-use Rattle.batch_queue.proofs.Common.{HeldSlots, ap, arith, rules, ◌∙◌, did_both, ends_word, nothing_did}
-use Rattle.table_theory.proofs.Parting.{two_ends}
+use Rattle.batch_queue.proofs.Common.{EndRecord, HeldSlots, ap, line_of, map, map-append, arith, rules, ◌∙◌, did_both, ends_word, nothing_did}
+use Rattle.table_theory.proofs.Parting.{took_in, two_ends}
 use Rattle.table_theory.specs.declared.views.Part.{Part}
 use Rattle.batch_queue.proofs.Going.{later_joined}
+use Rattle.batch_queue.proofs.Seated.{room_on}
 use Rattle.batch_queue.proofs.Under.{downs_as, joins_as}
 use Rattle.batch_queue.proofs.ends.BatchQueue.join.Goals as goal
 
@@ -16,3 +17,12 @@ returns-clause-owns g c = ap (λ (z : Part). z.share) c.count_down.ensures.count
 
 pub returns-clause-frame : goal.returns-clause-frame
 returns-clause-frame g c = later_joined _ _ _ c.args.end.now.ruled c.args.other.ruled ∣ c.count_down.ensures.suits ∣₁ (search rules)
+
+pub returns-clause-trace : goal.returns-clause-trace
+returns-clause-trace g c = took_in nothing_did did_both ends_word c.args.end.now.seat.me.0 c.args.other.seat.me.0 c.take_in.new.seat.me.0 c.count_down.new.seat.me.0 c.args.end.now.one c.args.other.one (ap (λ z. z.0) c.take_in.ensures.joined) c.count_down.ensures.counted
+
+pub returns-clause-effect : goal.returns-clause-effect
+returns-clause-effect g c = let own = (returns-clause-trace g c).own in (ap (λ (z : EndRecord). map line_of z.runs) own ∙ map-append line_of _ _, ap (λ (z : EndRecord). map line_of z.takes) own ∙ map-append line_of _ _, ap (λ (z : EndRecord). z.parts) own, ap (λ (z : EndRecord). z.shuts) own)
+
+pub invariant_of-end : goal.invariant_of-end
+invariant_of-end g c = let end = c.args.end.now in let d = c.count_down.ensures in let t = took_in nothing_did did_both ends_word c.args.end.now.seat.me.0 c.args.other.seat.me.0 c.take_in.new.seat.me.0 c.count_down.new.seat.me.0 c.args.end.now.one c.args.other.one (ap (λ z. z.0) c.take_in.ensures.joined) c.count_down.ensures.counted in record { room = room_on end.seat c.count_down.new.seat end.room (d.seat.0.0 ∙ c.take_in.ensures.seat.0) t.adds.first; bare = d.seat.1 ∙ (ap (λ z. z.1) c.take_in.ensures.joined ∙ end.bare); idle = ap (λ (z : EndRecord). z.held) t.own; one = ap (λ (z : Part). z.ends) t.member; ruled = ∣ d.suits ∣₁ }

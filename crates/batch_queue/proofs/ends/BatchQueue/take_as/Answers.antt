@@ -1,5 +1,5 @@
 use Rattle.batch_queue.proofs.Common.{rules, sym, ◌∙◌}
-use Rattle.batch_queue.proofs.Trying.{take_error_in, take_result_in, take_trace_in, waited_buffer, waited_more_in}
+use Rattle.batch_queue.proofs.Trying.{take_effect, take_error_in, take_result_in, take_trace_in, waited_buffer, waited_more_in}
 use Rattle.batch_queue.proofs.Going.{goes_then}
 use Rattle.batch_queue.proofs.ends.BatchQueue.take_as.Goals as goal
 
@@ -26,3 +26,12 @@ returns-then-not-must_wait-clause-retries g c = sym c.must_wait.ensures ∙ c.if
 
 pub returns-then-not-must_wait-clause-frame : goal.returns-then-not-must_wait-clause-frame
 returns-then-not-must_wait-clause-frame g c = goes_then _ _ _ c.loop.invariant.goes c.try_take_as-answer.ensures.frame
+
+pub returns-then-not-must_wait-clause-effect : goal.returns-then-not-must_wait-clause-effect
+returns-then-not-must_wait-clause-effect g c = let l = c.loop.invariant in take_effect c.args.self.now.room _ _ _ _ _ _ _ _ l.buffer l.waited c.try_take_as-answer.ensures.effect
+
+pub returns-then-not-must_wait-clause-protocol : goal.returns-then-not-must_wait-clause-protocol
+returns-then-not-must_wait-clause-protocol g c = c.try_take_as-answer.ensures.protocol
+
+pub returns-then-not-must_wait-clause-kept : goal.returns-then-not-must_wait-clause-kept
+returns-then-not-must_wait-clause-kept g c = c.try_take_as-answer.ensures.kept

@@ -1,8 +1,10 @@
-use Rattle.batch_queue.proofs.Common.{arith, length, refl, rules, ◌≡◌}
+use Rattle.batch_queue.proofs.Common.{HoldsRange, IsClaim, arith, length, refl, rules, subst, sym, ◌≡◌}
 use Rattle.std.specs.Prelude.{min}
 use Rattle.batch_queue.proofs.Putting.{has_put, put_of, put_line, refused_all, whole_claim, why_all}
 use Rattle.batch_queue.proofs.Going.{goes_made, goes_none, goes_refused}
 use Rattle.batch_queue.proofs.Permits.{may_all}
+use Rattle.batch_queue.proofs.Seated.{seated, seated_alike}
+use Rattle.batch_queue.proofs.Walking.{still_seated}
 use Rattle.batch_queue.proofs.ends.BatchQueue.try_put_as.Goals as goal
 
 pub returns-in_err-start-clause-trace : goal.returns-in_err-start-clause-trace
@@ -40,3 +42,23 @@ returns-clause-frame g c = let few = c.if-count-room.false in let h = c.in_ok-st
 
 pub claim-requires-clause-protocol : goal.claim-requires-clause-protocol
 claim-requires-clause-protocol g c = may_all g.C.Protocol.allows c.args.end.now.seat.me.0 c.args.self.now.room c.args.items.now c.requires.protocol
+
+pub write_items-requires-clause-queue : goal.write_items-requires-clause-queue
+write_items-requires-clause-queue g c = let q = c.in_ok-start.ensures.queue in still_seated _ _ c.args.end.now.seat c.claim.new.seat (seated c.args.self.now c.args.end.now c.requires.queue) q.0 q.1
+
+pub write_items-requires-clause-held : goal.write_items-requires-clause-held
+write_items-requires-clause-held g c = let few = c.if-count-room.false in let h = c.in_ok-start.ensures.claim in let w = whole_claim _ _ _ c.args.items.now _ _ h.0 (omega arith) h.2 in (w.values, w.many, w.slots)
+
+pub publish-requires-clause-queue : goal.publish-requires-clause-queue
+publish-requires-clause-queue g c = let q = c.in_ok-start.ensures.queue in seated_alike _ _ c.claim.new.seat c.write_items.new.seat (still_seated _ _ c.args.end.now.seat c.claim.new.seat (seated c.args.self.now c.args.end.now c.requires.queue) q.0 q.1) c.write_items.ensures.handle c.write_items.ensures.frame
+
+pub publish-requires-clause-mine : goal.publish-requires-clause-mine
+publish-requires-clause-mine g c = let few = c.if-count-room.false in let h = c.in_ok-start.ensures.claim in
+    subst (HoldsRange 0 c.in_ok-start.start (length c.args.items.now)) (sym c.write_items.ensures.frame) (whole_claim _ _ _ c.args.items.now _ _ h.0 (omega arith) h.2).range
+
+pub publish-requires-clause-written : goal.publish-requires-clause-written
+publish-requires-clause-written g c = c.write_items.ensures.effect
+
+pub publish-requires-clause-claim : goal.publish-requires-clause-claim
+publish-requires-clause-claim g c = let few = c.if-count-room.false in let h = c.in_ok-start.ensures.claim in
+    subst (IsClaim c.in_ok-start.start c.args.items.now) (sym c.write_items.ensures.frame) (whole_claim _ _ _ c.args.items.now _ _ h.0 (omega arith) h.2).is

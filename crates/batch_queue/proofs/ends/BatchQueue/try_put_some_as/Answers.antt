@@ -2,6 +2,8 @@ use Rattle.batch_queue.proofs.Common.{ap, arith, refl, rules}
 use Rattle.table_theory.specs.declared.views.Part.{Part}
 use Rattle.batch_queue.proofs.Putting.{has_put_front, put_front, put_line, refused_some, used_then, why_some}
 use Rattle.batch_queue.proofs.Going.{goes_made, goes_none, goes_refused}
+use Rattle.batch_queue.proofs.Seated.{seated, seated_alike}
+use Rattle.batch_queue.proofs.Walking.{still_seated}
 use Rattle.batch_queue.proofs.ends.BatchQueue.try_put_some_as.Goals as goal
 
 pub returns-in_err-start-clause-trace : goal.returns-in_err-start-clause-trace
@@ -33,3 +35,9 @@ returns-clause-frame g c = let h = c.in_ok-start.ensures.claim in
 
 pub returns-then-is_empty-clause-frame : goal.returns-then-is_empty-clause-frame
 returns-then-is_empty-clause-frame g c = goes_none c.args.end.now.seat.me.0
+
+pub write_items-requires-clause-queue : goal.write_items-requires-clause-queue
+write_items-requires-clause-queue g c = let q = c.in_ok-start.ensures.queue in still_seated _ _ c.args.end.now.seat c.claim.new.seat (seated c.args.self.now c.args.end.now c.requires.queue) q.0 q.1
+
+pub publish-requires-clause-queue : goal.publish-requires-clause-queue
+publish-requires-clause-queue g c = let q = c.in_ok-start.ensures.queue in seated_alike _ _ c.claim.new.seat c.write_items.new.seat (still_seated _ _ c.args.end.now.seat c.claim.new.seat (seated c.args.self.now c.args.end.now c.requires.queue) q.0 q.1) c.write_items.ensures.handle c.write_items.ensures.frame

@@ -4,6 +4,8 @@ use Rattle.batch_queue.proofs.Filling.{read_is}
 use Rattle.batch_queue.proofs.Going.{goes_made, goes_refused_some}
 use Rattle.batch_queue.proofs.Portions.{empty_took, parts_if_full, filled_some, short_all, were_some, took_some_first, took_some_of}
 use Rattle.batch_queue.proofs.Permits.{each_keeps, front_of, were_put}
+use Rattle.batch_queue.proofs.Seated.{seated, seated_alike}
+use Rattle.batch_queue.proofs.Walking.{still_seated}
 use Rattle.batch_queue.proofs.ends.BatchQueue.try_take_some_as.Goals as goal
 
 pub returns-clause-effect : goal.returns-clause-effect
@@ -35,3 +37,9 @@ returns-clause-protocol g c = let e = returns-clause-effect g c in were_put g.C.
 
 pub returns-clause-kept : goal.returns-clause-kept
 returns-clause-kept g c = each_keeps g.C.Protocol.allows _ c.give_back.ensures.kept
+
+pub read_items-requires-clause-queue : goal.read_items-requires-clause-queue
+read_items-requires-clause-queue g c = let q = c.in_ok-start.ensures.queue in still_seated _ _ c.args.end.now.seat c.take_some.new.seat (seated c.args.self.now c.args.end.now c.requires) q.0 q.1
+
+pub give_back-requires-clause-queue : goal.give_back-requires-clause-queue
+give_back-requires-clause-queue g c = let q = c.in_ok-start.ensures.queue in seated_alike _ _ c.take_some.new.seat c.read_items.new.seat (still_seated _ _ c.args.end.now.seat c.take_some.new.seat (seated c.args.self.now c.args.end.now c.requires) q.0 q.1) c.read_items.ensures.handle c.read_items.ensures.frame

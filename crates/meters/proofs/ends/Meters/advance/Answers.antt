@@ -1,3 +1,5 @@
+use Rattle.meters.proofs.Common.{ap, dite, ℕ_discrete, ◌≡◌, ◌∙◌}
+use Rattle.table_theory.specs.declared.views.Part.{Part}
 use Rattle.meters.proofs.Clients.{clock_became, clock_lost, moves_clock}
 use Rattle.meters.proofs.Following.{lost_clock, advanced_now}
 use Rattle.meters.proofs.ends.Meters.advance.Goals as goal
@@ -29,3 +31,11 @@ returns-clause-effect c = moves_clock _ _ _ (advanced_now _ _ _ _ c.load_clock-c
 
 pub returns-clause-result : goal.returns-clause-result
 returns-clause-result c = clock_became _ _ _ c.exchange_clock-found.ensures.seat.2 (advanced_now _ _ _ _ c.load_clock-clock.ensures.found (c.exchange_clock-found.ensures.hit c.if-found-clock.false)).0
+
+pub invariant_of-seat : goal.invariant_of-seat
+invariant_of-seat c = let seat = c.args.seat.now in let l = c.load_clock-clock.ensures in record { bare = l.seat.1 ∙ seat.bare; one = ap (λ (z : Part). z.ends) l.found.made.member ∙ seat.one; valid = ∣ l.seat.2 ∣₁ }
+
+pub invariant_of-seat-2 : goal.invariant_of-seat-2
+invariant_of-seat-2 c = let seat = c.args.seat.now in let l = c.load_clock-clock.ensures in let e = c.exchange_clock-found.ensures in let was : Part = c.load_clock-clock.new.seat.me.0.member in let now : Part = c.exchange_clock-found.new.seat.me.0.member in
+    let same : now ≡ was = dite (ℕ_discrete c.exchange_clock-found.result c.load_clock-clock.result) (λ is. (e.hit is).1.member) (λ ne. (e.miss ne).0.made.member) in
+    record { bare = e.seat.1 ∙ (l.seat.1 ∙ seat.bare); one = ap (λ (z : Part). z.ends) (same ∙ l.found.made.member) ∙ seat.one; valid = ∣ e.seat.2 ∣₁ }

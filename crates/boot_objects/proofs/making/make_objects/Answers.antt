@@ -1,4 +1,4 @@
-use Rattle.boot_objects.proofs.Common.{sym, subst, AreEndsOf, AreChainEndsOf, MeterSeat, Hand, IsFirstHand, IsFirstSeat, IsStock, IsChainStock, opening_shares, device_shares, all_shares, end_shares, AreAllEnds, Shares, both_shares, CanGive}
+use Rattle.boot_objects.proofs.Common.{refl, sym, subst, AreEndsOf, AreChainEndsOf, MeterSeat, Hand, IsFirstHand, IsFirstSeat, IsStock, IsChainStock, opening_shares, device_shares, all_shares, end_shares, AreAllEnds, Shares, both_shares, CanGive}
 use Rattle.meters.specs.Handles as meters
 use Rattle.thread_table.specs.Handles as threads
 use Rattle.boot_objects.specs.Stocks.{shares, chain_shares}
@@ -42,3 +42,24 @@ returns-in-Ok-new-3-clause-whole c = let e = c.in-Ok-new-3.ensures.ends in let m
 pub returns-in-Ok-new-3-clause-splits : goal.returns-in-Ok-new-3-clause-splits
 returns-in-Ok-new-3-clause-splits c = let e = c.in-Ok-new-3.ensures.ends in let s = c.in-Ok.ensures.splits in
     (subst (λ z. CanGive 1000 (shares z.items)) (sym e.1) s.0, subst (λ z. CanGive 1000 (shares z.items)) (sym e.2) s.1, subst (λ z. CanGive 1000 (chain_shares z.items)) (sym e.3) s.2)
+
+pub returns-in-Ok-new-3-clause-plan : goal.returns-in-Ok-new-3-clause-plan
+returns-in-Ok-new-3-clause-plan c = refl
+
+pub returns-in-Ok-new-3-clause-unused : goal.returns-in-Ok-new-3-clause-unused
+returns-in-Ok-new-3-clause-unused c = c.in-Ok-new-3.ensures.unused
+
+pub returns-in-Ok-new-3-clause-room : goal.returns-in-Ok-new-3-clause-room
+returns-in-Ok-new-3-clause-room c = c.in-Ok-new-3.ensures.room
+
+pub returns-in-Ok-new-3-clause-seat : goal.returns-in-Ok-new-3-clause-seat
+returns-in-Ok-new-3-clause-seat c = let m = c.in-Ok-new-2.ensures in subst (λ (z : MeterSeat). IsFirstSeat c.in-Ok-new-2.meters z) (sym c.in-Ok-new-3.ensures.ends.4) (first_seat c.in-Ok-new-2.meters c.in-Ok-new-2.seat m.1 m.2)
+
+pub returns-in-Ok-new-3-clause-begin : goal.returns-in-Ok-new-3-clause-begin
+returns-in-Ok-new-3-clause-begin c = c.in-Ok.ensures.begin
+
+pub returns-in-Ok-new-3-clause-quajects : goal.returns-in-Ok-new-3-clause-quajects
+returns-in-Ok-new-3-clause-quajects c = c.in-Ok.ensures.quajects
+
+pub returns-in-Ok-new-3-clause-devices : goal.returns-in-Ok-new-3-clause-devices
+returns-in-Ok-new-3-clause-devices c = c.in-Ok.ensures.devices_are

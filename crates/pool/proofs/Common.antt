@@ -1,5 +1,5 @@
 -- The names from elsewhere that several proofs of this crate cite, passed on from one place. Declares nothing.
-pub use Rattle.std.proofs.Common.{Bool, List, [], ap, append_assoc, arith, drop, eq-eqb, false, length, map, refl, subst, suc, sym, take, true, zero, ℕ, ⊎_elim, ◌%◌, ◌++◌, ◌+◌, ◌-◌, ◌/◌, ◌<◌, ◌^◌, ◌∙◌, ◌∷◌, ◌≡◌, ◌≤◌}
+pub use Rattle.std.proofs.Common.{Bool, List, [], ap, append_assoc, arith, drop, eq-eqb, false, length, map, refl, subst, suc, sym, take, true, zero, ℕ, ⊎_elim, ◌%◌, ◌*◌, ◌++◌, ◌+◌, ◌-◌, ◌/◌, ◌<◌, ◌^◌, ◌∙◌, ◌∷◌, ◌≡◌, ◌≤◌}
 pub use Rattle.std.proofs.Math.Bridge.{le_prop}
 pub use Rattle.std.proofs.Math.Logic.{∥∥₁_elim, ∥∥₁_map}
 pub use Rattle.std.proofs.Math.Nat.{ℕ_set}
@@ -40,5 +40,5 @@ pub use mathlib.Core.Option.{some, some-injective, some-ne-none}
 pub use native.Mathlib.Decide.{dec_lt, ℕ_discrete}
 pub use Rattle.pool.specs.Between.{EachOnce, HasOneOwner, NoneHolds, NoneShut, count_in, the_end, the_queue, waiting}
 pub use Rattle.pool.specs.Buffers.{AreAll, AreBuffers, all_buffers, times}
-pub use Rattle.pool.specs.Holdings.{Acquired, Holds, HoldsLess, HoldsMore, HoldsSame, IsFair, IsStocked, ListsFirst, Released, acquired, held, is_later, released}
+pub use Rattle.pool.specs.Holdings.{Acquired, Holds, HoldsLess, HoldsMore, HoldsSame, IsFair, IsStocked, ListsFirst, PutAllOnce, Released, acquired, held, is_later, released}
 pub use Rattle.pool.specs.Lending.{Lends}

@@ -1,5 +1,5 @@
 -- The first put of a new queue is not refused, and it is the queue's first batch.
-use Rattle.pool.proofs.Common.{◌≡◌, ℕ, zero, suc, ◌+◌, ◌/◌, ◌^◌, ◌<◌, ◌≤◌, Bool, true, false, List, [], ◌∷◌, ◌++◌, ◌∙◌, map, length, refl, sym, ap, subst, arith, ⊎_elim, eq-eqb, append_assoc, max, length-range_with_len, cond, not, AllByRecursion, concat, dite, some, some-injective, some-ne-none, get_elem?, dec_lt, ∥∥₁_elim, ℕ_set, Batch, AbsState, line_of, ExtendsTrace, IsValidView, IsValidStep, Step, change, load, IsWhole, all_after, alone_since, PutRefusal, BatchState, Shape, head_word, mark, mark_word, items_of, with_batch, with_up, OnlyLoads, View, of_batches, FoundOther, FoundShut, IsPut, LackedRoom, RefusedPut, WasSpent, published, newcomer, all_buffers, times, acquired, released, held, is_later, IsFair, IsStocked, ListsFirst, in_batch}
+use Rattle.pool.proofs.Common.{◌≡◌, ℕ, zero, suc, ◌+◌, ◌*◌, ◌/◌, ◌^◌, ◌<◌, ◌≤◌, Bool, true, false, List, [], ◌∷◌, ◌++◌, ◌∙◌, map, length, refl, sym, ap, subst, arith, ⊎_elim, eq-eqb, append_assoc, max, length-range_with_len, cond, not, AllByRecursion, concat, dite, some, some-injective, some-ne-none, get_elem?, dec_lt, ∥∥₁_elim, ℕ_set, Batch, AbsState, line_of, ExtendsTrace, IsValidView, IsValidStep, Step, change, load, IsWhole, all_after, alone_since, PutRefusal, BatchState, Shape, head_word, mark, mark_word, items_of, with_batch, with_up, OnlyLoads, View, of_batches, FoundOther, FoundShut, IsPut, LackedRoom, RefusedPut, WasSpent, published, newcomer, all_buffers, times, acquired, released, held, is_later, IsFair, IsStocked, ListsFirst, PutAllOnce, in_batch}
 use Rattle.std.proofs.Math.Pow.{pow_mono}
 use Rattle.table_theory.specs.Courses.{Continues}
 use Rattle.batch_queue.specs.declared.refusals.PutRefusal.TheVariants as not_put
@@ -99,6 +99,12 @@ module _ (count : ℕ) (shape : Shape) (v w : View) (new : v ≡ newcomer shape)
       only zero at = ap line_of (sym (some-injective batch e at)) ∙ (line_is items ∙ all)
       only (suc m) at = absurd (some-ne-none e (sym at))
 
+  pub first_lines : PutAllOnce count w
+  first_lines = record {
+    puts = ap (λ (z : List Batch). map line_of z) runs ∙ ap (λ (z : List ℕ). z ∷ []) (line_is items ∙ all);
+    takes = ap (λ (z : List Batch). map line_of z) (d.takes_are ∙ ap (λ (z : View). z.own.takes) new);
+  }
+
   pub first_whole : IsWhole w.member.share
   first_whole = d.share ∙ ap (λ (z : View). z.member.share) new
 
@@ -107,6 +113,10 @@ pub power_fits : (count room k : ℕ) → count ≤ 16777216 → room ≡ 2 ^ k 
 power_fits count room k few is half = dite (dec_lt 24 k)
     (λ high. absurd (let p : 2 ^ 25 ≤ 2 ^ k = pow_mono (let h : 25 ≤ k = omega arith in h) in let m : max 1 count ≤ 16777216 = omega arith in omega arith))
     (λ low. (let p : 2 ^ k ≤ 2 ^ 24 = pow_mono (let h : k ≤ 24 = omega arith in h) in omega arith))
+
+-- the power has less than twice the number of buffers
+pub at_most_twice : (count power room : ℕ) → 0 < count → room ≡ power → power / 2 < max 1 count → room < 2 * count
+at_most_twice count power room positive is half = let m : max 1 count ≡ count = omega arith in omega arith
 
 -- THE FIRST PUT, by ends that are honest for all that is known
 
@@ -131,6 +141,7 @@ module _ (shape : Shape) (v w : View) (new : v ≡ newcomer shape) (x : ∥ IsVa
     pub lists : ListsFirst count w
     pub whole : IsWhole w.member.share
     pub stocked : IsStocked count w
+    pub lines : PutAllOnce count w
 
   pub filled : (start : ℕ) → IsPut room v start (all_buffers count) w → Filled
   filled start h =
@@ -141,4 +152,5 @@ module _ (shape : Shape) (v w : View) (new : v ≡ newcomer shape) (x : ∥ IsVa
         lists = first_lists count shape v w new start at_first (all_buffers count) refl d;
         whole = first_whole count shape v w new start at_first (all_buffers count) refl d;
         stocked = put_stocked start h;
+        lines = first_lines count shape v w new start at_first (all_buffers count) refl d;
       }

@@ -1,5 +1,6 @@
 -- What holders hold through several calls.
-use Rattle.pool.proofs.Common.{◌≡◌, ℕ, ◌+◌, List, ◌∙◌, ap, arith, View, AreAll, all_buffers, times, Holds, HoldsSame, HoldsMore, HoldsLess}
+use Rattle.pool.proofs.Common.{◌≡◌, ℕ, suc, ◌+◌, List, subst, ◌∙◌, ap, arith, View, AreAll, all_buffers, times, Holds, HoldsSame, HoldsMore, HoldsLess}
+use Rattle.pool.specs.Turns.{Turned, TurnsOf}
 
 pub same_on : (u v w : View) → HoldsSame u v → HoldsSame v w → HoldsSame u w
 same_on u v w a b x = b x ∙ a x
@@ -13,6 +14,13 @@ less_on u v w buffers a b x = b x ∙ a x
 -- those that were acquired were given back
 pub more_less : (u v w : View) (buffers : List ℕ) → HoldsMore buffers u v → HoldsLess buffers v w → HoldsSame u w
 more_less u v w buffers a b x = let c = a x in let d = b x in omega arith
+
+-- one turn more
+pub turned_again : (room most turns : ℕ) (u v w : View) → TurnsOf room most turns u v → Turned room most v w
+    → TurnsOf room most (turns + 1) u w
+turned_again room most turns u v w before turn =
+    let more : suc turns ≡ turns + 1 = omega arith in
+    subst (λ (z : ℕ). TurnsOf room most z u w) more (v, before, turn)
 
 -- TWO WORKERS
 

@@ -1,5 +1,5 @@
 -- Terms in which a clause describes a pool and a holder.
-use Rattle.std.specs.Prelude.{◌≡◌, ◌+◌, ℕ, List}
+use Rattle.std.specs.Prelude.{◌≡◌, ◌+◌, ◌*◌, ◌<◌, ◌≤◌, ℕ, List}
 use Rattle.table_theory.specs.Sharing.{given, kept}
 use Rattle.batch_queue.specs.Handles as queues
 use Rattle.batch_queue.specs.Own.{View}
@@ -20,6 +20,10 @@ count_of pool = pool.count
 -- how many places the pool's queue has
 abbrev pub room_of : Pool → ℕ
 room_of pool = queues.room_of pool.queue
+
+-- there is a place for each of so many buffers, and there are less than twice as many places
+abbrev pub HasRoomFor : ℕ → ℕ → Type 0
+HasRoomFor count room = (count ≤ room) × (room < 2 * count)
 
 -- the holder is an end of the pool's queue, and knows the pool's first batch
 abbrev pub IsHolderOf : Pool → Holder → Type 0

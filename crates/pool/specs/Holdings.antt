@@ -1,5 +1,5 @@
 -- Buffers that an end of the pool's queue holds: by its takings and its puts, as the end itself lists them.
-use Rattle.std.specs.Prelude.{◌≡◌, ◌==◌, ℕ, ◌-◌, ◌+◌, ◌<◌, ◌≤◌, Bool, not, List, ◌∷◌, map, length, take, drop}
+use Rattle.std.specs.Prelude.{◌≡◌, ◌==◌, ℕ, ◌-◌, ◌+◌, ◌<◌, ◌≤◌, Bool, not, List, [], ◌∷◌, map, length, take, drop}
 use Rattle.std.specs.List.{concat, filter}
 use mathlib.Core.Option.{some}
 use lib.ListN.{get_elem?}
@@ -57,6 +57,11 @@ pub record Acquired (n : ℕ) (slice filled : List ℕ) (v w : View) : Type 0 wh
 pub record Released (buffers : List ℕ) (v w : View) : Type 0 where
   pub line : PutLine buffers v w
   pub less : HoldsLess buffers v w
+
+-- the end put all buffers of a pool of so many, in ascending order, as one batch. It put nothing else, and took nothing
+pub record PutAllOnce (count : ℕ) (v : View) : Type 0 where
+  pub puts : lines_put v ≡ all_buffers count ∷ []
+  pub takes : lines_taken v ≡ []
 
 -- the end has seen the queue's first batch, which has all buffers of a pool of so many
 abbrev pub IsStocked : ℕ → View → Type 0

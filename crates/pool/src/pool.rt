@@ -4,14 +4,14 @@
 //! functions of `batch_queue::laws` have empty bodies. They are called because the proofs use their clauses.
 ghost use Rattle.std.specs.Prelude.{◌≡◌, ◌+◌, ◌<◌, ◌≤◌, ℕ, length, take, IfErr, IfOk, MatchResult};
 ghost use Rattle.table_theory.specs.Ledgers.{WereOpen};
-ghost use Rattle.batch_queue.specs.Client.{WhyNotPut};
+ghost use Rattle.batch_queue.specs.Client.{GoesOn, PartsOnlyIfFull, TookAllPublished, WereSome, WhyNotPut};
 ghost use Rattle.batch_queue.specs.Evidence.{IsPut, JoinedBy, RefusedPut, RefusedTakeSome, SplitBy, TookSome};
 ghost use Rattle.batch_queue.specs.Handles as queues;
 ghost use Rattle.batch_queue.specs.Layout.{ends_word};
 ghost use Rattle.batch_queue.specs.Lefts.{items_left};
 ghost use Rattle.batch_queue.specs.Parts.{WhyNotTakenSome};
 ghost use Rattle.pool.specs.Buffers.{all_buffers, AreBuffers};
-ghost use Rattle.pool.specs.Holdings.{IsFair, Acquired, Released};
+ghost use Rattle.pool.specs.Holdings.{IsFair, Acquired, PutAllOnce, Released};
 
 use crate::lending::Lending;
 use batch_queue::laws::{joins_are_true, lists_are_true, never_below, numbers_say};
@@ -53,15 +53,17 @@ fn all_buffers(alloc: Global, count: usize) -> Result<Vec<u64>, OutOfMemory>
 impl Pool {
     ghost use Rattle.pool.specs.Handles.{view_of, count_of, room_of, IsHolderOf, IsOnlyHolder, IsDivisible};
     ghost use Rattle.pool.specs.Handles.{share_of, Holds, HoldsNone, HoldsSame, HoldsBoth, SameShare, SharesOut};
-    ghost use Rattle.pool.specs.Handles.{AllThere};
+    ghost use Rattle.pool.specs.Handles.{AllThere, HasRoomFor};
 
-    /// A pool of so many buffers, all of them free, and its only holder, which holds none.
+    /// A pool of so many buffers, all of them free in ascending order, and its only holder, which holds none. The queue
+    /// has the least power of two of places that is enough.
     ///
     /// Condition: there is a buffer, and there are at most 2^24.
     pub fn new(alloc: Global, count: usize) -> Result<(Pool, Holder), OutOfMemory>
         requires { (0 < count) × (count ≤ MOST_BUFFERS) }
-        ensures pool { IfOk result (λ r. IsHolderOf r.0 r.1 × (count_of r.0 ≡ count) × (count ≤ room_of r.0)) }
+        ensures pool { IfOk result (λ r. IsHolderOf r.0 r.1 × (count_of r.0 ≡ count) × HasRoomFor count (room_of r.0)) }
         ensures holder { IfOk result (λ r. IsOnlyHolder r.1 × HoldsNone r.1) }
+        ensures stock { IfOk result (λ r. PutAllOnce count (view_of r.1)) }
     {
         let buffers = all_buffers(alloc, count)?;
         let (queue, mut end) = BatchQueue::new_as(alloc, count.next_power_of_two())?;
@@ -84,6 +86,10 @@ impl Pool {
             (λ n. Acquired n buffers.old buffers.new (view_of holder.old) (view_of holder.new))
             (λ r. HoldsSame holder.old holder.new × (buffers.new ≡ buffers.old)) }
         ensures result { IfOk result (λ n. AreBuffers (count_of self.now) (take n buffers.new)) }
+        ensures order { IfOk result (λ n. WereSome (view_of holder.old) (take n buffers.new) (view_of holder.new)
+            × TookAllPublished (view_of holder.old) (room_of self.now) (length buffers.old) n (view_of holder.new)
+            × PartsOnlyIfFull (view_of holder.old) (room_of self.now) (length buffers.old) n (view_of holder.new)) }
+        ensures frame { GoesOn (view_of holder.old) (view_of holder.new) }
         ensures holds { IfOk result (λ n. Holds holder.new (take n buffers.new)) }
         ensures error { IfErr result (λ r. WhyNotTakenSome (view_of holder.old) (length buffers.old) r
             (view_of holder.new)) }
@@ -110,6 +116,7 @@ impl Pool {
             (λ r. HoldsSame holder.old holder.new) }
         ensures error { IfErr result (λ r. WhyNotPut (view_of holder.old) (room_of self.now) (length buffers.now) r
             (view_of holder.new)) }
+        ensures frame { GoesOn (view_of holder.old) (view_of holder.new) }
         ensures share { SameShare holder.old holder.new }
         ensures trace { MatchResult result
             (λ r. (start : ℕ) × IsPut (room_of self.now) (view_of holder.old) start buffers.now (view_of holder.new))

@@ -1,10 +1,10 @@
 //! Two workers that share a pool, each in a thread of its own.
-ghost use Rattle.std.specs.Prelude.{◌≡◌, IfOk};
+ghost use Rattle.std.specs.Prelude.{◌≡◌, IfOk, length};
 ghost use Rattle.std.specs.Thread.{IsSync};
 ghost use Rattle.batch_queue.specs.Lefts.{items_left};
 ghost use Rattle.pool.specs.Buffers.{AreAll};
-ghost use Rattle.pool.specs.Handles.{IsHolderOf, Holds, HoldsSame, HoldsLess, SameShare};
-ghost use Rattle.pool.specs.Turns.{Works};
+ghost use Rattle.pool.specs.Handles.{view_of, room_of, IsHolderOf, Holds, HoldsSame, HoldsLess, SameShare};
+ghost use Rattle.pool.specs.Turns.{GaveBack, Turned, Works};
 
 use crate::pool::{Holder, Pool};
 use batch_queue::LeftItems;
@@ -20,6 +20,9 @@ const BUFFERS: usize = 8;
 /// The number of turns of a worker.
 const TURNS: usize = 100;
 
+/// The most buffers that a worker acquires in a turn.
+const MOST: usize = 2;
+
 /// Releases buffers, as one batch. Retries while there is no room yet, and while another holder is first.
 pub fn give_back<R: Wait>(rt: &R, pool: &Pool, holder: &mut Holder, buffers: &[u64])
     requires pool { IsHolderOf pool.now holder.old }
@@ -27,6 +30,7 @@ pub fn give_back<R: Wait>(rt: &R, pool: &Pool, holder: &mut Holder, buffers: &[u
     ensures pool { IsHolderOf pool.now holder.new }
     ensures effect { HoldsLess buffers.now holder.old holder.new }
     ensures share { SameShare holder.old holder.new }
+    ensures trace { GaveBack (room_of pool.now) buffers.now (view_of holder.old) (view_of holder.new) }
 {
     for _ in rt.forever() {
         match pool.release(holder, buffers) {
@@ -42,20 +46,21 @@ fn turn<R: Wait>(rt: &R, pool: &Pool, holder: &mut Holder, buffers: &mut [u64])
     ensures pool { IsHolderOf pool.now holder.new }
     ensures effect { HoldsSame holder.old holder.new }
     ensures share { SameShare holder.old holder.new }
+    ensures trace { Turned (room_of pool.now) (length buffers.old) (view_of holder.old) (view_of holder.new) }
 {
     if let Ok(count) = pool.acquire(holder, buffers) {
         give_back(rt, pool, holder, &buffers[..count]);
     }
 }
 
-/// The turns of a worker, which acquires at most two buffers.
+/// The turns of a worker.
 fn work<R: Wait>(rt: &R, pool: &Pool, holder: Holder) -> Holder
     requires { IsHolderOf pool.now holder }
-    ensures { Works pool.now holder result }
+    ensures { Works TURNS MOST pool.now holder result }
 {
     let mut holder = holder;
-    for _ in 0..TURNS {
-        turn(rt, pool, &mut holder, &mut [0; 2]);
+    for done in 0..TURNS {
+        turn(rt, pool, &mut holder, &mut [0; MOST]);
     }
     holder
 }
@@ -76,11 +81,11 @@ pub fn run_workers<R: Threads + Wait + Sync>(
         rt,
         move || -> Holder
             requires { IsSync R.row × IsHolderOf shared.now one }
-            ensures { Works shared.entry.now one result }
+            ensures { Works TURNS MOST shared.entry.now one result }
         { work(rt, shared, one) },
         move || -> Holder
             requires { IsSync R.row × IsHolderOf shared.now other }
-            ensures { Works shared.entry.now other result }
+            ensures { Works TURNS MOST shared.entry.now other result }
         { work(rt, shared, other) },
     );
     let (mut one, other) = back;

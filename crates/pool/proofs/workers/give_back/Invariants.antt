@@ -1,4 +1,6 @@
-use Rattle.pool.specs.Handles.{IsHolderOf, HoldsSame, SameShare}
+use Rattle.std.proofs.Common.{ℕ, length}
+use Rattle.pool.specs.Handles.{view_of, room_of, IsHolderOf, HoldsSame, SameShare}
+use Rattle.pool.specs.Turns.{RefusedPuts}
 use Rattle.pool.proofs.workers.give_back.Given as goal
 
 abbrev pub invariant-loop : goal.invariant-loop
@@ -7,4 +9,6 @@ invariant-loop g l = record {
   pool : IsHolderOf l.pool l.holder;
   same : HoldsSame l.initial.holder l.holder;
   share : SameShare l.initial.holder l.holder;
+  refused : (tries : ℕ) × RefusedPuts (room_of l.pool) (length l.buffers) tries (view_of l.initial.holder)
+      (view_of l.holder);
 }

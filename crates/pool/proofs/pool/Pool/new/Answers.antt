@@ -1,5 +1,5 @@
 use Rattle.pool.proofs.Common.{◌≡◌, ◌∙◌, ℕ, List, ap, refl, subst, length, arith, length-range_with_len, view_of, View, IsPut, RefusedPut}
-use Rattle.pool.proofs.Filling.{HeadSays, filled, never_refused, power_fits}
+use Rattle.pool.proofs.Filling.{HeadSays, at_most_twice, filled, never_refused, power_fits}
 use Rattle.pool.proofs.Permits.{may_stock}
 use Rattle.pool.proofs.pool.Pool.new.Goals as goal
 
@@ -33,7 +33,27 @@ returns-clause-pool c =
     let room = c.in_ok-queue.ensures.1 in let low = c.next_power_of_two.ensures.lower_bound in
     let put = subst (λ (z : List ℕ). IsPut c.in_ok-queue.queue.room v c.in-Ok.field-0 z w) (c.as_slice.ensures.value ∙ c.in_ok-buffers.ensures) c.in-Ok.ensures.trace in
     let f = filled _ v w c.in_ok-queue.ensures.2 (c.lists_are_true.ensures.end c.in_ok-queue.end) (c.lists_are_true.ensures.end c.try_put_as.new.end) says _ c.args.count (omega arith) c.requires.1 c.in-Ok.field-0 put in
-    ((c.in-Ok.ensures.handle.0 ∙ c.in_ok-queue.ensures.0, f.stocked, f.lists), refl, omega arith)
+    let up = c.next_power_of_two.ensures in (
+      (c.in-Ok.ensures.handle.0 ∙ c.in_ok-queue.ensures.0, f.stocked, f.lists),
+      refl,
+      (
+        omega arith,
+        at_most_twice c.args.count c.next_power_of_two.result c.in_ok-queue.queue.room c.requires.0 room
+            up.upper_bound,
+      ),
+    )
+
+pub returns-clause-stock : goal.returns-clause-stock
+returns-clause-stock c =
+    let v : View = view_of c.in_ok-queue.end in let w : View = view_of c.try_put_as.new.end in
+    let says : HeadSays = λ e is real. (c.numbers_say.ensures.head e is real).0 in
+    let room = c.in_ok-queue.ensures.1 in let low = c.next_power_of_two.ensures.lower_bound in
+    let put = subst (λ (z : List ℕ). IsPut c.in_ok-queue.queue.room v c.in-Ok.field-0 z w)
+    (c.as_slice.ensures.value ∙ c.in_ok-buffers.ensures) c.in-Ok.ensures.trace in
+    let first = c.lists_are_true.ensures.end c.in_ok-queue.end in
+    let last = c.lists_are_true.ensures.end c.try_put_as.new.end in
+    (filled _ v w c.in_ok-queue.ensures.2 first last says _ c.args.count (omega arith) c.requires.1
+    c.in-Ok.field-0 put).lines
 
 pub returns-clause-holder : goal.returns-clause-holder
 returns-clause-holder c =

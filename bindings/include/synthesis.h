@@ -1,6 +1,6 @@
 /**
  * @file
- * Lock-free queues, chains, meters, lines and thread elements for C11 and C++17.
+ * Lockless queues, chains, meters, lines and thread elements for C11 and C++17.
  *
  *     struct synth_batch mine = SYNTH_BATCH_INIT, yours = SYNTH_BATCH_INIT;
  *     uint64_t items[32] = {1, 2, 3};
@@ -76,6 +76,10 @@
  * leads to one element of its type. No pointer of a call leads to what another one leads to, and none into an object.
  * The fields of a handle are the library's own: never write to them, and never follow `at`.
  *
+ * PROGRESS. Each try ends after a bounded number of its own steps, and waits for no other thread. The queues are
+ * lockless, and not lock-free as Herlihy and Shavit define it: while a thread is stopped within its put, nobody gets
+ * what was put after it.
+ *
  * TRIES. A try (`.._try_..`) makes one attempt, and always returns. If it is SYNTH_LOST another end was first, and the
  * try may be made again. In a signal handler no refused try is repeated without an end: what it waits for may be what
  * the interrupted thread is about to do.
@@ -92,6 +96,7 @@
 #define SYNTH_VERSION_MAJOR 1 /**< changes with what breaks programs */
 #define SYNTH_VERSION_MINOR 0 /**< changes with what is added */
 #define SYNTH_VERSION_PATCH 0 /**< changes with what is mended */
+#define SYNTH_VERSION_SYMBOL synth_version_1_0_0 /**< a function of each library that serves this version's programs */
 
 /**
  * Is before each call that may be refused though its caller made no mistake: the compiler warns if its code isn't
@@ -174,6 +179,12 @@ const char *synth_code_text(synth_code code);
 
 /** The version of the library that is linked: SYNTH_VERSION of the header that it was built with. */
 const char *synth_version(void);
+
+/**
+ * SYNTH_VERSION of this header. A library has a function of this kind for its own version, and for each earlier one
+ * whose programs it serves. Each `new` refers to it, so no program is linked with a library of which it wants more.
+ */
+const char *synth_version_1_0_0(void);
 
 /** @} */
 

@@ -1,5 +1,5 @@
 /*
- * The lock-free tables of synthesis for C++17: a class for each handle of synthesis.h, BatchEnd, QueueEnd, ChainEnd,
+ * The lockless tables of synthesis for C++17: a class for each handle of synthesis.h, BatchEnd, QueueEnd, ChainEnd,
  * Seat, LineIn, LineOut and Hand, and Event for the event count of synthesis_event.h. QueueOf<T> is a QueueEnd of
  * values. It is a header alone. NOTHING HERE IS PROVED: it passes each call on to the library, whose calls are.
  *
@@ -27,6 +27,10 @@
  * different threads at once. Between two calls an end may go to another thread by a lock, by the start or the join of a
  * thread, by a SeqCst atomic, or by an item of a queue. No call but those named `.._wait` sleeps. Not
  * async-signal-safe, except as synthesis.h says.
+ *
+ * PROGRESS. Each try ends after a bounded number of its own steps, and waits for no other thread. The queues are
+ * lockless, and not lock-free as Herlihy and Shavit define it: while a thread is stopped within its put, nobody gets
+ * what was put after it.
  *
  * ORDER OF MEMORY. The steps of each call are sequentially consistent. All that a thread did before a put is visible to
  * the thread that takes one of its items, and all before a shut to a thread that is answered Closed. So an item may be

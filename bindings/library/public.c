@@ -148,6 +148,7 @@ extern inline synth_code synth_hand_finish(struct synth_hand *restrict hand,
 extern inline synth_code synth_hand_free(struct synth_hand *hand);
 
 /* What the calls have in common, for a compiler that doesn't inline it. */
+extern inline void synth_linked_(void);
 extern inline void synth_positions_(struct synth_positions *positions, struct synth_raw_answer found);
 extern inline void synth_tail_(uint64_t *tail, struct synth_raw_answer found);
 extern inline synth_code synth_batch_taken_(synth_code code, const uint64_t *items, size_t taken, size_t *count,

@@ -5,3 +5,9 @@ const char *synth_version(void)
 {
     return SYNTH_VERSION;
 }
+
+/* A later version that serves programs of this one keeps this function, and has one more. */
+const char *SYNTH_VERSION_SYMBOL(void)
+{
+    return SYNTH_VERSION;
+}

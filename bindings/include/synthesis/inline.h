@@ -20,6 +20,13 @@
 extern "C" {
 #endif
 
+/* Is in each `new`: no library that lacks this version's symbol is linked. */
+SYNTH_CALL_ void synth_linked_(void)
+{
+    const char *(*volatile version)(void) = SYNTH_VERSION_SYMBOL;
+    (void)version;
+}
+
 /* Writes what a put, or a try to chain a note, found. */
 SYNTH_CALL_ void synth_positions_(struct synth_positions *positions, struct synth_raw_answer found)
 {
@@ -41,6 +48,7 @@ SYNTH_CALL_ void synth_tail_(uint64_t *tail, struct synth_raw_answer found)
 
 SYNTH_CALL_ synth_code synth_batch_new(size_t places, struct synth_batch *batch)
 {
+    synth_linked_();
     return synth_raw_batch_new(places, batch);
 }
 
@@ -241,6 +249,7 @@ SYNTH_CALL_ synth_code synth_batch_abandon(struct synth_batch *SYNTH_RESTRICT_ b
 
 SYNTH_CALL_ synth_code synth_queue_new(uint32_t places, uint32_t first, struct synth_queue *queue)
 {
+    synth_linked_();
     return synth_raw_queue_new(places, first, queue);
 }
 

@@ -45,6 +45,7 @@ SYNTH_CALL_ synth_code synth_hand_state_(struct synth_raw_state found, struct sy
 
 SYNTH_CALL_ synth_code synth_hand_new(uint32_t first, struct synth_hand *hand)
 {
+    synth_linked_();
     return synth_raw_hand_new(first, hand);
 }
 

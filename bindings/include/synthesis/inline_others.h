@@ -12,6 +12,7 @@ extern "C" {
 
 SYNTH_CALL_ synth_code synth_chain_new(uint32_t first, struct synth_chain *chain)
 {
+    synth_linked_();
     return synth_raw_chain_new(first, chain);
 }
 
@@ -69,6 +70,7 @@ SYNTH_CALL_ synth_code synth_chain_free(struct synth_chain *chain)
 
 SYNTH_CALL_ synth_code synth_seat_new(uint32_t clock, struct synth_seat *seat)
 {
+    synth_linked_();
     return synth_raw_seat_new(clock, seat);
 }
 
@@ -190,6 +192,7 @@ SYNTH_CALL_ synth_code synth_seat_free(struct synth_seat *seat)
 SYNTH_CALL_ synth_code synth_line_new(size_t room, struct synth_line_in *SYNTH_RESTRICT_ input,
                                       struct synth_line_out *SYNTH_RESTRICT_ output)
 {
+    synth_linked_();
     return synth_raw_line_new(room, input, output);
 }
 

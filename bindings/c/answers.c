@@ -112,25 +112,25 @@ struct synth_raw_answer synth_raw_queue_try_take_line(struct synth_queue *end, u
 struct synth_raw_answer synth_raw_chain_try_chain(struct synth_chain *end, uint16_t note)
 {
     (void)end, (void)note;
-    return answer;
+    return answer_of_queue();
 }
 
 struct synth_raw_answer synth_raw_seat_advance(struct synth_seat *end, uint32_t *clock)
 {
     (void)end, (void)clock;
-    return answer;
+    return answer_of_queue();
 }
 
 struct synth_raw_answer synth_raw_seat_try_set(struct synth_seat *end, const struct synth_alarm *alarm, uint32_t *slot)
 {
     (void)end, (void)alarm, (void)slot;
-    return answer;
+    return answer_of_queue();
 }
 
 struct synth_raw_answer synth_raw_hand_try_next(struct synth_hand *end, uint32_t *element)
 {
     (void)end, (void)element;
-    return answer;
+    return answer_of_queue();
 }
 
 struct synth_raw_answer synth_raw_hand_try_free(struct synth_hand *end, uint32_t *element)
@@ -153,7 +153,13 @@ struct synth_raw_answer synth_raw_hand_try_wake_before(struct synth_hand *end, u
 
 struct synth_raw_moved synth_raw_hand_try_ready(struct synth_hand *end, uint32_t element)
 {
+    const struct synth_raw_moved lost_move = {SYNTH_LOST, 0, 0};
     (void)end, (void)element;
+    calls++;
+    if (losses > 0) {
+        losses--;
+        return lost_move;
+    }
     return moved;
 }
 
@@ -324,26 +330,44 @@ static void is_tried(int number, synth_code have, synth_code want)
     calls = 0;
 }
 
+/* Three losses, and so many tries at a call. */
+#define IS_REPEATED(call)                                                                                              \
+    losses = start_losses = 3;                                                                                         \
+    is_tried(number, call, code)
+
 static void repeated_tries(void)
 {
+    const struct synth_alarm alarm = {1, 2, 3};
+    uint32_t element;
     calls = 0;
     is_answered(SYNTH_OK, 0, 0);
     for (uint32_t tries = 0; tries < 6; tries++) {
         int most = tries > 1 ? (int)tries : 1;
         int number = most < 4 ? most : 4;
         synth_code code = number < 4 ? SYNTH_LOST : SYNTH_OK;
-        losses = 3;
-        is_tried(number, synth_batch_put(&batch, items, 4, tries), code);
-        losses = 3;
-        is_tried(number, synth_batch_put_some(&batch, items, 4, tries, &count), code);
-        losses = 3;
-        is_tried(number, synth_batch_take(&batch, items, 4, tries, &count), code);
-        losses = 3;
-        is_tried(number, synth_batch_take_some(&batch, items, 4, tries, &count), code);
-        losses = 3;
-        is_tried(number, synth_queue_put(&queue, items, 4, tries), code);
-        losses = 3;
-        is_tried(number, synth_queue_take(&queue, items, tries), code);
+        IS_REPEATED(synth_batch_put(&batch, items, 4, tries));
+        IS_REPEATED(synth_batch_put_some(&batch, items, 4, tries, &count));
+        IS_REPEATED(synth_batch_take(&batch, items, 4, tries, &count));
+        IS_REPEATED(synth_batch_take_some(&batch, items, 4, tries, &count));
+        IS_REPEATED(synth_batch_take_one(&batch, items, tries));
+        IS_REPEATED(synth_queue_put(&queue, items, 4, tries));
+        IS_REPEATED(synth_queue_take(&queue, items, tries));
+        IS_REPEATED(synth_queue_take_line(&queue, items, 4, tries, &count));
+        IS_REPEATED(synth_chain_chain(&chain, 4, tries));
+        IS_REPEATED(synth_seat_advance(&seat, tries, NULL));
+        IS_REPEATED(synth_seat_set(&seat, &alarm, tries, NULL));
+        IS_REPEATED(synth_hand_next(&hand, &element, tries));
+        IS_REPEATED(synth_hand_next_free(&hand, &element, tries));
+        IS_REPEATED(synth_hand_wake(&hand, 1, &element, tries));
+        IS_REPEATED(synth_hand_wake_before(&hand, 1, 2, &element, tries));
+        IS_REPEATED(synth_hand_ready(&hand, 1, tries));
+        IS_REPEATED(synth_hand_retire(&hand, 1, tries));
+        IS_REPEATED(synth_hand_wait(&hand, 1, 2, tries));
+        IS_REPEATED(synth_hand_wait_at(&hand, 1, 2, 3, tries));
+        IS_REPEATED(synth_hand_start(&hand, 1, tries, NULL));
+        IS_REPEATED(synth_hand_park(&hand, 1, tries, NULL));
+        IS_REPEATED(synth_hand_deliver(&hand, 1, tries, NULL));
+        losses = start_losses = 0;
     }
     is_answered(SYNTH_FULL, 0, 0);
     losses = 1;

@@ -39,7 +39,8 @@ enum mistake {
     WAKES_BEFORE_COUNTING, /* a notify wakes, and then counts */
     NOTIFIES_UNLOCKED,     /* by a condition variable, without the mutex */
     NOT_PASSED_ON,         /* a taker that has waited and found something notifies nobody */
-    WOKEN_AND_GONE         /* a taker that is woken goes without a look */
+    WOKEN_AND_GONE,        /* a taker that is woken goes without a look */
+    THROWN_AND_GONE        /* a taker that has waited, and whose look throws, notifies nobody */
 };
 
 /* The part of a thread in a plan. */
@@ -51,6 +52,7 @@ struct role {
     bool limited;   /* whether its waits may time out */
     bool cancels;   /* whether it may give up instead of a wait */
     bool only_sees; /* whether it leaves the item that it finds */
+    bool throws;    /* whether a look of it, after the first one, may throw */
 };
 
 struct plan {
@@ -156,8 +158,22 @@ static void take_back(struct state *s, bool kept)
     }
 }
 
+/* A look throws. The taker goes, and notifies one more if it has waited. */
+static void throw_out(struct state *s, int thread)
+{
+    if (planted(THROWN_AND_GONE)) {
+        give_up(s, thread);
+    } else {
+        s->actors[thread].rounds = 1;
+        pass_on(s, thread);
+    }
+}
+
 static void step_of_look(struct moves *moves, const struct state *from, int thread)
 {
+    if (plan->roles[thread].throws && from->actors[thread].waited) {
+        throw_out(move(moves, from, false), thread);
+    }
     struct state *s = move(moves, from, false);
     struct actor *actor = &s->actors[thread];
     if (planted(WOKEN_AND_GONE) && actor->waited && plan->roles[thread].limited) {
@@ -181,6 +197,12 @@ static void step_of_second_look(struct moves *moves, const struct state *from, i
 {
     if (is_there(from) && from->actors[thread].buffered) {
         return; /* A taking is an exchange, before which the store buffer is empty. */
+    }
+    if (plan->roles[thread].throws) {
+        struct actor *thrown = &move(moves, from, false)->actors[thread];
+        thrown->rounds = 1;
+        thrown->found = !planted(THROWN_AND_GONE);
+        thrown->at = CANCEL;
     }
     struct state *s = move(moves, from, false);
     if (take(s, thread)) {

@@ -152,17 +152,19 @@ static int explore(const struct plan *of)
 }
 
 /* Roles. */
-#define TAKER(n) {LOOK, n, 0, false, false, false, false}
-#define LIMITED {LOOK, 1, 0, false, true, false, false}
-#define CANCELLING {LOOK, 1, 0, false, false, true, false}
-#define UNSURE {LOOK, 1, 0, false, true, true, false}
-#define SEER {LOOK, 1, 0, false, false, false, true}
-#define PUTTER(n) {CLAIM, n, 1, false, false, false, false}
-#define LOUD_PUTTER(n) {CLAIM, n, 1, true, false, false, false}
-#define RUN_OF_TWO {CLAIM, 1, 2, false, false, false, false}
-#define LOUD_RUN_OF_TWO {CLAIM, 1, 2, true, false, false, false}
-#define SHUTTER {SHUT, 1, 0, true, false, false, false}
-#define NOBODY {END, 0, 0, false, false, false, false}
+#define TAKER(n) {LOOK, n, 0, false, false, false, false, false}
+#define LIMITED {LOOK, 1, 0, false, true, false, false, false}
+#define CANCELLING {LOOK, 1, 0, false, false, true, false, false}
+#define UNSURE {LOOK, 1, 0, false, true, true, false, false}
+#define SEER {LOOK, 1, 0, false, false, false, true, false}
+#define THROWER {LOOK, 1, 0, false, false, false, false, true}
+#define LIMITED_THROWER {LOOK, 1, 0, false, true, false, false, true}
+#define PUTTER(n) {CLAIM, n, 1, false, false, false, false, false}
+#define LOUD_PUTTER(n) {CLAIM, n, 1, true, false, false, false, false}
+#define RUN_OF_TWO {CLAIM, 1, 2, false, false, false, false, false}
+#define LOUD_RUN_OF_TWO {CLAIM, 1, 2, true, false, false, false, false}
+#define SHUTTER {SHUT, 1, 0, true, false, false, false, false}
+#define NOBODY {END, 0, 0, false, false, false, false, false}
 
 /* Plans that are right, by their threads. Each is explored over a futex and over a condition variable. */
 static const struct role right[][THREADS] = {
@@ -186,6 +188,11 @@ static const struct role right[][THREADS] = {
     {TAKER(3), PUTTER(1), SHUTTER, NOBODY},
     {TAKER(1), TAKER(1), PUTTER(1), PUTTER(1)},
     {TAKER(1), TAKER(1), PUTTER(1), SHUTTER},
+    {THROWER, TAKER(1), RUN_OF_TWO, NOBODY},
+    {THROWER, THROWER, RUN_OF_TWO, NOBODY},
+    {THROWER, LIMITED_THROWER, PUTTER(2), NOBODY},
+    {THROWER, TAKER(1), PUTTER(1), PUTTER(1)},
+    {THROWER, TAKER(1), PUTTER(1), SHUTTER},
 };
 
 /* Plans with a mistake, and the faults that it has. */
@@ -220,6 +227,8 @@ static const struct {
     {NOT_PASSED_ON, true, LOST, {TAKER(1), TAKER(1), PUTTER(1), SHUTTER}},
     {WOKEN_AND_GONE, false, LOST, {LIMITED, LIMITED, PUTTER(1), NOBODY}},
     {WOKEN_AND_GONE, true, LOST, {LIMITED, LIMITED, PUTTER(1), NOBODY}},
+    {THROWN_AND_GONE, false, LOST, {THROWER, TAKER(1), RUN_OF_TWO, NOBODY}},
+    {THROWN_AND_GONE, true, LOST, {THROWER, TAKER(1), RUN_OF_TWO, NOBODY}},
 };
 
 static struct plan plan_of(const struct role *roles, enum mistake mistake, bool by_pthread, int modulus)

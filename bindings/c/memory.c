@@ -4,6 +4,7 @@
 enum { MOST = 256 };
 
 static unsigned long refused, asked;
+static size_t peak;
 
 /* The blocks that are taken, and how many bytes each was asked for. */
 static struct {
@@ -28,6 +29,7 @@ void memory_refuse(unsigned long number)
 {
     refused = number;
     asked = 0;
+    peak = memory_bytes();
 }
 
 unsigned long memory_asked(void)
@@ -53,6 +55,11 @@ size_t memory_bytes(void)
     return bytes;
 }
 
+size_t memory_peak(void)
+{
+    return peak;
+}
+
 static int is_refused(void)
 {
     asked++;
@@ -66,9 +73,10 @@ static void *replaced(void *old, void *block, size_t length)
         if (blocks[i].block == old) {
             blocks[i].block = block;
             blocks[i].length = length;
-            return block;
+            break;
         }
     }
+    peak = memory_bytes() > peak ? memory_bytes() : peak;
     return block;
 }
 

@@ -20,6 +20,9 @@ unsigned long memory_asked(void);
 long memory_taken(void);
 size_t memory_bytes(void);
 
+/* The most bytes that were taken at once since the last `memory_refuse`. */
+size_t memory_peak(void);
+
 #ifdef __cplusplus
 }
 #endif

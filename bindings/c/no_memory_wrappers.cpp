@@ -67,6 +67,7 @@ int main()
     queues<synthesis::BatchEnd>();
     queues<synthesis::QueueEnd>();
     queues<synthesis::QueueOf<short>>();
+    queues<synthesis::BatchOf<short>>();
     {
         auto seat = refuse_each([] { return synthesis::Seat::make(); }).value();
         ROW(refuse_each([&seat] { return seat.split(); }).ok(), true);

@@ -43,21 +43,8 @@ static void must(synth_code code, const char *what)
 /* Takes an item, and sleeps while there is none. SYNTH_EMPTY: the time is over. */
 static synth_code take_wait(struct synth_queue *end, uint64_t *item, int64_t limit)
 {
-    int64_t deadline = synth_event_deadline(limit);
-    bool waited = false, in_time = true;
     synth_code code;
-    while ((code = synth_queue_take(end, item, UINT32_MAX)) == SYNTH_EMPTY && in_time) {
-        uint32_t ticket = synth_event_prepare(&items);
-        if ((code = synth_queue_take(end, item, UINT32_MAX)) != SYNTH_EMPTY) {
-            synth_event_cancel(&items);
-            break;
-        }
-        in_time = synth_event_wait_until(&items, ticket, deadline);
-        waited = true;
-    }
-    if (waited && code != SYNTH_EMPTY) {
-        synth_event_notify_one(&items);
-    }
+    SYNTH_WAIT_WHILE(&items, limit, (code = synth_queue_take(end, item, UINT32_MAX)) == SYNTH_EMPTY);
     if (code == SYNTH_OK) {
         synth_event_notify_one(&places);
     }
@@ -67,21 +54,8 @@ static synth_code take_wait(struct synth_queue *end, uint64_t *item, int64_t lim
 /* Puts an item, and sleeps while there is no place for it. SYNTH_FULL: the time is over. */
 static synth_code put_wait(struct synth_queue *end, uint64_t item, int64_t limit)
 {
-    int64_t deadline = synth_event_deadline(limit);
-    bool waited = false, in_time = true;
     synth_code code;
-    while ((code = synth_queue_put(end, &item, 1, UINT32_MAX)) == SYNTH_FULL && in_time) {
-        uint32_t ticket = synth_event_prepare(&places);
-        if ((code = synth_queue_put(end, &item, 1, UINT32_MAX)) != SYNTH_FULL) {
-            synth_event_cancel(&places);
-            break;
-        }
-        in_time = synth_event_wait_until(&places, ticket, deadline);
-        waited = true;
-    }
-    if (waited && code != SYNTH_FULL) {
-        synth_event_notify_one(&places);
-    }
+    SYNTH_WAIT_WHILE(&places, limit, (code = synth_queue_put(end, &item, 1, UINT32_MAX)) == SYNTH_FULL);
     if (code == SYNTH_OK) {
         synth_event_notify_one(&items);
     }

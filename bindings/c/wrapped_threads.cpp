@@ -1,10 +1,11 @@
 /*
  * Threads that use synthesis.hpp: `wrapped_threads [ITEMS]`, 100,000 if no number is given. Three producers and three
  * takers pass boxes by their addresses through one queue, first without a sleep and then with sleeps. In the same two
- * ways they pass pieces through a batch queue, each batch whole. Takers pass one wake on. Puts of two lengths wait for
- * places. Workers pass elements, each of which has a word. A thread sends bytes, each of which says that a word is
- * written. What an item, an element or a byte leads to is read and written by plain code, at which ThreadSanitizer
- * looks. Prints one line. Status 1: something was lost or came twice. A wake that is lost hangs it.
+ * ways they pass pieces through a batch queue, each batch whole. Takers pass one wake on, also one whose look throws.
+ * Puts of two lengths wait for places. Workers pass elements, each of which has a word. A thread sends bytes, each of
+ * which says that a word is written. What an item, an element or a byte leads to is read and written by plain code, at
+ * which ThreadSanitizer looks. Prints one line. Status 1: something was lost or came twice. A wake that is lost hangs
+ * it.
  */
 #include "synthesis.hpp"
 #include <algorithm>
@@ -200,7 +201,7 @@ std::size_t first_piece(std::size_t producer)
 synthesis::BatchPutAnswer put_batch(synthesis::BatchEnd &end, View<const std::uint64_t> items, std::size_t number)
 {
     if (number == 2) {
-        return end.try_put_some(items);
+        return sleeps ? end.put_some_wait(items, events, limit_of(items.size())) : end.try_put_some(items);
     }
     return sleeps ? end.put_wait(items, events, limit_of(items.size())) : end.try_put(items);
 }
@@ -354,6 +355,49 @@ void pass_wake_on()
     faults += !totals || !totals->left.empty();
 }
 
+/* A taker that is woken, and whose look then throws. */
+struct Thrown {};
+
+/* Takes an item. The first look after a sleep throws, of whichever taker it is: then it takes none. */
+void take_or_throw(synthesis::QueueEnd &end, std::atomic<bool> &has_thrown)
+{
+    int looks = 0;
+    const auto look = [&] {
+        if (++looks > 2 && !has_thrown.exchange(true)) {
+            throw Thrown();
+        }
+        return end.try_take();
+    };
+    try {
+        must(events.items.wait_while(Code::Empty, 20s, look).code, "take");
+    } catch (const Thrown &) {
+        faults += looks != 3;
+    }
+}
+
+/* Two takers wait for one item. A notify wakes one of them, whose look throws. It passes the wake on. */
+void pass_wake_on_by_throw()
+{
+    synthesis::QueueEnd last = synthesis::QueueEnd::make(64).value();
+    std::array<synthesis::QueueEnd, 2> ends;
+    std::array<std::thread, 2> threads;
+    std::atomic<bool> has_thrown(false);
+    for (std::size_t i = 0; i < ends.size(); i++) {
+        ends[i] = last.split().value();
+        threads[i] = std::thread([&, i] { take_or_throw(ends[i], has_thrown); });
+    }
+    wait_for_waiters(events.items, 2);
+    must(last.try_put(1).code, "put");
+    events.items.notify_one();
+    for (std::size_t i = 0; i < ends.size(); i++) {
+        threads[i].join();
+        must(last.join(std::move(ends[i])), "join");
+    }
+    const auto totals = last.finish();
+    faults += !totals || totals->taken != 1 || !has_thrown;
+    faults += events.items.raw()->waiters;
+}
+
 /* A long put waits for places, and then a short one: one place is enough for the short one. Then a taker waits. */
 void pass_places_on()
 {
@@ -470,6 +514,7 @@ int main(int count, char **words_given)
     for (int times = 0; times < 20; times++) {
         pass_shut();
         pass_wake_on();
+        pass_wake_on_by_throw();
         pass_places_on();
     }
     pass_elements(items / 10);

@@ -35,7 +35,7 @@ constexpr bool moves_only = !std::is_copy_constructible_v<End> && !std::is_copy_
                             std::is_nothrow_move_constructible_v<End> && std::is_nothrow_move_assignable_v<End> &&
                             std::is_nothrow_default_constructible_v<End>;
 static_assert(moves_only<QueueEnd> && moves_only<QueueOf<int>> && moves_only<Seat> && moves_only<Hand>);
-static_assert(moves_only<BatchEnd> && moves_only<synthesis::ChainEnd>);
+static_assert(moves_only<BatchEnd> && moves_only<synthesis::BatchOf<char>> && moves_only<synthesis::ChainEnd>);
 static_assert(moves_only<synthesis::LineIn> && moves_only<synthesis::LineOut>);
 static_assert(!std::is_copy_constructible_v<synthesis::Event> && !std::is_move_constructible_v<synthesis::Event>);
 static_assert(!std::is_copy_constructible_v<synthesis::Event::Ticket>);
@@ -197,6 +197,8 @@ void empty_batch()
     ROW(none.try_take_some(room).code, Code::EmptyHandle);
     ROW(none.put_wait(View<const std::uint64_t>(room), events).code, Code::EmptyHandle);
     ROW(none.take_wait(room, events).code, Code::EmptyHandle);
+    ROW(none.put_some_wait(View<const std::uint64_t>(room), events).code, Code::EmptyHandle);
+    ROW(none.take_some_wait(room, events).code, Code::EmptyHandle);
     ROW(none.len().code(), Code::EmptyHandle);
     ROW(none.look().code(), Code::EmptyHandle);
     ROW(none.capacity().code(), Code::EmptyHandle);
@@ -583,6 +585,71 @@ void queue_of_values()
     ROW(number_in(words.end().try_take().item), 2);
 }
 
+/* Batch queues of pointers, of small structs and of numbers, and the most values of a call. */
+void batches_of_values()
+{
+    struct Point {
+        float x, y;
+    };
+    using Points = synthesis::BatchOf<Point>;
+    int numbers[3] = {7, 8, 9};
+    auto pointers = synthesis::BatchOf<int *>::make(4).value(), part = pointers.split().value();
+    std::array<int *, 4> taken = {};
+    ROW(pointers.try_put(&numbers[0]).code, Code::Ok);
+    ROW(number_in(part.try_put({&numbers[1], &numbers[2]}).position), 1);
+    ROW(pointers.len().value() == 3 && pointers.capacity().value() == 4, true);
+    ROW(pointers.try_put({&numbers[0], &numbers[0]}).full->head, 3);
+    ROW(pointers.try_put_some({&numbers[0], &numbers[0]}).count, 1);
+    ROW(*part.try_take().item.value(), 7);
+    ROW(part.try_take(View<int *>(taken).first(1)).oldest->count, 2);
+    ROW(part.try_take_some(View<int *>(taken).first(1)).count == 1 && *taken[0] == 8 && taken[1] == nullptr, true);
+    const auto rest = pointers.try_take(taken);
+    ROW(rest && rest.count == 2 && *taken[0] == 9 && taken[1] == numbers && taken[2] == nullptr, true);
+    ROW(pointers.try_take(taken).empty->tail, 4);
+    ROW(pointers.try_take().item.has_value(), false);
+    ROW(pointers.try_take().code, Code::Empty);
+    ROW(pointers.shut() == Code::Ok && part.try_put(numbers).code == Code::Closed, true);
+    ROW(pointers.finish().code(), Code::Open);
+    ROW(pointers.join(std::move(part)), Code::Ok);
+    ROW(part.full() || part.try_take(taken).count != 0, false);
+    ROW(pointers.finish()->taken, 4);
+    auto points = Points::make(512).value();
+    std::vector<Point> many(300, Point{1.5f, -2.5f}), few(2);
+    ROW(points.try_put(many).code, Code::TooLong);
+    ROW(Points().try_put(many).code, Code::EmptyHandle);
+    ROW(points.try_put_some(many).count, 256);
+    ROW(points.try_put(View<const Point>(many).first(256)).count, 256);
+    ROW(points.try_put(few).code, Code::Full);
+    ROW(points.try_take_some(many).count, 256);
+    ROW(points.try_take(few).oldest->count, 256);
+    ROW(points.try_take_some(few).count == 2 && few[1].x == 1.5f && few[1].y == -2.5f, true);
+    ROW(points.end().try_put({UINT64_MAX}).code, Code::Ok);
+    const auto totals = points.finish();
+    ROW(totals && totals->put == 513 && totals->taken == 258 && totals->left.size() == 255, true);
+    ROW(totals->left[0].x == 1.5f && totals->left[253].y == -2.5f && totals->left[254].x != totals->left[254].x, true);
+}
+
+/* Waits of a typed end, whose time is over or not. */
+void typed_waits()
+{
+    synthesis::QueueEvents events;
+    auto end = synthesis::BatchOf<char>::make(4).value();
+    std::array<char, 4> letters = {'a', 'b', 'c', 'd'};
+    const View<const char> all(letters);
+    ROW(end.take_wait(letters, events, 1ms).code, Code::Empty);
+    ROW(end.take_some_wait(letters, events, 0s).code, Code::Empty);
+    ROW(end.put_wait(all.first(3), events).count, 3);
+    ROW(end.put_wait(all.first(2), events, 1ms).code, Code::Full);
+    ROW(end.put_some_wait(all, events).count, 1);
+    ROW(end.put_some_wait(all, events, 1ms).code, Code::Full);
+    ROW(end.put_wait(View<const char>(std::vector<char>(257)), events).code, Code::TooLong);
+    ROW(end.take_some_wait(View<char>(letters).first(2), events).count == 2 && letters[1] == 'b', true);
+    ROW(end.take_wait(letters, events).count == 2 && letters[0] == 'c' && letters[1] == 'a', true);
+    ROW(end.shut(), Code::Ok);
+    ROW(end.take_some_wait(letters, events).code, Code::Closed);
+    ROW(end.put_some_wait(all, events).code, Code::Closed);
+}
+
 void seats()
 {
     Seat seat = Seat::make(UINT32_MAX - 1).value(), other = seat.split().value();
@@ -839,6 +906,8 @@ int main()
     queue_takings();
     moves();
     queue_of_values();
+    batches_of_values();
+    typed_waits();
     seats();
     chains();
     lines();

@@ -35,8 +35,10 @@
  * - Handles may lie side by side, since tries don't write to them.
  * - A batch queue takes 540 bytes of memory and 16 for each place, a claim queue 280 and 16, a chain 600, meters 360, a
  *   line 540 and its room, thread elements 16,350, and each split 64.
- * - Two copies of the library in one process may be used side by side: to a join their objects are different ones, as
- *   long as neither copy made more than 268,435,456.
+ * - Two copies of the library in one process may be used side by side: to a join their objects are different ones,
+ *   except by a chance of one in four million millions, if each copy made a million.
+ * - A copy that a shared object of the program has is unloaded (dlclose) only if each handle that it filled is empty.
+ *   If one isn't, a copy that is loaded later takes its object for another one. libsynthesis.so.1 is never unloaded.
  *
  * HANDLES. An object is shared by its ends. An end is a handle of 16 bytes, which its user owns; one of zeros is empty.
  * `new` makes an object and fills its first handle. `split` fills one more. `join` empties one, and gives its share to
@@ -177,6 +179,9 @@ const char *synth_code_name(synth_code code);
 /** A short text about a code, such as "there was no room". Of another number: "not a code". */
 const char *synth_code_text(synth_code code);
 
+/** Waits a moment, in a loop that makes a refused try again: other threads of the same core have it meanwhile. */
+SYNTH_CALL_ void synth_pause(void);
+
 /** The version of the library that is linked: SYNTH_VERSION of the header that it was built with. */
 const char *synth_version(void);
 
@@ -195,8 +200,18 @@ const char *synth_version_1_0_0(void);
  * A queue has room for as many items as it has places, which `new` is given. A put is one batch: its positions are
  * reserved by one step, its items written, and all of them published by one more. So none can be taken before all can.
  * A taking takes whole batches, as many as fit its buffer, by one step, and gives their places back by one more. Only
- * `take_some` parts a batch. The order of a queue is that of its puts; no other's item comes between two of one put. A
- * thread that stops within its put holds up what is put after it; one that stops within its taking keeps those places.
+ * `take_some` parts a batch. The order of a queue is that of its puts; no other's item comes between two of one put.
+ *
+ * EMPTY, FULL AND OTHER THREADS. SYNTH_EMPTY means that the next item isn't published. So the queue is empty, or the
+ * put of that item is under way: a put that isn't published hides all that were published after it. SYNTH_FULL means
+ * that a place which the put wants isn't given back. So the queue has no room, or a taking from that place is under
+ * way: a taker that is preempted within its taking keeps its places until it runs again, and all puts that reach them
+ * are FULL.
+ *
+ * POOLS AND FREE LISTS. So a queue may be FULL although it has a place for each token that goes round in it, as those
+ * of a pool, a free list or a ready ring do. More places than tokens make that rarer, and no number of places rules it
+ * out. Repeat such a put while it is FULL, with a yield or a sleep between two (synth_batch_put_wait of
+ * synthesis_wait.h), and never drop the token or end the program. Or use a claim queue: its taking keeps no places.
  *
  * A position counts the items of a queue, from 0 on. None comes back: a queue takes 2^62 items, 146 years at a billion
  * a second.
@@ -296,7 +311,8 @@ SYNTH_MUST_USE SYNTH_CALL_ synth_code synth_batch_try_take_one(struct synth_batc
                                                                uint64_t *SYNTH_RESTRICT_ tail);
 
 /**
- * synth_batch_try_put, made again while it is SYNTH_LOST, at most `tries` times in all and at least once.
+ * synth_batch_try_put, made again while it is SYNTH_LOST, at most `tries` times in all and at least once, with a
+ * synth_pause between two.
  * @return that of the last try.
  */
 SYNTH_MUST_USE SYNTH_CALL_ synth_code synth_batch_put(struct synth_batch *SYNTH_RESTRICT_ batch,
@@ -314,6 +330,10 @@ SYNTH_MUST_USE SYNTH_CALL_ synth_code synth_batch_take(struct synth_batch *SYNTH
 SYNTH_MUST_USE SYNTH_CALL_ synth_code synth_batch_take_some(struct synth_batch *SYNTH_RESTRICT_ batch,
                                                             uint64_t *SYNTH_RESTRICT_ items, size_t room,
                                                             uint32_t tries, size_t *SYNTH_RESTRICT_ count);
+
+/** synth_batch_try_take_one, made again as in synth_batch_put. */
+SYNTH_MUST_USE SYNTH_CALL_ synth_code synth_batch_take_one(struct synth_batch *SYNTH_RESTRICT_ batch,
+                                                           uint64_t *SYNTH_RESTRICT_ item, uint32_t tries);
 
 /**
  * `count` becomes a hint of how many items are in the queue, published or not, which other ends change meanwhile.
@@ -383,8 +403,9 @@ SYNTH_CALL_ synth_code synth_batch_free(struct synth_batch *batch);
  * less its first position, and is then SPENT. The order of a queue is that of its positions. One put is one run of
  * positions, with no other's item between them: it first gets the positions, by one step, and then raises its items one
  * by one, and an item can be taken once it is raised. So a thread that sleeps within its put holds up the takers of all
- * items after its own, and no producer while there is room. A line is the items up to and with the first that is 10,
- * the code of a line feed.
+ * items after its own, and no producer while there is room. A taking frees its place by the step that takes, so a queue
+ * with a place for each token that goes round in it is never FULL. A line is the items up to and with the first that is
+ * 10, the code of a line feed.
  * @{ */
 
 /** An end of a claim queue. */
@@ -475,6 +496,11 @@ SYNTH_MUST_USE SYNTH_CALL_ synth_code synth_queue_put(struct synth_queue *SYNTH_
 /** synth_queue_try_take, made again as in synth_batch_put. */
 SYNTH_MUST_USE SYNTH_CALL_ synth_code synth_queue_take(struct synth_queue *SYNTH_RESTRICT_ queue,
                                                        uint64_t *SYNTH_RESTRICT_ item, uint32_t tries);
+
+/** synth_queue_try_take_line, made again as in synth_batch_put. */
+SYNTH_MUST_USE SYNTH_CALL_ synth_code synth_queue_take_line(struct synth_queue *SYNTH_RESTRICT_ queue,
+                                                            uint64_t *SYNTH_RESTRICT_ line, size_t room,
+                                                            uint32_t tries, size_t *SYNTH_RESTRICT_ count);
 
 /** What a look at a claim queue found. The numbers were found one after the other, and may have changed since. */
 struct synth_queue_status {
@@ -589,6 +615,9 @@ SYNTH_MUST_USE SYNTH_CALL_ synth_code synth_chain_join(struct synth_chain *SYNTH
 SYNTH_MUST_USE SYNTH_CALL_ synth_code synth_chain_try_chain(struct synth_chain *SYNTH_RESTRICT_ chain, uint16_t note,
                                                             struct synth_positions *SYNTH_RESTRICT_ positions);
 
+/** synth_chain_try_chain, made again as in synth_batch_put. */
+SYNTH_MUST_USE SYNTH_CALL_ synth_code synth_chain_chain(struct synth_chain *chain, uint16_t note, uint32_t tries);
+
 /**
  * The next note, of a handle that runs notes. SYNTH_NOTE: `note` is the next one, and the handle still runs notes.
  * SYNTH_AGAIN: a handle has chained meanwhile: call again. SYNTH_OK: no note is left, and the handle runs none from now
@@ -690,6 +719,14 @@ SYNTH_MUST_USE SYNTH_CALL_ synth_code synth_seat_try_advance(struct synth_seat *
 SYNTH_MUST_USE SYNTH_CALL_ synth_code synth_seat_try_set(struct synth_seat *SYNTH_RESTRICT_ seat,
                                                          const struct synth_alarm *SYNTH_RESTRICT_ alarm,
                                                          uint32_t *SYNTH_RESTRICT_ slot);
+
+/** synth_seat_try_advance, made again as in synth_batch_put. */
+SYNTH_MUST_USE SYNTH_CALL_ synth_code synth_seat_advance(struct synth_seat *SYNTH_RESTRICT_ seat, uint32_t tries,
+                                                         uint32_t *SYNTH_RESTRICT_ clock);
+/** synth_seat_try_set, made again as in synth_batch_put. */
+SYNTH_MUST_USE SYNTH_CALL_ synth_code synth_seat_set(struct synth_seat *SYNTH_RESTRICT_ seat,
+                                                     const struct synth_alarm *SYNTH_RESTRICT_ alarm, uint32_t tries,
+                                                     uint32_t *SYNTH_RESTRICT_ slot);
 
 /**
  * `value` becomes the gauge, 0 to 7, by one load.
@@ -1135,6 +1172,39 @@ SYNTH_CALL_ synth_code synth_hand_pending(const struct synth_hand *hand, uint32_
 SYNTH_MUST_USE SYNTH_CALL_ synth_code synth_hand_try_deliver(struct synth_hand *SYNTH_RESTRICT_ hand, uint32_t element,
                                                              uint32_t *SYNTH_RESTRICT_ signals,
                                                              struct synth_element_state *SYNTH_RESTRICT_ state);
+
+/** synth_hand_try_next, made again as in synth_batch_put. */
+SYNTH_MUST_USE SYNTH_CALL_ synth_code synth_hand_next(struct synth_hand *SYNTH_RESTRICT_ hand,
+                                                      uint32_t *SYNTH_RESTRICT_ element, uint32_t tries);
+/** synth_hand_try_free, made again as in synth_batch_put. */
+SYNTH_MUST_USE SYNTH_CALL_ synth_code synth_hand_next_free(struct synth_hand *SYNTH_RESTRICT_ hand,
+                                                           uint32_t *SYNTH_RESTRICT_ element, uint32_t tries);
+/** synth_hand_try_wake, made again as in synth_batch_put. */
+SYNTH_MUST_USE SYNTH_CALL_ synth_code synth_hand_wake(struct synth_hand *SYNTH_RESTRICT_ hand, uint32_t wait,
+                                                      uint32_t *SYNTH_RESTRICT_ element, uint32_t tries);
+/** synth_hand_try_wake_before, made again as in synth_batch_put. */
+SYNTH_MUST_USE SYNTH_CALL_ synth_code synth_hand_wake_before(struct synth_hand *SYNTH_RESTRICT_ hand, uint32_t wait,
+                                                             uint32_t head, uint32_t *SYNTH_RESTRICT_ element,
+                                                             uint32_t tries);
+/** synth_hand_try_ready, made again as in synth_batch_put. */
+SYNTH_MUST_USE SYNTH_CALL_ synth_code synth_hand_ready(struct synth_hand *hand, uint32_t element, uint32_t tries);
+/** synth_hand_try_retire, made again as in synth_batch_put. */
+SYNTH_MUST_USE SYNTH_CALL_ synth_code synth_hand_retire(struct synth_hand *hand, uint32_t element, uint32_t tries);
+/** synth_hand_try_wait, made again as in synth_batch_put. */
+SYNTH_MUST_USE SYNTH_CALL_ synth_code synth_hand_wait(struct synth_hand *hand, uint32_t element, uint32_t wait,
+                                                      uint32_t tries);
+/** synth_hand_try_wait_at, made again as in synth_batch_put. */
+SYNTH_MUST_USE SYNTH_CALL_ synth_code synth_hand_wait_at(struct synth_hand *hand, uint32_t element, uint32_t wait,
+                                                         uint32_t ticket, uint32_t tries);
+/** synth_hand_try_start, made again as in synth_batch_put. */
+SYNTH_MUST_USE SYNTH_CALL_ synth_code synth_hand_start(struct synth_hand *SYNTH_RESTRICT_ hand, uint32_t element,
+                                                       uint32_t tries, uint32_t *SYNTH_RESTRICT_ started);
+/** synth_hand_try_park, made again as in synth_batch_put. */
+SYNTH_MUST_USE SYNTH_CALL_ synth_code synth_hand_park(struct synth_hand *SYNTH_RESTRICT_ hand, uint32_t element,
+                                                      uint32_t tries, bool *SYNTH_RESTRICT_ parked);
+/** synth_hand_try_deliver, made again as in synth_batch_put. */
+SYNTH_MUST_USE SYNTH_CALL_ synth_code synth_hand_deliver(struct synth_hand *SYNTH_RESTRICT_ hand, uint32_t element,
+                                                         uint32_t tries, uint32_t *SYNTH_RESTRICT_ signals);
 
 /**
  * Ends the table by a hand to which all others were joined, empties it, and reports each element.

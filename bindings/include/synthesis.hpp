@@ -1,7 +1,8 @@
 /*
  * The lockless tables of synthesis for C++17: a class for each handle of synthesis.h, BatchEnd, QueueEnd, ChainEnd,
- * Seat, LineIn, LineOut and Hand, and Event for the event count of synthesis_event.h. QueueOf<T> is a QueueEnd of
- * values. It is a header alone. NOTHING HERE IS PROVED: it passes each call on to the library, whose calls are.
+ * Seat, LineIn, LineOut and Hand, and Event for the event count of synthesis_event.h. BatchOf<T> is a BatchEnd of
+ * values, and QueueOf<T> a QueueEnd of values. It is a header alone. NOTHING HERE IS PROVED: it passes each call on to
+ * the library, whose calls are.
  *
  * Two threads, and a queue on which they sleep. bindings/c/wrappers.cpp runs this:
  *
@@ -20,8 +21,9 @@
  *
  * ENDS. An end owns one handle, of 16 bytes, or is empty. It can be moved, and not copied. An end that was moved from
  * is empty, and each call on an empty end answers Code::EmptyHandle. The destructor frees a full end, and so does an
- * assignment to it. An end that is freed is never joined, and its object is never finished. So join each end of a thread
- * to another one before it goes.
+ * assignment to it. An end that is freed is never joined, and its object is never finished. So join each end of a
+ * thread to another one before it goes. `split` isn't const, since it writes to its end: two threads that split one end
+ * do so under a lock.
  *
  * THREADS. One end is used by one thread at a time; an end has no lock. Different ends of one object are used by
  * different threads at once. Between two calls an end may go to another thread by a lock, by the start or the join of a
@@ -48,6 +50,7 @@
 
 #include "synthesis/answers.hpp"
 #include "synthesis/batch.hpp"
+#include "synthesis/batch_of.hpp"
 #include "synthesis/chain.hpp"
 #include "synthesis/event.hpp"
 #include "synthesis/hand.hpp"

@@ -12,37 +12,22 @@
  *     the notifier:  1. put it, for all to see    2. synth_event_notify_one(&event), or notify_all
  *
  * After each prepare the same thread makes one cancel or one wait. A wait may return though nothing was put: look
- * again. The two functions below sleep while a queue is empty or full, and return the code of the last try. SYNTH_EMPTY
- * and SYNTH_FULL mean that the time is over. `items` and `places` are two events of the queue.
+ * again. SYNTH_WAIT_WHILE does all that a waiter does. The two functions below sleep while a queue is empty or full,
+ * and return the code of the last try. SYNTH_EMPTY and SYNTH_FULL mean that the time is over. `items` and `places` are
+ * two events of the queue. synthesis_wait.h has such functions for the queues of synthesis.h.
  *
  *     synth_code take_wait(struct synth_queue *end, uint64_t *item, int64_t limit)
  *     {
- *         int64_t deadline = synth_event_deadline(limit);
- *         bool waited = false, in_time = true;
  *         synth_code code;
- *         while ((code = synth_queue_take(end, item, UINT32_MAX)) == SYNTH_EMPTY && in_time) {
- *             uint32_t ticket = synth_event_prepare(&items);
- *             code = synth_queue_take(end, item, UINT32_MAX);
- *             if (code != SYNTH_EMPTY) { synth_event_cancel(&items); break; }
- *             waited = true, in_time = synth_event_wait_until(&items, ticket, deadline);
- *         }
- *         if (waited && code != SYNTH_EMPTY) synth_event_notify_one(&items);
+ *         SYNTH_WAIT_WHILE(&items, limit, (code = synth_queue_take(end, item, UINT32_MAX)) == SYNTH_EMPTY);
  *         if (code == SYNTH_OK) synth_event_notify_one(&places);
  *         return code;
  *     }
  *
  *     synth_code put_wait(struct synth_queue *end, uint64_t item, int64_t limit)
  *     {
- *         int64_t deadline = synth_event_deadline(limit);
- *         bool waited = false, in_time = true;
  *         synth_code code;
- *         while ((code = synth_queue_put(end, &item, 1, UINT32_MAX)) == SYNTH_FULL && in_time) {
- *             uint32_t ticket = synth_event_prepare(&places);
- *             code = synth_queue_put(end, &item, 1, UINT32_MAX);
- *             if (code != SYNTH_FULL) { synth_event_cancel(&places); break; }
- *             waited = true, in_time = synth_event_wait_until(&places, ticket, deadline);
- *         }
- *         if (waited && code != SYNTH_FULL) synth_event_notify_one(&places);
+ *         SYNTH_WAIT_WHILE(&places, limit, (code = synth_queue_put(end, &item, 1, UINT32_MAX)) == SYNTH_FULL);
  *         if (code == SYNTH_OK) synth_event_notify_one(&items);
  *         return code;
  *     }
@@ -52,9 +37,10 @@
  * ONE OR ALL. notify_one wakes at least one of the waiters, if there are any. It is enough under two conditions:
  *
  * - Any waiter will do. A waiter with a longer put may find no room where another one would: there, notify all.
- * - A wake is passed on, as above: a thread that has waited, and then found something, notifies one more. One put may
- *   make several items visible, as a run does, or an item before others that are published already. Its notify wakes
- *   one taker; the second taker is woken by the first one. SYNTH_CLOSED is passed on too.
+ * - A wake is passed on, as SYNTH_WAIT_WHILE does: a thread that has waited, and then found something, notifies one
+ *   more. So does one that has waited and goes without a look, as by an exception. One put may make several items
+ *   visible, as a run does, or an item before others that are published already. Its notify wakes one taker; the second
+ *   taker is woken by the first one. SYNTH_CLOSED is passed on too.
  *
  * notify_all needs neither.
  *
@@ -110,7 +96,6 @@
 #include <pthread.h>
 #else
 #include <limits.h>
-#include <linux/futex.h>
 #include <sys/syscall.h>
 #endif
 
@@ -145,6 +130,11 @@ typedef struct synth_event {
 #define SYNTH_EVENT_SECOND_ ((int64_t)1000000000)
 
 #ifndef SYNTH_EVENT_PTHREAD
+/* What linux/futex.h has: a C library may come without it. */
+#define SYNTH_EVENT_SLEEP_ 137 /* FUTEX_WAIT_BITSET_PRIVATE */
+#define SYNTH_EVENT_WAKE_ 129  /* FUTEX_WAKE_PRIVATE */
+#define SYNTH_EVENT_ANY_ (-1)  /* FUTEX_BITSET_MATCH_ANY: all bits */
+
 /* Two functions of the C library, which some language modes don't declare. */
 #ifdef __cplusplus
 extern "C" {
@@ -225,8 +215,8 @@ static inline bool synth_event_sleep_(synth_event *event, uint32_t ticket, int64
     struct timespec until = synth_event_time_(deadline);
     long slept = -1;
     while (atomic_load(&event->notifies) == ticket && slept != 0) {
-        slept = synth_event_syscall_(SYS_futex, &event->notifies, FUTEX_WAIT_BITSET_PRIVATE, ticket,
-                                     deadline < 0 ? (void *)0 : (void *)&until, (void *)0, FUTEX_BITSET_MATCH_ANY);
+        slept = synth_event_syscall_(SYS_futex, &event->notifies, SYNTH_EVENT_SLEEP_, ticket,
+                                     deadline < 0 ? (void *)0 : (void *)&until, (void *)0, SYNTH_EVENT_ANY_);
         if (slept != 0 && errno == ETIMEDOUT) {
             return atomic_load(&event->notifies) != ticket;
         }
@@ -238,7 +228,7 @@ static inline bool synth_event_sleep_(synth_event *event, uint32_t ticket, int64
 static inline void synth_event_wake_(synth_event *event, bool all)
 {
     atomic_fetch_add(&event->notifies, 1u);
-    (void)synth_event_syscall_(SYS_futex, &event->notifies, FUTEX_WAKE_PRIVATE, all ? INT_MAX : 1);
+    (void)synth_event_syscall_(SYS_futex, &event->notifies, SYNTH_EVENT_WAKE_, all ? INT_MAX : 1);
 }
 
 #endif
@@ -310,5 +300,61 @@ static inline void synth_event_notify_all(synth_event *event)
         synth_event_wake_(event, true);
     }
 }
+
+struct synth_event_waiter_ { /* a thread at SYNTH_WAIT_WHILE */
+    synth_event *event;
+    int64_t limit;
+    int64_t deadline; /* once the condition was true */
+    uint32_t ticket;
+    bool is_announced; /* it is between a prepare and its cancel or wait */
+    bool has_waited;
+    bool is_late; /* a wait has ended by the deadline */
+};
+
+/* The condition is true: announces the thread, or sleeps if it is announced. False: the time is over. */
+static inline bool synth_event_go_on_(struct synth_event_waiter_ *waiter)
+{
+    if (waiter->is_announced) {
+        waiter->is_late = !synth_event_wait_until(waiter->event, waiter->ticket, waiter->deadline);
+        waiter->is_announced = false;
+        waiter->has_waited = true;
+    } else if (waiter->is_late) {
+        return false;
+    } else {
+        if (!waiter->has_waited) {
+            waiter->deadline = synth_event_deadline(waiter->limit);
+        }
+        waiter->ticket = synth_event_prepare(waiter->event);
+        waiter->is_announced = true;
+    }
+    return true;
+}
+
+/* The condition is false: takes the announcement back, and passes the wake on. */
+static inline bool synth_event_end_(struct synth_event_waiter_ *waiter)
+{
+    if (waiter->is_announced) {
+        synth_event_cancel(waiter->event);
+    }
+    if (waiter->has_waited) {
+        synth_event_notify_one(waiter->event);
+    }
+    return false;
+}
+
+#define SYNTH_WAIT_WHILE_(of, time, condition)                                                                         \
+    do {                                                                                                               \
+        struct synth_event_waiter_ synth_waiter_ = {(of), (time), 0, 0, false, false, false};                          \
+        while ((condition) ? synth_event_go_on_(&synth_waiter_) : synth_event_end_(&synth_waiter_)) {                  \
+        }                                                                                                              \
+    } while (0)
+
+/*
+ * A statement that sleeps on an event while a condition is true, at most for a limit in nanoseconds, of which
+ * SYNTH_EVENT_NO_LIMIT is none. The condition is an expression, such as a try and a look at its code. It is computed
+ * before each sleep, twice, and after it. Once it is false a thread that has slept notifies one more. Once the time is
+ * over the statement ends too, and the condition was true at last. No condition leaves the statement, as by a throw.
+ */
+#define SYNTH_WAIT_WHILE(event, limit, ...) SYNTH_WAIT_WHILE_(event, limit, (__VA_ARGS__))
 
 #endif

@@ -26,6 +26,8 @@ extern inline synth_code synth_batch_take_some(struct synth_batch *restrict batc
                                                size_t room, uint32_t tries, size_t *restrict count);
 extern inline synth_code synth_batch_try_take_one(struct synth_batch *restrict batch, uint64_t *restrict item,
                                                   uint64_t *restrict tail);
+extern inline synth_code synth_batch_take_one(struct synth_batch *restrict batch, uint64_t *restrict item,
+                                              uint32_t tries);
 extern inline synth_code synth_batch_look(const struct synth_batch *batch, struct synth_batch_status *status);
 extern inline synth_code synth_batch_len(const struct synth_batch *batch, uint64_t *count);
 extern inline synth_code synth_batch_capacity(const struct synth_batch *batch, size_t *places);
@@ -51,6 +53,8 @@ extern inline synth_code synth_queue_put(struct synth_queue *restrict queue, con
                                          size_t count, uint32_t tries);
 extern inline synth_code synth_queue_take(struct synth_queue *restrict queue, uint64_t *restrict item,
                                           uint32_t tries);
+extern inline synth_code synth_queue_take_line(struct synth_queue *restrict queue, uint64_t *restrict line,
+                                               size_t room, uint32_t tries, size_t *restrict count);
 extern inline synth_code synth_queue_look(const struct synth_queue *queue, struct synth_queue_status *status);
 extern inline synth_code synth_queue_shut(struct synth_queue *queue);
 extern inline synth_code synth_queue_finish(struct synth_queue *restrict queue, uint64_t *restrict left, size_t room,
@@ -64,6 +68,7 @@ extern inline synth_code synth_chain_split(struct synth_chain *restrict chain, s
 extern inline synth_code synth_chain_join(struct synth_chain *restrict chain, struct synth_chain *restrict other);
 extern inline synth_code synth_chain_try_chain(struct synth_chain *restrict chain, uint16_t note,
                                                struct synth_positions *restrict positions);
+extern inline synth_code synth_chain_chain(struct synth_chain *chain, uint16_t note, uint32_t tries);
 extern inline synth_code synth_chain_next(struct synth_chain *restrict chain, uint16_t *restrict note);
 extern inline synth_code synth_chain_finish(struct synth_chain *restrict chain,
                                             struct synth_chain_totals *restrict totals);
@@ -77,6 +82,9 @@ extern inline synth_code synth_seat_tick(struct synth_seat *restrict seat, uint3
 extern inline synth_code synth_seat_try_advance(struct synth_seat *restrict seat, uint32_t *restrict clock);
 extern inline synth_code synth_seat_try_set(struct synth_seat *restrict seat,
                                             const struct synth_alarm *restrict alarm, uint32_t *restrict slot);
+extern inline synth_code synth_seat_advance(struct synth_seat *restrict seat, uint32_t tries, uint32_t *restrict clock);
+extern inline synth_code synth_seat_set(struct synth_seat *restrict seat, const struct synth_alarm *restrict alarm,
+                                        uint32_t tries, uint32_t *restrict slot);
 extern inline synth_code synth_seat_gauge(const struct synth_seat *seat, uint32_t gauge, uint64_t *value);
 extern inline synth_code synth_seat_clock(const struct synth_seat *seat, uint32_t *clock);
 extern inline synth_code synth_seat_cancel(struct synth_seat *restrict seat, uint32_t slot,
@@ -143,11 +151,30 @@ extern inline synth_code synth_hand_pending(const struct synth_hand *hand, uint3
 extern inline synth_code synth_hand_try_deliver(struct synth_hand *restrict hand, uint32_t element,
                                                 uint32_t *restrict signals,
                                                 struct synth_element_state *restrict state);
+extern inline synth_code synth_hand_next(struct synth_hand *restrict hand, uint32_t *restrict element, uint32_t tries);
+extern inline synth_code synth_hand_next_free(struct synth_hand *restrict hand, uint32_t *restrict element,
+                                              uint32_t tries);
+extern inline synth_code synth_hand_wake(struct synth_hand *restrict hand, uint32_t wait, uint32_t *restrict element,
+                                         uint32_t tries);
+extern inline synth_code synth_hand_wake_before(struct synth_hand *restrict hand, uint32_t wait, uint32_t head,
+                                                uint32_t *restrict element, uint32_t tries);
+extern inline synth_code synth_hand_ready(struct synth_hand *hand, uint32_t element, uint32_t tries);
+extern inline synth_code synth_hand_retire(struct synth_hand *hand, uint32_t element, uint32_t tries);
+extern inline synth_code synth_hand_wait(struct synth_hand *hand, uint32_t element, uint32_t wait, uint32_t tries);
+extern inline synth_code synth_hand_wait_at(struct synth_hand *hand, uint32_t element, uint32_t wait, uint32_t ticket,
+                                            uint32_t tries);
+extern inline synth_code synth_hand_start(struct synth_hand *restrict hand, uint32_t element, uint32_t tries,
+                                          uint32_t *restrict started);
+extern inline synth_code synth_hand_park(struct synth_hand *restrict hand, uint32_t element, uint32_t tries,
+                                         bool *restrict parked);
+extern inline synth_code synth_hand_deliver(struct synth_hand *restrict hand, uint32_t element, uint32_t tries,
+                                            uint32_t *restrict signals);
 extern inline synth_code synth_hand_finish(struct synth_hand *restrict hand,
                                            struct synth_hand_totals *restrict totals);
 extern inline synth_code synth_hand_free(struct synth_hand *hand);
 
 /* What the calls have in common, for a compiler that doesn't inline it. */
+extern inline void synth_pause(void);
 extern inline void synth_linked_(void);
 extern inline void synth_positions_(struct synth_positions *positions, struct synth_raw_answer found);
 extern inline void synth_tail_(uint64_t *tail, struct synth_raw_answer found);
@@ -158,5 +185,6 @@ extern inline synth_code synth_queue_taken_(struct synth_raw_answer found, const
 extern inline synth_code synth_hand_taken_(struct synth_raw_answer found, const uint32_t *element, uint32_t *tail);
 extern inline synth_code synth_hand_moved_(struct synth_raw_moved found, uint32_t *head, uint32_t *notifies);
 extern inline synth_code synth_hand_state_(struct synth_raw_state found, struct synth_element_state *state);
+extern inline bool synth_is_lost_(synth_code code);
 extern inline bool synth_hand_are_apart_(const struct synth_hand *one, const struct synth_hand *two,
                                          uint32_t element);

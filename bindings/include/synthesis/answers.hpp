@@ -188,11 +188,12 @@ template <class Answer> [[nodiscard]] constexpr Code code_of(const Answer &answe
     return answer.code;
 }
 
-/// Repeats a try while it is Lost. Each time another end was first.
+/// Repeats a try while it is Lost, with a pause before each repetition. Each time another end was first.
 template <class Attempt> auto repeat(Attempt attempt) noexcept(noexcept(attempt()))
 {
     auto answer = attempt();
     while (code_of(answer) == Code::Lost) {
+        synth_pause();
         answer = attempt();
     }
     return answer;

@@ -244,6 +244,18 @@ public:
         return answer;
     }
 
+    /// Puts as many of the first items as there is room for, as one batch, and sleeps while there is no room for one.
+    /// Full: the time is over; else as try_put_some, and never Lost.
+    BatchPutAnswer put_some_wait(View<const std::uint64_t> items, QueueEvents &events, Limit limit = {}) noexcept
+    {
+        const auto put = [&]() noexcept { return repeat([&]() noexcept { return try_put_some(items); }); };
+        const BatchPutAnswer answer = events.places.wait_while(Code::Full, limit, put);
+        if (answer) {
+            events.items.notify_one();
+        }
+        return answer;
+    }
+
     /// Takes whole batches, and sleeps while there is none. Empty: the time is over; else as try_take, and never Lost.
     ///
     /// After a taking by another call than this one call places.notify_all(): where a longer put finds no room, another
@@ -251,6 +263,18 @@ public:
     BatchTakeAnswer take_wait(View<std::uint64_t> buffer, QueueEvents &events, Limit limit = {}) noexcept
     {
         const auto take = [&]() noexcept { return repeat([&]() noexcept { return try_take(buffer); }); };
+        const BatchTakeAnswer answer = events.items.wait_while(Code::Empty, limit, take);
+        if (answer) {
+            events.places.notify_all();
+        }
+        return answer;
+    }
+
+    /// Takes as many items as the buffer has room for, and sleeps while there is none. Empty: the time is over; else as
+    /// try_take_some, and never Lost.
+    BatchTakeAnswer take_some_wait(View<std::uint64_t> buffer, QueueEvents &events, Limit limit = {}) noexcept
+    {
+        const auto take = [&]() noexcept { return repeat([&]() noexcept { return try_take_some(buffer); }); };
         const BatchTakeAnswer answer = events.items.wait_while(Code::Empty, limit, take);
         if (answer) {
             events.places.notify_all();

@@ -89,7 +89,8 @@ public:
     [[nodiscard]] synth_event *raw() noexcept { return &event_; }
 
     /// Makes an attempt, and sleeps and makes it again while its answer has this code. Once the time is over it returns
-    /// such an answer. A thread that has slept, and is answered otherwise, notifies one more.
+    /// such an answer. A thread that has slept, and is answered otherwise, notifies one more: the wake is passed on. So
+    /// does one whose attempt throws.
     template <class Attempt>
     auto wait_while(Code refusal, Limit limit, Attempt attempt) noexcept(noexcept(attempt()))
     {
@@ -101,25 +102,44 @@ public:
     }
 
 private:
+    /// The wake that a thread owes to others once it has slept. It is passed on when this goes, also by an exception.
+    class Wake {
+    public:
+        explicit Wake(Event &event) noexcept : event_(event) {}
+        Wake(const Wake &) = delete;
+        Wake &operator=(const Wake &) = delete;
+        ~Wake()
+        {
+            if (is_owed_) {
+                event_.notify_one();
+            }
+        }
+        void set_owed(bool is_owed) noexcept { is_owed_ = is_owed; }
+
+    private:
+        Event &event_;
+        bool is_owed_ = false;
+    };
+
     /// The rest of wait_while, once an attempt was refused.
     template <class Attempt>
     auto sleep_while(Code refusal, std::int64_t deadline, Attempt attempt) noexcept(noexcept(attempt()))
     {
-        bool has_slept = false;
+        Wake wake(*this);
         for (;;) {
             Ticket ticket = prepare();
             auto answer = attempt();
             bool in_time = false;
             if (code_of(answer) == refusal) {
                 in_time = ticket.wait_until(deadline);
-                has_slept = true;
+                wake.set_owed(true);
                 answer = attempt();
             }
-            ticket.cancel();
-            if (code_of(answer) != refusal && has_slept) {
-                notify_one();
+            if (code_of(answer) != refusal) {
+                return answer;
             }
-            if (code_of(answer) != refusal || !in_time) {
+            if (!in_time) {
+                wake.set_owed(false);
                 return answer;
             }
         }

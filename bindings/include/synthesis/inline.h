@@ -20,6 +20,24 @@
 extern "C" {
 #endif
 
+SYNTH_CALL_ void synth_pause(void)
+{
+#if defined(__GNUC__) && (defined(__x86_64__) || defined(__i386__))
+    __builtin_ia32_pause();
+#elif defined(__GNUC__) && defined(__aarch64__)
+    __asm__ volatile("yield");
+#endif
+}
+
+/* The rest of a call that makes a try again while it is LOST, with a pause between two. */
+#define SYNTH_REPEAT_(tries, call)                                                                                     \
+    synth_code code;                                                                                                   \
+    while ((code = (call)) == SYNTH_LOST && tries > 1) {                                                               \
+        tries--;                                                                                                       \
+        synth_pause();                                                                                                 \
+    }                                                                                                                  \
+    return code
+
 /* Is in each `new`: no library that lacks this version's symbol is linked. */
 SYNTH_CALL_ void synth_linked_(void)
 {
@@ -136,43 +154,27 @@ SYNTH_CALL_ synth_code synth_batch_try_take_some(struct synth_batch *SYNTH_RESTR
 SYNTH_CALL_ synth_code synth_batch_put(struct synth_batch *SYNTH_RESTRICT_ batch,
                                        const uint64_t *SYNTH_RESTRICT_ items, size_t count, uint32_t tries)
 {
-    synth_code code = synth_batch_try_put(batch, items, count, SYNTH_NULL_);
-    for (; code == SYNTH_LOST && tries > 1; tries--) {
-        code = synth_batch_try_put(batch, items, count, SYNTH_NULL_);
-    }
-    return code;
+    SYNTH_REPEAT_(tries, synth_batch_try_put(batch, items, count, SYNTH_NULL_));
 }
 
 SYNTH_CALL_ synth_code synth_batch_put_some(struct synth_batch *SYNTH_RESTRICT_ batch,
                                             const uint64_t *SYNTH_RESTRICT_ items, size_t count, uint32_t tries,
                                             size_t *SYNTH_RESTRICT_ put)
 {
-    synth_code code = synth_batch_try_put_some(batch, items, count, put, SYNTH_NULL_);
-    for (; code == SYNTH_LOST && tries > 1; tries--) {
-        code = synth_batch_try_put_some(batch, items, count, put, SYNTH_NULL_);
-    }
-    return code;
+    SYNTH_REPEAT_(tries, synth_batch_try_put_some(batch, items, count, put, SYNTH_NULL_));
 }
 
 SYNTH_CALL_ synth_code synth_batch_take(struct synth_batch *SYNTH_RESTRICT_ batch, uint64_t *SYNTH_RESTRICT_ items,
                                         size_t room, uint32_t tries, size_t *SYNTH_RESTRICT_ count)
 {
-    synth_code code = synth_batch_try_take(batch, items, room, count, SYNTH_NULL_);
-    for (; code == SYNTH_LOST && tries > 1; tries--) {
-        code = synth_batch_try_take(batch, items, room, count, SYNTH_NULL_);
-    }
-    return code;
+    SYNTH_REPEAT_(tries, synth_batch_try_take(batch, items, room, count, SYNTH_NULL_));
 }
 
 SYNTH_CALL_ synth_code synth_batch_take_some(struct synth_batch *SYNTH_RESTRICT_ batch,
                                              uint64_t *SYNTH_RESTRICT_ items, size_t room, uint32_t tries,
                                              size_t *SYNTH_RESTRICT_ count)
 {
-    synth_code code = synth_batch_try_take_some(batch, items, room, count, SYNTH_NULL_);
-    for (; code == SYNTH_LOST && tries > 1; tries--) {
-        code = synth_batch_try_take_some(batch, items, room, count, SYNTH_NULL_);
-    }
-    return code;
+    SYNTH_REPEAT_(tries, synth_batch_try_take_some(batch, items, room, count, SYNTH_NULL_));
 }
 
 SYNTH_CALL_ synth_code synth_batch_try_take_one(struct synth_batch *SYNTH_RESTRICT_ batch,
@@ -180,6 +182,12 @@ SYNTH_CALL_ synth_code synth_batch_try_take_one(struct synth_batch *SYNTH_RESTRI
 {
     uint64_t unused;
     return synth_batch_try_take_some(batch, item ? item : &unused, 1, SYNTH_NULL_, tail);
+}
+
+SYNTH_CALL_ synth_code synth_batch_take_one(struct synth_batch *SYNTH_RESTRICT_ batch, uint64_t *SYNTH_RESTRICT_ item,
+                                            uint32_t tries)
+{
+    SYNTH_REPEAT_(tries, synth_batch_try_take_one(batch, item, SYNTH_NULL_));
 }
 
 SYNTH_CALL_ synth_code synth_batch_look(const struct synth_batch *batch, struct synth_batch_status *status)
@@ -328,21 +336,20 @@ SYNTH_CALL_ synth_code synth_queue_try_take_line(struct synth_queue *SYNTH_RESTR
 SYNTH_CALL_ synth_code synth_queue_put(struct synth_queue *SYNTH_RESTRICT_ queue,
                                        const uint64_t *SYNTH_RESTRICT_ items, size_t count, uint32_t tries)
 {
-    synth_code code = synth_queue_try_put(queue, items, count, SYNTH_NULL_);
-    for (; code == SYNTH_LOST && tries > 1; tries--) {
-        code = synth_queue_try_put(queue, items, count, SYNTH_NULL_);
-    }
-    return code;
+    SYNTH_REPEAT_(tries, synth_queue_try_put(queue, items, count, SYNTH_NULL_));
 }
 
 SYNTH_CALL_ synth_code synth_queue_take(struct synth_queue *SYNTH_RESTRICT_ queue, uint64_t *SYNTH_RESTRICT_ item,
                                         uint32_t tries)
 {
-    synth_code code = synth_queue_try_take(queue, item, SYNTH_NULL_);
-    for (; code == SYNTH_LOST && tries > 1; tries--) {
-        code = synth_queue_try_take(queue, item, SYNTH_NULL_);
-    }
-    return code;
+    SYNTH_REPEAT_(tries, synth_queue_try_take(queue, item, SYNTH_NULL_));
+}
+
+SYNTH_CALL_ synth_code synth_queue_take_line(struct synth_queue *SYNTH_RESTRICT_ queue,
+                                             uint64_t *SYNTH_RESTRICT_ line, size_t room, uint32_t tries,
+                                             size_t *SYNTH_RESTRICT_ count)
+{
+    SYNTH_REPEAT_(tries, synth_queue_try_take_line(queue, line, room, count, SYNTH_NULL_));
 }
 
 SYNTH_CALL_ synth_code synth_queue_look(const struct synth_queue *queue, struct synth_queue_status *status)
@@ -401,5 +408,7 @@ SYNTH_CALL_ synth_code synth_queue_abandon(struct synth_queue *SYNTH_RESTRICT_ q
 
 #include "inline_hand.h"
 #include "inline_others.h"
+
+#undef SYNTH_REPEAT_
 
 #endif

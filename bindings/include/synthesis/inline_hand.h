@@ -219,6 +219,15 @@ SYNTH_CALL_ synth_code synth_hand_try_park(struct synth_hand *SYNTH_RESTRICT_ ha
     return synth_hand_state_(found, state);
 }
 
+/* Whether a try is to be made again, after a pause. */
+SYNTH_CALL_ bool synth_is_lost_(synth_code code)
+{
+    if (code == SYNTH_LOST) {
+        synth_pause();
+    }
+    return code == SYNTH_LOST;
+}
+
 /* Whether both hands have what only one hand of a table has: the element, or a processor. */
 SYNTH_CALL_ bool synth_hand_are_apart_(const struct synth_hand *one, const struct synth_hand *two, uint32_t element)
 {
@@ -258,13 +267,13 @@ SYNTH_CALL_ synth_code synth_hand_give(struct synth_hand *giver, struct synth_ha
     }
     do {
         code = synth_hand_try_park(giver, element, &parked, SYNTH_NULL_);
-    } while (code == SYNTH_LOST);
+    } while (synth_is_lost_(code));
     if (!parked) {
         return SYNTH_LOST;
     }
     do {
         code = synth_hand_try_start(receiver, element, &started, SYNTH_NULL_);
-    } while (code == SYNTH_LOST);
+    } while (synth_is_lost_(code));
     return started == SYNTH_START_HELD ? SYNTH_OK : SYNTH_TAKEN;
 }
 
@@ -292,6 +301,71 @@ SYNTH_CALL_ synth_code synth_hand_try_deliver(struct synth_hand *SYNTH_RESTRICT_
     const struct synth_raw_state found = synth_raw_hand_try_deliver(hand, element, signals ? signals : &unused);
     SYNTH_ACQUIRE_(SYNTH_ELEMENT_, element);
     return synth_hand_state_(found, state);
+}
+
+/* Tries that are made again. */
+
+SYNTH_CALL_ synth_code synth_hand_next(struct synth_hand *SYNTH_RESTRICT_ hand, uint32_t *SYNTH_RESTRICT_ element,
+                                       uint32_t tries)
+{
+    SYNTH_REPEAT_(tries, synth_hand_try_next(hand, element, SYNTH_NULL_));
+}
+
+SYNTH_CALL_ synth_code synth_hand_next_free(struct synth_hand *SYNTH_RESTRICT_ hand, uint32_t *SYNTH_RESTRICT_ element,
+                                            uint32_t tries)
+{
+    SYNTH_REPEAT_(tries, synth_hand_try_free(hand, element, SYNTH_NULL_));
+}
+
+SYNTH_CALL_ synth_code synth_hand_wake(struct synth_hand *SYNTH_RESTRICT_ hand, uint32_t wait,
+                                       uint32_t *SYNTH_RESTRICT_ element, uint32_t tries)
+{
+    SYNTH_REPEAT_(tries, synth_hand_try_wake(hand, wait, element, SYNTH_NULL_));
+}
+
+SYNTH_CALL_ synth_code synth_hand_wake_before(struct synth_hand *SYNTH_RESTRICT_ hand, uint32_t wait, uint32_t head,
+                                              uint32_t *SYNTH_RESTRICT_ element, uint32_t tries)
+{
+    SYNTH_REPEAT_(tries, synth_hand_try_wake_before(hand, wait, head, element, SYNTH_NULL_));
+}
+
+SYNTH_CALL_ synth_code synth_hand_ready(struct synth_hand *hand, uint32_t element, uint32_t tries)
+{
+    SYNTH_REPEAT_(tries, synth_hand_try_ready(hand, element, SYNTH_NULL_));
+}
+
+SYNTH_CALL_ synth_code synth_hand_retire(struct synth_hand *hand, uint32_t element, uint32_t tries)
+{
+    SYNTH_REPEAT_(tries, synth_hand_try_retire(hand, element, SYNTH_NULL_));
+}
+
+SYNTH_CALL_ synth_code synth_hand_wait(struct synth_hand *hand, uint32_t element, uint32_t wait, uint32_t tries)
+{
+    SYNTH_REPEAT_(tries, synth_hand_try_wait(hand, element, wait, SYNTH_NULL_, SYNTH_NULL_));
+}
+
+SYNTH_CALL_ synth_code synth_hand_wait_at(struct synth_hand *hand, uint32_t element, uint32_t wait, uint32_t ticket,
+                                          uint32_t tries)
+{
+    SYNTH_REPEAT_(tries, synth_hand_try_wait_at(hand, element, wait, ticket, SYNTH_NULL_, SYNTH_NULL_));
+}
+
+SYNTH_CALL_ synth_code synth_hand_start(struct synth_hand *SYNTH_RESTRICT_ hand, uint32_t element, uint32_t tries,
+                                        uint32_t *SYNTH_RESTRICT_ started)
+{
+    SYNTH_REPEAT_(tries, synth_hand_try_start(hand, element, started, SYNTH_NULL_));
+}
+
+SYNTH_CALL_ synth_code synth_hand_park(struct synth_hand *SYNTH_RESTRICT_ hand, uint32_t element, uint32_t tries,
+                                       bool *SYNTH_RESTRICT_ parked)
+{
+    SYNTH_REPEAT_(tries, synth_hand_try_park(hand, element, parked, SYNTH_NULL_));
+}
+
+SYNTH_CALL_ synth_code synth_hand_deliver(struct synth_hand *SYNTH_RESTRICT_ hand, uint32_t element, uint32_t tries,
+                                          uint32_t *SYNTH_RESTRICT_ signals)
+{
+    SYNTH_REPEAT_(tries, synth_hand_try_deliver(hand, element, signals, SYNTH_NULL_));
 }
 
 SYNTH_CALL_ synth_code synth_hand_finish(struct synth_hand *SYNTH_RESTRICT_ hand,

@@ -41,6 +41,11 @@ SYNTH_CALL_ synth_code synth_chain_try_chain(struct synth_chain *SYNTH_RESTRICT_
     return found.code;
 }
 
+SYNTH_CALL_ synth_code synth_chain_chain(struct synth_chain *chain, uint16_t note, uint32_t tries)
+{
+    SYNTH_REPEAT_(tries, synth_chain_try_chain(chain, note, SYNTH_NULL_));
+}
+
 SYNTH_CALL_ synth_code synth_chain_next(struct synth_chain *SYNTH_RESTRICT_ chain, uint16_t *SYNTH_RESTRICT_ note)
 {
     uint16_t unused = 0;
@@ -125,6 +130,19 @@ SYNTH_CALL_ synth_code synth_seat_try_set(struct synth_seat *SYNTH_RESTRICT_ sea
         *slot = found.head;
     }
     return found.code;
+}
+
+SYNTH_CALL_ synth_code synth_seat_advance(struct synth_seat *SYNTH_RESTRICT_ seat, uint32_t tries,
+                                          uint32_t *SYNTH_RESTRICT_ clock)
+{
+    SYNTH_REPEAT_(tries, synth_seat_try_advance(seat, clock));
+}
+
+SYNTH_CALL_ synth_code synth_seat_set(struct synth_seat *SYNTH_RESTRICT_ seat,
+                                      const struct synth_alarm *SYNTH_RESTRICT_ alarm, uint32_t tries,
+                                      uint32_t *SYNTH_RESTRICT_ slot)
+{
+    SYNTH_REPEAT_(tries, synth_seat_try_set(seat, alarm, slot));
 }
 
 SYNTH_CALL_ synth_code synth_seat_gauge(const struct synth_seat *seat, uint32_t gauge, uint64_t *value)

@@ -3,8 +3,8 @@
 #define SYNTHESIS_QUEUE_OF_HPP
 
 #include "queue.hpp"
+#include "words.hpp"
 #include <array>
-#include <cstring>
 
 namespace synthesis {
 
@@ -14,9 +14,8 @@ namespace synthesis {
 /// The calls are those of QueueEnd, and an end is used by one thread at a time. What a thread did before a put is
 /// visible to whoever takes one of its items, so also what a pointer leads to.
 template <class T> class QueueOf {
-    static_assert(std::is_trivially_copyable_v<T> && std::is_nothrow_default_constructible_v<T>,
-                  "a value is copied by its bytes");
-    static_assert(sizeof(T) <= sizeof(std::uint64_t), "a value has at most 8 bytes");
+    using Words = detail::Words<T>;
+    static_assert(Words::fits, "a value is an item");
 
 public:
     QueueOf() noexcept = default;
@@ -33,7 +32,7 @@ public:
     /// The end. Each of its items has the bytes of a value, and zeros after them.
     [[nodiscard]] QueueEnd &end() noexcept { return end_; }
 
-    PutAnswer try_put(T value) noexcept { return end_.try_put(word_of(value)); }
+    PutAnswer try_put(T value) noexcept { return end_.try_put(Words::word_of(value)); }
     /// As QueueEnd::try_put of several items.
     PutAnswer try_put(View<const T> values) noexcept
     {
@@ -42,7 +41,7 @@ public:
             return {end_.full() ? Code::TooLong : Code::EmptyHandle, {}, {}, {}};
         }
         for (std::size_t i = 0; i < values.size(); i++) {
-            words[i] = word_of(values[i]);
+            words[i] = Words::word_of(values[i]);
         }
         return end_.try_put(View<const std::uint64_t>(words.data(), values.size()));
     }
@@ -60,7 +59,7 @@ public:
         const std::size_t room = buffer.size() < words.size() ? buffer.size() : words.size();
         const RunAnswer answer = end_.take_up_to(View<std::uint64_t>(words.data(), room));
         for (std::size_t i = 0; i < answer.count; i++) {
-            buffer[i] = value_of(words[i]);
+            buffer[i] = Words::value_of(words[i]);
         }
         return answer;
     }
@@ -80,14 +79,14 @@ public:
         }
         left.resize(totals->left);
         for (std::size_t i = 0; i < left.size(); i++) {
-            left[i] = value_of(words[i]);
+            left[i] = Words::value_of(words[i]);
         }
         return QueueTotalsOf<T>{totals->first, totals->put, totals->taken, std::move(left)};
     }
 
     PutAnswer put_wait(T value, QueueEvents &events, Limit limit = {}) noexcept
     {
-        return end_.put_wait(word_of(value), events, limit);
+        return end_.put_wait(Words::word_of(value), events, limit);
     }
     TakeAnswerOf<T> take_wait(QueueEvents &events, Limit limit = {}) noexcept
     {
@@ -95,18 +94,6 @@ public:
     }
 
 private:
-    static std::uint64_t word_of(const T &value) noexcept
-    {
-        std::uint64_t word = 0;
-        std::memcpy(&word, &value, sizeof value);
-        return word;
-    }
-    static T value_of(std::uint64_t word) noexcept
-    {
-        T value{};
-        std::memcpy(&value, &word, sizeof value);
-        return value;
-    }
     static Expected<QueueOf> of(Expected<QueueEnd> end) noexcept
     {
         return end ? Expected<QueueOf>(QueueOf(std::move(*end))) : Expected<QueueOf>(end.code());
@@ -115,7 +102,7 @@ private:
     {
         TakeAnswerOf<T> answer = {taken.code, {}, taken.empty, taken.lost};
         if (taken.item) {
-            answer.item = value_of(*taken.item);
+            answer.item = Words::value_of(*taken.item);
         }
         return answer;
     }

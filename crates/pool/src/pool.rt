@@ -2,6 +2,10 @@
 //!
 //! A holder is an end of the pool's queue, which lists what it put and took, so it needs no list of its own. The
 //! functions of `batch_queue::laws` have empty bodies. They are called because the proofs use their clauses.
+//!
+//! A release may be Full although the queue has a place for each buffer. A holder that is preempted within its acquire
+//! keeps the places of what it takes until it runs again, while the others go round the queue. More places make that
+//! rarer, and no number rules it out. So a release is repeated while it is Full, with a yield, as `give_back` does.
 ghost use Rattle.std.specs.Prelude.{◌≡◌, ◌+◌, ◌<◌, ◌≤◌, ℕ, length, take, IfErr, IfOk, MatchResult};
 ghost use Rattle.table_theory.specs.Ledgers.{WereOpen};
 ghost use Rattle.batch_queue.specs.Client.{GoesOn, PartsOnlyIfFull, TookAllPublished, WereSome, WhyNotPut};

@@ -40,8 +40,8 @@ static void *open_copy(void)
     return object;
 }
 
-/* One end of each object that was made by an earlier load, and the first end of one more. */
-static struct synth_batch before[LOADS * MADE];
+/* The first end of each object, and one that was split off it. So the first one hasn't the whole, as a join looks. */
+static struct synth_batch before[LOADS * MADE], rest[LOADS * MADE];
 
 /* Makes a few objects, and joins a part of each to the objects of all earlier loads. */
 static void make_more(int load)
@@ -49,6 +49,7 @@ static void make_more(int load)
     for (int i = load * MADE; i < (load + 1) * MADE; i++) {
         struct synth_batch part = SYNTH_BATCH_INIT;
         ROW(there.new_batch(8, &before[i]), SYNTH_OK);
+        ROW(there.split(&before[i], &rest[i]), SYNTH_OK);
         ROW(there.split(&before[i], &part), SYNTH_OK);
         for (int k = 0; k < i; k++) {
             ROW(there.join(&before[k], &part), SYNTH_OTHER_OBJECT);
@@ -69,6 +70,7 @@ int main(void)
         if (load == LOADS - 1) {
             for (int i = 0; i < LOADS * MADE; i++) {
                 ROW(there.free(&before[i]), SYNTH_OK);
+                ROW(there.free(&rest[i]), SYNTH_OK);
             }
         }
         ROW(dlclose(object), 0);

@@ -1,7 +1,8 @@
 /*
- * What a `new` and a `split` take of memory: at most what the head of synthesis.h says, and no less than nine tenths of
- * it. And that a try writes nothing to its handle, so that handles may lie side by side: it is made on handles in
- * memory that can't be written to. Status 1: it isn't so. A write to a handle ends the program.
+ * What a `new` and a `split` take of memory, and what they take at their peak: at most what the head of synthesis.h
+ * says, and no less than nine tenths of it. And that a try writes nothing to its handle, so that handles may lie side
+ * by side: it is made on handles in memory that can't be written to. Status 1: it isn't so. A write to a handle ends the
+ * program.
  */
 #ifndef _DEFAULT_SOURCE
 #define _DEFAULT_SOURCE
@@ -14,17 +15,40 @@
 /* The bytes that the head of synthesis.h names. */
 enum { PER_PLACE = 16, BATCH = 540, QUEUE = 280, CHAIN = 600, METERS = 360, LINE = 540, ELEMENTS = 16350, SPLIT = 64 };
 
+/* The bytes that it names of those which take more while they are made. */
+enum { PEAK_PER_PLACE = 32, BATCH_PEAK = 770, QUEUE_PEAK = 260, ELEMENTS_PEAK = 32400 };
+
 static size_t taken_before;
 
-/* The call was done, and took about so many bytes. */
-static void takes(synth_code code, size_t at_most)
+/* What is taken from here on is that of the next call. */
+static void begin(void)
 {
-    size_t bytes = memory_bytes() - taken_before;
+    memory_refuse(0);
     taken_before = memory_bytes();
-    ROW(code, SYNTH_OK);
+}
+
+/* So many bytes are about what is named. */
+static void is_about(size_t bytes, size_t at_most)
+{
     if (bytes > at_most || bytes * 10 < at_most * 9) {
         ROW(bytes, at_most);
     }
+}
+
+/* The call was done, and took about so many bytes, and about so many at its peak. */
+static void takes_more(synth_code code, size_t at_most, size_t at_peak)
+{
+    size_t bytes = memory_bytes() - taken_before, peak = memory_peak() - taken_before;
+    ROW(code, SYNTH_OK);
+    is_about(bytes, at_most);
+    is_about(peak, at_peak);
+    begin();
+}
+
+/* The call was done, and took about so many bytes, and no more at its peak. */
+static void takes(synth_code code, size_t at_most)
+{
+    takes_more(code, at_most, at_most);
 }
 
 /* One handle of each kind and one more, and room for the rest of a page. */
@@ -40,15 +64,15 @@ struct handles {
 
 static void make_all(struct handles *all)
 {
-    takes(synth_batch_new(64, &all->batch), BATCH + 64 * PER_PLACE);
+    takes_more(synth_batch_new(64, &all->batch), BATCH + 64 * PER_PLACE, BATCH_PEAK + 64 * PEAK_PER_PLACE);
     takes(synth_batch_split(&all->batch, &all->batch_part), SPLIT);
-    takes(synth_queue_new(64, 0, &all->queue), QUEUE + 64 * PER_PLACE);
+    takes_more(synth_queue_new(64, 0, &all->queue), QUEUE + 64 * PER_PLACE, QUEUE_PEAK + 64 * PEAK_PER_PLACE);
     takes(synth_queue_split(&all->queue, &all->queue_part), SPLIT);
     takes(synth_chain_new(0, &all->chain), CHAIN);
     takes(synth_chain_split(&all->chain, &all->chain_part), SPLIT);
     takes(synth_seat_new(0, &all->seat), METERS);
     takes(synth_seat_split(&all->seat, &all->seat_part), SPLIT);
-    takes(synth_hand_new(0, &all->hand), ELEMENTS);
+    takes_more(synth_hand_new(0, &all->hand), ELEMENTS, ELEMENTS_PEAK);
     takes(synth_hand_split(&all->hand, 1, &all->hand_part), SPLIT);
     takes(synth_line_new(1, &all->input, &all->output), LINE);
 }
@@ -67,13 +91,13 @@ static void free_all(struct handles *all)
     ROW(synth_hand_free(&all->hand_part), SYNTH_OK);
     ROW(synth_line_finish(&all->input, &all->output, NULL), SYNTH_OK);
     ROW(memory_taken(), 0);
-    taken_before = 0;
+    begin();
 }
 
 static void large_ones(struct handles *all)
 {
-    takes(synth_batch_new(4096, &all->batch), BATCH + 4096 * PER_PLACE);
-    takes(synth_queue_new(256, 0, &all->queue), QUEUE + 256 * PER_PLACE);
+    takes_more(synth_batch_new(4096, &all->batch), BATCH + 4096 * PER_PLACE, BATCH_PEAK + 4096 * PEAK_PER_PLACE);
+    takes_more(synth_queue_new(256, 0, &all->queue), QUEUE + 256 * PER_PLACE, QUEUE_PEAK + 256 * PEAK_PER_PLACE);
     takes(synth_line_new(65536, &all->input, &all->output), LINE + 65536);
     ROW(synth_batch_free(&all->batch), SYNTH_OK);
     ROW(synth_queue_free(&all->queue), SYNTH_OK);
@@ -151,8 +175,9 @@ int main(void)
         perror("sizes");
         return 1;
     }
+    begin();
     large_ones(all);
-    taken_before = memory_bytes();
+    begin();
     make_all(all);
     ROW(mprotect(page, sizeof *all, PROT_READ), 0);
     use_all(all);

@@ -34,7 +34,8 @@
  *   handle, and takers may wait for good for what it put.
  * - Handles may lie side by side, since tries don't write to them.
  * - A batch queue takes 540 bytes of memory and 16 for each place, a claim queue 280 and 16, a chain 600, meters 360, a
- *   line 540 and its room, thread elements 16,350, and each split 64.
+ *   line 540 and its room, thread elements 16,350, and each split 64. While they are made, some take about twice as
+ *   much: a batch queue 770 bytes and 32 for each place, a claim queue 260 and 32, and thread elements 32,400.
  * - Two copies of the library in one process may be used side by side: to a join their objects are different ones,
  *   except by a chance of one in four million millions, if each copy made a million.
  * - A copy that a shared object of the program has is unloaded (dlclose) only if each handle that it filled is empty.

@@ -1,3 +1,4 @@
+pub mod Clocks
 pub mod Counting
 pub mod Fronts
 pub mod Growing
@@ -5,4 +6,5 @@ pub mod Idling
 pub mod Kept
 pub mod Lines
 pub mod Queues
+pub mod Recorders
 pub mod Values

@@ -17,6 +17,7 @@
 //! turn up to both.
 #![tactic(auto)]
 
+mod boot_clock;
 mod clock;
 mod counted;
 mod entry;
@@ -29,7 +30,8 @@ mod recorder;
 mod thread_queues;
 mod values;
 
-pub use clock::TurnClock;
+pub use boot_clock::BootClock;
+pub use clock::{Timer, TurnClock};
 pub use entry::{Did, Entry, HeardAnswer, Part, SaidAnswer, Tried, end_of};
 pub use laws::{lines_are_known, lines_keep_their_text, lines_pass_once, runs_are_kept};
 pub use line_turn::{LineTurn, Way};

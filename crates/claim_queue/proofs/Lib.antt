@@ -7,6 +7,7 @@ pub mod Shutting
 pub mod Tallying
 pub mod Reading
 pub mod Following
+pub mod Pausing
 pub mod Raising
 pub mod Permits
 pub mod Putting

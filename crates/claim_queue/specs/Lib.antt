@@ -18,4 +18,5 @@ pub mod Orders
 pub mod Reads
 pub mod Walks
 pub mod Client
+pub mod Pauses
 pub mod Evidence

@@ -9,11 +9,12 @@ ghost use Rattle.claim_queue.specs.Client.{HadRoomAt, MayPut, WhyNotClaimed, Why
 ghost use Rattle.claim_queue.specs.declared.claim.ClaimRefusal.TheVariants as refusals;
 ghost use Rattle.claim_queue.specs.Evidence.{ClaimedItems, Refused, PausedClaim, Raised, IsPut, PutAnswer};
 ghost use Rattle.claim_queue.specs.Lines.{SameLines, PutLine};
+ghost use Rattle.claim_queue.specs.Pauses.{PausedBeforeLast};
 ghost use Rattle.claim_queue.specs.Puts.{RaisedFrom, is_lost};
 
 use crate::ends::{ClaimQueue, QueueEnd};
 use crate::layout::SHUT;
-use crate::pause::{NoPause, Pause};
+use crate::pause::{NoPause, WatchedPause};
 use crate::steps::{exchange_head, load_head, load_tail, store_data, store_flag};
 use arrayvec::ArrayVec;
 use crossbeam_utils::Backoff;
@@ -140,7 +141,7 @@ impl<const N: usize, C: Protocol> ClaimQueue<N, C> {
     }
 
     // One try to claim places for the items, with a pause before the compare-and-swap. Returns the first position.
-    fn claim_places<P: Pause>(
+    fn claim_places<P: WatchedPause<N>>(
         &self,
         end: &mut QueueEnd<N>,
         items: &[u64],
@@ -155,8 +156,10 @@ impl<const N: usize, C: Protocol> ClaimQueue<N, C> {
             (λ start. ClaimedItems N (view_of end.old) start items.now (view_of end.new))
             (λ r. Refused N (view_of end.old) (length items.now) r (view_of end.new)) }
         ensures handle { IsSameEnd end.old end.new }
-        ensures hook { MatchResult result (λ start. P.paused pause.old pause.new) (λ r. PausedClaim P.paused N
-            (view_of end.old) (length items.now) r (view_of end.new) pause.old pause.new) }
+        ensures hook { MatchResult result
+            (λ start. PausedBeforeLast P.paused P.paused_at end.old end.new pause.old pause.new)
+            (λ r. PausedClaim (PausedBeforeLast P.paused P.paused_at end.old end.new) N (view_of end.old)
+            (length items.now) r (view_of end.new) pause.old pause.new) }
     {
         let count = items.len();
         if count == 0 {
@@ -184,7 +187,7 @@ impl<const N: usize, C: Protocol> ClaimQueue<N, C> {
                 tail: tail as u32,
             });
         }
-        pause.between();
+        pause.pause_at(end);
         // linearization point: the places are reserved, if the head is unchanged. No position is used again, so an
         // equal head means that no claim came in between.
         let found = exchange_head::<C, Brand>(&self.table.shared, &mut end.seat, head, new, items);
@@ -357,7 +360,7 @@ impl<const N: usize> ClaimQueue<N> {
 
     /// `try_claim`, with a pause just before the compare-and-swap, in which another end may step. A try that is refused
     /// before its compare-and-swap does not call the pause.
-    pub fn try_claim_paused<P: Pause>(
+    pub fn try_claim_paused<P: WatchedPause<N>>(
         &self,
         end: &mut QueueEnd<N>,
         items: &[u64],
@@ -380,8 +383,10 @@ impl<const N: usize> ClaimQueue<N> {
             (λ c. ClaimedItems N (view_of end.old) c.start items.now (view_of end.new))
             (λ r. Refused N (view_of end.old) (length items.now) r (view_of end.new)) }
         ensures handle { IsSameEnd end.old end.new }
-        ensures hook { MatchResult result (λ c. P.paused pause.old pause.new) (λ r. PausedClaim P.paused N
-            (view_of end.old) (length items.now) r (view_of end.new) pause.old pause.new) }
+        ensures hook { MatchResult result
+            (λ c. PausedBeforeLast P.paused P.paused_at end.old end.new pause.old pause.new)
+            (λ r. PausedClaim (PausedBeforeLast P.paused P.paused_at end.old end.new) N (view_of end.old)
+            (length items.now) r (view_of end.new) pause.old pause.new) }
     {
         let start = self.claim_places(end, items, pause)?;
         Ok(Claim {

@@ -59,7 +59,7 @@ pub use claim::{Claim, ClaimRefusal};
 pub use close::Closed;
 pub use ends::{ClaimQueue, QueueEnd};
 pub use look::QueueLook;
-pub use pause::{NoPause, Pause};
+pub use pause::{NoPause, Pause, WatchedPause};
 pub use rule::{ClaimRule, QueueOps, Shape, View};
 pub use table_theory::OpenEnds;
 pub use take::TakeRefusal;

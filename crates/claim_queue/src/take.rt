@@ -9,12 +9,13 @@ ghost use Rattle.claim_queue.specs.Claims.{KeepsClaims};
 ghost use Rattle.claim_queue.specs.Client.{ArePut, EachEndKeeps, WereFirst, WhyNotTaken};
 ghost use Rattle.claim_queue.specs.Evidence.{TookItems, RefusedTake, PausedTake};
 ghost use Rattle.claim_queue.specs.Lines.{SameLines, TookLine};
+ghost use Rattle.claim_queue.specs.Pauses.{PausedBeforeLast};
 ghost use Rattle.claim_queue.specs.Takings.{IsLine, IsBegun, IsOne, IsNone};
 ghost use Rattle.claim_queue.specs.Reads.{HasFound, IsScanned, IsStopped, IsRefusedAt};
 
 use crate::ends::{ClaimQueue, QueueEnd};
 use crate::layout::SHUT;
-use crate::pause::{NoPause, Pause};
+use crate::pause::{NoPause, WatchedPause};
 use crate::steps::{exchange_tail, load_data, load_flag, load_head, load_tail};
 use arrayvec::ArrayVec;
 use table_theory::protocol::Protocol;
@@ -60,7 +61,11 @@ impl<const N: usize, C: Protocol> ClaimQueue<N, C> {
     }
 
     // One try to take the first item left, with a pause before the compare-and-swap.
-    fn take_first<P: Pause>(&self, end: &mut QueueEnd<N>, pause: &mut P) -> Result<u64, TakeRefusal>
+    fn take_first<P: WatchedPause<N>>(
+        &self,
+        end: &mut QueueEnd<N>,
+        pause: &mut P,
+    ) -> Result<u64, TakeRefusal>
         requires { IsEndOf self.now end.old }
         ensures effect { MatchResult result (λ x. TookLine (x ∷ []) (view_of end.old) (view_of end.new))
             (λ r. SameLines (view_of end.old) (view_of end.new)) }
@@ -75,8 +80,10 @@ impl<const N: usize, C: Protocol> ClaimQueue<N, C> {
         ensures trace { MatchResult result (λ x. TookItems N (view_of end.old) (x ∷ []) (view_of end.new))
             (λ r. RefusedTake IsNone IsOne N (view_of end.old) r (view_of end.new)) }
         ensures handle { IsSameEnd end.old end.new }
-        ensures hook { MatchResult result (λ x. P.paused pause.old pause.new)
-            (λ r. PausedTake P.paused N (view_of end.old) r (view_of end.new) pause.old pause.new) }
+        ensures hook { MatchResult result
+            (λ x. PausedBeforeLast P.paused P.paused_at end.old end.new pause.old pause.new)
+            (λ r. PausedTake (PausedBeforeLast P.paused P.paused_at end.old end.new) N (view_of end.old) r
+            (view_of end.new) pause.old pause.new) }
     {
         // The tail never falls, and no position is used again: if the compare-and-swap finds this tail, no item was
         // taken in between.
@@ -89,7 +96,7 @@ impl<const N: usize, C: Protocol> ClaimQueue<N, C> {
         // The flag was stored after the data. The place is not written again before the tail has passed it, and then
         // the compare-and-swap fails.
         let item = load_data(&self.table.shared, &mut end.seat, N, tail);
-        pause.between();
+        pause.pause_at(end);
         // linearization point: the item is taken, if the tail is unchanged
         let found = exchange_tail(&self.table.shared, &mut end.seat, tail, tail + 1);
         if found != tail {
@@ -220,7 +227,7 @@ impl<const N: usize> ClaimQueue<N> {
 
     /// `try_take`, with a pause just before the compare-and-swap, in which another end may step. A try that is refused
     /// before its compare-and-swap does not call the pause.
-    pub fn try_take_paused<P: Pause>(
+    pub fn try_take_paused<P: WatchedPause<N>>(
         &self,
         end: &mut QueueEnd<N>,
         pause: &mut P,
@@ -237,8 +244,10 @@ impl<const N: usize> ClaimQueue<N> {
         ensures trace { MatchResult result (λ x. TookItems N (view_of end.old) (x ∷ []) (view_of end.new))
             (λ r. RefusedTake IsNone IsOne N (view_of end.old) r (view_of end.new)) }
         ensures handle { IsSameEnd end.old end.new }
-        ensures hook { MatchResult result (λ x. P.paused pause.old pause.new)
-            (λ r. PausedTake P.paused N (view_of end.old) r (view_of end.new) pause.old pause.new) }
+        ensures hook { MatchResult result
+            (λ x. PausedBeforeLast P.paused P.paused_at end.old end.new pause.old pause.new)
+            (λ r. PausedTake (PausedBeforeLast P.paused P.paused_at end.old end.new) N (view_of end.old) r
+            (view_of end.new) pause.old pause.new) }
     {
         self.take_first(end, pause)
     }

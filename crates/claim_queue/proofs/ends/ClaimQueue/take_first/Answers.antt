@@ -2,7 +2,9 @@ use Rattle.claim_queue.proofs.Common.{refl, inr, rules, arith, [], ◌∷◌, ap
 use Rattle.claim_queue.proofs.Brevity.{one_steps, took_steps}
 use Rattle.claim_queue.proofs.Clients.{take_error, take_result, took_shuts}
 use Rattle.claim_queue.proofs.Emptying.{refused_few, refused_unpaused, passed_meanwhile, took_after}
+use Rattle.claim_queue.proofs.Following.{then_look}
 use Rattle.claim_queue.proofs.Lining.{took_line}
+use Rattle.claim_queue.proofs.Pausing.{paused_last}
 use Rattle.claim_queue.proofs.Permits.{each_keeps, were_put}
 use Rattle.claim_queue.proofs.Scanning.{stopped, none_scanned, scanned_more, nothing_found, found_more}
 use Rattle.claim_queue.specs.declared.take.TakeRefusal.TheVariants as takes
@@ -35,7 +37,7 @@ returns-then-found-tail g c = let t = c.load_tail-tail.ensures in let f = c.load
       error = error;
       trace = inr passed;
       handle = search rules;
-      hook = inr (passed, search rules);
+      hook = inr (passed, paused_last _ _ c.args.end.now _ _ _ _ _ _ _ c.pause_at.ensures.called c.pause_at.ensures.shown (search rules) (then_look _ _ _ _ _ _ (then_look _ _ _ _ _ _ t.found.made f.found) d.found) (x.miss c.if-found-tail.true).0.made);
     }
 
 pub returns : goal.returns
@@ -52,7 +54,7 @@ returns g c = let t = c.load_tail-tail.ensures in let f = c.load_flag-flag.ensur
       error = search rules;
       trace = took;
       handle = search rules;
-      hook = search rules;
+      hook = paused_last _ _ c.args.end.now _ _ _ _ _ _ _ c.pause_at.ensures.called c.pause_at.ensures.shown (search rules) (then_look _ _ _ _ _ _ (then_look _ _ _ _ _ _ t.found.made f.found) d.found) (x.hit c.if-found-tail.false).1.made;
     }
 
 pub returns-then-flag-tail-clause-shuts_nothing : goal.returns-then-flag-tail-clause-shuts_nothing
@@ -65,4 +67,7 @@ pub invariant_of-end : goal.invariant_of-end
 invariant_of-end g c = let h = c.args.end.now in let s = stays_both h.seat.me c.load_tail-tail.new.seat.me c.load_flag-flag.new.seat.me c.load_tail-tail.ensures.queue.1 c.load_flag-flag.ensures.queue.1 in record { room = ap (λ (q : Positions). q.room) s.1 ∙ h.room; bare = s.0 ∙ h.bare; one = ap (λ (m : Part). m.ends) s.2 ∙ h.one; ruled = s.3 }
 
 pub invariant_of-end-2 : goal.invariant_of-end-2
-invariant_of-end-2 g c = let h = c.args.end.now in let s = stays_both h.seat.me c.load_data-item.new.seat.me c.exchange_tail-found.new.seat.me (stays_both h.seat.me c.load_flag-flag.new.seat.me c.load_data-item.new.seat.me (stays_both h.seat.me c.load_tail-tail.new.seat.me c.load_flag-flag.new.seat.me c.load_tail-tail.ensures.queue.1 c.load_flag-flag.ensures.queue.1) c.load_data-item.ensures.queue.1) c.exchange_tail-found.ensures.queue.1 in record { room = ap (λ (q : Positions). q.room) s.1 ∙ h.room; bare = s.0 ∙ h.bare; one = ap (λ (m : Part). m.ends) s.2 ∙ h.one; ruled = s.3 }
+invariant_of-end-2 g c = let h = c.args.end.now in let s = stays_both h.seat.me c.load_flag-flag.new.seat.me c.load_data-item.new.seat.me (stays_both h.seat.me c.load_tail-tail.new.seat.me c.load_flag-flag.new.seat.me c.load_tail-tail.ensures.queue.1 c.load_flag-flag.ensures.queue.1) c.load_data-item.ensures.queue.1 in record { room = ap (λ (q : Positions). q.room) s.1 ∙ h.room; bare = s.0 ∙ h.bare; one = ap (λ (m : Part). m.ends) s.2 ∙ h.one; ruled = s.3 }
+
+pub invariant_of-end-3 : goal.invariant_of-end-3
+invariant_of-end-3 g c = let h = c.args.end.now in let s = stays_both h.seat.me c.load_data-item.new.seat.me c.exchange_tail-found.new.seat.me (stays_both h.seat.me c.load_flag-flag.new.seat.me c.load_data-item.new.seat.me (stays_both h.seat.me c.load_tail-tail.new.seat.me c.load_flag-flag.new.seat.me c.load_tail-tail.ensures.queue.1 c.load_flag-flag.ensures.queue.1) c.load_data-item.ensures.queue.1) c.exchange_tail-found.ensures.queue.1 in record { room = ap (λ (q : Positions). q.room) s.1 ∙ h.room; bare = s.0 ∙ h.bare; one = ap (λ (m : Part). m.ends) s.2 ∙ h.one; ruled = s.3 }

@@ -24,8 +24,8 @@ pub struct Port<const N: usize> {
 /// An end at which a quaject takes lines.
 #[derive(Drop)]
 pub struct Intake<const N: usize> {
-    pub(crate) index: usize,
-    pub(crate) end: QueueEnd<N>,
+    index: usize,
+    end: QueueEnd<N>,
     pub(crate) taken: u64,
     ghost number: { taken ≡ counted (lines_taken (view_of end)) },
     ghost only: { lines_put (view_of end) ≡ [] },
@@ -34,8 +34,8 @@ pub struct Intake<const N: usize> {
 /// An end at which a quaject puts lines.
 #[derive(Drop)]
 pub struct Outlet<const N: usize> {
-    pub(crate) index: usize,
-    pub(crate) end: QueueEnd<N>,
+    index: usize,
+    end: QueueEnd<N>,
     pub(crate) put: u64,
     ghost number: { put ≡ counted (lines_put (view_of end)) },
     ghost only: { lines_taken (view_of end) ≡ [] },

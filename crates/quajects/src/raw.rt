@@ -10,8 +10,10 @@ ghost use Rattle.quajects.specs.Notings.{Noted};
 ghost use Rattle.quajects.specs.Ports.{IsEndAt, IsUnused};
 
 use crate::any::AnyQuaject;
+use crate::raw_watch::RawWatch;
 use crate::world::Queues;
 use claim_queue::QueueEnd;
+use crossbeam_utils::Backoff;
 use proc_chain::{ChainEnd, ChainRefusal, Chained, ProcChain};
 use std::sync::Wait;
 
@@ -47,6 +49,7 @@ fn tell<R: Wait>(
     ensures end { IsEndOf chain.now end.new }
     ensures handle { IsSameEnd end.old end.new }
 {
+    let backoff = Backoff::new();
     for _ in rt.forever() {
         match chain.try_chain(end, note) {
             Ok(Chained::Run(turn)) => {
@@ -54,7 +57,7 @@ fn tell<R: Wait>(
                 return;
             }
             Ok(Chained::Left) => return,
-            Err(ChainRefusal::Lost { head: _ }) => {}
+            Err(ChainRefusal::Lost { head: _ }) => backoff.spin(),
             Err(ChainRefusal::Spent) => return,
             Err(ChainRefusal::Full { head: _, tail: _ }) => return,
         }
@@ -98,11 +101,12 @@ impl RawTty {
 
     /// Puts a byte in the raw queue, by `put`, and chains note 0 for it: it retries after Lost, while a chain that is
     /// Full or Spent gets no note. If it gets the Turn, it serves all. Returns true if the byte was put; a byte that
-    /// was refused is counted as an overrun, and a note is chained all the same.
+    /// was refused is counted as an overrun, and a note is chained all the same. All that it does at the queue comes
+    /// before all that it does at the chain.
     ///
     /// Conditions: the index and the end fit the queues, the chain's end is one of the chain, and the queues are the
     /// chain's world.
-    pub fn interrupt<R: Wait>(
+    pub fn interrupt<R: RawWatch>(
         &mut self,
         rt: &R,
         queues: &Queues,
@@ -121,6 +125,7 @@ impl RawTty {
             (claims.view_of (end_of self.new)) }
         ensures noted { Noted (makes MadeOf (pact_of chain.now)) (suits Fits (pact_of chain.now))
             (me_of self.old.chain) 0 (me_of self.new.chain) }
+        ensures order { R.seen_raw (end_of self.new) self.old.chain }
         ensures chain { IsEndOf chain.now self.new.chain }
         ensures fits { IsEndAt queues.now.small.items self.new.index (end_of self.new) }
         ensures handle { (self.new.index ≡ self.old.index) × claims.IsSameEnd (end_of self.old) (end_of self.new)
@@ -132,6 +137,7 @@ impl RawTty {
         if !put {
             self.overruns = self.overruns.wrapping_add(1);
         }
+        rt.show_raw(&self.end, &self.chain);
         tell(rt, queues, chain, &mut self.chain, TYPED);
         put
     }

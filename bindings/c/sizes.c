@@ -1,8 +1,8 @@
 /*
  * What a `new` and a `split` take of memory, and what they take at their peak: at most what the head of synthesis.h
  * says, and no less than nine tenths of it. And that a try writes nothing to its handle, so that handles may lie side
- * by side: it is made on handles in memory that can't be written to. Status 1: it isn't so. A write to a handle ends the
- * program.
+ * by side: it is made on handles in memory that can't be written to. Status 1: it isn't so. A write to a handle ends
+ * the program.
  */
 #ifndef _DEFAULT_SOURCE
 #define _DEFAULT_SOURCE

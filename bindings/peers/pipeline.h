@@ -8,7 +8,7 @@
  * from there, check and change them, and put them into the second ring. A sender takes them from there, checks them,
  * and puts their buffers into the third ring, from which the receivers take them again. So 256 buffers, or as many as
  * are given, go round. Each ring has room for all of them. Up to 32 at once are taken, and what was taken at once is
- * put at once.
+ * put at once. With MANY_RECEIVERS and MANY_WORKERS there are so many of them.
  *
  * A failed try is followed by waits, and then by a sleep till something is put: by the event count of
  * synthesis_event.h, if the program has no sleep of its own. With short waits these are 1, 2, 4 and so on to 64 pauses;
@@ -34,7 +34,14 @@ enum { BURST = 32, BUFFERS = 256, MOST_BUFFERS = 65536, WORDS = 5 };
 
 enum ring { FREE, RECEIVED, CHECKED, RINGS };
 
-enum { RECEIVERS = 2, WORKERS = 2, SENDER = RECEIVERS + WORKERS, THREADS = SENDER + 1 };
+#ifndef MANY_RECEIVERS
+#define MANY_RECEIVERS 2
+#endif
+#ifndef MANY_WORKERS
+#define MANY_WORKERS 2
+#endif
+
+enum { RECEIVERS = MANY_RECEIVERS, WORKERS = MANY_WORKERS, SENDER = RECEIVERS + WORKERS, THREADS = SENDER + 1 };
 
 /* The longest of the short waits is of 2 to the power of LONGEST_SHORT pauses. */
 enum { LONGEST_SHORT = 6 };
@@ -333,14 +340,17 @@ static struct figures time_packets(uint64_t count)
 {
     pthread_barrier_t start;
     pthread_t threads[THREADS];
-    uint64_t half = count / 2, bits = 0;
-    struct job jobs[THREADS] = {
-        {receive_all, 0, 0, half, 0, &start, 0, {0}},
-        {receive_all, 1, half, 2 * half, 0, &start, 0, {0}},
-        {work_all, 2, 0, 0, 0, &start, 0, {0}},
-        {work_all, 3, 0, 0, 0, &start, 0, {0}},
-        {send_all, SENDER, 0, 2 * half, 0, &start, 0, {0}},
-    };
+    uint64_t each = count / RECEIVERS, all = each * RECEIVERS, bits = 0;
+    struct job jobs[THREADS];
+    for (unsigned i = 0; i < THREADS; i++) {
+        jobs[i].work = i < RECEIVERS ? receive_all : i < SENDER ? work_all : send_all;
+        jobs[i].number = i;
+        jobs[i].first = i < RECEIVERS ? i * each : 0;
+        jobs[i].end = i < RECEIVERS ? (i + 1) * each : all;
+        jobs[i].bits = 0;
+        jobs[i].start = &start;
+        jobs[i].spares = 0;
+    }
     for (unsigned ring = 0; ring < RINGS; ring++) {
         synth_event_init(&sleeps[ring].items);
         sleeps[ring].is_over = false;
@@ -362,12 +372,12 @@ static struct figures time_packets(uint64_t count)
     for (unsigned i = 0; i < RECEIVERS; i++) {
         put_burst(FREE, SENDER, jobs[i].spare, jobs[i].spares);
     }
-    for (uint64_t number = 0; number < 2 * half; number++) {
+    for (uint64_t number = 0; number < all; number++) {
         bits |= ~sent[number / 64] >> number % 64 & 1;
     }
     free(sent);
     must(bits == 0, "a packet was lost, came twice or was overwritten");
-    return (struct figures){time / (double)(2 * half), (double)busy / time};
+    return (struct figures){time / (double)all, (double)busy / time};
 }
 
 static void measure_waits(enum waits chosen, const char *name, uint64_t count, size_t buffers)

@@ -1,6 +1,7 @@
 /*
  * The pipeline by DPDK's ring, by its burst calls for any number of producers and takers. With ALONE the sender, which
- * is the only one to take from its ring and to put free buffers, has the calls for one alone there.
+ * is the only one to take from its ring and to put free buffers, has the calls for one alone there. With RELAXED the
+ * rings have DPDK's mode of relaxed tails (RTS), in which no thread waits for the end of another one's put or taking.
  */
 #define WEAKER
 #include "pipeline.h"
@@ -10,7 +11,10 @@ static struct rte_ring *rings[RINGS];
 
 static unsigned flags_of(unsigned ring)
 {
-#ifdef ALONE
+#if defined RELAXED
+    (void)ring;
+    return RING_F_MP_RTS_ENQ | RING_F_MC_RTS_DEQ;
+#elif defined ALONE
     return ring == FREE ? RING_F_SP_ENQ : ring == CHECKED ? RING_F_SC_DEQ : 0;
 #else
     (void)ring;
@@ -44,7 +48,7 @@ static void drop_rings(void)
 static size_t put_some(unsigned ring, unsigned thread, const uint64_t *items, size_t count)
 {
     (void)thread;
-#ifdef ALONE
+#if defined ALONE || defined RELAXED
     return rte_ring_enqueue_burst_elem(rings[ring], items, sizeof *items, (unsigned)count, NULL);
 #else
     return rte_ring_mp_enqueue_burst_elem(rings[ring], items, sizeof *items, (unsigned)count, NULL);
@@ -54,7 +58,7 @@ static size_t put_some(unsigned ring, unsigned thread, const uint64_t *items, si
 static size_t take_some(unsigned ring, unsigned thread, uint64_t *items, size_t most)
 {
     (void)thread;
-#ifdef ALONE
+#if defined ALONE || defined RELAXED
     return rte_ring_dequeue_burst_elem(rings[ring], items, sizeof *items, (unsigned)most, NULL);
 #else
     return rte_ring_mc_dequeue_burst_elem(rings[ring], items, sizeof *items, (unsigned)most, NULL);

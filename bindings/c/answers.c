@@ -338,7 +338,7 @@ static void is_tried(int number, synth_code have, synth_code want)
 static void repeated_tries(void)
 {
     const struct synth_alarm alarm = {1, 2, 3};
-    uint32_t element;
+    uint32_t element = 0;
     calls = 0;
     is_answered(SYNTH_OK, 0, 0);
     for (uint32_t tries = 0; tries < 6; tries++) {

@@ -144,7 +144,7 @@ static bool stopped_taker_keeps_places(struct synth_batch *stopped, long microse
     return is_full;
 }
 
-/* How often a taker is stopped: never under ThreadSanitizer, which keeps a signal back until a call of the C library. */
+/* How often a taker is stopped: never under ThreadSanitizer, which keeps signals back until the loop has ended. */
 static uint64_t stops_of(uint64_t rounds)
 {
 #ifdef SYNTH_WATCHED_

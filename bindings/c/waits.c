@@ -225,7 +225,7 @@ static void run(uint64_t items, struct synth_batch *batch, struct synth_queue *q
 static void pass_batches(uint64_t items)
 {
     struct synth_batch end = SYNTH_BATCH_INIT;
-    struct synth_batch_totals totals = {0, 0, 0};
+    struct synth_batch_totals totals;
     uint64_t left[PLACES];
     ROW(synth_batch_new(PLACES, &end), SYNTH_OK);
     for (int i = 0; i < THREADS; i++) {
@@ -242,7 +242,7 @@ static void pass_batches(uint64_t items)
 static void pass_one_by_one(uint64_t items)
 {
     struct synth_queue end = SYNTH_QUEUE_INIT;
-    struct synth_queue_totals totals = {0, 0, 0, 0};
+    struct synth_queue_totals totals;
     uint64_t left[ROOM];
     ROW(synth_queue_new(ROOM, 0, &end), SYNTH_OK);
     for (int i = 0; i < THREADS; i++) {

@@ -42,6 +42,7 @@
  *   If one isn't, a copy that is loaded later takes its object for another one. libsynthesis.so.1 is never unloaded.
  *
  * HANDLES. An object is shared by its ends. An end is a handle of 16 bytes, which its user owns; one of zeros is empty.
+ * A variable on the stack that isn't initialised may look full, so give it SYNTH_BATCH_INIT or the like.
  * `new` makes an object and fills its first handle. `split` fills one more. `join` empties one, and gives its share to
  * another one. `finish`, by a handle that has the whole again, ends the object and reports what became of it. `free`
  * empties a handle that is never joined: then no finish succeeds, and the object goes with its last handle. A full

@@ -645,7 +645,11 @@ void typed_waits()
     ROW(end.put_wait(View<const char>(std::vector<char>(257)), events).code, Code::TooLong);
     ROW(end.take_some_wait(View<char>(letters).first(2), events).count == 2 && letters[1] == 'b', true);
     ROW(end.take_wait(letters, events).count == 2 && letters[0] == 'c' && letters[1] == 'a', true);
+    ROW(end.take_wait(events, 1ms).code, Code::Empty);
+    ROW(end.put_wait('z', events).count, 1);
+    ROW(end.take_wait(events).item.value(), 'z');
     ROW(end.shut(), Code::Ok);
+    ROW(end.take_wait(events).code == Code::Closed && !end.take_wait(events).item, true);
     ROW(end.take_some_wait(letters, events).code, Code::Closed);
     ROW(end.put_some_wait(all, events).code, Code::Closed);
 }

@@ -112,6 +112,10 @@ public:
     {
         return values.size() > most_at_once ? too_long() : end_.put_wait(Run(values).view(), events, limit);
     }
+    BatchPutAnswer put_wait(T value, QueueEvents &events, Limit limit = {}) noexcept
+    {
+        return put_wait(View<const T>(&value, 1), events, limit);
+    }
     /// As BatchEnd::put_some_wait, of the first 256 values.
     BatchPutAnswer put_some_wait(View<const T> values, QueueEvents &events, Limit limit = {}) noexcept
     {
@@ -122,6 +126,12 @@ public:
     {
         Room room(buffer);
         return room.filled(end_.take_wait(room.view(), events, limit));
+    }
+    /// Takes one value, and sleeps while there is none.
+    TakeAnswerOf<T> take_wait(QueueEvents &events, Limit limit = {}) noexcept
+    {
+        T value{};
+        return one_of(take_some_wait(View<T>(&value, 1), events, limit), value);
     }
     /// As BatchEnd::take_some_wait. It takes at most 256 values.
     BatchTakeAnswer take_some_wait(View<T> buffer, QueueEvents &events, Limit limit = {}) noexcept

@@ -159,7 +159,7 @@ impl Event {
 
     /// Sleeps until `look` finds something, and returns it; or `None` once the time is over. `look` is called twice
     /// before each sleep, and once more after the last one. A thread that has waited, and then found something,
-    /// notifies one more.
+    /// notifies one more. So does one whose look panics after a sleep: its wake-up is passed on.
     ///
     /// ```
     /// # use std::time::Duration;
@@ -178,29 +178,43 @@ impl Event {
     #[cold]
     fn wait_longer<T>(&self, limit: Option<Duration>, mut look: impl FnMut() -> Option<T>) -> Option<T> {
         let deadline = limit.and_then(|limit| Instant::now().checked_add(limit));
-        let mut waited = false;
-        let found = loop {
+        let mut wake = Wake { event: self, is_had: false };
+        loop {
             let ticket = self.prepare();
-            if let Some(found) = look() {
-                break found;
+            let found = look();
+            if found.is_some() {
+                return found;
             }
             let in_time = ticket.sleep(deadline.map(|deadline| deadline.saturating_duration_since(Instant::now())));
-            waited = true;
-            if let Some(found) = look() {
-                break found;
+            wake.is_had = true;
+            let found = look();
+            if found.is_some() {
+                return found;
             }
             if !in_time {
+                wake.is_had = false;
                 return None;
             }
-        };
-        if waited {
-            self.notify_one();
         }
-        Some(found)
     }
 
     fn lock(&self) -> MutexGuard<'_, Notifies> {
         self.notifies.lock().unwrap_or_else(PoisonError::into_inner)
+    }
+}
+
+/// The wake-up of a thread that has waited. It is passed on when the thread has found something, or when its look panics:
+/// what the wake-up was for may be there still, and another thread can take it.
+struct Wake<'event> {
+    event: &'event Event,
+    is_had: bool,
+}
+
+impl Drop for Wake<'_> {
+    fn drop(&mut self) {
+        if self.is_had {
+            self.event.notify_one();
+        }
     }
 }
 

@@ -129,6 +129,52 @@ fn a_notify_counts_only_where_somebody_waits() {
     assert_eq!(format!("{event:?}"), "Event { waiters: 0, .. }");
 }
 
+/// A thread whose look panics after a sleep doesn't keep the wake-up that it was given.
+#[test]
+fn a_look_that_panics_passes_its_wake_up_on() {
+    let event = &Event::new();
+    thread::scope(|scope| {
+        let panicked = scope.spawn(move || {
+            let mut looks = 0;
+            event.wait_for(None, || {
+                looks += 1;
+                assert!(looks < 3, "the look after the sleep");
+                None::<u64>
+            })
+        });
+        while format!("{event:?}") != "Event { waiters: 1, .. }" {
+            thread::yield_now();
+        }
+        let ticket = event.prepare();
+        event.notify_one();
+        assert!(panicked.join().is_err());
+        assert!(ticket.wait_timeout(Duration::ZERO));
+    });
+    assert_eq!(format!("{event:?}"), "Event { waiters: 0, .. }");
+}
+
+/// The same, if the panic comes in a later round, while the thread has a ticket.
+#[test]
+fn a_panic_with_a_ticket_leaves_it() {
+    let event = &Event::new();
+    thread::scope(|scope| {
+        let panicked = scope.spawn(move || {
+            let mut looks = 0;
+            event.wait_for(None, || {
+                looks += 1;
+                assert!(looks < 4, "the look before the second sleep");
+                None::<u64>
+            })
+        });
+        while format!("{event:?}") != "Event { waiters: 1, .. }" {
+            thread::yield_now();
+        }
+        event.notify_one();
+        assert!(panicked.join().is_err());
+    });
+    assert_eq!(format!("{event:?}"), "Event { waiters: 0, .. }");
+}
+
 #[test]
 fn waits_time_out() {
     let event = Event::new();

@@ -33,6 +33,7 @@ enum Fault {
     NotifiesBeforePublishing,
     KeepsPassWhenCancelled,
     DoesNotPassOn,
+    KeepsWakeOfAPanic,
     WakesOutsideTheLock,
 }
 
@@ -40,6 +41,8 @@ enum Fault {
 struct Thread {
     at: At,
     takes: bool,
+    /// A taker that never finds anything. Its look panics after a sleep, and may panic before one.
+    panics: bool,
     /// How many items it still takes or puts.
     left: u8,
     /// The position that it reserved.
@@ -83,10 +86,11 @@ impl State {
         (self.is_shut && self.tail == self.head).then_some(false)
     }
 
-    /// What comes after a look that found something.
+    /// What comes after a look that found something, or that panicked.
     fn found(&mut self, i: usize, item: bool, fault: Fault) {
         self.threads[i].left = if item { self.threads[i].left - 1 } else { 0 };
-        let passes_on = self.threads[i].waited && fault != Fault::DoesNotPassOn;
+        let kept_by = if self.threads[i].panics { Fault::KeepsWakeOfAPanic } else { Fault::DoesNotPassOn };
+        let passes_on = self.threads[i].waited && fault != kept_by;
         self.threads[i].at = if passes_on { At::See } else { self.next(i) };
         self.threads[i].waited = false;
     }
@@ -106,6 +110,8 @@ impl State {
         let ticket = s.threads[i].ticket;
         match s.threads[i].at {
             At::End => return vec![],
+            At::Look if s.threads[i].panics && s.threads[i].waited => s.found(i, false, fault),
+            At::Look if s.threads[i].panics => s.threads[i].at = At::Prepare,
             At::Look => match s.look() {
                 Some(item) => s.found(i, item, fault),
                 None => s.threads[i].at = At::Prepare,
@@ -114,6 +120,13 @@ impl State {
                 (s.tickets, s.waiters) = (s.tickets + 1, s.waiters + 1);
                 s.threads[i].ticket = s.count;
                 s.threads[i].at = if fault == Fault::NoSecondLook { At::Sleep } else { At::LookAgain };
+            }
+            At::LookAgain if s.threads[i].panics => {
+                let mut panicked = s.clone();
+                panicked.leave(ticket, fault);
+                panicked.found(i, false, fault);
+                s.threads[i].at = At::Sleep;
+                return vec![s, panicked];
             }
             At::LookAgain => match s.look() {
                 Some(item) => {
@@ -243,7 +256,7 @@ impl State {
 }
 
 fn thread(at: At, left: u8, limited: u8) -> Thread {
-    Thread { at, takes: at == At::Look, left, place: 0, ticket: 0, waited: false, woken: false, limited }
+    Thread { at, takes: at == At::Look, panics: false, left, place: 0, ticket: 0, waited: false, woken: false, limited }
 }
 
 /// Goes through all schedules. Returns the number of states, or a state where some thread sleeps for good.
@@ -277,6 +290,7 @@ fn explore(threads: Vec<Thread>, fault: Fault) -> Result<usize, State> {
 fn plans() -> Vec<Vec<Thread>> {
     let taker = |left| thread(At::Look, left, 0);
     let late = |left| thread(At::Look, left, 1);
+    let fragile = || Thread { panics: true, ..late(1) };
     let putter = |left| thread(At::Put, left, 0);
     let shut = thread(At::Shut, 1, 0);
     vec![
@@ -285,6 +299,9 @@ fn plans() -> Vec<Vec<Thread>> {
         vec![taker(1), taker(1), putter(1), putter(1)],
         vec![late(1), taker(1), putter(1), putter(1)],
         vec![late(1), late(1), putter(2)],
+        vec![fragile(), taker(1), putter(1)],
+        vec![fragile(), taker(1), taker(1), putter(2)],
+        vec![fragile(), fragile(), taker(1), putter(1)],
         vec![taker(9), taker(9), putter(1), shut],
         vec![taker(9), late(9), putter(1), shut],
     ]
@@ -305,6 +322,7 @@ fn each_fault_is_found() {
         Fault::NotifiesBeforePublishing,
         Fault::KeepsPassWhenCancelled,
         Fault::DoesNotPassOn,
+        Fault::KeepsWakeOfAPanic,
         Fault::WakesOutsideTheLock,
     ];
     for (number, fault) in faults.into_iter().enumerate() {

@@ -11,9 +11,12 @@ use std::hint;
 /// it is one by [`BatchEnd::try_take_some`]. No position comes back: a queue takes 2^62 items, 146 years at a billion a
 /// second.
 ///
-/// Each call except [`split`](BatchEnd::split), [`close`](BatchEnd::close) and a drop is lock-free. A dropped end gives
-/// its share back, so the last end can always close the queue. The last one to be dropped takes the queue with it, and
-/// the items left.
+/// Each call except [`split`](BatchEnd::split), [`close`](BatchEnd::close) and a drop ends after a bounded number of its
+/// own steps, and waits for no other thread. While a thread is stopped within its put, nobody gets what was put after
+/// it; what a thread that is stopped within its taking has taken keeps its places.
+///
+/// A dropped end gives its share back, so the last end can always close the queue. The last one to be dropped takes the
+/// queue with it, and the items left.
 ///
 /// An end may go to another thread. All its calls that come to the queue take `&mut`, so it may be shared too, as an
 /// error that carries it may have to be:
@@ -90,7 +93,7 @@ pub enum TakeError {
 }
 
 /// What a batch queue had at its end.
-#[derive(Clone, Debug, PartialEq, Eq)]
+#[derive(Clone, Debug, PartialEq, Eq, Hash)]
 pub struct Closed {
     /// How many items were put.
     pub put: u64,
@@ -101,7 +104,7 @@ pub struct Closed {
 }
 
 /// What a look at a batch queue found. The numbers were found one after the other, and may have changed since.
-#[derive(Clone, Copy, Debug, PartialEq, Eq)]
+#[derive(Clone, Copy, Debug, PartialEq, Eq, Hash)]
 #[non_exhaustive]
 pub struct Status {
     /// The position of the next item that is taken.
@@ -178,9 +181,13 @@ impl BatchEnd {
     /// assert_eq!(BatchEnd::new(9).unwrap_err(), NewError::BadCapacity);
     /// # Ok::<(), Box<dyn std::error::Error>>(())
     /// ```
+    ///
+    /// # Errors
+    ///
+    /// The capacity is no power of two in this range, or memory is refused.
     pub fn new(capacity: usize) -> Result<BatchEnd, NewError> {
         let mut handle = raw::Batch::default();
-        match raw::synth_raw_batch_new(capacity, &mut handle) {
+        match raw::batch_new(capacity, &mut handle) {
             raw::OK => {}
             raw::BAD_NUMBER => return Err(NewError::BadCapacity),
             raw::NO_MEMORY => return Err(NewError::OutOfMemory),
@@ -200,6 +207,10 @@ impl BatchEnd {
     /// assert_eq!(end.close()?.left, [1]);
     /// # Ok::<(), Box<dyn std::error::Error>>(())
     /// ```
+    ///
+    /// # Errors
+    ///
+    /// The queue has more than two million ends, or memory is refused.
     pub fn split(&self) -> Result<BatchEnd, SplitError> {
         Ok(BatchEnd { share: self.share.split()?, capacity: self.capacity })
     }
@@ -214,6 +225,10 @@ impl BatchEnd {
     /// assert!(error.into_inner().close().is_ok());
     /// # Ok::<(), Box<dyn std::error::Error>>(())
     /// ```
+    ///
+    /// # Errors
+    ///
+    /// The end is of another queue. It comes back.
     pub fn join(&mut self, other: BatchEnd) -> Result<(), JoinError<BatchEnd>> {
         let BatchEnd { share, capacity } = other;
         joined(self.share.join(share), |share| BatchEnd { share, capacity })
@@ -230,6 +245,10 @@ impl BatchEnd {
     /// assert_eq!(end.try_put(&[0; 5]), Err(PutError::TooLong));
     /// # Ok::<(), Box<dyn std::error::Error>>(())
     /// ```
+    ///
+    /// # Errors
+    ///
+    /// Any [`PutError`], in the order of their list. Nothing was put then.
     pub fn try_put(&mut self, items: &[u64]) -> Result<u64, PutError> {
         let mut at = raw::Positions::default();
         // SAFETY: the pointer leads to as many items as the number says, which are only read.
@@ -248,6 +267,10 @@ impl BatchEnd {
     /// assert_eq!(end.try_put_some(&[4, 5, 6]), Ok((3, 1)));
     /// # Ok::<(), Box<dyn std::error::Error>>(())
     /// ```
+    ///
+    /// # Errors
+    ///
+    /// Any [`PutError`] except `TooLong`. Nothing was put then.
     pub fn try_put_some(&mut self, items: &[u64]) -> Result<(u64, usize), PutError> {
         let (mut count, mut at) = (0, raw::Positions::default());
         // SAFETY: the pointer leads to as many items as the number says, which are only read.
@@ -277,6 +300,10 @@ impl BatchEnd {
     /// assert_eq!(end.try_take(&mut items[..1]), Err(TakeError::ShortBuffer { at: 3, count: 2 }));
     /// # Ok::<(), Box<dyn std::error::Error>>(())
     /// ```
+    ///
+    /// # Errors
+    ///
+    /// Any [`TakeError`]. Nothing was taken then, and `items` is as it was.
     pub fn try_take(&mut self, items: &mut [u64]) -> Result<usize, TakeError> {
         let (mut count, mut at) = (0, raw::Positions::default());
         // SAFETY: the pointer leads to as much room as the number says, and nobody else has it.
@@ -305,6 +332,10 @@ impl BatchEnd {
     /// assert_eq!(items, [3, 2]);
     /// # Ok::<(), Box<dyn std::error::Error>>(())
     /// ```
+    ///
+    /// # Errors
+    ///
+    /// Any [`TakeError`]; `ShortBuffer` only if `items` is empty. Nothing was taken then, and `items` is as it was.
     pub fn try_take_some(&mut self, items: &mut [u64]) -> Result<usize, TakeError> {
         let (mut count, mut at) = (0, raw::Positions::default());
         // SAFETY: the pointer leads to as much room as the number says, and nobody else has it.
@@ -415,6 +446,10 @@ impl BatchEnd {
     /// assert_eq!((closed.put, closed.taken, closed.left), (2, 0, vec![1, 2]));
     /// # Ok::<(), Box<dyn std::error::Error>>(())
     /// ```
+    ///
+    /// # Errors
+    ///
+    /// Another end exists, or was leaked. This one comes back.
     pub fn close(mut self) -> Result<Closed, CloseError<BatchEnd>> {
         let capacity = self.capacity;
         let Some(handle) = self.share.whole() else { return Err(CloseError::Open(self)) };

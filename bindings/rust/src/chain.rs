@@ -31,8 +31,8 @@ use std::{hint, mem};
 /// ```
 ///
 /// All that was done before a note was chained is seen by its procedure, and all that a procedure did by the ones
-/// after it. Each call except [`split`](ChainEnd::split), [`take_over`](ChainEnd::take_over),
-/// [`close`](ChainEnd::close) and a drop is lock-free.
+/// after it. A [`try_chain`](ChainEnd::try_chain) ends after a bounded number of its own steps, and waits for no other
+/// thread. Nor does a [`Turn`]: it looks once more for each note that another end chains meanwhile.
 ///
 /// A dropped end gives its share back, so the last end can always close the chain. If it ran notes, another end runs
 /// them after [`take_over`](ChainEnd::take_over); until then they stay in the chain, which gets full.
@@ -93,7 +93,7 @@ pub struct Turn<'a> {
 }
 
 /// What a chain had at its end.
-#[derive(Clone, Copy, Debug, PartialEq, Eq)]
+#[derive(Clone, Copy, Debug, PartialEq, Eq, Hash)]
 pub struct Closed {
     /// How many notes were chained.
     pub put: u32,
@@ -136,8 +136,12 @@ impl ChainEnd {
     /// assert_eq!(end.try_chain(10).unwrap_err(), ChainError::Spent);
     /// # Ok::<(), Box<dyn std::error::Error>>(())
     /// ```
+    ///
+    /// # Errors
+    ///
+    /// Memory is refused.
     pub fn new(first: u32) -> Result<ChainEnd, OutOfMemory> {
-        let raw = made(|chain| raw::synth_raw_chain_new(first, chain))?;
+        let raw = made(|chain| raw::chain_new(first, chain))?;
         Ok(ChainEnd { share: Share::new(ChainHandle { raw, runs: false })? })
     }
 
@@ -151,6 +155,10 @@ impl ChainEnd {
     /// assert_eq!(end.close()?.run, 1);
     /// # Ok::<(), Box<dyn std::error::Error>>(())
     /// ```
+    ///
+    /// # Errors
+    ///
+    /// The chain has more than two million ends, or memory is refused.
     pub fn split(&self) -> Result<ChainEnd, SplitError> {
         Ok(ChainEnd { share: self.share.split()? })
     }
@@ -169,6 +177,10 @@ impl ChainEnd {
     /// assert!(end.join(stranger).unwrap_err().into_inner().close().is_ok());
     /// # Ok::<(), Box<dyn std::error::Error>>(())
     /// ```
+    ///
+    /// # Errors
+    ///
+    /// The end is of another chain. It comes back.
     pub fn join(&mut self, other: ChainEnd) -> Result<(), JoinError<ChainEnd>> {
         joined(self.share.join(other.share), |share| ChainEnd { share })
     }
@@ -202,6 +214,10 @@ impl ChainEnd {
     /// assert!(turn.eq([10, 20]));
     /// # Ok::<(), Box<dyn std::error::Error>>(())
     /// ```
+    ///
+    /// # Errors
+    ///
+    /// Any [`ChainError`]. The note is not chained then.
     pub fn try_chain(&mut self, note: u16) -> Result<Option<Turn<'_>>, ChainError> {
         let handle = self.share.handle();
         let answer = raw::synth_raw_chain_try_chain(&mut handle.raw, note);
@@ -235,6 +251,10 @@ impl ChainEnd {
     /// assert_eq!(end.close()?.put, 1);
     /// # Ok::<(), Box<dyn std::error::Error>>(())
     /// ```
+    ///
+    /// # Errors
+    ///
+    /// Another end exists, or was leaked, or the end runs notes. It comes back.
     pub fn close(mut self) -> Result<Closed, CloseError<ChainEnd>> {
         // An end that is the last one takes over what all others had. Nobody else has a turn then.
         if self.share.is_last() {

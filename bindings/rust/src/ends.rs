@@ -26,11 +26,13 @@ pub enum SplitError {
 }
 
 /// The two ends are of two objects. It has the end that was to be joined, or both ends of a line.
+#[derive(Clone, Copy, PartialEq, Eq, Hash)]
 pub struct JoinError<E> {
     end: E,
 }
 
 /// Why an object was not closed. It has the end that was to close it.
+#[derive(Clone, Copy, PartialEq, Eq, Hash)]
 #[non_exhaustive]
 pub enum CloseError<E> {
     /// Other ends exist, or were leaked, as by [`mem::forget`](std::mem::forget). Drop them or join them first.

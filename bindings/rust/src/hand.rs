@@ -133,6 +133,10 @@ says!(SplitError {
 
 impl Hand {
     /// A table whose elements are all free, in their order, by its only hand, which serves all processors.
+    ///
+    /// # Errors
+    ///
+    /// Memory is refused.
     pub fn new() -> Result<Hand, OutOfMemory> {
         match Hand::new_at(0) {
             Ok(hand) => Ok(hand),
@@ -151,9 +155,13 @@ impl Hand {
     /// assert_eq!(hand.try_retire(element), Err(MoveError::Spent));
     /// # Ok::<(), Box<dyn std::error::Error>>(())
     /// ```
+    ///
+    /// # Errors
+    ///
+    /// The first position is over 4,294,967,231, or memory is refused.
     pub fn new_at(first: u32) -> Result<Hand, NewError> {
         let mut handle = raw::Hand::default();
-        match raw::synth_raw_hand_new(first, &mut handle) {
+        match raw::hand_new(first, &mut handle) {
             raw::OK => {}
             raw::BAD_NUMBER => return Err(NewError::BadFirst),
             raw::NO_MEMORY => return Err(NewError::OutOfMemory),
@@ -177,6 +185,10 @@ impl Hand {
     /// assert!(hand.split(Processors::NONE).is_ok());
     /// # Ok::<(), Box<dyn std::error::Error>>(())
     /// ```
+    ///
+    /// # Errors
+    ///
+    /// Any [`SplitError`], in the order of their list. All is as it was then.
     pub fn split(&mut self, processors: impl Into<Processors>) -> Result<Hand, SplitError> {
         let processors = processors.into();
         let answer = match self.share.split_by(|hand, other| split_for(processors, hand, other)) {
@@ -212,6 +224,10 @@ impl Hand {
     /// assert!(hand.join(stranger).unwrap_err().into_inner().close().is_ok());
     /// # Ok::<(), Box<dyn std::error::Error>>(())
     /// ```
+    ///
+    /// # Errors
+    ///
+    /// The hand is of another table. It comes back.
     pub fn join(&mut self, other: Hand) -> Result<(), JoinError<Hand>> {
         joined(self.share.join(other.share), |share| Hand { share })
     }

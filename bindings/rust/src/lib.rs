@@ -1,4 +1,4 @@
-//! Lock-free channels, queues, deferred procedures, meters and thread elements whose core is proved.
+//! Lockless channels, queues, deferred procedures, meters and thread elements whose core is proved.
 //!
 //! # Channels
 //!
@@ -61,7 +61,7 @@
 //!
 //! | | what it is | limits |
 //! |---|---|---|
-//! | [`channel()`] | a bounded channel of any type, whose calls may sleep | 1 to 2^24 places; 2^62 items |
+//! | [`channel()`] | a bounded channel of any type, with sleeps | 1 to 2^24 places; 2^62 items |
 //! | [`batch`] | a bounded queue of 64-bit words, put and taken in bursts | 1 to 2^24 places; 2^62 items |
 //! | [`queue`] | a claim queue of 64-bit words; a line, up to a 10, is taken whole | 64 or 256 places; 2^32 - 1 items |
 //! | [`chain`] | deferred procedures: notes of 16 bits, one runner at a time, no lock | 32 places; 2^32 - 1 notes |
@@ -103,13 +103,25 @@
 //! few threads. No proof speaks of the order of memory either: the proofs speak of steps in one order, and the compiler
 //! keeps to it.
 //!
-//! Calls named `try_` make one try, and never wait. Those of queues may answer `Lost`: another end was first, so the
-//! next try may succeed. A `try_send` or `try_recv` of a channel repeats such a try by itself. A thread that is stopped
-//! within a put holds up what is put after it, until it goes on. After an error all is as it
-//! was.
+//! # Progress
+//!
+//! Each try, a call named `try_`, ends after a bounded number of its own steps, and waits for no other thread. Those of
+//! queues may answer `Lost`: another end was first, so the next try may succeed. After an error all is as it was.
+//!
+//! The queues are lockless, and not lock-free as Herlihy and Shavit define it: while a thread is stopped within its put,
+//! nobody gets what was put after it.
+//!
+//! The `try_` calls of a [`channel`](mod@channel) promise less: they repeat a lost try, wait for a send or a receiving
+//! that is under way in their place, and wake threads that sleep, which takes a lock and a system call. An item over 8
+//! bytes takes memory, or frees it.
+//!
+//! # Version
 //!
 //! A program has one version of this crate, and one copy of its library: Cargo refuses two.
 #![deny(missing_docs)]
+
+#[cfg(not(all(target_arch = "x86_64", target_os = "linux", target_pointer_width = "64")))]
+compile_error!("the library below synthesis-kernel is for 64-bit Linux on x86-64 processors");
 
 /// The code of README.md is tested.
 #[cfg(doctest)]
@@ -137,5 +149,5 @@ pub use event::{Event, EventTicket};
 pub use hand::Hand;
 pub use line::{LineIn, LineOut, line};
 pub use meters::MeterSeat;
-pub use names::{Element, Gauge, OutOfRange, Processor, Processors, Signal, WaitNumber};
+pub use names::{All, Element, Gauge, OutOfRange, Processor, Processors, ProcessorsIter, Signal, WaitNumber};
 pub use queue::QueueEnd;

@@ -40,7 +40,7 @@ impl Drop for Dropped {
 }
 
 /// How many bytes went through a line.
-#[derive(Clone, Copy, Debug, PartialEq, Eq)]
+#[derive(Clone, Copy, Debug, PartialEq, Eq, Hash)]
 pub struct Totals {
     /// The bytes pushed, modulo 2^64.
     pub sent: usize,
@@ -77,9 +77,13 @@ says!(NewError {
 /// assert_eq!(output.pop(), Some(104));
 /// # Ok::<(), Box<dyn std::error::Error>>(())
 /// ```
+///
+/// # Errors
+///
+/// The capacity is 0 or over 65,536, or memory is refused.
 pub fn line(capacity: usize) -> Result<(LineIn, LineOut), NewError> {
     let (mut input, mut output) = (raw::Input::default(), raw::Output::default());
-    match raw::synth_raw_line_new(capacity, &mut input, &mut output) {
+    match raw::line_new(capacity, &mut input, &mut output) {
         raw::OK => {}
         raw::BAD_NUMBER => return Err(NewError::BadCapacity),
         raw::NO_MEMORY => return Err(NewError::OutOfMemory),
@@ -101,6 +105,10 @@ pub fn line(capacity: usize) -> Result<(LineIn, LineOut), NewError> {
 /// assert_eq!((totals.sent, totals.received, totals.left), (1, 0, 1));
 /// # Ok::<(), Box<dyn std::error::Error>>(())
 /// ```
+///
+/// # Errors
+///
+/// The halves are of two lines. Both come back.
 pub fn finish(mut input: LineIn, mut output: LineOut) -> Result<Totals, JoinError<(LineIn, LineOut)>> {
     finish_raw(&mut input.handle, &mut output.handle).ok_or_else(|| JoinError::new((input, output)))
 }
@@ -131,6 +139,10 @@ impl LineIn {
     /// assert_eq!((output.pop(), output.pop()), (Some(7), None));
     /// # Ok::<(), Box<dyn std::error::Error>>(())
     /// ```
+    ///
+    /// # Errors
+    ///
+    /// No place of the line is free. The byte comes back.
     pub fn push(&mut self, byte: u8) -> Result<(), u8> {
         match raw::synth_raw_line_push(&mut self.handle, byte) {
             raw::OK => Ok(()),
@@ -163,6 +175,10 @@ impl LineIn {
     /// assert_eq!(input.close()?.left, 1);
     /// # Ok::<(), Box<dyn std::error::Error>>(())
     /// ```
+    ///
+    /// # Errors
+    ///
+    /// The other half exists, or was leaked. This one comes back.
     pub fn close(mut self) -> Result<Totals, CloseError<LineIn>> {
         match other_dropped(&mut self.dropped).and_then(|other| finish_raw(&mut self.handle, &mut other.output)) {
             Some(totals) => Ok(totals),
@@ -192,8 +208,8 @@ impl LineOut {
     /// assert!(output.try_iter().eq([7, 8]));
     /// # Ok::<(), Box<dyn std::error::Error>>(())
     /// ```
-    pub fn try_iter(&mut self) -> impl Iterator<Item = u8> + '_ {
-        std::iter::from_fn(|| self.pop())
+    pub fn try_iter(&mut self) -> TryIter<'_> {
+        TryIter { output: self }
     }
 
     /// Whether the other half was dropped. A line that is empty after this stays so.
@@ -212,11 +228,29 @@ impl LineOut {
     /// assert_eq!(output.close()?.received, 1);
     /// # Ok::<(), Box<dyn std::error::Error>>(())
     /// ```
+    ///
+    /// # Errors
+    ///
+    /// The other half exists, or was leaked. This one comes back.
     pub fn close(mut self) -> Result<Totals, CloseError<LineOut>> {
         match other_dropped(&mut self.dropped).and_then(|other| finish_raw(&mut other.input, &mut self.handle)) {
             Some(totals) => Ok(totals),
             None => Err(CloseError::Open(self)),
         }
+    }
+}
+
+/// Pops bytes until the line is empty: see [`LineOut::try_iter`].
+#[derive(Debug)]
+pub struct TryIter<'half> {
+    output: &'half mut LineOut,
+}
+
+impl Iterator for TryIter<'_> {
+    type Item = u8;
+
+    fn next(&mut self) -> Option<u8> {
+        self.output.pop()
     }
 }
 

@@ -4,6 +4,8 @@ use crate::ends::{CloseError, JoinError, OutOfMemory, Share, SplitError, joined,
 use crate::names::{Element, Gauge, Signal};
 use crate::raw;
 use crate::words::says;
+use std::array;
+use std::iter::{FusedIterator, Take};
 
 /// An end of meters, and its meters: 8 gauges, a clock, and 16 slots for alarms.
 ///
@@ -40,7 +42,7 @@ pub struct MeterSeat {
 }
 
 /// An alarm: at the tick `due` of the clock this signal is to be given to this element, which is its caller's to do.
-#[derive(Clone, Copy, Debug, PartialEq, Eq)]
+#[derive(Clone, Copy, Debug, PartialEq, Eq, Hash)]
 pub struct Alarm {
     /// The first tick of the clock at which it is due.
     pub due: u32,
@@ -51,7 +53,7 @@ pub struct Alarm {
 }
 
 /// The slot of an alarm that was set.
-#[derive(Clone, Copy, Debug, PartialEq, Eq)]
+#[derive(Clone, Copy, Debug, PartialEq, Eq, Hash)]
 pub struct Slot {
     number: u32,
 }
@@ -83,7 +85,7 @@ pub enum SetError {
 }
 
 /// The meters at their end.
-#[derive(Clone, Debug, PartialEq, Eq)]
+#[derive(Clone, Debug, PartialEq, Eq, Hash)]
 pub struct Closed {
     /// The gauges.
     pub gauges: [u64; 8],
@@ -124,8 +126,12 @@ impl Slot {
 
 impl MeterSeat {
     /// Gauges at 0, the clock as given, no alarm, and the only end.
+    ///
+    /// # Errors
+    ///
+    /// Memory is refused.
     pub fn new(clock: u32) -> Result<MeterSeat, OutOfMemory> {
-        let first = made(|handle| raw::synth_raw_seat_new(clock, handle))?;
+        let first = made(|handle| raw::seat_new(clock, handle))?;
         Ok(MeterSeat { share: Share::new(first)? })
     }
 
@@ -139,6 +145,10 @@ impl MeterSeat {
     /// assert_eq!(seat.close()?.clock, 6);
     /// # Ok::<(), Box<dyn std::error::Error>>(())
     /// ```
+    ///
+    /// # Errors
+    ///
+    /// The meters have more than two million ends, or memory is refused.
     pub fn split(&self) -> Result<MeterSeat, SplitError> {
         Ok(MeterSeat { share: self.share.split()? })
     }
@@ -154,6 +164,10 @@ impl MeterSeat {
     /// assert!(seat.join(stranger).unwrap_err().into_inner().close().is_ok());
     /// # Ok::<(), Box<dyn std::error::Error>>(())
     /// ```
+    ///
+    /// # Errors
+    ///
+    /// The end is of other meters. It comes back.
     pub fn join(&mut self, other: MeterSeat) -> Result<(), JoinError<MeterSeat>> {
         joined(self.share.join(other.share), |share| MeterSeat { share })
     }
@@ -212,6 +226,10 @@ impl MeterSeat {
     /// assert_eq!(seat.advance(), Err(AdvanceError::Spent));
     /// # Ok::<(), Box<dyn std::error::Error>>(())
     /// ```
+    ///
+    /// # Errors
+    ///
+    /// Any [`AdvanceError`]. This call did not move the clock then.
     pub fn advance(&mut self) -> Result<u32, AdvanceError> {
         let mut clock = 0;
         let answer = raw::synth_raw_seat_advance(self.share.handle(), &mut clock);
@@ -224,6 +242,10 @@ impl MeterSeat {
     }
 
     /// One try to set an alarm in the first empty slot. Gives the slot, by which the alarm can be cancelled.
+    ///
+    /// # Errors
+    ///
+    /// Any [`SetError`]. The alarm is not set then.
     pub fn try_set(&mut self, alarm: Alarm) -> Result<Slot, SetError> {
         let mut number = 0;
         let answer = raw::synth_raw_seat_try_set(self.share.handle(), &alarm.raw(), &mut number);
@@ -270,13 +292,13 @@ impl MeterSeat {
     /// assert_eq!(seat.due().len(), 0);
     /// # Ok::<(), Box<dyn std::error::Error>>(())
     /// ```
-    pub fn due(&mut self) -> impl ExactSizeIterator<Item = Alarm> {
+    pub fn due(&mut self) -> Due {
         let (mut alarms, mut count) = ([raw::Alarm::default(); 16], 0);
         // SAFETY: the pointer leads to room for as many alarms as the number says, and nobody else has it.
         let code =
             unsafe { raw::synth_raw_seat_due(self.share.handle(), alarms.as_mut_ptr(), alarms.len(), &mut count) };
         match code {
-            raw::OK => alarms.into_iter().take(count).map(Alarm::from_raw),
+            raw::OK => Due { alarms: alarms.into_iter().take(count) },
             code => raw::no_such_answer(code),
         }
     }
@@ -292,6 +314,10 @@ impl MeterSeat {
     /// assert_eq!(seat.close()?.clock, 3);
     /// # Ok::<(), Box<dyn std::error::Error>>(())
     /// ```
+    ///
+    /// # Errors
+    ///
+    /// Another end exists, or was leaked. This one comes back.
     pub fn close(mut self) -> Result<Closed, CloseError<MeterSeat>> {
         let Some(handle) = self.share.whole() else { return Err(CloseError::Open(self)) };
         let mut numbers = raw::Metered::default();
@@ -307,3 +333,25 @@ impl MeterSeat {
         })
     }
 }
+
+/// The alarms that were due, in the order of their slots: see [`MeterSeat::due`]. They are taken out already.
+#[derive(Clone, Debug)]
+#[must_use = "the alarms are taken out, and nobody else gets them"]
+pub struct Due {
+    alarms: Take<array::IntoIter<raw::Alarm, 16>>,
+}
+
+impl Iterator for Due {
+    type Item = Alarm;
+
+    fn next(&mut self) -> Option<Alarm> {
+        self.alarms.next().map(Alarm::from_raw)
+    }
+
+    fn size_hint(&self) -> (usize, Option<usize>) {
+        self.alarms.size_hint()
+    }
+}
+
+impl ExactSizeIterator for Due {}
+impl FusedIterator for Due {}

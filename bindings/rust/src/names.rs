@@ -2,7 +2,9 @@
 
 use crate::words::says;
 use std::fmt;
-use std::ops::{BitOr, BitOrAssign};
+use std::iter::FusedIterator;
+use std::marker::PhantomData;
+use std::ops::{BitAnd, BitAndAssign, BitOr, BitOrAssign, Not, Range, Sub, SubAssign};
 
 macro_rules! number {
     ($name:ident, $end:literal, $what:literal) => {
@@ -26,8 +28,9 @@ macro_rules! number {
             }
 
             #[doc = concat!("All ", stringify!($end), " of them, in the order of their numbers.")]
-            pub fn all() -> impl DoubleEndedIterator<Item = Self> + ExactSizeIterator {
-                (0..$end).map(|number| $name { number })
+            #[must_use]
+            pub fn all() -> All<Self> {
+                All { numbers: 0..$end, of: PhantomData }
             }
 
             /// The number as a call of the library takes it.
@@ -35,6 +38,27 @@ macro_rules! number {
                 self.number.into()
             }
         }
+
+        impl Iterator for All<$name> {
+            type Item = $name;
+
+            fn next(&mut self) -> Option<$name> {
+                self.numbers.next().map(|number| $name { number })
+            }
+
+            fn size_hint(&self) -> (usize, Option<usize>) {
+                self.numbers.size_hint()
+            }
+        }
+
+        impl DoubleEndedIterator for All<$name> {
+            fn next_back(&mut self) -> Option<$name> {
+                self.numbers.next_back().map(|number| $name { number })
+            }
+        }
+
+        impl ExactSizeIterator for All<$name> {}
+        impl FusedIterator for All<$name> {}
 
         /// The number, as an index.
         impl From<$name> for usize {
@@ -57,6 +81,13 @@ macro_rules! number {
             }
         }
     };
+}
+
+/// All numbers of a kind, in their order: see [`Element::all`].
+#[derive(Clone, Debug)]
+pub struct All<Number> {
+    numbers: Range<u8>,
+    of: PhantomData<Number>,
 }
 
 /// The number is out of its range.
@@ -84,10 +115,20 @@ number!(WaitNumber, 16, "a wait queue");
 /// assert!(both.iter().eq([zero, five]));
 /// assert_eq!(Processor::all().collect::<Processors>(), Processors::ALL);
 /// assert_eq!(format!("{both:?}"), "{0, 5}");
+/// assert_eq!((both - five, both & five, !both | both), (zero.into(), five.into(), Processors::ALL));
+/// for processor in both {
+///     assert!(processor == zero || processor == five);
+/// }
 /// ```
 #[derive(Clone, Copy, Default, PartialEq, Eq, Hash)]
 pub struct Processors {
     mask: u8,
+}
+
+/// The processors of a set, in the order of their numbers: see [`Processors::iter`].
+#[derive(Clone, Debug)]
+pub struct ProcessorsIter {
+    left: Processors,
 }
 
 impl Processors {
@@ -104,8 +145,9 @@ impl Processors {
     }
 
     /// The processors of the set, in the order of their numbers.
-    pub fn iter(self) -> impl DoubleEndedIterator<Item = Processor> {
-        Processor::all().filter(move |processor| self.contains(*processor))
+    #[must_use]
+    pub const fn iter(self) -> ProcessorsIter {
+        ProcessorsIter { left: self }
     }
 
     /// How many processors the set has.
@@ -123,6 +165,55 @@ impl Processors {
     /// Bit p for processor p, as a call of the library takes it.
     pub(crate) fn raw(self) -> u32 {
         self.mask.into()
+    }
+}
+
+impl ProcessorsIter {
+    /// Takes the processor of this number out of those left, if any is left.
+    fn take(&mut self, number: u32) -> Option<Processor> {
+        let processor = Processor::new(u8::try_from(number).ok()?)?;
+        self.left -= processor;
+        Some(processor)
+    }
+}
+
+impl Iterator for ProcessorsIter {
+    type Item = Processor;
+
+    fn next(&mut self) -> Option<Processor> {
+        // It is 8, and no processor, if none is left.
+        self.take(self.left.mask.trailing_zeros())
+    }
+
+    fn size_hint(&self) -> (usize, Option<usize>) {
+        (self.left.len(), Some(self.left.len()))
+    }
+}
+
+impl DoubleEndedIterator for ProcessorsIter {
+    fn next_back(&mut self) -> Option<Processor> {
+        self.take(self.left.mask.checked_ilog2()?)
+    }
+}
+
+impl ExactSizeIterator for ProcessorsIter {}
+impl FusedIterator for ProcessorsIter {}
+
+impl IntoIterator for Processors {
+    type Item = Processor;
+    type IntoIter = ProcessorsIter;
+
+    fn into_iter(self) -> ProcessorsIter {
+        self.iter()
+    }
+}
+
+impl IntoIterator for &Processors {
+    type Item = Processor;
+    type IntoIter = ProcessorsIter;
+
+    fn into_iter(self) -> ProcessorsIter {
+        self.iter()
     }
 }
 
@@ -163,6 +254,42 @@ impl<P: Into<Processors>> BitOr<P> for Processor {
 impl<P: Into<Processors>> BitOrAssign<P> for Processors {
     fn bitor_assign(&mut self, other: P) {
         *self = *self | other;
+    }
+}
+
+impl<P: Into<Processors>> BitAnd<P> for Processors {
+    type Output = Processors;
+
+    fn bitand(self, other: P) -> Processors {
+        Processors { mask: self.mask & other.into().mask }
+    }
+}
+
+impl<P: Into<Processors>> BitAndAssign<P> for Processors {
+    fn bitand_assign(&mut self, other: P) {
+        *self = *self & other;
+    }
+}
+
+impl<P: Into<Processors>> Sub<P> for Processors {
+    type Output = Processors;
+
+    fn sub(self, other: P) -> Processors {
+        Processors { mask: self.mask & !other.into().mask }
+    }
+}
+
+impl<P: Into<Processors>> SubAssign<P> for Processors {
+    fn sub_assign(&mut self, other: P) {
+        *self = *self - other;
+    }
+}
+
+impl Not for Processors {
+    type Output = Processors;
+
+    fn not(self) -> Processors {
+        Processors { mask: !self.mask }
     }
 }
 

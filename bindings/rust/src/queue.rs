@@ -10,9 +10,12 @@ use crate::words::says;
 
 /// An end of a queue of `N` places, 64 or 256, and its queue. Each end may put and take.
 ///
-/// Each call except [`split`](QueueEnd::split), [`close`](QueueEnd::close), a drop, `put_wait` and `take_wait` is
-/// lock-free. A dropped end gives its share back, so the last end can always close the queue. The last one to be
-/// dropped takes the queue with it, and the items left.
+/// Each call except [`split`](QueueEnd::split), [`close`](QueueEnd::close), a drop, `put_wait` and `take_wait` ends after
+/// a bounded number of its own steps, and waits for no other thread. While a thread is stopped within its put, nobody
+/// gets what was put after it.
+///
+/// A dropped end gives its share back, so the last end can always close the queue. The last one to be dropped takes the
+/// queue with it, and the items left.
 ///
 /// It may go to another thread, and be shared, though no call but a split is made by `&`:
 ///
@@ -76,7 +79,7 @@ pub enum TakeError {
 }
 
 /// What a queue had at its end.
-#[derive(Clone, Debug, PartialEq, Eq)]
+#[derive(Clone, Debug, PartialEq, Eq, Hash)]
 pub struct Closed {
     /// Its first position.
     pub first: u32,
@@ -89,7 +92,7 @@ pub struct Closed {
 }
 
 /// What a look at a claim queue found. The numbers were found one after the other, and may have changed since.
-#[derive(Clone, Copy, Debug, PartialEq, Eq)]
+#[derive(Clone, Copy, Debug, PartialEq, Eq, Hash)]
 #[non_exhaustive]
 pub struct Status {
     /// The position of the next item that is taken.
@@ -144,9 +147,13 @@ impl<const N: usize> QueueEnd<N> {
     /// assert_eq!(line[..3], [104, 105, 10]);
     /// # Ok::<(), Box<dyn std::error::Error>>(())
     /// ```
+    ///
+    /// # Errors
+    ///
+    /// Memory is refused.
     pub fn new(first: u32) -> Result<QueueEnd<N>, OutOfMemory> {
         const { assert!(N == 64 || N == 256, "a queue has 64 or 256 places") }
-        let first = made(|handle| raw::synth_raw_queue_new(N as u32, first, handle))?;
+        let first = made(|handle| raw::queue_new(N as u32, first, handle))?;
         Ok(QueueEnd { share: Share::new(first)? })
     }
 
@@ -160,6 +167,10 @@ impl<const N: usize> QueueEnd<N> {
     /// assert_eq!(end.close()?.left, [1]);
     /// # Ok::<(), Box<dyn std::error::Error>>(())
     /// ```
+    ///
+    /// # Errors
+    ///
+    /// The queue has more than two million ends, or memory is refused.
     pub fn split(&self) -> Result<QueueEnd<N>, SplitError> {
         Ok(QueueEnd { share: self.share.split()? })
     }
@@ -174,6 +185,10 @@ impl<const N: usize> QueueEnd<N> {
     /// assert!(error.into_inner().close().is_ok());
     /// # Ok::<(), Box<dyn std::error::Error>>(())
     /// ```
+    ///
+    /// # Errors
+    ///
+    /// The end is of another queue. It comes back.
     pub fn join(&mut self, other: QueueEnd<N>) -> Result<(), JoinError<QueueEnd<N>>> {
         joined(self.share.join(other.share), |share| QueueEnd { share })
     }
@@ -187,6 +202,10 @@ impl<const N: usize> QueueEnd<N> {
     /// assert_eq!(end.try_put(&[2; 5]), Err(PutError::Full { head: 60, tail: 0 }));
     /// # Ok::<(), Box<dyn std::error::Error>>(())
     /// ```
+    ///
+    /// # Errors
+    ///
+    /// Any [`PutError`], in the order of their list. Nothing was put then.
     pub fn try_put(&mut self, items: &[u64]) -> Result<u32, PutError> {
         // SAFETY: the pointer leads to as many items as the number says, which are only read.
         let answer = unsafe { raw::synth_raw_queue_try_put(self.share.handle(), items.as_ptr(), items.len()) };
@@ -212,6 +231,10 @@ impl<const N: usize> QueueEnd<N> {
     /// assert_eq!(end.try_take(), Ok(1));
     /// # Ok::<(), Box<dyn std::error::Error>>(())
     /// ```
+    ///
+    /// # Errors
+    ///
+    /// Any [`TakeError`]. Nothing was taken then.
     pub fn try_take(&mut self) -> Result<u64, TakeError> {
         let mut item = 0;
         taken(raw::synth_raw_queue_try_take(self.share.handle(), &mut item))?;
@@ -231,6 +254,10 @@ impl<const N: usize> QueueEnd<N> {
     /// assert_eq!(items, [3, 2]);
     /// # Ok::<(), Box<dyn std::error::Error>>(())
     /// ```
+    ///
+    /// # Errors
+    ///
+    /// That of the first try, any [`TakeError`]. Nothing was taken then.
     pub fn take_up_to(&mut self, items: &mut [u64]) -> Result<usize, TakeError> {
         if items.is_empty() {
             return Ok(0);
@@ -256,6 +283,10 @@ impl<const N: usize> QueueEnd<N> {
     /// assert_eq!(end.try_take_line(&mut line), Err(TakeError::Empty { at: 6 }));
     /// # Ok::<(), Box<dyn std::error::Error>>(())
     /// ```
+    ///
+    /// # Errors
+    ///
+    /// Any [`TakeError`]. Nothing was taken then, and `line` is as it was.
     pub fn try_take_line(&mut self, line: &mut [u64; N]) -> Result<usize, TakeError> {
         let mut count = 0;
         // SAFETY: the pointer leads to room for N items, and nobody else has it.
@@ -334,6 +365,10 @@ impl<const N: usize> QueueEnd<N> {
     /// assert_eq!((closed.put, closed.taken, closed.left), (2, 0, vec![1, 2]));
     /// # Ok::<(), Box<dyn std::error::Error>>(())
     /// ```
+    ///
+    /// # Errors
+    ///
+    /// Another end exists, or was leaked. This one comes back.
     pub fn close(mut self) -> Result<Closed, CloseError<QueueEnd<N>>> {
         let Some(handle) = self.share.whole() else { return Err(CloseError::Open(self)) };
         let mut room = [0; N];

@@ -114,7 +114,7 @@ pub(crate) struct Chained {
 }
 
 #[repr(C)]
-#[derive(Clone, Copy, Default)]
+#[derive(Clone, Copy, Debug, Default)]
 pub(crate) struct Alarm {
     pub due: u32,
     pub element: u32,
@@ -232,18 +232,36 @@ numbers! {
     }
 }
 
+/// The calls that make an object.
+macro_rules! news {
+    ($($name:ident: $call:ident($($word:ident: $type:ty),+));+ $(;)?) => {$(
+        pub(crate) fn $name($($word: $type),+) -> i32 {
+            $call($($word),+)
+        }
+    )+};
+}
+
+news! {
+    batch_new: synth_raw_batch_new(places: usize, batch: &mut Batch);
+    queue_new: synth_raw_queue_new(places: u32, first: u32, queue: &mut Queue);
+    chain_new: synth_raw_chain_new(first: u32, chain: &mut Chain);
+    seat_new: synth_raw_seat_new(clock: u32, seat: &mut Seat);
+    line_new: synth_raw_line_new(room: usize, input: &mut Input, output: &mut Output);
+    hand_new: synth_raw_hand_new(first: u32, hand: &mut Hand);
+}
+
 /// A code that the call doesn't have, or that its types rule out.
 pub(crate) fn no_such_answer(code: i32) -> ! {
     unreachable!("the library answered {code}")
 }
 
-// SAFETY: the names and types are those of the header. A reference is a pointer as the header wants it, a handle is
+// SAFETY: the names and types are those of the header of this version; tests compare its numbers and structs. A reference is a pointer as the header wants it, a handle is
 // empty or was filled by a call of its own kind, and a `&mut` to it lets no other call have it. For all else the
 // library answers by a code, so only the calls that take a buffer's length beside its pointer are unsafe.
 //
 // The items of a batch queue may be uninitialized in part: its calls only copy them, and look at none.
 unsafe extern "C" {
-    pub(crate) safe fn synth_raw_batch_new(places: usize, batch: &mut Batch) -> i32;
+    safe fn synth_raw_batch_new(places: usize, batch: &mut Batch) -> i32;
     pub(crate) safe fn synth_raw_batch_split(batch: &mut Batch, other: &mut Batch) -> i32;
     pub(crate) safe fn synth_raw_batch_join(batch: &mut Batch, other: &mut Batch) -> i32;
     pub(crate) unsafe fn synth_raw_batch_try_put(
@@ -284,7 +302,7 @@ unsafe extern "C" {
     ) -> i32;
     pub(crate) safe fn synth_raw_batch_free(batch: &mut Batch) -> i32;
 
-    pub(crate) safe fn synth_raw_queue_new(places: u32, first: u32, queue: &mut Queue) -> i32;
+    safe fn synth_raw_queue_new(places: u32, first: u32, queue: &mut Queue) -> i32;
     pub(crate) safe fn synth_raw_queue_split(queue: &mut Queue, other: &mut Queue) -> i32;
     pub(crate) safe fn synth_raw_queue_join(queue: &mut Queue, other: &mut Queue) -> i32;
     pub(crate) unsafe fn synth_raw_queue_try_put(queue: &mut Queue, items: *const u64, count: usize) -> Answer;
@@ -311,7 +329,7 @@ unsafe extern "C" {
     ) -> i32;
     pub(crate) safe fn synth_raw_queue_free(queue: &mut Queue) -> i32;
 
-    pub(crate) safe fn synth_raw_chain_new(first: u32, chain: &mut Chain) -> i32;
+    safe fn synth_raw_chain_new(first: u32, chain: &mut Chain) -> i32;
     pub(crate) safe fn synth_raw_chain_split(chain: &mut Chain, other: &mut Chain) -> i32;
     pub(crate) safe fn synth_raw_chain_join(chain: &mut Chain, other: &mut Chain) -> i32;
     pub(crate) safe fn synth_raw_chain_try_chain(chain: &mut Chain, note: u16) -> Answer;
@@ -319,7 +337,7 @@ unsafe extern "C" {
     pub(crate) safe fn synth_raw_chain_close(chain: &mut Chain, closed: &mut Chained) -> i32;
     pub(crate) safe fn synth_raw_chain_free(chain: &mut Chain) -> i32;
 
-    pub(crate) safe fn synth_raw_seat_new(clock: u32, seat: &mut Seat) -> i32;
+    safe fn synth_raw_seat_new(clock: u32, seat: &mut Seat) -> i32;
     pub(crate) safe fn synth_raw_seat_split(seat: &mut Seat, other: &mut Seat) -> i32;
     pub(crate) safe fn synth_raw_seat_join(seat: &mut Seat, other: &mut Seat) -> i32;
     pub(crate) safe fn synth_raw_seat_tick(seat: &mut Seat, gauge: u32, amount: u64, before: &mut u64) -> i32;
@@ -333,14 +351,14 @@ unsafe extern "C" {
     pub(crate) safe fn synth_raw_seat_close(seat: &mut Seat, metered: &mut Metered) -> i32;
     pub(crate) safe fn synth_raw_seat_free(seat: &mut Seat) -> i32;
 
-    pub(crate) safe fn synth_raw_line_new(room: usize, input: &mut Input, output: &mut Output) -> i32;
+    safe fn synth_raw_line_new(room: usize, input: &mut Input, output: &mut Output) -> i32;
     pub(crate) safe fn synth_raw_line_push(input: &mut Input, byte: u8) -> i32;
     pub(crate) safe fn synth_raw_line_pop(output: &mut Output, byte: &mut u8) -> i32;
     pub(crate) safe fn synth_raw_line_finish(input: &mut Input, output: &mut Output, totals: &mut LineTotals) -> i32;
     pub(crate) safe fn synth_raw_line_free_in(input: &mut Input) -> i32;
     pub(crate) safe fn synth_raw_line_free_out(output: &mut Output) -> i32;
 
-    pub(crate) safe fn synth_raw_hand_new(first: u32, hand: &mut Hand) -> i32;
+    safe fn synth_raw_hand_new(first: u32, hand: &mut Hand) -> i32;
     pub(crate) safe fn synth_raw_hand_split(hand: &mut Hand, processors: u32, other: &mut Hand) -> i32;
     pub(crate) safe fn synth_raw_hand_join(hand: &mut Hand, other: &mut Hand) -> i32;
     pub(crate) safe fn synth_raw_hand_holds(hand: &mut Hand, element: u32, held: &mut bool) -> i32;
@@ -376,44 +394,4 @@ unsafe extern "C" {
 }
 
 #[cfg(test)]
-mod tests {
-    use super::NUMBERS;
-    use std::collections::BTreeMap;
-    use std::fs;
-    use std::path::Path;
-
-    /// The numbers of the headers: each `SYNTH_NAME = number`, without `SYNTH_`.
-    fn header_numbers() -> BTreeMap<String, i64> {
-        let mut numbers = BTreeMap::new();
-        let here = Path::new(env!("CARGO_MANIFEST_DIR"));
-        let folders = ["../include", "../../include"].map(|folder| here.join(folder));
-        let headers =
-            folders.iter().flat_map(|folder| ["synthesis.h", "synthesis/raw.h"].map(|name| folder.join(name)));
-        for text in headers.filter_map(|header| fs::read_to_string(header).ok()) {
-            for (name, after) in text.split("SYNTH_").skip(1).filter_map(|rest| rest.split_once(" = ")) {
-                let digits = after.split(|c: char| c != '-' && !c.is_ascii_digit()).next().unwrap_or_default();
-                if let (true, Ok(number)) = (is_name(name.trim_end()), digits.parse()) {
-                    let before = numbers.insert(name.trim_end().to_owned(), number);
-                    assert!(before.is_none_or(|before| before == number), "two numbers of SYNTH_{name}");
-                }
-            }
-        }
-        numbers
-    }
-
-    fn is_name(name: &str) -> bool {
-        !name.is_empty() && name.bytes().all(|byte| byte == b'_' || byte.is_ascii_uppercase())
-    }
-
-    #[test]
-    fn each_number_is_that_of_the_header() {
-        let mut wanted = header_numbers();
-        // A code that is being renamed.
-        if let Some(number) = wanted.remove("DONE") {
-            assert_eq!(*wanted.entry("OK".to_owned()).or_insert(number), number);
-        }
-        let had: BTreeMap<_, _> = NUMBERS.iter().map(|(name, number)| ((*name).to_owned(), *number)).collect();
-        assert_eq!(had.len(), NUMBERS.len(), "a name twice");
-        assert_eq!(had, wanted);
-    }
-}
+mod header;

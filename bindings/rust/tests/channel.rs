@@ -7,9 +7,8 @@ use std::sync::Arc;
 use std::sync::atomic::{AtomicUsize, Ordering::SeqCst};
 use std::thread;
 use std::time::{Duration, Instant};
-use synthesis_kernel::batch::NewError;
 use synthesis_kernel::channel::{
-    RecvError, RecvTimeoutError, SendError, SendTimeoutError, TryRecvError, TrySendError, try_channel,
+    NewError, RecvError, RecvTimeoutError, SendError, SendTimeoutError, TryRecvError, TrySendError, try_channel,
 };
 use synthesis_kernel::{Receiver, Sender, channel};
 
@@ -35,7 +34,10 @@ fn send_all<T: Debug>(sender: &Sender<T>, thread: usize, item: &impl Fn(usize) -
     while let Some(number) = items.next() {
         match number % 3 {
             0 => sender.send(item(number)).unwrap(),
-            1 => assert!(sender.send_iter(items.by_ref().take(10).chain([number]).map(item)).unwrap() > 0),
+            1 if number % 2 == 0 => {
+                assert!(sender.send_iter(items.by_ref().take(10).chain([number]).map(item)).unwrap() > 0)
+            }
+            1 => sender.send_many(Vec::from_iter(items.by_ref().take(40).chain([number]).map(item))).unwrap(),
             _ => {
                 let mut next = item(number);
                 while let Err(error) = sender.try_send(next) {
@@ -145,7 +147,9 @@ fn arcs_come_with_what_they_point_to() {
 fn come_back<T: Clone + Debug + PartialEq>(items: &[T]) {
     let (sender, receiver) = channel(items.len());
     assert_eq!(sender.send_iter(items.iter().cloned()), Ok(items.len()));
-    assert_eq!(sender.try_send_iter(items.to_vec()), Err(TrySendError::Full(items.to_vec())));
+    assert_eq!(sender.try_send_many(items), Err(TrySendError::Full(items.to_vec())));
+    assert!(receiver.try_iter().eq(items.iter().cloned()));
+    assert_eq!(sender.send_many(items), Ok(()));
     drop(sender);
     assert!(receiver.into_iter().eq(items.iter().cloned()));
 }
@@ -164,6 +168,114 @@ fn items_of_each_size_come_back_in_order() {
     come_back(&[vec![1], vec![]]);
 }
 
+/// A thread that passes items on by `send_iter` keeps none back while it waits for the next one.
+#[test]
+fn a_forwarder_keeps_nothing_back() {
+    let (to_forwarder, input) = channel(8);
+    let (output, answers) = channel(8);
+    thread::scope(|scope| {
+        let forwarder = scope.spawn(move || output.send_iter(input.iter()));
+        for number in 0..1000 {
+            to_forwarder.send(number).unwrap();
+            assert_eq!(answers.recv_timeout(Duration::from_secs(60)), Ok(number));
+        }
+        drop(to_forwarder);
+        assert_eq!(forwarder.join().unwrap(), Ok(1000));
+    });
+}
+
+/// A burst of `send_many` whose receivers go comes back, except for what was sent.
+#[test]
+fn what_a_burst_has_not_sent_comes_back() {
+    let (sender, receiver) = channel(16);
+    thread::scope(|scope| {
+        let burst = scope.spawn(move || sender.send_many(Vec::from_iter(0..100)));
+        let received = Vec::from_iter(receiver.iter().take(20));
+        while !receiver.is_full() {
+            thread::yield_now();
+        }
+        drop(receiver);
+        assert_eq!(received, Vec::from_iter(0..20));
+        assert_eq!(burst.join().unwrap(), Err(SendError(Vec::from_iter(36..100))));
+    });
+}
+
+/// What a thread has sent, it or another thread can receive at once, whatever sends are under way.
+#[test]
+fn a_thread_receives_after_its_own_send() {
+    let (sender, receiver) = &channel(THREADS);
+    thread::scope(|scope| {
+        for thread in 0..THREADS {
+            scope.spawn(move || {
+                for number in 0..ITEMS {
+                    // Each thread has one item in the channel at the most, so there is room.
+                    match (thread + number) % 2 {
+                        0 => sender.try_send(number).unwrap(),
+                        _ => sender.try_send_many([number]).unwrap(),
+                    }
+                    match (thread + number) % 3 {
+                        0 => assert_eq!(receiver.try_recv_many(&mut Vec::new(), 1), Ok(1)),
+                        _ => assert!(receiver.try_recv().is_ok()),
+                    }
+                }
+            });
+        }
+    });
+    assert!(sender.is_empty());
+}
+
+/// The same, by halves of its own for each thread.
+#[test]
+fn a_thread_receives_after_its_own_send_by_clones() {
+    let (sender, receiver) = channel(THREADS);
+    thread::scope(|scope| {
+        for _ in 0..THREADS {
+            let (sender, receiver) = (sender.clone(), receiver.clone());
+            scope.spawn(move || {
+                for number in 0..ITEMS {
+                    sender.try_send(number).unwrap();
+                    receiver.try_recv().unwrap();
+                }
+            });
+        }
+    });
+    assert!(receiver.is_empty());
+}
+
+/// The only receiver of a channel that isn't empty receives, and the only sender of one that isn't full sends.
+#[test]
+fn the_only_half_finds_what_its_count_shows() {
+    let (sender, receiver) = channel(8);
+    thread::scope(move |scope| {
+        for _ in 0..THREADS {
+            let sender = sender.clone();
+            scope.spawn(move || (0..ITEMS).for_each(|number| sender.send(number).unwrap()));
+        }
+        drop(sender);
+        let mut count = 0;
+        while count < THREADS * ITEMS {
+            if !receiver.is_empty() {
+                receiver.try_recv().unwrap();
+                count += 1;
+            }
+        }
+    });
+    let (sender, receiver) = channel(8);
+    thread::scope(move |scope| {
+        for _ in 0..THREADS {
+            let receiver = receiver.clone();
+            scope.spawn(move || assert_eq!(receiver.iter().take(ITEMS).count(), ITEMS));
+        }
+        let mut count = 0;
+        while count < THREADS * ITEMS {
+            if !sender.is_full() {
+                sender.try_send(count).unwrap();
+                count += 1;
+            }
+        }
+    });
+}
+
 #[test]
 fn references_go_through_scoped_threads() {
     let texts: Vec<String> = (0..100).map(|number| number.to_string()).collect();
@@ -179,14 +291,14 @@ fn references_go_through_scoped_threads() {
 }
 
 #[test]
-fn a_full_and_an_empty_channel_are_told_from_a_closed_one() {
+fn a_full_and_an_empty_channel_differ_from_a_closed_one() {
     let limit = Duration::from_millis(2);
     let (sender, receiver) = channel(3);
     assert_eq!((sender.capacity(), receiver.capacity(), sender.is_empty()), (4, 4, true));
     assert_eq!(receiver.try_recv(), Err(TryRecvError::Empty));
     assert_eq!(receiver.recv_timeout(limit), Err(RecvTimeoutError::Timeout));
-    assert_eq!(sender.try_send_iter(0..5), Err(TrySendError::Full(vec![0, 1, 2, 3, 4])));
-    assert_eq!((sender.try_send_iter(0..4), sender.try_send_iter([])), (Ok(4), Ok(0)));
+    assert_eq!(sender.try_send_many([0, 1, 2, 3, 4]), Err(TrySendError::Full(vec![0, 1, 2, 3, 4])));
+    assert_eq!((sender.try_send_many([0, 1, 2, 3]), sender.try_send_many([])), (Ok(()), Ok(())));
     assert_eq!((sender.len(), receiver.len(), receiver.is_full(), receiver.is_empty()), (4, 4, true, false));
     assert!(sender.try_send(7).unwrap_err().is_full());
     let begun = Instant::now();
@@ -208,14 +320,15 @@ fn a_full_and_an_empty_channel_are_told_from_a_closed_one() {
     assert_eq!(sender.send(1), Err(SendError(1)));
     assert!(sender.try_send(1).unwrap_err().is_disconnected());
     assert_eq!(sender.send_timeout(1, limit), Err(SendTimeoutError::Disconnected(1)));
-    assert_eq!(sender.try_send_iter(0..5), Err(TrySendError::Disconnected(vec![0, 1, 2, 3, 4])));
-    assert_eq!(sender.try_send_iter(0..2), Err(TrySendError::Disconnected(vec![0, 1])));
-    assert_eq!(sender.send_iter(0..40), Err(SendError((0..32).collect())));
+    assert_eq!(sender.try_send_many([0, 1, 2, 3, 4]), Err(TrySendError::Disconnected(vec![0, 1, 2, 3, 4])));
+    assert_eq!(sender.try_send_many([0, 1]), Err(TrySendError::Disconnected(vec![0, 1])));
+    assert_eq!(sender.send_many(Vec::from_iter(0..40)), Err(SendError(Vec::from_iter(0..40))));
+    assert_eq!((sender.send_iter(3..), sender.send_iter([]), sender.send_many([])), (Err(SendError(3)), Ok(0), Ok(())));
 }
 
 #[test]
 fn errors_say_why_and_are_passed_on() {
-    let told = [
+    let said = [
         SendError(1).to_string(),
         TrySendError::Full(1).to_string(),
         TrySendError::from(SendError(1)).to_string(),
@@ -239,7 +352,13 @@ fn errors_say_why_and_are_passed_on() {
         "timed out receiving on an empty channel",
         "receiving on an empty and closed channel",
     ];
-    assert_eq!(told, words);
+    assert_eq!(said, words);
+    assert!(SendTimeoutError::Timeout(1).is_timeout() && !SendTimeoutError::Timeout(1).is_disconnected());
+    assert!(SendTimeoutError::Disconnected(1).is_disconnected() && !SendTimeoutError::Disconnected(1).is_timeout());
+    assert!(RecvTimeoutError::Timeout.is_timeout() && !RecvTimeoutError::Timeout.is_disconnected());
+    assert!(RecvTimeoutError::Disconnected.is_disconnected() && !RecvTimeoutError::Disconnected.is_timeout());
+    assert!(TryRecvError::Empty.is_empty() && !TryRecvError::Empty.is_disconnected());
+    assert!(TryRecvError::Disconnected.is_disconnected() && !TryRecvError::Disconnected.is_empty());
     // The item need not be `Debug`.
     let error = SendError(thread::yield_now as fn());
     assert_eq!(format!("{error:?} {:?}", TrySendError::Full(&error)), "SendError(..) Full(..)");
@@ -260,7 +379,7 @@ fn capacities_have_a_range() {
     assert_eq!(try_channel::<u8>((1 << 24) + 1).unwrap_err(), NewError::BadCapacity);
     assert_eq!(try_channel::<u8>(5).unwrap().0.capacity(), 8);
     let message = catch_unwind(|| channel::<u8>(0)).unwrap_err();
-    let words = "no channel of capacity 0: the capacity is no power of two from 1 to 16,777,216";
+    let words = "no channel of capacity 0: a channel has room for 1 to 16,777,216 items";
     assert_eq!(message.downcast_ref::<String>().unwrap(), words);
 }
 
@@ -270,7 +389,7 @@ fn what_nobody_receives_is_dropped_once() {
     let item = |number| Counted { drops, number };
     // By the last receiver, with senders alive.
     let (sender, receiver) = channel(64);
-    sender.send_iter((0..50).map(item)).unwrap();
+    sender.send_many(Vec::from_iter((0..50).map(item))).unwrap();
     let other = receiver.clone();
     drop(receiver);
     assert_eq!(drops.load(SeqCst), 0);
@@ -282,7 +401,7 @@ fn what_nobody_receives_is_dropped_once() {
     assert_eq!(drops.swap(0, SeqCst), 51);
     // By the last receiver, after all senders.
     let (sender, receiver) = channel(64);
-    sender.send_iter((0..50).map(item)).unwrap();
+    sender.send_many(Vec::from_iter((0..50).map(item))).unwrap();
     drop(sender);
     assert_eq!(receiver.recv().unwrap().number, 0);
     assert_eq!(drops.load(SeqCst), 1);
@@ -290,7 +409,7 @@ fn what_nobody_receives_is_dropped_once() {
     assert_eq!(drops.swap(0, SeqCst), 50);
     // In boxes, and refused.
     let (sender, receiver) = channel(2);
-    assert!(sender.try_send_iter((0..3).map(|number| [item(number), item(number)])).is_err());
+    assert!(sender.try_send_many(Vec::from_iter((0..3).map(|number| [item(number), item(number)]))).is_err());
     assert_eq!(drops.swap(0, SeqCst), 6);
     sender.send_iter((0..2).map(|number| [item(number), item(number)])).unwrap();
     assert!(sender.try_send([item(0), item(0)]).is_err());
@@ -370,7 +489,7 @@ fn a_panic_amid_items_drops_each_once() {
         }))
     }));
     assert!(panicked.is_err());
-    assert_eq!((drops.load(SeqCst), receiver.len()), (5 + 7, 35));
+    assert_eq!((drops.load(SeqCst), receiver.len()), (5, 35 + 7));
     drop((receiver, sender));
     assert_eq!(drops.load(SeqCst), 47);
 }

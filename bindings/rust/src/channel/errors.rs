@@ -4,11 +4,11 @@ use std::error::Error;
 use std::fmt;
 
 /// All receivers were dropped. It has what was not sent.
-#[derive(Clone, Copy, PartialEq, Eq)]
+#[derive(Clone, Copy, PartialEq, Eq, Hash)]
 pub struct SendError<T>(pub T);
 
 /// Why a try sent nothing. It has what was not sent.
-#[derive(Clone, Copy, PartialEq, Eq)]
+#[derive(Clone, Copy, PartialEq, Eq, Hash)]
 pub enum TrySendError<T> {
     /// There was no room.
     Full(T),
@@ -17,20 +17,20 @@ pub enum TrySendError<T> {
 }
 
 /// Why nothing was sent in time. It has what was not sent.
-#[derive(Clone, Copy, PartialEq, Eq)]
+#[derive(Clone, Copy, PartialEq, Eq, Hash)]
 pub enum SendTimeoutError<T> {
-    /// There was no room in time.
+    /// No place was given back in time.
     Timeout(T),
     /// All receivers were dropped.
     Disconnected(T),
 }
 
 /// The channel is empty, and all senders were dropped.
-#[derive(Clone, Copy, Debug, PartialEq, Eq)]
+#[derive(Clone, Copy, Debug, PartialEq, Eq, Hash)]
 pub struct RecvError;
 
 /// Why a try received nothing.
-#[derive(Clone, Copy, Debug, PartialEq, Eq)]
+#[derive(Clone, Copy, Debug, PartialEq, Eq, Hash)]
 pub enum TryRecvError {
     /// The channel is empty.
     Empty,
@@ -39,9 +39,9 @@ pub enum TryRecvError {
 }
 
 /// Why nothing was received in time.
-#[derive(Clone, Copy, Debug, PartialEq, Eq)]
+#[derive(Clone, Copy, Debug, PartialEq, Eq, Hash)]
 pub enum RecvTimeoutError {
-    /// Nothing came in time.
+    /// No item could be received in time.
     Timeout,
     /// The channel is empty, and all senders were dropped.
     Disconnected,
@@ -89,6 +89,48 @@ impl<T> SendTimeoutError<T> {
         match self {
             SendTimeoutError::Timeout(item) | SendTimeoutError::Disconnected(item) => item,
         }
+    }
+
+    /// Whether the time was over.
+    pub const fn is_timeout(&self) -> bool {
+        matches!(self, SendTimeoutError::Timeout(_))
+    }
+
+    /// Whether all receivers were dropped.
+    pub const fn is_disconnected(&self) -> bool {
+        matches!(self, SendTimeoutError::Disconnected(_))
+    }
+}
+
+impl TryRecvError {
+    /// Whether the channel was empty, with a sender.
+    ///
+    /// ```
+    /// # use synthesis_kernel::channel;
+    /// let (sender, receiver) = channel::<u64>(1);
+    /// assert!(receiver.try_recv().unwrap_err().is_empty());
+    /// drop(sender);
+    /// assert!(receiver.try_recv().unwrap_err().is_disconnected());
+    /// ```
+    pub const fn is_empty(&self) -> bool {
+        matches!(self, TryRecvError::Empty)
+    }
+
+    /// Whether all senders were dropped.
+    pub const fn is_disconnected(&self) -> bool {
+        matches!(self, TryRecvError::Disconnected)
+    }
+}
+
+impl RecvTimeoutError {
+    /// Whether the time was over.
+    pub const fn is_timeout(&self) -> bool {
+        matches!(self, RecvTimeoutError::Timeout)
+    }
+
+    /// Whether all senders were dropped.
+    pub const fn is_disconnected(&self) -> bool {
+        matches!(self, RecvTimeoutError::Disconnected)
     }
 }
 

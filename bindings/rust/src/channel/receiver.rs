@@ -16,7 +16,8 @@ use std::time::Duration;
 /// As a [`Sender`](super::Sender), it may be shared by `&` too.
 ///
 /// When the last receiver is dropped, it drops what was not received, and each sender gets its item back as
-/// `Disconnected`. A sender that is just within a send then drops what it sent.
+/// `Disconnected`. A send that another thread makes during this drop may still succeed, once a thread: its item is then
+/// dropped.
 pub struct Receiver<T> {
     half: Half<T>,
 }
@@ -37,6 +38,8 @@ impl<T> Receiver<T> {
 
     /// Receives the oldest item, if there is one.
     ///
+    /// It never sleeps. It waits only while another thread is within the send of the oldest item.
+    ///
     /// ```
     /// # use synthesis_kernel::channel;
     /// # use synthesis_kernel::channel::TryRecvError;
@@ -48,15 +51,14 @@ impl<T> Receiver<T> {
     /// assert_eq!(receiver.try_recv(), Err(TryRecvError::Disconnected));
     /// # Ok::<(), Box<dyn std::error::Error>>(())
     /// ```
+    ///
+    /// # Errors
+    ///
+    /// `Empty`: at a moment of the call the channel was empty. `Disconnected`: it is, and all senders were dropped.
     pub fn try_recv(&self) -> Result<T, TryRecvError> {
-        match self.take() {
-            Ok(item) => {
-                self.half.shared.room.notify_one();
-                Ok(item)
-            }
-            Err(NotTaken::Empty) => Err(TryRecvError::Empty),
-            Err(NotTaken::Closed) => Err(TryRecvError::Disconnected),
-        }
+        let item = self.take_by(Half::take)?;
+        self.half.shared.room.notify_one();
+        Ok(item)
     }
 
     /// Receives the oldest item, and sleeps while there is none.
@@ -71,6 +73,10 @@ impl<T> Receiver<T> {
     /// assert_eq!(receiver.recv(), Err(RecvError));
     /// # Ok::<(), Box<dyn std::error::Error>>(())
     /// ```
+    ///
+    /// # Errors
+    ///
+    /// The channel is empty, and all senders were dropped.
     pub fn recv(&self) -> Result<T, RecvError> {
         self.recv_for(None).map_err(|_| RecvError)
     }
@@ -84,12 +90,17 @@ impl<T> Receiver<T> {
     /// let (_sender, receiver) = channel::<u64>(4);
     /// assert_eq!(receiver.recv_timeout(Duration::from_millis(1)), Err(RecvTimeoutError::Timeout));
     /// ```
+    ///
+    /// # Errors
+    ///
+    /// `Timeout`: no item could be received in time. None can while the send of the oldest one is under way.
+    /// `Disconnected`: the channel is empty, and all senders were dropped.
     pub fn recv_timeout(&self, limit: Duration) -> Result<T, RecvTimeoutError> {
         self.recv_for(Some(limit))
     }
 
     fn recv_for(&self, limit: Option<Duration>) -> Result<T, RecvTimeoutError> {
-        let taken = wait(&self.half.shared.items, limit, || match self.take() {
+        let taken = wait(&self.half.shared.items, limit, || match self.take_by(Half::take_now) {
             Err(NotTaken::Empty) => None,
             answer => Some(answer.ok()),
         });
@@ -104,7 +115,7 @@ impl<T> Receiver<T> {
     }
 
     /// Receives the oldest items, `most` at the most, and appends them to the vector. Returns their number, at least 1,
-    /// or 0 if `most` is 0.
+    /// or 0 if `most` is 0. It waits for no send that is under way, except for that of the oldest item.
     ///
     /// ```
     /// # use synthesis_kernel::channel;
@@ -118,20 +129,12 @@ impl<T> Receiver<T> {
     /// assert_eq!(items, [1, 2, 3]);
     /// # Ok::<(), Box<dyn std::error::Error>>(())
     /// ```
+    ///
+    /// # Errors
+    ///
+    /// `Empty`: at a moment of the call the channel was empty. `Disconnected`: it is, and all senders were dropped.
     pub fn try_recv_many(&self, items: &mut Vec<T>, most: usize) -> Result<usize, TryRecvError> {
-        let mut count = 0;
-        while count < most {
-            match self.take_burst(most - count) {
-                Ok(burst) => {
-                    count += burst.size_hint().0;
-                    items.extend(burst);
-                }
-                Err(_) if count > 0 => break,
-                Err(NotTaken::Empty) => return Err(TryRecvError::Empty),
-                Err(NotTaken::Closed) => return Err(TryRecvError::Disconnected),
-            }
-        }
-        Ok(count)
+        Ok(self.take_many(items, most, Half::take)?)
     }
 
     /// As [`try_recv_many`](Receiver::try_recv_many), and sleeps while there is no item.
@@ -145,12 +148,16 @@ impl<T> Receiver<T> {
     /// assert!(items.into_iter().eq(0..100));
     /// # thread.join().unwrap().unwrap();
     /// ```
+    ///
+    /// # Errors
+    ///
+    /// The channel is empty, and all senders were dropped.
     pub fn recv_many(&self, items: &mut Vec<T>, most: usize) -> Result<usize, RecvError> {
-        let taken = wait(&self.half.shared.items, None, || match self.try_recv_many(items, most) {
-            Err(TryRecvError::Empty) => None,
-            answer => Some(answer),
+        let taken = wait(&self.half.shared.items, None, || match self.take_many(items, most, Half::take_now) {
+            Err(NotTaken::Empty) => None,
+            answer => Some(answer.ok()),
         });
-        taken.and_then(Result::ok).ok_or(RecvError)
+        taken.flatten().ok_or(RecvError)
     }
 
     /// Receives items until none is there.
@@ -193,11 +200,15 @@ impl<T> Receiver<T> {
     /// assert_eq!(other.recv(), Ok(5));
     /// # Ok::<(), Box<dyn std::error::Error>>(())
     /// ```
+    ///
+    /// # Errors
+    ///
+    /// The channel has more than two million halves, or memory is refused.
     pub fn try_clone(&self) -> Result<Receiver<T>, SplitError> {
         Half::new(&self.half.shared).map(Receiver::new)
     }
 
-    /// How many items are in the channel. Others change it meanwhile.
+    /// How many items are in the channel. Those whose send is under way are among them. Others change it meanwhile.
     ///
     /// ```
     /// # use synthesis_kernel::channel;
@@ -229,7 +240,7 @@ impl<T> Receiver<T> {
         self.half.shared.capacity
     }
 
-    /// Whether all senders were dropped. Items may still be left.
+    /// Whether all senders were dropped. Items may still be left, and no others come after this was true.
     ///
     /// ```
     /// # use synthesis_kernel::channel;
@@ -243,7 +254,7 @@ impl<T> Receiver<T> {
     /// ```
     #[must_use]
     pub fn is_closed(&self) -> bool {
-        self.half.shared.senders.load(SeqCst) == 0
+        self.half.is_without(&self.half.shared.senders)
     }
 
     /// Whether the two are of one channel.
@@ -259,19 +270,48 @@ impl<T> Receiver<T> {
         Arc::ptr_eq(&self.half.shared, &other.half.shared)
     }
 
-    fn take(&self) -> Result<T, NotTaken> {
+    fn take_by(&self, take: impl Fn(&Half<T>, &mut [Word]) -> Result<usize, NotTaken>) -> Result<T, NotTaken> {
         let mut word = [Word::uninit()];
-        self.half.take(&mut word)?;
+        take(&self.half, &mut word)?;
         // SAFETY: each word of the queue is that of an item, and is taken once.
         Ok(unsafe { unpack(word[0]) })
     }
 
+    /// Takes many items, in bursts, of which `first` takes the first one.
+    fn take_many(&self, items: &mut Vec<T>, most: usize, first: Take<T>) -> Result<usize, NotTaken> {
+        let (mut count, mut take) = (0, first);
+        while count < most {
+            match self.take_burst(most - count, take) {
+                Ok(burst) => {
+                    count += burst.size_hint().0;
+                    items.extend(burst);
+                }
+                Err(_) if count > 0 => break,
+                Err(why) => return Err(why),
+            }
+            take = Half::take_now;
+        }
+        Ok(count)
+    }
+
     /// Takes a burst of items, `most` at the most, and wakes a sender.
-    fn take_burst(&self, most: usize) -> Result<Burst<T>, NotTaken> {
+    fn take_burst(&self, most: usize, take: Take<T>) -> Result<Burst<T>, NotTaken> {
         // SAFETY: each word of the queue is that of an item, and is taken once.
-        let burst = unsafe { Burst::take(|words| self.half.take(&mut words[..most.min(BURST)])) }?;
+        let burst = unsafe { Burst::take(|words| take(&self.half, &mut words[..most.min(BURST)])) }?;
         self.half.shared.room.notify_one();
         Ok(burst)
+    }
+}
+
+/// How words are taken: with or without a wait for a send that is under way.
+type Take<T> = fn(&Half<T>, &mut [Word]) -> Result<usize, NotTaken>;
+
+impl From<NotTaken> for TryRecvError {
+    fn from(why: NotTaken) -> TryRecvError {
+        match why {
+            NotTaken::Empty => TryRecvError::Empty,
+            NotTaken::Closed => TryRecvError::Disconnected,
+        }
     }
 }
 
@@ -292,10 +332,7 @@ impl<T> Clone for Receiver<T> {
 
 impl<T> Drop for Receiver<T> {
     fn drop(&mut self) {
-        let shared = &self.half.shared;
-        if shared.receivers.fetch_sub(1, SeqCst) == 1 {
-            self.half.shut();
-            shared.room.notify_all();
+        if self.half.leaves(&self.half.shared.receivers) {
             self.half.drop_left();
         }
     }

@@ -60,6 +60,8 @@ impl<T> Sender<T> {
 
     /// Sends an item if there is room.
     ///
+    /// It never sleeps. It waits only while another thread is within a receiving that is about to make room.
+    ///
     /// ```
     /// # use synthesis_kernel::channel;
     /// # use synthesis_kernel::channel::TrySendError;
@@ -69,6 +71,11 @@ impl<T> Sender<T> {
     /// drop(receiver);
     /// assert_eq!(sender.try_send(3), Err(TrySendError::Disconnected(3)));
     /// ```
+    ///
+    /// # Errors
+    ///
+    /// The item comes back. `Full`: at a moment of the call there was no room. `Disconnected`: all receivers were
+    /// dropped.
     pub fn try_send(&self, item: T) -> Result<(), TrySendError<T>> {
         let word = pack(item);
         let not_put = match self.half.put(&[word]) {
@@ -81,7 +88,7 @@ impl<T> Sender<T> {
         // SAFETY: the word was packed above, and not put.
         let item = unsafe { unpack(word) };
         Err(match not_put {
-            NotPut::Full => TrySendError::Full(item),
+            NotPut::Full { .. } => TrySendError::Full(item),
             NotPut::Closed => TrySendError::Disconnected(item),
         })
     }
@@ -96,6 +103,10 @@ impl<T> Sender<T> {
     /// drop(receiver);
     /// assert_eq!(sender.send(2), Err(SendError(2)));
     /// ```
+    ///
+    /// # Errors
+    ///
+    /// All receivers were dropped. The item comes back.
     pub fn send(&self, item: T) -> Result<(), SendError<T>> {
         self.send_for(item, None).map_err(|error| SendError(error.into_inner()))
     }
@@ -111,14 +122,18 @@ impl<T> Sender<T> {
     /// assert_eq!(sender.send_timeout(1, limit), Ok(()));
     /// assert_eq!(sender.send_timeout(2, limit), Err(SendTimeoutError::Timeout(2)));
     /// ```
+    ///
+    /// # Errors
+    ///
+    /// The item comes back. `Timeout`: no place was given back in time. `Disconnected`: all receivers were dropped.
     pub fn send_timeout(&self, item: T, limit: Duration) -> Result<(), SendTimeoutError<T>> {
         self.send_for(item, Some(limit))
     }
 
     fn send_for(&self, item: T, limit: Option<Duration>) -> Result<(), SendTimeoutError<T>> {
         let word = pack(item);
-        let put = wait(&self.half.shared.room, limit, || match self.half.put(&[word]) {
-            Err(NotPut::Full) => None,
+        let put = wait(&self.half.shared.room, limit, || match self.half.put_now(&[word]) {
+            Err(NotPut::Full { .. }) => None,
             answer => Some(answer.is_ok()),
         });
         if put == Some(true) {
@@ -130,22 +145,27 @@ impl<T> Sender<T> {
         Err(if put.is_none() { SendTimeoutError::Timeout(item) } else { SendTimeoutError::Disconnected(item) })
     }
 
-    /// Sends all items of the iterator as one batch, if there is room for all. No item of another sender comes between
-    /// them, and none of them can be received before all can. Returns their number. Otherwise all come back. More items
-    /// than the channel has room for are always refused.
+    /// Sends all items as one batch, if there is room for all. No item of another sender comes between them, and none
+    /// of them can be received before all can. More items than the channel has room for are always refused. Items are a
+    /// `Vec`, an array, or a slice, of which it makes one.
     ///
     /// ```
     /// # use synthesis_kernel::channel;
     /// # use synthesis_kernel::channel::TrySendError;
     /// let (sender, receiver) = channel(4);
-    /// assert_eq!(sender.try_send_iter([1, 2, 3]), Ok(3));
-    /// assert_eq!(sender.try_send_iter([4, 5]), Err(TrySendError::Full(vec![4, 5])));
+    /// assert_eq!(sender.try_send_many([1, 2, 3]), Ok(()));
+    /// assert_eq!(sender.try_send_many([4, 5]), Err(TrySendError::Full(vec![4, 5])));
     /// assert!(receiver.try_iter().eq([1, 2, 3]));
     /// ```
-    pub fn try_send_iter<I: IntoIterator<Item = T>>(&self, items: I) -> Result<usize, TrySendError<Vec<T>>> {
-        let items: Vec<T> = items.into_iter().collect();
+    ///
+    /// # Errors
+    ///
+    /// All items come back. `Full`: at a moment of the call there was no room for all. `Disconnected`: all receivers
+    /// were dropped.
+    pub fn try_send_many(&self, items: impl Into<Vec<T>>) -> Result<(), TrySendError<Vec<T>>> {
+        let items = items.into();
         if items.is_empty() {
-            return Ok(0);
+            return Ok(());
         }
         if items.len() > self.capacity() {
             return Err(if self.is_closed() { TrySendError::Disconnected(items) } else { TrySendError::Full(items) });
@@ -154,19 +174,59 @@ impl<T> Sender<T> {
         let not_put = match self.half.put(&words) {
             Ok(()) => {
                 self.half.was_put();
-                return Ok(words.len());
+                return Ok(());
             }
             Err(not_put) => not_put,
         };
-        let items = unpack_all(&words);
+        let items = unpack_all(&words).collect();
         Err(match not_put {
-            NotPut::Full => TrySendError::Full(items),
+            NotPut::Full { .. } => TrySendError::Full(items),
             NotPut::Closed => TrySendError::Disconnected(items),
         })
     }
 
-    /// Sends all items of the iterator, in bursts, and sleeps while there is no room. Returns their number. If all
-    /// receivers are dropped meanwhile, it returns those that came out of the iterator and were not sent.
+    /// Sends all items in bursts, which takes less time than one by one, and sleeps while there is no room. Items of
+    /// other senders may come between two bursts.
+    ///
+    /// ```
+    /// # use synthesis_kernel::channel;
+    /// let (sender, receiver) = channel(128);
+    /// assert_eq!(sender.send_many(Vec::from_iter(0..100)), Ok(()));
+    /// assert!(receiver.try_iter().eq(0..100));
+    /// ```
+    ///
+    /// # Errors
+    ///
+    /// All receivers were dropped. The items that were not sent come back.
+    pub fn send_many(&self, items: impl Into<Vec<T>>) -> Result<(), SendError<Vec<T>>> {
+        let mut items = items.into().into_iter();
+        while items.len() > 0 {
+            let mut words = [Word::uninit(); BURST];
+            let packed = words.iter_mut().zip(items.by_ref()).map(|(word, item)| *word = pack(item)).count();
+            let left = self.send_words(&words[..packed]);
+            if !left.is_empty() {
+                return Err(SendError(unpack_all(left).chain(items).collect()));
+            }
+        }
+        Ok(())
+    }
+
+    /// Sends words in their order. Returns those that were not sent, if all receivers are dropped.
+    fn send_words<'words>(&self, mut words: &'words [Word]) -> &'words [Word] {
+        while !words.is_empty() {
+            let put = wait(&self.half.shared.room, None, || match self.half.put_some_now(words) {
+                Err(NotPut::Full { .. }) => None,
+                answer => Some(answer.ok()),
+            });
+            let Some(count) = put.flatten() else { break };
+            self.half.was_put();
+            words = &words[count..];
+        }
+        words
+    }
+
+    /// Sends the items of the iterator one by one, each before the next one is asked for, and sleeps while there is no
+    /// room. Returns their number. [`send_many`](Sender::send_many) takes less time for items that are there already.
     ///
     /// ```
     /// # use synthesis_kernel::channel;
@@ -174,29 +234,17 @@ impl<T> Sender<T> {
     /// assert_eq!(sender.send_iter(0..100), Ok(100));
     /// assert!(receiver.try_iter().eq(0..100));
     /// ```
-    pub fn send_iter<I: IntoIterator<Item = T>>(&self, items: I) -> Result<usize, SendError<Vec<T>>> {
-        let (mut items, mut sent) = (items.into_iter(), 0);
-        loop {
-            let burst: Vec<T> = items.by_ref().take(BURST).collect();
-            if burst.is_empty() {
-                return Ok(sent);
-            }
-            let words: Vec<Word> = burst.into_iter().map(pack).collect();
-            sent += words.len();
-            let mut left = &words[..];
-            while !left.is_empty() {
-                let put = wait(&self.half.shared.room, None, || match self.half.put_some(left) {
-                    Err(NotPut::Full) => None,
-                    answer => Some(answer.unwrap_or(0)),
-                });
-                let count = put.unwrap_or(0);
-                if count == 0 {
-                    return Err(SendError(unpack_all(left)));
-                }
-                self.half.was_put();
-                left = &left[count..];
-            }
+    ///
+    /// # Errors
+    ///
+    /// All receivers were dropped. The item that was to be sent next comes back.
+    pub fn send_iter<I: IntoIterator<Item = T>>(&self, items: I) -> Result<usize, SendError<T>> {
+        let mut sent = 0;
+        for item in items {
+            self.send(item)?;
+            sent += 1;
         }
+        Ok(sent)
     }
 
     /// As a clone, with an error in the place of a panic.
@@ -209,11 +257,15 @@ impl<T> Sender<T> {
     /// assert_eq!(receiver.recv(), Ok(5));
     /// # Ok::<(), Box<dyn std::error::Error>>(())
     /// ```
+    ///
+    /// # Errors
+    ///
+    /// The channel has more than two million halves, or memory is refused.
     pub fn try_clone(&self) -> Result<Sender<T>, SplitError> {
         Half::new(&self.half.shared).map(Sender::new)
     }
 
-    /// How many items are in the channel. Others change it meanwhile.
+    /// How many items are in the channel. Those whose send is under way are among them. Others change it meanwhile.
     ///
     /// ```
     /// # use synthesis_kernel::channel;
@@ -245,7 +297,7 @@ impl<T> Sender<T> {
         self.half.shared.capacity
     }
 
-    /// Whether all receivers were dropped.
+    /// Whether all receivers were dropped. No send succeeds after this was true.
     ///
     /// ```
     /// # use synthesis_kernel::channel;
@@ -256,7 +308,7 @@ impl<T> Sender<T> {
     /// ```
     #[must_use]
     pub fn is_closed(&self) -> bool {
-        self.half.shared.receivers.load(SeqCst) == 0
+        self.half.is_without(&self.half.shared.receivers)
     }
 
     /// Whether the two are of one channel.
@@ -274,9 +326,9 @@ impl<T> Sender<T> {
 }
 
 /// The items of words that were packed and not put.
-fn unpack_all<T>(words: &[Word]) -> Vec<T> {
-    // SAFETY: its callers packed the words of items of this type, and don't put them any more.
-    words.iter().map(|word| unsafe { unpack(*word) }).collect()
+fn unpack_all<T>(words: &[Word]) -> impl Iterator<Item = T> {
+    // SAFETY: its callers packed the words of items of this type, and don't put them any more. No word comes twice.
+    words.iter().map(|word| unsafe { unpack(*word) })
 }
 
 /// One more sender of the channel.
@@ -296,11 +348,7 @@ impl<T> Clone for Sender<T> {
 
 impl<T> Drop for Sender<T> {
     fn drop(&mut self) {
-        let shared = &self.half.shared;
-        if shared.senders.fetch_sub(1, SeqCst) == 1 {
-            self.half.shut();
-            shared.items.notify_all();
-        }
+        self.half.leaves(&self.half.shared.senders);
     }
 }
 

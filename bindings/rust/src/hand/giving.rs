@@ -49,6 +49,10 @@ impl Hand {
     /// assert_eq!(other.give(&mut hand, element), Err(GiveError::Stopped));
     /// # Ok::<(), Box<dyn std::error::Error>>(())
     /// ```
+    ///
+    /// # Errors
+    ///
+    /// Any [`GiveError`], in the order of their list.
     pub fn give(&mut self, receiver: &mut Hand, element: Element) -> Result<(), GiveError> {
         if !self.holds(element) {
             return Err(GiveError::NotHeld);

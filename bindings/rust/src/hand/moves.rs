@@ -59,6 +59,10 @@ impl Hand {
     /// assert_eq!(hand.try_next(), Ok(element));
     /// # Ok::<(), Box<dyn std::error::Error>>(())
     /// ```
+    ///
+    /// # Errors
+    ///
+    /// Any [`MoveError`] except `Moved`. The element stays where it was.
     pub fn try_ready(&mut self, element: Element) -> Result<(), MoveError> {
         moved(raw::synth_raw_hand_try_ready(&mut self.share.handle().0, element.raw()))
     }
@@ -73,6 +77,10 @@ impl Hand {
     /// assert!(!hand.holds(element));
     /// # Ok::<(), Box<dyn std::error::Error>>(())
     /// ```
+    ///
+    /// # Errors
+    ///
+    /// Any [`MoveError`] except `Moved`. The element stays where it was.
     pub fn try_retire(&mut self, element: Element) -> Result<(), MoveError> {
         moved(raw::synth_raw_hand_try_retire(&mut self.share.handle().0, element.raw()))
     }
@@ -89,6 +97,10 @@ impl Hand {
     /// assert_eq!(hand.try_wake(wait), Ok(element));
     /// # Ok::<(), Box<dyn std::error::Error>>(())
     /// ```
+    ///
+    /// # Errors
+    ///
+    /// Any [`MoveError`] except `Moved`. The element stays where it was.
     pub fn try_wait(&mut self, element: Element, wait: WaitNumber) -> Result<(), MoveError> {
         moved(raw::synth_raw_hand_try_wait(&mut self.share.handle().0, element.raw(), wait.raw()))
     }
@@ -130,6 +142,10 @@ impl Hand {
     /// assert!(hand.holds(element));
     /// # Ok::<(), Box<dyn std::error::Error>>(())
     /// ```
+    ///
+    /// # Errors
+    ///
+    /// Any [`MoveError`]. The element stays where it was.
     pub fn try_wait_at(&mut self, element: Element, wait: WaitNumber, ticket: u32) -> Result<(), MoveError> {
         moved(raw::synth_raw_hand_try_wait_at(&mut self.share.handle().0, element.raw(), wait.raw(), ticket))
     }

@@ -23,7 +23,7 @@ pub enum Place {
 }
 
 /// The elements of a table at its end, each list by the number of the element.
-#[derive(Clone, Debug, PartialEq, Eq)]
+#[derive(Clone, Debug, PartialEq, Eq, Hash)]
 pub struct Places {
     /// Where each element is.
     pub places: [Place; 64],
@@ -62,6 +62,10 @@ impl Hand {
     /// assert_eq!(places.places[63], Place::Free);
     /// # Ok::<(), Box<dyn std::error::Error>>(())
     /// ```
+    ///
+    /// # Errors
+    ///
+    /// Another hand exists, or was leaked. This one comes back.
     pub fn close(mut self) -> Result<Places, CloseError<Hand>> {
         let Some(handle) = self.share.whole() else { return Err(CloseError::Open(self)) };
         let mut found = raw::Places::default();

@@ -96,6 +96,10 @@ impl Hand {
     /// assert_eq!(hand.on(processor, two), Err(OnError::Busy));
     /// # Ok::<(), Box<dyn std::error::Error>>(())
     /// ```
+    ///
+    /// # Errors
+    ///
+    /// Any [`OnError`], in the order of their list. The element stays where it was.
     pub fn on(&mut self, processor: Processor, element: Element) -> Result<(), OnError> {
         match raw::synth_raw_hand_on(&mut self.share.handle().0, processor.raw(), element.raw()) {
             raw::OK => Ok(()),
@@ -119,6 +123,10 @@ impl Hand {
     /// assert_eq!(hand.off(processor), Err(OffError::Vacant));
     /// # Ok::<(), Box<dyn std::error::Error>>(())
     /// ```
+    ///
+    /// # Errors
+    ///
+    /// Any [`OffError`], in the order of their list.
     pub fn off(&mut self, processor: Processor) -> Result<Element, OffError> {
         let mut element = 0;
         match raw::synth_raw_hand_off(&mut self.share.handle().0, processor.raw(), &mut element) {
@@ -130,6 +138,10 @@ impl Hand {
     }
 
     /// How many steps an element has done that the hand holds or has on a processor.
+    ///
+    /// # Errors
+    ///
+    /// The hand neither holds the element nor has it on a processor.
     pub fn pc(&mut self, element: Element) -> Result<u64, NotHeldError> {
         let mut steps = 0;
         match raw::synth_raw_hand_pc(&mut self.share.handle().0, element.raw(), &mut steps) {
@@ -150,6 +162,10 @@ impl Hand {
     /// assert_eq!(hand.pc(element), Ok(1));
     /// # Ok::<(), Box<dyn std::error::Error>>(())
     /// ```
+    ///
+    /// # Errors
+    ///
+    /// Any [`StepError`], in the order of their list. No step is counted then.
     pub fn step_done(&mut self, element: Element) -> Result<u64, StepError> {
         let mut steps = 0;
         match raw::synth_raw_hand_step_done(&mut self.share.handle().0, element.raw(), &mut steps) {

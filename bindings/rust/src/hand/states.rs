@@ -127,6 +127,10 @@ impl Hand {
     /// assert_eq!(hand.try_start(element), Ok(Started::Held));
     /// # Ok::<(), Box<dyn std::error::Error>>(())
     /// ```
+    ///
+    /// # Errors
+    ///
+    /// Another hand changed the state of the element first. It stays as that hand left it.
     pub fn try_start(&mut self, element: Element) -> Result<Started, StartError> {
         let mut started = 0;
         let answer = raw::synth_raw_hand_try_start(&mut self.share.handle().0, element.raw(), &mut started);
@@ -152,6 +156,10 @@ impl Hand {
     /// assert!(!hand.holds(element));
     /// # Ok::<(), Box<dyn std::error::Error>>(())
     /// ```
+    ///
+    /// # Errors
+    ///
+    /// Any [`StateError`]. The hand then holds the element still, if it held it.
     pub fn try_park(&mut self, element: Element) -> Result<bool, StateError> {
         let mut parked = false;
         tried(raw::synth_raw_hand_try_park(&mut self.share.handle().0, element.raw(), &mut parked))?;
@@ -203,6 +211,10 @@ impl Hand {
 
     /// One try to deliver the pending signals of an element that the hand holds: bit s for signal s. They are pending
     /// no more.
+    ///
+    /// # Errors
+    ///
+    /// Any [`StateError`]. No signal is delivered then.
     pub fn try_deliver(&mut self, element: Element) -> Result<u16, StateError> {
         let mut signals = 0;
         tried(raw::synth_raw_hand_try_deliver(&mut self.share.handle().0, element.raw(), &mut signals))?;

@@ -45,6 +45,10 @@ impl Hand {
     /// assert_eq!(hand.try_next(), Ok(element));
     /// # Ok::<(), Box<dyn std::error::Error>>(())
     /// ```
+    ///
+    /// # Errors
+    ///
+    /// Any [`TakeError`]. Nothing was taken then.
     pub fn try_next(&mut self) -> Result<Element, TakeError> {
         let mut element = 0;
         let answer = raw::synth_raw_hand_try_next(&mut self.share.handle().0, &mut element);
@@ -60,6 +64,10 @@ impl Hand {
     /// assert_eq!(hand.try_free()?.number(), 1);
     /// # Ok::<(), Box<dyn std::error::Error>>(())
     /// ```
+    ///
+    /// # Errors
+    ///
+    /// Any [`TakeError`]. Nothing was taken then.
     pub fn try_free(&mut self) -> Result<Element, TakeError> {
         let mut element = 0;
         let answer = raw::synth_raw_hand_try_free(&mut self.share.handle().0, &mut element);
@@ -67,6 +75,10 @@ impl Hand {
     }
 
     /// One try to take the oldest element of a wait queue, which the hand then holds.
+    ///
+    /// # Errors
+    ///
+    /// Any [`TakeError`]. Nothing was taken then.
     pub fn try_wake(&mut self, wait: WaitNumber) -> Result<Element, TakeError> {
         let mut element = 0;
         let answer = raw::synth_raw_hand_try_wake(&mut self.share.handle().0, wait.raw(), &mut element);
@@ -111,6 +123,10 @@ impl Hand {
     /// assert_eq!(hand.try_wake_before(wait, head), Ok(None));
     /// # Ok::<(), Box<dyn std::error::Error>>(())
     /// ```
+    ///
+    /// # Errors
+    ///
+    /// Any [`TakeError`]. Nothing was taken then.
     pub fn try_wake_before(&mut self, wait: WaitNumber, head: u32) -> Result<Option<Element>, TakeError> {
         let mut element = 0;
         let answer = raw::synth_raw_hand_try_wake_before(&mut self.share.handle().0, wait.raw(), head, &mut element);

@@ -56,8 +56,7 @@ impl QueueEvents {
 }
 
 impl<const N: usize> QueueEnd<N> {
-    /// Puts an item, and sleeps while the queue is full. Returns its position, or `Full` if the time is over, or
-    /// another error of [`try_put`](QueueEnd::try_put) except `Lost`.
+    /// Puts an item, and sleeps while the queue is full. Returns its position.
     ///
     /// ```
     /// # use std::time::Duration;
@@ -71,6 +70,11 @@ impl<const N: usize> QueueEnd<N> {
     /// assert_eq!(end.put_wait(8, &events, limit), Ok(64));
     /// # Ok::<(), Box<dyn std::error::Error>>(())
     /// ```
+    ///
+    /// # Errors
+    ///
+    /// `Full` if the time is over, or another error of [`try_put`](QueueEnd::try_put) except `Lost`. Nothing was put
+    /// then.
     pub fn put_wait(&mut self, item: u64, events: &QueueEvents, limit: Option<Duration>) -> Result<u32, PutError> {
         let put = events.places.wait_for(limit, || match self.put(item) {
             Err(PutError::Full { .. }) => None,
@@ -83,8 +87,11 @@ impl<const N: usize> QueueEnd<N> {
         answer
     }
 
-    /// Takes the first item left, and sleeps while there is none. Returns `Empty` if the time is over, and `Closed` if
-    /// nothing will ever come.
+    /// Takes the first item left, and sleeps while there is none.
+    ///
+    /// # Errors
+    ///
+    /// `Empty` if the time is over, and `Closed` if nothing will ever come.
     pub fn take_wait(&mut self, events: &QueueEvents, limit: Option<Duration>) -> Result<u64, TakeError> {
         let taken = events.items.wait_for(limit, || match self.take() {
             Err(TakeError::Empty { .. }) => None,

@@ -11,9 +11,9 @@ use std::hint;
 /// it is one by [`BatchEnd::try_take_some`]. No position comes back: a queue takes 2^62 items, 146 years at a billion a
 /// second.
 ///
-/// Each call except [`split`](BatchEnd::split), [`close`](BatchEnd::close) and a drop ends after a bounded number of its
-/// own steps, and waits for no other thread. While a thread is stopped within its put, nobody gets what was put after
-/// it; what a thread that is stopped within its taking has taken keeps its places.
+/// Each call except [`split`](BatchEnd::split), [`close`](BatchEnd::close) and a drop ends after a bounded number of
+/// its own steps, and waits for no other thread. While a thread is stopped within its put, nobody gets what was put
+/// after it; what a thread that is stopped within its taking has taken keeps its places.
 ///
 /// A dropped end gives its share back, so the last end can always close the queue. The last one to be dropped takes the
 /// queue with it, and the items left.
@@ -251,7 +251,7 @@ impl BatchEnd {
     /// Any [`PutError`], in the order of their list. Nothing was put then.
     pub fn try_put(&mut self, items: &[u64]) -> Result<u64, PutError> {
         let mut at = raw::Positions::default();
-        // SAFETY: the pointer leads to as many items as the number says, which are only read.
+        // SAFETY: the pointer leads to as many items as the number says. Clause `put`: the call only reads them.
         let code =
             unsafe { raw::synth_raw_batch_try_put(self.share.handle(), items.as_ptr().cast(), items.len(), &mut at) };
         put(code, at)
@@ -273,7 +273,7 @@ impl BatchEnd {
     /// Any [`PutError`] except `TooLong`. Nothing was put then.
     pub fn try_put_some(&mut self, items: &[u64]) -> Result<(u64, usize), PutError> {
         let (mut count, mut at) = (0, raw::Positions::default());
-        // SAFETY: the pointer leads to as many items as the number says, which are only read.
+        // SAFETY: the pointer leads to as many items as the number says. Clause `put`: the call only reads them.
         let code = unsafe {
             raw::synth_raw_batch_try_put_some(
                 self.share.handle(),
@@ -306,7 +306,8 @@ impl BatchEnd {
     /// Any [`TakeError`]. Nothing was taken then, and `items` is as it was.
     pub fn try_take(&mut self, items: &mut [u64]) -> Result<usize, TakeError> {
         let (mut count, mut at) = (0, raw::Positions::default());
-        // SAFETY: the pointer leads to as much room as the number says, and nobody else has it.
+        // SAFETY: the pointer leads to as much room as the number says, and nobody else has it. Clause `taken`: the
+        // call writes there what it has taken, and nothing else.
         let code = unsafe {
             raw::synth_raw_batch_try_take(
                 self.share.handle(),
@@ -338,7 +339,8 @@ impl BatchEnd {
     /// Any [`TakeError`]; `ShortBuffer` only if `items` is empty. Nothing was taken then, and `items` is as it was.
     pub fn try_take_some(&mut self, items: &mut [u64]) -> Result<usize, TakeError> {
         let (mut count, mut at) = (0, raw::Positions::default());
-        // SAFETY: the pointer leads to as much room as the number says, and nobody else has it.
+        // SAFETY: the pointer leads to as much room as the number says, and nobody else has it. Clause `taken`: the
+        // call writes there what it has taken, and nothing else.
         let code = unsafe {
             raw::synth_raw_batch_try_take_some(
                 self.share.handle(),
@@ -455,7 +457,8 @@ impl BatchEnd {
         let Some(handle) = self.share.whole() else { return Err(CloseError::Open(self)) };
         let mut left = vec![0_u64; capacity];
         let mut numbers = raw::BatchClosed::default();
-        // SAFETY: the pointer leads to as much room as the number says, and nobody else has it.
+        // SAFETY: the pointer leads to as much room as the number says, and nobody else has it. Clause `closed`:
+        // the call writes there what is left, and nothing else.
         match unsafe { raw::synth_raw_batch_close(handle, left.as_mut_ptr(), left.len(), &mut numbers) } {
             raw::OK => {}
             code => raw::no_such_answer(code),

@@ -14,11 +14,11 @@
 //! that thread is preempted, this takes until it runs again.
 //!
 //! The other calls sleep on an [`Event`](crate::Event) while the channel is full or empty. If nobody sleeps, this costs
-//! a call one load. If a thread sleeps, each call that wakes it takes the lock of the event and makes a system call, the
-//! `try_` calls too. A half that two threads use at once takes a lock as well: so clone it for each thread.
+//! a call one load. If a thread sleeps, each call that wakes it takes the lock of the event and makes a system call,
+//! the `try_` calls too. A half that two threads use at once takes a lock as well: so clone it for each thread.
 //!
-//! A thread that may never wait, such as one of real time or a signal handler, uses a [`BatchEnd`](crate::BatchEnd): its
-//! tries take no lock and no memory, and wait for no other thread.
+//! A thread that may never wait, such as one of real time or a signal handler, uses a [`BatchEnd`](crate::BatchEnd):
+//! its tries take no lock and no memory, and wait for no other thread.
 //!
 //! What a call does to the queue is proved, on the library's side of it. The words, the sleeps and the counts of halves
 //! are this crate's, and are only tested.

@@ -203,8 +203,8 @@ impl Event {
     }
 }
 
-/// The wake-up of a thread that has waited. It is passed on when the thread has found something, or when its look panics:
-/// what the wake-up was for may be there still, and another thread can take it.
+/// The wake-up of a thread that has waited. It is passed on when the thread has found something, or when its look
+/// panics: what the wake-up was for may be there still, and another thread can take it.
 struct Wake<'event> {
     event: &'event Event,
     is_had: bool,

@@ -2,8 +2,9 @@
 //!
 //! # Channels
 //!
-//! [`channel()`] is a bounded queue of items of any type, for any number of senders and receivers. Its calls are those
-//! of [`std::sync::mpsc`], and both halves can be cloned and shared.
+//! [`channel()`] is a bounded queue of items of any type, for any number of senders and receivers. Its calls have the
+//! names and the errors of [`std::sync::mpsc`]'s, and both halves can be cloned and shared. It has room for a power of
+//! two items, at least as many as asked, and at least one.
 //!
 //! ```
 //! use std::thread;
@@ -108,8 +109,8 @@
 //! Each try, a call named `try_`, ends after a bounded number of its own steps, and waits for no other thread. Those of
 //! queues may answer `Lost`: another end was first, so the next try may succeed. After an error all is as it was.
 //!
-//! The queues are lockless, and not lock-free as Herlihy and Shavit define it: while a thread is stopped within its put,
-//! nobody gets what was put after it.
+//! The queues are lockless, and not lock-free as Herlihy and Shavit define it: while a thread is stopped within its
+//! put, nobody gets what was put after it.
 //!
 //! The `try_` calls of a [`channel`](mod@channel) promise less: they repeat a lost try, wait for a send or a receiving
 //! that is under way in their place, and wake threads that sleep, which takes a lock and a system call. An item over 8

@@ -294,7 +294,8 @@ impl MeterSeat {
     /// ```
     pub fn due(&mut self) -> Due {
         let (mut alarms, mut count) = ([raw::Alarm::default(); 16], 0);
-        // SAFETY: the pointer leads to room for as many alarms as the number says, and nobody else has it.
+        // SAFETY: the pointer leads to room for as many alarms as the number says, and nobody else has it. Clause
+        // `due`: the call writes the alarms there that it has taken out.
         let code =
             unsafe { raw::synth_raw_seat_due(self.share.handle(), alarms.as_mut_ptr(), alarms.len(), &mut count) };
         match code {

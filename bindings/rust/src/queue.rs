@@ -10,9 +10,9 @@ use crate::words::says;
 
 /// An end of a queue of `N` places, 64 or 256, and its queue. Each end may put and take.
 ///
-/// Each call except [`split`](QueueEnd::split), [`close`](QueueEnd::close), a drop, `put_wait` and `take_wait` ends after
-/// a bounded number of its own steps, and waits for no other thread. While a thread is stopped within its put, nobody
-/// gets what was put after it.
+/// Each call except [`split`](QueueEnd::split), [`close`](QueueEnd::close), a drop, `put_wait` and `take_wait` ends
+/// after a bounded number of its own steps, and waits for no other thread. While a thread is stopped within its put,
+/// nobody gets what was put after it.
 ///
 /// A dropped end gives its share back, so the last end can always close the queue. The last one to be dropped takes the
 /// queue with it, and the items left.
@@ -207,7 +207,7 @@ impl<const N: usize> QueueEnd<N> {
     ///
     /// Any [`PutError`], in the order of their list. Nothing was put then.
     pub fn try_put(&mut self, items: &[u64]) -> Result<u32, PutError> {
-        // SAFETY: the pointer leads to as many items as the number says, which are only read.
+        // SAFETY: the pointer leads to as many items as the number says. Clause `put`: the call only reads them.
         let answer = unsafe { raw::synth_raw_queue_try_put(self.share.handle(), items.as_ptr(), items.len()) };
         match answer.code {
             raw::OK => Ok(answer.head),
@@ -263,7 +263,8 @@ impl<const N: usize> QueueEnd<N> {
             return Ok(0);
         }
         let mut count = 0;
-        // SAFETY: the pointer leads to as much room as the number says, and nobody else has it.
+        // SAFETY: the pointer leads to as much room as the number says, and nobody else has it. Clause `taken`: the
+        // call writes there what it has taken, and nothing else.
         taken(unsafe {
             raw::synth_raw_queue_take_up_to(self.share.handle(), items.as_mut_ptr(), items.len(), &mut count)
         })?;
@@ -289,7 +290,8 @@ impl<const N: usize> QueueEnd<N> {
     /// Any [`TakeError`]. Nothing was taken then, and `line` is as it was.
     pub fn try_take_line(&mut self, line: &mut [u64; N]) -> Result<usize, TakeError> {
         let mut count = 0;
-        // SAFETY: the pointer leads to room for N items, and nobody else has it.
+        // SAFETY: the pointer leads to room for N items, and nobody else has it. Clause `taken`: the call writes the
+        // line there, which has at most N items.
         taken(unsafe { raw::synth_raw_queue_try_take_line(self.share.handle(), line.as_mut_ptr(), N, &mut count) })?;
         Ok(count)
     }
@@ -373,7 +375,8 @@ impl<const N: usize> QueueEnd<N> {
         let Some(handle) = self.share.whole() else { return Err(CloseError::Open(self)) };
         let mut room = [0; N];
         let mut numbers = raw::Closed::default();
-        // SAFETY: the pointer leads to room for N items, and nobody else has it.
+        // SAFETY: the pointer leads to room for N items, and nobody else has it. Clause `closed`: the call writes there
+        // what is left, and nothing else.
         match unsafe { raw::synth_raw_queue_close(handle, room.as_mut_ptr(), N, &mut numbers) } {
             raw::OK => {}
             code => raw::no_such_answer(code),

@@ -17,7 +17,8 @@ macro_rules! handles {
             full: bool,
         }
 
-        // SAFETY: the library proves of what a handle means that another thread may go on with it.
+        // SAFETY: the clauses of a call hold whichever thread makes it: they speak of the handle, and have no condition
+        // on the thread.
         unsafe impl Send for $name {}
 
         // SAFETY: no two calls may use one handle at once. Each call of the library takes it by `&mut`, so threads that
@@ -255,9 +256,11 @@ pub(crate) fn no_such_answer(code: i32) -> ! {
     unreachable!("the library answered {code}")
 }
 
-// SAFETY: the names and types are those of the header of this version; tests compare its numbers and structs. A reference is a pointer as the header wants it, a handle is
-// empty or was filled by a call of its own kind, and a `&mut` to it lets no other call have it. For all else the
-// library answers by a code, so only the calls that take a buffer's length beside its pointer are unsafe.
+// SAFETY: the names and types are those of the header of this version; tests compare its numbers and structs. A
+// reference is a pointer as the header wants it, a handle is empty or was filled by a call of its own kind, and a
+// `&mut` to it lets no other call have it. For all else the library answers by a code: its clauses have no condition,
+// except that of a join on the marks, which the library gives. So only the calls that take a buffer's length beside its
+// pointer are unsafe.
 //
 // The items of a batch queue may be uninitialized in part: its calls only copy them, and look at none.
 unsafe extern "C" {

@@ -145,7 +145,8 @@ impl<T> Half<T> {
             return self.call_beside(call);
         }
         // SAFETY: `is_used` was false, so no other thread uses the handle before it is false again, which it is
-        // after the call alone. The call doesn't come back here: it is one of the library's.
+        // after the call alone. The call doesn't come back here: it is one of the library's. So no two calls use one
+        // handle at once, as the header asks.
         let result = call(unsafe { &mut *self.handle.get() });
         self.is_used.store(false, Ordering::Release);
         result
@@ -184,7 +185,7 @@ impl<T> Half<T> {
     pub(super) fn put_now(&self, words: &[Word]) -> Result<(), NotPut> {
         loop {
             let mut at = raw::Positions::default();
-            // SAFETY: the pointer leads to as many words as the number says, which are only read.
+            // SAFETY: the pointer leads to as many words as the number says. Clause `put`: the call only reads them.
             let put =
                 |handle: &mut _| unsafe { raw::synth_raw_batch_try_put(handle, words.as_ptr(), words.len(), &mut at) };
             match self.call(put) {
@@ -194,12 +195,12 @@ impl<T> Half<T> {
         }
     }
 
-    /// Puts as many of the first words as there is room for, as one batch. Returns their number. Full is answered also if
-    /// places are about to be given back.
+    /// Puts as many of the first words as there is room for, as one batch. Returns their number. Full is answered also
+    /// if places are about to be given back.
     pub(super) fn put_some_now(&self, words: &[Word]) -> Result<usize, NotPut> {
         loop {
             let (mut count, mut at) = (0, raw::Positions::default());
-            // SAFETY: the pointer leads to as many words as the number says, which are only read.
+            // SAFETY: the pointer leads to as many words as the number says. Clause `put`: the call only reads them.
             let put = |handle: &mut _| unsafe {
                 raw::synth_raw_batch_try_put_some(handle, words.as_ptr(), words.len(), &mut count, &mut at)
             };
@@ -252,9 +253,9 @@ impl<T> Half<T> {
 
     /// What a sender does after a put: it wakes a receiver, or drops what nobody will receive.
     ///
-    /// The last receiver counts itself out, shuts the queue, and drops what it can take. While it is held up between the
-    /// first two of these, puts succeed. The first sender that finds no receiver then shuts the queue itself: so each
-    /// thread has one such put at the most.
+    /// The last receiver counts itself out, shuts the queue, and drops what it can take. While it is held up between
+    /// the first two of these, puts succeed. The first sender that finds no receiver then shuts the queue itself: so
+    /// each thread has one such put at the most.
     ///
     /// The last receiver may also find an item reserved and not published, and then leaves that one and all after it.
     /// The sender of that item publishes it later, so it finds no receiver here, and drops the rest.
@@ -283,7 +284,7 @@ impl<T> Half<T> {
         drop_all(iter::from_fn(|| {
             let mut word = [Word::uninit()];
             self.take_now(&mut word).ok()?;
-            // SAFETY: each word of the queue is that of an item, and is taken once.
+            // SAFETY: clause `taken`: the word was put, so it is that of an item, and no other taking gets it.
             Some(unsafe { unpack::<T>(word[0]) })
         }));
     }
@@ -340,7 +341,8 @@ struct Taking {
 fn take(handle: &mut raw::Batch, words: &mut [Word]) -> (i32, Taking) {
     let mut taking = Taking::default();
     let (room, count, at) = (words.len(), &mut taking.count, &mut taking.at);
-    // SAFETY: the pointer leads to as much room as the number says, and nobody else has it.
+    // SAFETY: the pointer leads to as much room as the number says, and nobody else has it. Clause `taken`: the call
+    // writes the words there that it has taken, from the first one on.
     let code = unsafe { raw::synth_raw_batch_try_take_some(handle, words.as_mut_ptr(), room, count, at) };
     (code, taking)
 }
@@ -362,7 +364,7 @@ impl<T> Drop for Shared<T> {
         let rest = Freed(&mut handles.rest);
         drop_all(iter::from_fn(|| {
             let mut word = [Word::uninit()];
-            // SAFETY: each word of the queue is that of an item, and nobody else takes it.
+            // SAFETY: clause `taken`: the word was put, so it is that of an item, and no other taking gets it.
             (take(rest.0, &mut word).0 == raw::OK).then(|| unsafe { unpack::<T>(word[0]) })
         }));
     }

@@ -22,8 +22,10 @@ pub struct Receiver<T> {
     half: Half<T>,
 }
 
-// SAFETY: as of a sender.
+// SAFETY: as of a sender, an item goes from one thread to another, and has to be `Send`.
 unsafe impl<T: Send> Send for Receiver<T> {}
+
+// SAFETY: as of a sender. Threads that share a receiver get items by value, each one once.
 unsafe impl<T: Send> Sync for Receiver<T> {}
 
 // No call that unwinds leaves anything half done.
@@ -273,7 +275,7 @@ impl<T> Receiver<T> {
     fn take_by(&self, take: impl Fn(&Half<T>, &mut [Word]) -> Result<usize, NotTaken>) -> Result<T, NotTaken> {
         let mut word = [Word::uninit()];
         take(&self.half, &mut word)?;
-        // SAFETY: each word of the queue is that of an item, and is taken once.
+        // SAFETY: clause `taken`: the word was put, so it is that of an item, and no other taking gets it.
         Ok(unsafe { unpack(word[0]) })
     }
 
@@ -296,7 +298,8 @@ impl<T> Receiver<T> {
 
     /// Takes a burst of items, `most` at the most, and wakes a sender.
     fn take_burst(&self, most: usize, take: Take<T>) -> Result<Burst<T>, NotTaken> {
-        // SAFETY: each word of the queue is that of an item, and is taken once.
+        // SAFETY: clause `taken`: as many words as the taking reports were put, so they are those of items, and no
+        // other taking gets them.
         let burst = unsafe { Burst::take(|words| take(&self.half, &mut words[..most.min(BURST)])) }?;
         self.half.shared.room.notify_one();
         Ok(burst)

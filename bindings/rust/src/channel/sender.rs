@@ -44,8 +44,10 @@ pub struct Sender<T> {
 }
 
 // SAFETY: an item goes from the thread of a sender to that of a receiver, or of the last half, and so it has to be
-// `Send`. By `&` a half gives no `&` to an item. It uses its handle in one call at a time.
+// `Send`. A handle may go to another thread: see `raw`.
 unsafe impl<T: Send> Send for Sender<T> {}
+
+// SAFETY: by `&` a half gives no `&` to an item, so items need not be `Sync`. It uses its handle in one call at a time.
 unsafe impl<T: Send> Sync for Sender<T> {}
 
 // No call that unwinds leaves anything half done.
@@ -85,7 +87,7 @@ impl<T> Sender<T> {
             }
             Err(not_put) => not_put,
         };
-        // SAFETY: the word was packed above, and not put.
+        // SAFETY: the word was packed above. Clause `put`: a refused call puts nothing, so nobody takes the word.
         let item = unsafe { unpack(word) };
         Err(match not_put {
             NotPut::Full { .. } => TrySendError::Full(item),
@@ -140,7 +142,7 @@ impl<T> Sender<T> {
             self.half.was_put();
             return Ok(());
         }
-        // SAFETY: the word was packed above, and not put.
+        // SAFETY: the word was packed above. Clause `put`: a refused call puts nothing, so nobody takes the word.
         let item = unsafe { unpack(word) };
         Err(if put.is_none() { SendTimeoutError::Timeout(item) } else { SendTimeoutError::Disconnected(item) })
     }
@@ -327,7 +329,8 @@ impl<T> Sender<T> {
 
 /// The items of words that were packed and not put.
 fn unpack_all<T>(words: &[Word]) -> impl Iterator<Item = T> {
-    // SAFETY: its callers packed the words of items of this type, and don't put them any more. No word comes twice.
+    // SAFETY: its callers packed the words of items of this type. Clause `put`: none of these was put. No word comes
+    // twice.
     words.iter().map(|word| unsafe { unpack(*word) })
 }
 

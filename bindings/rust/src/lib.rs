@@ -118,7 +118,8 @@
 //!
 //! # Version
 //!
-//! A program has one version of this crate, and one copy of its library: Cargo refuses two.
+//! A program has one version of this crate, and one copy of its library: Cargo refuses two. A library of a version that
+//! doesn't serve this one isn't linked: it lacks a symbol that has the version in its name.
 #![deny(missing_docs)]
 
 #[cfg(not(all(target_arch = "x86_64", target_os = "linux", target_pointer_width = "64")))]

@@ -1,6 +1,7 @@
 //! The library's functions, their types and their codes, as its header declares them.
 
-use std::ffi::c_void;
+use std::ffi::{c_char, c_void};
+use std::hint;
 use std::mem::MaybeUninit;
 use std::ptr;
 
@@ -233,10 +234,12 @@ numbers! {
     }
 }
 
-/// The calls that make an object.
+/// The calls that make an object. Each refers to the version's function, so that a program isn't linked with a library
+/// of a version that doesn't serve this one: its calls could have other types.
 macro_rules! news {
     ($($name:ident: $call:ident($($word:ident: $type:ty),+));+ $(;)?) => {$(
         pub(crate) fn $name($($word: $type),+) -> i32 {
+            hint::black_box(synth_version_of_crate());
             $call($($word),+)
         }
     )+};
@@ -264,6 +267,17 @@ pub(crate) fn no_such_answer(code: i32) -> ! {
 //
 // The items of a batch queue may be uninitialized in part: its calls only copy them, and look at none.
 unsafe extern "C" {
+    /// The version of the library. Only one that serves this version of the crate has a function of this name.
+    #[link_name = concat!(
+        "synth_version_",
+        env!("CARGO_PKG_VERSION_MAJOR"),
+        "_",
+        env!("CARGO_PKG_VERSION_MINOR"),
+        "_",
+        env!("CARGO_PKG_VERSION_PATCH")
+    )]
+    safe fn synth_version_of_crate() -> *const c_char;
+
     safe fn synth_raw_batch_new(places: usize, batch: &mut Batch) -> i32;
     pub(crate) safe fn synth_raw_batch_split(batch: &mut Batch, other: &mut Batch) -> i32;
     pub(crate) safe fn synth_raw_batch_join(batch: &mut Batch, other: &mut Batch) -> i32;

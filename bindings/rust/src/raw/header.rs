@@ -1,7 +1,8 @@
-//! Compares the numbers and the structs of this crate with those of the headers.
+//! Compares the numbers and the structs of this crate with those of the headers, and the version with the library's.
 
 use super::NUMBERS;
 use std::collections::BTreeMap;
+use std::ffi::CStr;
 use std::fs;
 use std::mem::offset_of;
 use std::path::Path;
@@ -154,4 +155,11 @@ fn each_struct_lies_in_memory_as_that_of_the_header() {
     // It is of the inline functions alone.
     assert!(wanted.remove("synth_element_state").is_some());
     assert_eq!(had, wanted);
+}
+
+#[test]
+fn the_library_is_of_this_version() {
+    let version = super::synth_version_of_crate();
+    // SAFETY: the library returns a text of its own.
+    assert_eq!(unsafe { CStr::from_ptr(version) }.to_str(), Ok(env!("CARGO_PKG_VERSION")));
 }

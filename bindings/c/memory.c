@@ -60,10 +60,10 @@ size_t memory_peak(void)
     return peak;
 }
 
-static int is_refused(void)
+static int is_refused(size_t length)
 {
     asked++;
-    return asked == refused;
+    return asked == refused || length > (size_t)1 << 30;
 }
 
 /* Puts a block in the place of another in the list. Null means none. */
@@ -82,18 +82,18 @@ static void *replaced(void *old, void *block, size_t length)
 
 void *__wrap_malloc(size_t length)
 {
-    return is_refused() ? NULL : replaced(NULL, __real_malloc(length), length);
+    return is_refused(length) ? NULL : replaced(NULL, __real_malloc(length), length);
 }
 
 void *__wrap_calloc(size_t count, size_t length)
 {
-    return is_refused() ? NULL : replaced(NULL, __real_calloc(count, length), count * length);
+    return is_refused(count * length) ? NULL : replaced(NULL, __real_calloc(count, length), count * length);
 }
 
 void *__wrap_realloc(void *block, size_t length)
 {
     void *grown;
-    if (is_refused()) {
+    if (is_refused(length)) {
         return NULL;
     }
     grown = __real_realloc(block, length);

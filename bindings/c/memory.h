@@ -1,6 +1,6 @@
 /*
  * Memory that a test refuses. The linker's `--wrap` puts these in the place of `malloc`, `calloc`, `realloc` and
- * `free`, for the library as for the test; the program has one thread.
+ * `free`, for the library as for the test; the program has one thread. More than a gibibyte is never given.
  */
 #ifndef MEMORY_H
 #define MEMORY_H

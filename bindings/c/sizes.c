@@ -104,6 +104,26 @@ static void large_ones(struct handles *all)
     ROW(synth_line_finish(&all->input, &all->output, NULL), SYNTH_OK);
 }
 
+/* Whatever the first positions are, and however many places there are. */
+static void each_first(struct handles *all)
+{
+    for (int i = 0; i < 287; i++) {
+        const uint32_t first = i < 256 ? (uint32_t)i : UINT32_C(0x7FFFFFFF) >> (i - 256);
+        const size_t places = (size_t)1 << i % 16;
+        takes_more(synth_batch_new(places, &all->batch), BATCH + places * PER_PLACE, BATCH_PEAK + places * PEAK_PER_PLACE);
+        takes_more(synth_queue_new(64, first, &all->queue), QUEUE + 64 * PER_PLACE, QUEUE_PEAK + 64 * PEAK_PER_PLACE);
+        takes_more(synth_hand_new(first, &all->hand), ELEMENTS, ELEMENTS_PEAK);
+        takes(synth_chain_new(first, &all->chain), CHAIN);
+        takes(synth_seat_new(first, &all->seat), METERS);
+        ROW(synth_batch_free(&all->batch), SYNTH_OK);
+        ROW(synth_queue_free(&all->queue), SYNTH_OK);
+        ROW(synth_hand_free(&all->hand), SYNTH_OK);
+        ROW(synth_chain_free(&all->chain), SYNTH_OK);
+        ROW(synth_seat_free(&all->seat), SYNTH_OK);
+        begin();
+    }
+}
+
 /* Each call of queues, lines, chains and meters that takes and frees no memory. */
 static void use_all(struct handles *all)
 {
@@ -178,6 +198,7 @@ int main(void)
     begin();
     large_ones(all);
     begin();
+    each_first(all);
     make_all(all);
     ROW(mprotect(page, sizeof *all, PROT_READ), 0);
     use_all(all);

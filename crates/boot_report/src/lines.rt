@@ -23,7 +23,7 @@ pub struct Lines {
 
 impl Lines {
     /// Lists with room for a line of each thing of the plan, a place of each step that hears, and a name of each
-    /// thread. `OutOfMemory` is returned only if an allocation was refused.
+    /// thread, and for no more. `OutOfMemory` is returned only if an allocation was refused.
     pub fn new(alloc: Global, plan: &BootPlan) -> Result<Lines, OutOfMemory>
         ensures { IfOk result (HasAllRoom plan.now) }
     {

@@ -25,16 +25,16 @@ use Rattle.synth_kernel.specs.declared.ready.Ready.{Ready}
 use Rattle.synth_kernel.specs.declared.ready.Room.{Room}
 
 -- The lists are empty. They have room for the results of so many processors and of the plan's devices, for the answers
--- of closing all, and for the report
+-- of closing all, and for the report, and for no more
 pub record HasPlaces {G : Type 0} (shared : Shared) (processors : ℕ) (room : Room G) : Type 0 where
-  pub backs : (room.backs.items ≡ []) × (processors + length shared.plan.ttys ≤ vec_capacity room.backs)
-  pub typed : (room.typed.items ≡ []) × (length shared.plan.ttys ≤ vec_capacity room.typed)
-  pub processed : (room.processed.items ≡ []) × (processors ≤ vec_capacity room.processed)
-  pub served : (room.served.items ≡ []) × (length shared.plan.ttys ≤ vec_capacity room.served)
-  pub ttys : (room.ttys.items ≡ []) × (length shared.plan.ttys ≤ vec_capacity room.ttys)
-  pub heards : (room.heards.items ≡ []) × (processors ≤ vec_capacity room.heards)
-  pub gates : (room.gates.items ≡ []) × (processors ≤ vec_capacity room.gates)
-  pub reported : (room.reported.items ≡ []) × (length shared.plan.ttys ≤ vec_capacity room.reported)
+  pub backs : (room.backs.items ≡ []) × (vec_capacity room.backs ≡ processors + length shared.plan.ttys)
+  pub typed : (room.typed.items ≡ []) × (vec_capacity room.typed ≡ length shared.plan.ttys)
+  pub processed : (room.processed.items ≡ []) × (vec_capacity room.processed ≡ processors)
+  pub served : (room.served.items ≡ []) × (vec_capacity room.served ≡ length shared.plan.ttys)
+  pub ttys : (room.ttys.items ≡ []) × (vec_capacity room.ttys ≡ length shared.plan.ttys)
+  pub heards : (room.heards.items ≡ []) × (vec_capacity room.heards ≡ processors)
+  pub gates : (room.gates.items ≡ []) × (vec_capacity room.gates ≡ processors)
+  pub reported : (room.reported.items ≡ []) × (vec_capacity room.reported ≡ length shared.plan.ttys)
   pub answers : closing.HaveRoom shared room.answers
   pub report : reporting.HasAllRoom shared.plan room.report
 

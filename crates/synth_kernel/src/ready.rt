@@ -50,7 +50,7 @@ pub(crate) struct Ready<G> {
     pub(crate) room: Room<G>,
 }
 
-// Room for the results of so many processors and of the devices.
+// Room for the results of so many processors and of the devices, and for no more.
 fn make_room<G: Drop>(
     alloc: Global,
     shared: &Shared,
@@ -86,7 +86,7 @@ fn make_room<G: Drop>(
 }
 
 // Takes the memory for all works, and gives the processor of each gate its work, from processor 0 on. Returns the
-// station with what it has left, and the works, with room for those of the devices.
+// station with what it has left, and the works, with room for those of the devices and for no more.
 fn post_works<G: Gate + Drop>(
     alloc: Global,
     shared: &Shared,
@@ -100,7 +100,7 @@ fn post_works<G: Gate + Drop>(
     requires few { vec_len gates ≤ 8 }
     ensures parts { IfOk result (λ r. ArePartsOf shared.now r.0.parts) }
     ensures posted { IfOk result (λ r. ArePosted shared.now 0 turns gates.items station.parts r.0.parts r.1.items) }
-    ensures room { IfOk result (λ r. vec_len gates + length shared.now.plan.ttys ≤ vec_capacity r.1) }
+    ensures room { IfOk result (λ r. vec_capacity r.1 ≡ vec_len gates + length shared.now.plan.ttys) }
     ensures free { IfOk result (λ r. (k : ℕ) → vec_len gates ≤ k → k < 8 → IsFree k (view_of r.0.parts.hand)) }
     ensures none_on { IfOk result (λ r. NoneOn station.parts → NoneOn r.0.parts) }
     ensures prepared { IfOk result (λ r. (plan : BootPlan) → IsPrepared plan station.parts

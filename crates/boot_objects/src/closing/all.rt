@@ -30,8 +30,8 @@ pub struct Answers {
 }
 
 impl Answers {
-    /// Lists with room for an answer of each of these objects. `OutOfMemory` is returned only if an allocation was
-    /// refused.
+    /// Lists with room for an answer of each of these objects and for no more. `OutOfMemory` is returned only if an
+    /// allocation was refused.
     pub fn new(alloc: Global, shared: &Shared) -> Result<Answers, OutOfMemory>
         ensures { IfOk result (HaveRoom shared.now) }
     {

@@ -1,11 +1,12 @@
 -- The steps that make, split, join and count ends keep the rule.
 use Rattle.claim_queue.proofs.Common.{◌≡◌, ℕ, ◌+◌, ◌-◌, ◌%◌, ◌<◌, ◌≤◌, List, [], length, get_or, set, sym, refl, ap, ◌∙◌, arith, mod-lt, length-set, get_or-set_same, get_or-set_other, some, none, get_elem?, Me, step, Allows, set_else, set_here, Positions, both, emptied, spot, at_below, grows_refl, head_word, tail_word, ends_word, flag_word, Shape, empty, View, of_queues, nothing_did, did_both, part_of, shuts_of, Rule, newcomer, InvHeldOf, ◌*◌, data_in, flag_in, IsUsed, by_ends, by_head, by_tail, unused_kept}
 use Rattle.table_theory.proofs.Rests.{rests_first}
+use Rattle.table_theory.specs.Sharing.{IsPortion}
 use Rattle.table_theory.proofs.Unused.{all_alike}
 use Rattle.std.proofs.Common.{replicate}
 use Rattle.std.proofs.lemmas.List.{length-replicate, get_or-replicate}
 use Rattle.atomic_table.specs.Table.{Splits, Joins, opening}
-use Rattle.table_theory.specs.Ledgers.{opened, rest_of, newborn}
+use Rattle.table_theory.specs.Ledgers.{opened, rest_without, newborn_with}
 use Rattle.table_theory.specs.Plays.{HasTallied, counts, counts_down, counts_up}
 use Rattle.table_theory.proofs.Listing.{listed_first, split_in, join_in}
 use Rattle.table_theory.proofs.Ruling as ruling
@@ -29,25 +30,25 @@ module _ (key : Shape) (n id : ℕ) (me : Me Unit View) where
   pub tallies : me.0.member.ends ≡ 1 → Allows (Rule key) n id me ends_word (λ x. x) (counts (HasTallied InvHeldOf ends_word) (step n ends_word 0 0 none) me)
   tallies one = tables.looks (table key) n id me (counts (HasTallied InvHeldOf ends_word) (step n ends_word 0 0 none) me) ends_word (omega arith) (λ s k at r. (refl, (ruled_now key _ s id me.0 _ at r, ends.tallied_now k.stands id me.0 at one)))
 
-pub splits : (key : Shape) (id : ℕ) (v : View) → v.member.ends ≡ 2 → Splits (Rule key) id v (rest_of v) (newborn nothing_did v)
-splits key id v two s k at = let q : Positions = k.now.object in let later = seen_grows key s k id v at in let left : View = rest_of v in let right : View = newborn nothing_did v in record {
+pub splits : (key : Shape) (id : ℕ) (v : View) (parts : ℕ) → (2 ≤ v.member.share → IsPortion parts v.member.share) → v.member.ends ≡ 2 → Splits (Rule key) id v (rest_without parts v) (newborn_with parts nothing_did v)
+splits key id v parts fits two s k at = let q : Positions = k.now.object in let later = seen_grows key s k id v at in let left : View = rest_without parts v in let right : View = newborn_with parts nothing_did v in record {
   now = k.now;
   first = k.first;
   room = k.room;
-  stands = ends.stands_split k.stands id v at two;
+  stands = ends.stands_split k.stands id v at parts fits two;
   listed = split_in part_of q s.views id v left right k.listed at refl refl later refl refl later;
   shut_once = total_split shuts_of s.views id v left right at refl refl ∙ k.shut_once;
 }
 
 -- both ends of a split are under the rule
-module _ (v : View) (two : v.member.ends ≡ 2) (r : InvHeldOf v) where
-  pub rest_ruled : InvHeldOf (rest_of v)
+module _ (v : View) (parts : ℕ) (fits : 2 ≤ v.member.share → IsPortion parts v.member.share) (two : v.member.ends ≡ 2) (r : InvHeldOf v) where
+  pub rest_ruled : InvHeldOf (rest_without parts v)
   unfolding splits
-  rest_ruled = ruling.rest_ruled Rule now_of nothing_did splits (λ key id u is s k at. refl) v two r
+  rest_ruled = ruling.rest_ruled Rule now_of v (rest_without parts v) (newborn_with parts nothing_did v) (λ key id. splits key id v parts fits two) (λ key id s k at. refl) r refl
 
-  pub born_ruled : InvHeldOf (newborn nothing_did v)
+  pub born_ruled : InvHeldOf (newborn_with parts nothing_did v)
   unfolding splits
-  born_ruled = ruling.born_ruled Rule now_of nothing_did splits (λ key id u is s k at. refl) v two r
+  born_ruled = ruling.born_ruled Rule now_of v (rest_without parts v) (newborn_with parts nothing_did v) (λ key id. splits key id v parts fits two) (λ key id s k at. refl) r refl
 
 pub joins : (key : Shape) (id other : ℕ) (v w : View) → 1 ≤ v.member.ends → Joins (Rule key) id v other w (both did_both v w) (emptied nothing_did v)
 joins key id other v w live s k at ne has = let one : View = both did_both v w in let spent : View = emptied nothing_did v in let q : Positions = k.now.object in let at' : get_elem? s.views other ≡ some w = sym (set_else s.views id other one ne) ∙ has in

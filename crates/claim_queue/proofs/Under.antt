@@ -4,7 +4,8 @@ use Rattle.std.proofs.Common.{replicate}
 use Rattle.std.specs.Int.Bits.{bit_or}
 use native.Mathlib.Decide.{ℕ_discrete}
 use Rattle.atomic_table.specs.Table.{Splits, Joins, Final, Seen, opening}
-use Rattle.table_theory.specs.Ledgers.{rest_of, newborn}
+use Rattle.table_theory.specs.Ledgers.{rest_without, newborn_with}
+use Rattle.table_theory.specs.Sharing.{IsPortion}
 use Rattle.table_theory.specs.Plays.{HasTallied, counts, counts_up, counts_down}
 use Rattle.table_theory.specs.Protocols.{Condition, Placed, placed_lines}
 use Rattle.table_theory.proofs.Leaving.{fresh_items}
@@ -103,8 +104,8 @@ module _ (allows : Condition) where
     tallies_as one = let P : ℕ → Me Unit View → Type 0 = counts (HasTallied InvHeldOf ends_word) (step n ends_word 0 0 none) me in
         allows_with (Rule key) (KeepsTo allows) n id me ends_word (λ x. x) P P (tallies key n id me one) (λ r m h k. keeps_same me.0 m.0 h.1.1.made.adds.first h.1.1.made.did k) (λ r m h s x at. h)
 
-  pub splits_as : ((first : ℕ) → allows first [] []) → (key : Shape) (id : ℕ) (v : View) → v.member.ends ≡ 2 → Splits (RuleWith allows key) id v (rest_of v) (newborn nothing_did v)
-  splits_as begins key id v two = splits_with (Rule key) (KeepsTo allows) id v (rest_of v) (newborn nothing_did v) (splits key id v two) (λ k. k) (λ k. begins v.first.first)
+  pub splits_as : ((first : ℕ) → allows first [] []) → (key : Shape) (id : ℕ) (v : View) (parts : ℕ) → (2 ≤ v.member.share → IsPortion parts v.member.share) → v.member.ends ≡ 2 → Splits (RuleWith allows key) id v (rest_without parts v) (newborn_with parts nothing_did v)
+  splits_as begins key id v parts fits two = splits_with (Rule key) (KeepsTo allows) id v (rest_without parts v) (newborn_with parts nothing_did v) (splits key id v parts fits two) (λ k. k) (λ k. begins v.first.first)
 
   pub joins_as : ((first : ℕ) → allows first [] [])
       → ((first : ℕ) (puts taken more_puts more_taken : List Placed) → allows first puts taken → allows first more_puts more_taken → allows first (puts ++ more_puts) (taken ++ more_taken))

@@ -3,7 +3,7 @@ use Rattle.std.specs.Prelude.{◌≡◌, ◌≤◌, ℕ}
 use Rattle.claim_queue.specs.declared.ends.ClaimQueue.{ClaimQueue}
 use Rattle.claim_queue.specs.declared.ends.QueueEnd.{QueueEnd}
 use Rattle.claim_queue.specs.Own.{View}
-use Rattle.table_theory.specs.Sharing.{IsWhole}
+use Rattle.table_theory.specs.Sharing.{IsPortion, IsWhole}
 
 -- the end's view: all that the end knows
 abbrev pub view_of : {n : ℕ} → QueueEnd n → View
@@ -20,6 +20,14 @@ IsOnlyEnd end = IsWhole end.seat.me.0.member.share
 -- the end can be split: it has two parts of the share or more
 abbrev pub IsDivisible : {n : ℕ} → QueueEnd n → Type 0
 IsDivisible end = 2 ≤ end.seat.me.0.member.share
+
+-- the end's share of its queue, in parts
+abbrev pub share_of : {n : ℕ} → QueueEnd n → ℕ
+share_of end = end.seat.me.0.member.share
+
+-- the end can give so many parts to a new end: one or more, and one or more are kept
+abbrev pub CanGive : {n : ℕ} → QueueEnd n → ℕ → Type 0
+CanGive end parts = IsPortion parts end.seat.me.0.member.share
 
 -- the end is an end of this queue
 abbrev pub IsEndOf : {n : ℕ} {C : Type 0} → ClaimQueue n C → QueueEnd n → Type 0

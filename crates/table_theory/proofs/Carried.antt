@@ -1,5 +1,5 @@
 -- An item that an end took is one that an end put.
-use Rattle.table_theory.proofs.Common.{◌≡◌, ℕ, zero, suc, ◌+◌, ◌<◌, ◌≤◌, List, [], ◌∷◌, map, length, take, get_or, sym, ap, ◌∙◌, subst, arith, some, some-injective, some-ne-none, get_elem?, at_map, Batch, Cell, Positions, QueueView, Owned, PartsShow, all_places, blank, item_of}
+use Rattle.table_theory.proofs.Common.{◌≡◌, ℕ, zero, suc, ◌+◌, ◌<◌, ◌≤◌, List, [], ◌∷◌, length, take, get_or, sym, ap, ◌∙◌, subst, arith, some, some-injective, some-ne-none, get_elem?, at_map, Batch, Cell, Positions, QueueView, PartsShow, blank, item_of}
 use Rattle.std.proofs.lemmas.List.{get_or-take}
 use Rattle.table_theory.specs.Batches.{line_of}
 use Rattle.table_theory.specs.Listing.{runs_of, takes_of}

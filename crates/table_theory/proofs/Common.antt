@@ -14,12 +14,12 @@ pub use Rattle.event_theory.specs.Runs.{flat, pairs}
 pub use Rattle.table_theory.specs.Courses.{Continues, IsCourse}
 pub use Rattle.table_theory.specs.Ends.{Begins, later_of}
 pub use Rattle.table_theory.specs.Filing.{ListedOnce, Owned, entry_of, moved, sole}
-pub use Rattle.table_theory.specs.Ledgers.{ExtendsTrace, AreValidViews, CountedDown, CountedUp, EndsStand, IsValidView, IsIdle, IsValidStep, Performed, Passes, Reaches, TableInv, Step, StepEffect, ObjectModel, Tallied, JoinedBy, both, emptied, event, fewer, first_of, more, newborn, opened, rest_of, stays}
+pub use Rattle.table_theory.specs.Ledgers.{ExtendsTrace, AreValidViews, CountedDown, CountedUp, EndsStand, IsValidView, IsIdle, IsValidStep, Performed, Passes, Reaches, TableInv, Step, StepEffect, ObjectModel, Tallied, JoinedBy, both, emptied, event, fewer, first_of, more, newborn, newborn_with, opened, rest_of, rest_without, stays}
 pub use Rattle.table_theory.specs.Listing.{Adjacent, IsListed, PartsShow, ViewsShow, all_places, runs_of, with_stage}
 pub use Rattle.table_theory.specs.Orders.{AreOrdered}
 pub use Rattle.table_theory.specs.Positioned.{Grows, Lawful, blank, fresh, head_of, item_at, item_of, place_at, tail_of, with_claim, with_shut, with_take, with_write, stage_at}
 pub use Rattle.table_theory.specs.QueueOf.{IsHistory, is_published, queue_of, run_in, published_in}
-pub use Rattle.table_theory.specs.Sharing.{IsCount, IsWhole, given, kept, total}
+pub use Rattle.table_theory.specs.Sharing.{IsCount, IsPortion, IsWhole, given, kept, total}
 pub use Rattle.table_theory.specs.declared.queues.Batch.{Batch}
 pub use Rattle.table_theory.specs.declared.queues.Cell.{Cell}
 pub use Rattle.table_theory.specs.declared.queues.Positions.{Positions}

@@ -1,5 +1,5 @@
 -- The steps that make, split, join and count ends.
-use Rattle.table_theory.proofs.Common.{◌≡◌, ℕ, ◌+◌, ◌-◌, ◌%◌, ◌<◌, ◌≤◌, ◌≢◌, List, [], ◌∷◌, ◌++◌, set, ◌∙◌, arith, some, get_elem?, IsWhole, given, kept, total, IsCount, set_else}
+use Rattle.table_theory.proofs.Common.{◌≡◌, ℕ, ◌+◌, ◌-◌, ◌%◌, ◌<◌, ◌≤◌, ◌≢◌, List, [], ◌∷◌, ◌++◌, set, ◌∙◌, arith, some, get_elem?, IsPortion, IsWhole, given, kept, total, IsCount, set_else}
 use Rattle.std.proofs.Common.{◌/◌}
 use Rattle.table_theory.specs.Sharing.{EndsCounted}
 use Rattle.table_theory.proofs.Owned.{all_set, all_push, all_one}
@@ -14,6 +14,9 @@ kept_some s h = let d : s / 2 + 1 ≤ s = omega arith in omega arith
 
 pub given_kept : (s : ℕ) → kept s + given s ≡ s
 given_kept s = let d : s / 2 ≤ s = omega arith in omega arith
+
+pub given_fits : (s : ℕ) → 2 ≤ s → IsPortion (given s) s
+given_fits s h = let g = given_some s h in let k = kept_some s h in let b = given_kept s in (omega arith, omega arith)
 
 -- A view w in place of one: `within` and `spent` hold of all others as before
 module _ {V : Type 0} (f share : V → ℕ) (P : V → Type 0) where
@@ -44,10 +47,10 @@ module _ {V : Type 0} (f share : V → ℕ) (P : V → Type 0) where
   counted_down n vs j v w c at some_end less shares = let t = total_set f vs j v w at in let s = c.counted in let o = one_of f vs j v at in let i = c.within j v at in let bounded = counted_small n vs c in
       (omega arith, omega arith, changed n (n - 1) vs j v w c at some_end (omega arith) shares (omega arith))
 
-  pub counted_split : (n : ℕ) (vs : List V) (j : ℕ) (v left right : V) → EndsCounted f share P n vs → get_elem? vs j ≡ some v → f v ≡ 2 → f left ≡ 1 → f right ≡ 1 → share left ≡ kept (share v) → share right ≡ given (share v)
-      → EndsCounted f share P n (set vs j left ++ right ∷ [])
-  counted_split n vs j v left right c at two one one' is is' = let t = total_set f vs j v left at in let p = total_push f (set vs j left) right in let t' = total_set share vs j v left at in let p' = total_push share (set vs j left) right in
-      let i = c.within j v at in let g = given_some (share v) (omega arith) in let k = kept_some (share v) (omega arith) in let b = given_kept (share v) in record {
+  pub counted_split : (n : ℕ) (vs : List V) (j : ℕ) (v left right : V) (parts : ℕ) → (2 ≤ share v → IsPortion parts (share v)) → EndsCounted f share P n vs → get_elem? vs j ≡ some v → f v ≡ 2 → f left ≡ 1 → f right ≡ 1
+      → share left ≡ share v - parts → share right ≡ parts → EndsCounted f share P n (set vs j left ++ right ∷ [])
+  counted_split n vs j v left right parts fits c at two one one' is is' = let t = total_set f vs j v left at in let p = total_push f (set vs j left) right in let t' = total_set share vs j v left at in let p' = total_push share (set vs j left) right in
+      let i = c.within j v at in let g = (fits (omega arith)).0 in let k = (fits (omega arith)).1 in record {
         counted = let s = c.counted in omega arith;
         shared = let s = c.shared in omega arith;
         within = all_push Within (set vs j left) right (all_set Within vs j left c.within (omega arith)) (omega arith);

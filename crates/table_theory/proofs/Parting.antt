@@ -1,7 +1,7 @@
 -- The reports of the calls that split, join and close, by the steps that they are made of.
-use Rattle.table_theory.proofs.Common.{◌≡◌, ◌≢◌, ℕ, ◌+◌, ◌-◌, ◌≤◌, Bool, true, false, List, [], ◌++◌, sym, refl, ap, ◌∙◌, subst, arith, if◌then◌else◌, nat_lt, EndState, Begins, kept, given, Step, Performed, CountedUp, CountedDown, JoinedBy, Tallied, rest_of, newborn, both, Part}
+use Rattle.table_theory.proofs.Common.{◌≡◌, ◌≢◌, ℕ, ◌+◌, ◌-◌, ◌≤◌, Bool, true, false, List, [], ◌++◌, sym, refl, ap, ◌∙◌, subst, arith, if◌then◌else◌, nat_lt, EndState, Begins, given, Step, Performed, CountedUp, CountedDown, JoinedBy, Tallied, rest_of, rest_without, newborn, newborn_with, both, Part}
 use Rattle.std.specs.Prelude.{length}
-use Rattle.table_theory.specs.Ledgers.{SplitBy, IsNewEnd, WereOpen}
+use Rattle.table_theory.specs.Ledgers.{SplitBy, SplitShare, IsNewEnd, IsNewEndWith, WereOpen}
 use Rattle.table_theory.proofs.Reaching.{adds_none, adds_after}
 
 -- both begin what was seen then
@@ -22,12 +22,12 @@ module _ {K O : Type 0} where
   made_then v u w xs ys one f a b = record { adds = adds_after v u w xs ys (ap (λ (z : Part). z.share) a.member) a.adds b.adds; did = b.did ∙ ap f a.did; member = b.member ∙ a.member }
 
 module _ {K O : Type 0} (nothing : K) (plus : K → K → K) (word : ℕ) where
-  divided : (v u : (EndState K O)) → CountedUp word v u → SplitBy word v (rest_of u)
-  divided v u c = record {
+  divided : (parts : ℕ) (v u : (EndState K O)) → CountedUp word v u → SplitShare word parts v (rest_without parts u)
+  divided parts v u c = record {
     found = c.found;
     adds = record { first = c.adds.first; entries_are = c.adds.entries_are; since = c.adds.since; course_is = c.adds.course_is; own = c.adds.own; alone = c.adds.alone };
     own = c.own;
-    member = (λ i. record (c.member i) { ends = (c.member i).ends - 1; share = kept (c.member i).share; unlisted = (c.member i).unlisted + 1 }) ∙ (λ i. record v.member { ends = less i; share = kept v.member.share; splits = v.member.splits + 1; unlisted = v.member.unlisted + 1 });
+    member = (λ i. record (c.member i) { ends = (c.member i).ends - 1; share = (c.member i).share - parts; unlisted = (c.member i).unlisted + 1 }) ∙ (λ i. record v.member { ends = less i; share = v.member.share - parts; splits = v.member.splits + 1; unlisted = v.member.unlisted + 1 });
   }
     where
       less : v.member.ends + 1 - 1 ≡ v.member.ends
@@ -38,7 +38,12 @@ module _ {K O : Type 0} (nothing : K) (plus : K → K → K) (word : ℕ) where
 
   -- the two ends of a split, as they are given back
   pub split_views : {A : Type 0} (v u : (EndState K O)) (one other : (EndState K O) × A) (a b : A) → CountedUp word v u → one ≡ (rest_of u, a) → other ≡ (newborn nothing u, b) → SplitBy word v one.0 × IsNewEnd nothing v one.0 other.0
-  split_views v u one other a b c e e' = (subst (λ z. SplitBy word v z.0) (sym e) (divided v u c), subst (λ z. IsNewEnd nothing v z.0 other.0) (sym e) (subst (λ z. IsNewEnd nothing v (rest_of u) z.0) (sym e') (born v u c)))
+  split_views v u one other a b c e e' = (subst (λ z. SplitBy word v z.0) (sym e) (subst (λ (s : ℕ). SplitShare word (given s) v (rest_of u)) (ap (λ (z : Part). z.share) c.member) (divided (given u.member.share) v u c)), subst (λ z. IsNewEnd nothing v z.0 other.0) (sym e) (subst (λ z. IsNewEnd nothing v (rest_of u) z.0) (sym e') (born v u c)))
+
+  -- the same, of a split that gives so many parts
+  pub share_views : {A : Type 0} (parts : ℕ) (v u : (EndState K O)) (one other : (EndState K O) × A) (a b : A) → CountedUp word v u → one ≡ (rest_without parts u, a) → other ≡ (newborn_with parts nothing u, b)
+      → SplitShare word parts v one.0 × IsNewEndWith parts nothing one.0 other.0
+  share_views parts v u one other a b c e e' = (subst (λ z. SplitShare word parts v z.0) (sym e) (divided parts v u c), subst (λ z. IsNewEndWith parts nothing z.0 other.0) (sym e) (ap (λ z. z.0) e'))
 
   -- an end that took in another can count one end less
   pub two_ends : (v u b : (EndState K O)) → v.member.ends ≡ 1 → u.member.ends ≡ 1 → b ≡ both plus v u → 2 ≤ b.member.ends

@@ -1,6 +1,6 @@
 -- A rule with a condition on each view: what a step, a split and a join owe for it.
-use Rattle.table_theory.proofs.Common.{◌≡◌, ℕ, zero, suc, List, [], ◌∷◌, ◌++◌, get_or, set, sym, ◌∙◌, subst, ⊎_elim, some, some-injective, some-ne-none, get_elem?, at_set, set_here, set_else}
-use Rattle.atomic_table.specs.Table.{State, Me, Act, stepped, carried_after, Allows, Splits, Joins, opening}
+use Rattle.table_theory.proofs.Common.{◌≡◌, ℕ, zero, suc, List, [], ◌∷◌, get_or, set, sym, ◌∙◌, subst, ⊎_elim, some, some-injective, some-ne-none, get_elem?, at_set, set_here, set_else}
+use Rattle.atomic_table.specs.Table.{State, Me, stepped, carried_after, Allows, Splits, Joins, opening}
 use Rattle.atomic_table.proofs.Lists.{at_snoc}
 use Rattle.table_theory.specs.Protocols.{HoldsWith}
 use Rattle.table_theory.proofs.Owned.{at_below}

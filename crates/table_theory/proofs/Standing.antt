@@ -1,5 +1,5 @@
 -- The ends that exist, through each step, a split and a join.
-use Rattle.table_theory.proofs.Common.{◌≡◌, ◌≢◌, ℕ, ◌+◌, ◌-◌, ◌%◌, ◌≤◌, List, [], ◌∷◌, ◌++◌, set, refl, ap, ◌∙◌, arith, some, get_elem?, Part, EndState, IsWhole, IsCount, IsIdle, EndsStand, rest_of, newborn, both, emptied, first_of, set_else}
+use Rattle.table_theory.proofs.Common.{◌≡◌, ◌≢◌, ℕ, ◌+◌, ◌-◌, ◌%◌, ◌≤◌, List, [], ◌∷◌, ◌++◌, set, refl, ap, ◌∙◌, arith, some, get_elem?, Part, EndState, IsWhole, IsCount, IsIdle, IsPortion, EndsStand, rest_without, newborn_with, both, emptied, first_of, set_else}
 use Rattle.table_theory.proofs.Counting.{changed, counted_up, counted_down, counted_split, counted_join, counted_first, others_idle, count_found}
 use Rattle.table_theory.proofs.Totals.{total_set, total_push, total_kept}
 
@@ -47,10 +47,10 @@ module _ {K O : Type 0} (T : K) (plus : K → K → K) where
   )
 
   -- an end is split in two, of which each has what it has
-  pub stand_parted : (n : ℕ) (vs : List (EndState K O)) (j : ℕ) (v left right : (EndState K O)) → EndsStand T n vs → get_elem? vs j ≡ some v → v.member.ends ≡ 2 → left.member ≡ (rest_of v).member → right.member ≡ (newborn T v).member
-      → EndsStand T n (set vs j left ++ right ∷ [])
-  stand_parted n vs j v left right h at two rest new = let one : ends left ≡ 1 = let e : ends left ≡ ends v - 1 = ap (λ (z : Part). z.ends) rest in omega arith in record {
-    counted = counted_split ends share (IsIdle T) n vs j v left right h.counted at two one (ap (λ (z : Part). z.ends) new) (ap (λ (z : Part). z.share) rest) (ap (λ (z : Part). z.share) new);
+  pub stand_parted : (n : ℕ) (vs : List (EndState K O)) (j : ℕ) (v left right : (EndState K O)) (parts : ℕ) → (2 ≤ v.member.share → IsPortion parts v.member.share) → EndsStand T n vs → get_elem? vs j ≡ some v → v.member.ends ≡ 2
+      → left.member ≡ (rest_without parts v).member → right.member ≡ (newborn_with parts T v).member → EndsStand T n (set vs j left ++ right ∷ [])
+  stand_parted n vs j v left right parts fits h at two rest new = let one : ends left ≡ 1 = let e : ends left ≡ ends v - 1 = ap (λ (z : Part). z.ends) rest in omega arith in record {
+    counted = counted_split ends share (IsIdle T) n vs j v left right parts fits h.counted at two one (ap (λ (z : Part). z.ends) new) (ap (λ (z : Part). z.share) rest) (ap (λ (z : Part). z.share) new);
     balanced = let x = h.balanced in let a = total_kept joins vs j v left at (ap (λ (z : Part). z.joins) rest) in let b = total_kept splits vs j v left at (ap (λ (z : Part). z.splits) rest) in let c = total_push joins (set vs j left) right in
         let d = total_push splits (set vs j left) right in let e : joins right ≡ 0 = ap (λ (z : Part). z.joins) new in let f : splits right ≡ 0 = ap (λ (z : Part). z.splits) new in omega arith;
   }

@@ -1,5 +1,5 @@
 -- The facts that every step of every table keeps and reports, for any object.
-use Rattle.table_theory.proofs.Common.{◌≡◌, ◌≢◌, ℕ, ◌+◌, ◌-◌, ◌%◌, ◌<◌, ◌≤◌, List, [], ◌∷◌, ◌++◌, length, get_or, set, sym, refl, ap, ◌∙◌, subst, arith, get_or-set_same, get_or-set_other, some, get_elem?, AbsState, Part, EndState, IsWhole, IsCount, ObjectModel, Step, StepEffect, stays, event, more, fewer, IsValidStep, IsValidView, Reaches, ExtendsTrace, Performed, CountedUp, CountedDown, Tallied, EndsStand, IsIdle, TableInv, opened, first_of, rest_of, newborn, both, emptied, AreOrdered}
+use Rattle.table_theory.proofs.Common.{◌≡◌, ◌≢◌, ℕ, ◌+◌, ◌-◌, ◌%◌, ◌<◌, ◌≤◌, List, [], ◌∷◌, ◌++◌, length, get_or, set, sym, refl, ap, ◌∙◌, subst, arith, get_or-set_same, get_or-set_other, some, get_elem?, AbsState, Part, EndState, IsWhole, IsCount, IsPortion, ObjectModel, Step, StepEffect, stays, event, more, fewer, IsValidStep, IsValidView, Reaches, ExtendsTrace, Performed, CountedUp, CountedDown, Tallied, EndsStand, IsIdle, TableInv, opened, first_of, rest_without, newborn_with, both, emptied, AreOrdered}
 use Rattle.std.proofs.lemmas.List.{set-get_or}
 use Rattle.table_theory.specs.Ledgers.{count_down, Looked}
 use Rattle.table_theory.proofs.Ends.{begins_on}
@@ -159,8 +159,8 @@ module _ {K O : Type 0} {T : ObjectModel O} {nothing : K} {first : O} {now : Abs
     }
 
     -- the end is split, and takes in another
-    pub stands_split : v.member.ends ≡ 2 → TableInv T nothing first now words (set vs id (rest_of v) ++ newborn nothing v ∷ [])
-    stands_split two = record { lawful = s.lawful; shows = s.shows; number = s.number; true_ends = with_ends (order_split T first now vs id v v.own nothing (rest_of v).member (newborn nothing v).member order at) (stand_parted nothing (λ d e. d) now.ends vs id v (rest_of v) (newborn nothing v) s.true_ends.ends at two refl refl) }
+    pub stands_split : (parts : ℕ) → (2 ≤ v.member.share → IsPortion parts v.member.share) → v.member.ends ≡ 2 → TableInv T nothing first now words (set vs id (rest_without parts v) ++ newborn_with parts nothing v ∷ [])
+    stands_split parts fits two = record { lawful = s.lawful; shows = s.shows; number = s.number; true_ends = with_ends (order_split T first now vs id v v.own nothing (rest_without parts v).member (newborn_with parts nothing v).member order at) (stand_parted nothing (λ d e. d) now.ends vs id v (rest_without parts v) (newborn_with parts nothing v) parts fits s.true_ends.ends at two refl refl) }
 
     pub stands_join : (plus : K → K → K) (other : ℕ) (u : EndState K O) → get_elem? vs other ≡ some u → other ≢ id → 1 ≤ v.member.ends → TableInv T nothing first now words (set (set vs id (both plus v u)) other (emptied nothing v))
     stands_join plus other u at' ne live = record { lawful = s.lawful; shows = s.shows; number = s.number; true_ends = with_ends (order_join T nothing plus first now vs id other v u order at at' ne) (stand_join nothing plus now.ends vs id other v u s.true_ends.ends at at' ne live) }

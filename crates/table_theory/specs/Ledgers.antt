@@ -11,7 +11,7 @@ use Rattle.table_theory.specs.declared.views.EndState.{EndState}
 use Rattle.table_theory.specs.Courses.{Continues, IsCourse}
 use Rattle.table_theory.specs.Ends.{Begins}
 use Rattle.table_theory.specs.Filing.{entry_of}
-use Rattle.table_theory.specs.Sharing.{IsWhole, the_whole, given, kept, total, EndsCounted, IsCount}
+use Rattle.table_theory.specs.Sharing.{IsWhole, the_whole, given, total, EndsCounted, IsCount}
 
 -- one step of an end
 abbrev pub Step : Type 0 → Type 0
@@ -109,23 +109,31 @@ first_of nothing object = record {
   joined_first = object;
 }
 
--- the view v after a split that was counted: one end less, the kept share, and one load more that is in no list
-abbrev pub rest_of : {K O : Type 0} → EndState K O → EndState K O
-rest_of v = record v {
+-- The view v after a split that was counted and gave so many parts away: one end less, the rest of the share, and one
+-- load more that is in no list
+abbrev pub rest_without : {K O : Type 0} → ℕ → EndState K O → EndState K O
+rest_without parts v = record v {
   member = record v.member {
     ends = v.member.ends - 1;
-    share = kept v.member.share;
+    share = v.member.share - parts;
     unlisted = v.member.unlisted + 1;
   };
 }
 
--- the view of a new end that a split of v makes: it did nothing, has the given share, and has seen what v has seen
-abbrev pub newborn : {K O : Type 0} → K → EndState K O → EndState K O
-newborn nothing v = record v {
+-- the view of a new end that a split of v makes: it did nothing, has so many parts, and has seen what v has seen
+abbrev pub newborn_with : {K O : Type 0} → ℕ → K → EndState K O → EndState K O
+newborn_with parts nothing v = record v {
   own = nothing;
-  member = record { ends = 1; share = given v.member.share; splits = 0; joins = 0; unlisted = 0 };
+  member = record { ends = 1; share = parts; splits = 0; joins = 0; unlisted = 0 };
   steps = [];
 }
+
+-- both views after a split in which nobody says how many parts are given
+abbrev pub rest_of : {K O : Type 0} → EndState K O → EndState K O
+rest_of v = rest_without (given v.member.share) v
+
+abbrev pub newborn : {K O : Type 0} → K → EndState K O → EndState K O
+newborn nothing v = newborn_with (given v.member.share) nothing v
 
 -- `other` if the end w has seen more than the end v, else `one`
 abbrev pub by_later : {K O A : Type 0} → EndState K O → EndState K O → A → A → A
@@ -192,19 +200,27 @@ pub record CountedDown {K O : Type 0} (word : ℕ) (v w : EndState K O) : Type 0
   pub joined : Begins v.joined w.course
   pub one_object : v.joined_first ≡ v.first
 
--- The end found the number of ends and made it one more, and gave a part of its share away. One more load, of the
+-- The end found the number of ends and made it one more, and gave so many parts of its share away. One more load, of the
 -- first word, is counted but is in no list: by this load the new end gets what the end knows
-pub record SplitBy {K O : Type 0} (word : ℕ) (v w : EndState K O) : Type 0 where
+pub record SplitShare {K O : Type 0} (word parts : ℕ) (v w : EndState K O) : Type 0 where
   pub found : AbsState O
   pub adds : ExtendsTrace v (count_up word found ∷ []) w
   pub own : w.own ≡ v.own
   pub member : w.member ≡ record v.member {
-    share = kept v.member.share;
+    share = v.member.share - parts;
     splits = v.member.splits + 1;
     unlisted = v.member.unlisted + 1;
   }
 
--- the new end has only its part of the share, and has seen what the other end has seen
+-- the same, if nobody says how many parts are given
+abbrev pub SplitBy : {K O : Type 0} → ℕ → EndState K O → EndState K O → Type 0
+SplitBy word v w = SplitShare word (given v.member.share) v w
+
+-- the new end has only so many parts of the share, and has seen what the other end has seen
+abbrev pub IsNewEndWith : {K O : Type 0} → ℕ → K → EndState K O → EndState K O → Type 0
+IsNewEndWith parts nothing new born = born ≡ newborn_with parts nothing new
+
+-- the same, if nobody says how many parts are given
 abbrev pub IsNewEnd : {K O : Type 0} → K → EndState K O → EndState K O → EndState K O → Type 0
 IsNewEnd nothing old new born = born ≡ newborn nothing (record new { member = old.member })
 

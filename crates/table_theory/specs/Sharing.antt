@@ -12,9 +12,13 @@ the_whole = 18446744073709551615
 abbrev pub IsWhole : ℕ → Type 0
 IsWhole share = share ≡ the_whole
 
--- the share that a split gives to the new end: half, and no more than 2^43 parts
+-- the share that a split gives to the new end: half, and no more than 2^21 parts
 abbrev pub given : ℕ → ℕ
 given share = min (share / 2) MOST_GIVEN
+
+-- so many parts of the share can be given to a new end: one or more, and one or more are kept
+abbrev pub IsPortion : ℕ → ℕ → Type 0
+IsPortion parts share = (0 < parts) × (parts < share)
 
 -- the share that a split leaves
 abbrev pub kept : ℕ → ℕ

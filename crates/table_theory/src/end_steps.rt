@@ -1,9 +1,10 @@
 //! The steps that make, split, join and count the ends of a table, whatever the table is.
-ghost use Rattle.std.specs.Prelude.{◌≡◌, ◌+◌, ◌%◌, ◌^◌, ◌-◌, ◌<◌, []};
+ghost use Rattle.std.specs.Prelude.{◌≡◌, ℕ, ◌+◌, ◌%◌, ◌^◌, ◌-◌, ◌<◌, []};
 ghost use mathlib.Core.Option.{Option, none, some};
 ghost use Rattle.atomic_table.specs.Table.{step, Allows, Splits, Joins};
 ghost use Rattle.table_theory.specs.declared.views.EndState.{EndState};
-ghost use Rattle.table_theory.specs.Ledgers.{CountedUp, CountedDown, rest_of, newborn, both, emptied};
+ghost use Rattle.table_theory.specs.Ledgers.{CountedUp, CountedDown, both, emptied};
+ghost use Rattle.table_theory.specs.Ledgers.{rest_of, rest_without, newborn, newborn_with};
 ghost use Rattle.table_theory.specs.Plays.{counts_up, counts_down, the_view};
 ghost use Rattle.table_theory.specs.Seating.{IsSame};
 
@@ -58,6 +59,30 @@ impl<S, K, O, Key, P: EndsRule<S, K, O, Key>> Split<EndState<K, O>> for Gives<S,
     ghost left = { rest_of };
 
     ghost right = { newborn P.nothing };
+}
+
+/// The number of parts that an end gives to a new end.
+pub trait Portion {
+    ghost parts: { ℕ };
+}
+
+impl Portion for Brand {
+    ghost parts = { 0 };
+}
+
+/// So many parts of an end's share go to a new end.
+struct GivesShare<S, Key, P, J> {
+    slot: PhantomData<S>,
+    key: PhantomData<Key>,
+    rule: PhantomData<P>,
+    portion: PhantomData<J>,
+}
+
+impl<S, K, O, Key, P: EndsRule<S, K, O, Key>, J: Portion> Split<EndState<K, O>>
+    for GivesShare<S, Key, P, J> {
+    ghost left = { rest_without J.parts };
+
+    ghost right = { newborn_with J.parts P.nothing };
 }
 
 /// The view of an end that was taken in.
@@ -131,6 +156,25 @@ pub fn split_off<S, K, O, Key, P: EndsRule<S, K, O, Key>>(
         × (result.me ≡ (newborn P.nothing seat.old.me.0, [])) }
 {
     words.split_seat::<Gives<S, Key, P>>(seat)
+}
+
+/// A new end gets `share` parts of the end's share, and has seen what the end has seen. The first word is loaded once,
+/// and the value found there is not used. The number is used in proofs alone.
+pub fn split_share_off<S, K, O, Key, P: EndsRule<S, K, O, Key>, J: Portion>(
+    words: &Shared<S, EndState<K, O>, Key, P>,
+    seat: &mut Seat<S, EndState<K, O>>,
+    share: u64,
+) -> Seat<S, EndState<K, O>>
+    requires table { (seat.old.table_id ≡ words.now.table_id) × (0 < words.now.table_id.words) }
+    requires portion { J.parts ≡ share }
+    requires allowed { Splits (P.holds words.now.key) seat.old.id seat.old.me.0 (rest_without share seat.old.me.0)
+        (newborn_with share P.nothing seat.old.me.0) }
+    ensures seat { IsSame seat.old seat.new × (result.table_id ≡ seat.old.table_id) }
+    ensures split { (seat.new.me ≡ (rest_without share seat.old.me.0, seat.old.me.1))
+        × (result.me ≡ (newborn_with share P.nothing seat.old.me.0, [])) }
+{
+    let _ = share;
+    words.split_seat::<GivesShare<S, Key, P, J>>(seat)
 }
 
 /// The end gets all that the other end has. The first word is loaded once, and the value found there is not used.

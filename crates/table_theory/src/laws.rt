@@ -69,8 +69,8 @@ pub fn logs_interleave()
         → Interleaves (map entry_of log) lists }
 {}
 
-/// A split gives the new end half of the old end's share, and 2^43 parts at most, whatever the code's constant is
+/// A split gives the new end half of the old end's share, and 2^21 parts at most, whatever the code's constant is
 /// called.
 pub fn split_gives()
-    ensures { (share : ℕ) → given share ≡ min (share / 2) 8796093022208 }
+    ensures { (share : ℕ) → given share ≡ min (share / 2) 2097152 }
 {}

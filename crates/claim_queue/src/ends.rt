@@ -2,8 +2,8 @@
 ghost use Rattle.std.specs.Prelude.{◌≡◌, ◌+◌, ◌≤◌, ◌<◌, [], ◌++◌, IfOk};
 ghost use Rattle.claim_queue.specs.Rules.{newcomer, InvHeldOf};
 ghost use Rattle.claim_queue.specs.Claims.{KeepsClaims};
-ghost use Rattle.claim_queue.specs.Endings.{IsNewEnd, IsNewEndWith};
-ghost use Rattle.claim_queue.specs.Evidence.{SplitBy, SplitShare, JoinedBy};
+ghost use Rattle.claim_queue.specs.Endings.{IsNewEnd};
+ghost use Rattle.claim_queue.specs.Evidence.{SplitBy, JoinedBy};
 ghost use Rattle.claim_queue.specs.declared.layout.TheConstants.{MOST_PLACES};
 ghost use Rattle.claim_queue.specs.Layout.{width};
 ghost use Rattle.claim_queue.specs.Lines.{lines_put, lines_taken};
@@ -14,7 +14,7 @@ use atomic_table::{Seat, Table};
 use event_theory::OutOfMemory;
 use std::alloc::Global;
 use std::marker::Brand;
-use table_theory::end_steps::{count_down, count_up, split_off, split_share_off, take_in};
+use table_theory::end_steps::{count_down, count_up, split_off, take_in};
 use table_theory::protocol::{Free, Protocol};
 
 /// A queue of `N` places, under the client's protocol C. Under `Free`, every put is allowed.
@@ -41,8 +41,7 @@ pub struct QueueEnd<const N: usize> {
 }
 
 impl<const N: usize, C: Protocol> ClaimQueue<N, C> {
-    ghost use Rattle.claim_queue.specs.Handles.{view_of, first_of, share_of, IsDivisible, CanGive, IsEndOf, IsSameEnd};
-    ghost use Rattle.claim_queue.specs.Handles.{AreOfOneQueue};
+    ghost use Rattle.claim_queue.specs.Handles.{view_of, first_of, IsDivisible, IsEndOf, IsSameEnd, AreOfOneQueue};
 
     /// An empty queue under the protocol C, whose first position is `first`, and its only end.
     pub fn new_as(alloc: Global, first: u32) -> Result<(ClaimQueue<N, C>, QueueEnd<N>), OutOfMemory>
@@ -85,28 +84,6 @@ impl<const N: usize, C: Protocol> ClaimQueue<N, C> {
         // linearization point: the new end is counted, before it exists, so a close cannot miss it
         count_up(&self.table.shared, &mut end.seat, ENDS);
         let seat = split_off(&self.table.shared, &mut end.seat);
-        QueueEnd { seat }
-    }
-
-    /// A new end, as `split` makes it, that has exactly `share` parts of the queue; the end keeps the rest. An end has no
-    /// bytes, so the caller knows the shares: the first end has 2^64 - 1 parts, and a join adds them up.
-    ///
-    /// Condition: `share` is 1 or more, and the end keeps a part or more.
-    pub fn split_share(&self, end: &mut QueueEnd<N>, share: u64) -> QueueEnd<N>
-        requires queue { IsEndOf self.now end.old }
-        requires parts { CanGive end.old share }
-        ensures effect { (lines_put (view_of end.new) ≡ lines_put (view_of end.old))
-            × (lines_taken (view_of end.new) ≡ lines_taken (view_of end.old)) }
-        ensures born { IsNewEndWith share (view_of end.new) (view_of result) }
-        ensures shuts_nothing { (view_of end.new).own.shuts ≡ (view_of end.old).own.shuts }
-        ensures owns { (share_of result ≡ share) × (share_of end.new + share ≡ share_of end.old) }
-        ensures trace { SplitShare share (view_of end.old) (view_of end.new) }
-        ensures claims { KeepsClaims (view_of end.old) (view_of end.new) }
-        ensures handle { IsSameEnd end.old end.new × AreOfOneQueue end.old result }
-    {
-        // linearization point: the new end is counted, before it exists, so a close cannot miss it
-        count_up(&self.table.shared, &mut end.seat, ENDS);
-        let seat = split_share_off::<_, _, _, _, _, Brand>(&self.table.shared, &mut end.seat, share);
         QueueEnd { seat }
     }
 

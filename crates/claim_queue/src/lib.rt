@@ -51,6 +51,7 @@ mod look;
 mod pause;
 mod plays;
 mod rule;
+mod shares;
 mod steps;
 mod take;
 

@@ -13,7 +13,7 @@ use Rattle.proc_chain.specs.declared.chaining.Chained.{Chained}
 use Rattle.proc_chain.specs.declared.chaining.Chained.TheVariants as answers
 use Rattle.proc_chain.specs.declared.chaining.ChainRefusal.TheVariants as refusals
 use Rattle.proc_chain.specs.declared.running.Turn.{Turn}
-use Rattle.proc_chain.specs.Endings.{SplitBy, JoinedBy, Joined}
+use Rattle.proc_chain.specs.Endings.{SplitShare, JoinedBy, Joined}
 use Rattle.proc_chain.specs.Servings.{HasRun, Serving, Leaving, all_uses, notes_run}
 use Rattle.proc_chain.specs.Steps.{Claimed, FoundNotRaised}
 use Rattle.proc_chain.proofs.Finding.{head_says, tail_says, low_says}
@@ -194,8 +194,8 @@ left_on v u w xs ran limit share a keeps (failed, begin, steps, less, cost, begu
 
 -- SPLITS AND JOINS
 
-pub one_more : (v w : View) → SplitBy v w → OneEndMore v w
-one_more v w s = record { own = s.own; only = count_up ends_word s.found; adds = s.adds; counted = refl }
+pub one_more : (v w : View) (parts : ℕ) → SplitShare parts v w → OneEndMore v w
+one_more v w parts s = record { own = s.own; only = count_up ends_word s.found; adds = s.adds; counted = refl }
 
 pub has_both : (v u w : View) → JoinedBy v u w → HasBoth v u w
 has_both v u w j = record {

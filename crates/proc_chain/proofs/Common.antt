@@ -26,7 +26,7 @@ pub use Rattle.table_theory.proofs.Reaching.{alone_since, entries_real, passes_s
 pub use Rattle.table_theory.proofs.Windows.{found_not_raised}
 pub use Rattle.table_theory.specs.Batches.{line_of}
 pub use Rattle.table_theory.specs.Filing.{Owned}
-pub use Rattle.table_theory.specs.Ledgers.{IsValidStep, Performed, Step, both, change, emptied, load, newborn, rest_of}
+pub use Rattle.table_theory.specs.Ledgers.{IsValidStep, Performed, Step, both, change, emptied, load, newborn_with, rest_without}
 pub use Rattle.table_theory.specs.Listing.{Adjacent, AllRaised, ViewsShow, all_places, number_of, runs_of, with_stage}
 pub use Rattle.table_theory.specs.Positioned.{Grows, Lawful, blank, fresh, head_of, item_at, item_of, place_at, tail_of, with_take, with_write, stage_at}
 pub use Rattle.table_theory.specs.Seating.{IsSame}

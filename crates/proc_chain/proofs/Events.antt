@@ -126,25 +126,25 @@ chain_is_lawful q gate views l lawful g = record {
 
 -- the events on any chain
 
-claim_note_goes : (call x : ℕ) (c : Chain) (r : Queue) → x < 65536 → claim 1 call (x ∷ []) c.notes ≡ Ok r → claim_note call (x ∷ []) c ≡ Ok (record c { notes = r })
+pub claim_note_goes : (call x : ℕ) (c : Chain) (r : Queue) → x < 65536 → claim 1 call (x ∷ []) c.notes ≡ Ok r → claim_note call (x ∷ []) c ≡ Ok (record c { notes = r })
 claim_note_goes call x c r bounded h = let a : ltb 65535 x ≡ false = grind (arith, nat_tests) in rw (a, h) refl
 
-raise_note_goes : (call number i : ℕ) (c : Chain) (r : Queue) → raise call number i c.notes ≡ Ok r → raise_note call number i c ≡ Ok (record c { notes = r; owing = with_number true call c.owing })
+pub raise_note_goes : (call number i : ℕ) (c : Chain) (r : Queue) → raise call number i c.notes ≡ Ok r → raise_note call number i c ≡ Ok (record c { notes = r; owing = with_number true call c.owing })
 raise_note_goes call number i c r h = rw (h) refl
 
 mine : (call : ℕ) (runner : Option ℕ) → runner ≡ Some call → not (is_call call runner) ≡ false
 mine call runner is = ap (λ (z : Option ℕ). not (is_call call z)) is ∙ ap not (eq-eqb call call refl)
 
-take_note_goes : (call : ℕ) (c : Chain) (r : Queue) → take_first 1 1 c.notes ≡ Ok r → c.runner ≡ Some call → take_note call 1 c ≡ Ok (record c { notes = r })
+pub take_note_goes : (call : ℕ) (c : Chain) (r : Queue) → take_first 1 1 c.notes ≡ Ok r → c.runner ≡ Some call → take_note call 1 c ≡ Ok (record c { notes = r })
 take_note_goes call c r h is = rw (h, mine call c.runner is) refl
 
-notify_goes : (call : ℕ) (c : Chain) → c.owing call ≡ true → notify call c ≡ Ok (record c { gate = More; runner = runner_after call c.gate c.runner; owing = with_number false call c.owing })
+pub notify_goes : (call : ℕ) (c : Chain) → c.owing call ≡ true → notify call c ≡ Ok (record c { gate = More; runner = runner_after call c.gate c.runner; owing = with_number false call c.owing })
 notify_goes call c h = rw (h) refl
 
-round_goes : (call : ℕ) (c : Chain) → c.runner ≡ Some call → round call c ≡ Ok (record c { gate = Running })
+pub round_goes : (call : ℕ) (c : Chain) → c.runner ≡ Some call → round call c ≡ Ok (record c { gate = Running })
 round_goes call c is = rw (mine call c.runner is) refl
 
-leave_goes : (call : ℕ) (c : Chain) → is_more c.gate ≡ false → is_forgotten c ≡ false → c.runner ≡ Some call → leave call c ≡ Ok (record c { gate = Idle; runner = None })
+pub leave_goes : (call : ℕ) (c : Chain) → is_more c.gate ≡ false → is_forgotten c ≡ false → c.runner ≡ Some call → leave call c ≡ Ok (record c { gate = Idle; runner = None })
 leave_goes call c a b is = rw (a, b, mine call c.runner is) refl
 
 after_busy : (id n : ℕ) (r : Option ℕ) → n ≢ 0 → runner_after id (gate_of n) r ≡ r

@@ -1,5 +1,6 @@
 pub mod Gates
 pub mod Events
+mod Historic
 pub mod Betweens
 pub mod Becoming
 pub mod Stepping

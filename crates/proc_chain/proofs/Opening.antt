@@ -1,5 +1,5 @@
 -- The views of a new end, of the two ends of a split, and of an end that took in another.
-use Rattle.proc_chain.proofs.Common.{◌≡◌, ℕ, ◌+◌, ◌-◌, ◌<◌, Bool, true, false, ◌||◌, ◌&&◌, true≢false, zero, suc, List, [], ◌∷◌, ◌++◌, length, set, sym, refl, ap, ◌∙◌, subst, arith, props, ∥∥₁_elim, some, some-ne-none, get_elem?, set_here, at_last, Batch, Part, rest_of, newborn, both, AllRaised, head_of, at_below, reaches_one, ChainOps, ends_word, View, nothing_did, did_both, of_chains, queue_of, view_from, IsValidChainView, Rests, Meets, KeepsTaken, GatedQueue, IsLawful, AreShown, notes_of}
+use Rattle.proc_chain.proofs.Common.{◌≡◌, ℕ, ◌+◌, ◌-◌, ◌<◌, Bool, true, false, ◌||◌, ◌&&◌, true≢false, zero, suc, List, [], ◌∷◌, ◌++◌, length, set, sym, refl, ap, ◌∙◌, subst, arith, props, ∥∥₁_elim, some, some-ne-none, get_elem?, set_here, at_last, Batch, Part, rest_without, newborn_with, both, AllRaised, head_of, at_below, reaches_one, ChainOps, ends_word, View, nothing_did, did_both, of_chains, queue_of, view_from, IsValidChainView, Rests, Meets, KeepsTaken, GatedQueue, IsLawful, AreShown, notes_of}
 use Rattle.table_theory.specs.Ledgers.{IsValidView, CountedUp, CountedDown}
 use Rattle.table_theory.specs.Ledgers as ends
 use Rattle.table_theory.proofs.Parting.{took_in}
@@ -35,19 +35,19 @@ module _ (v u : View) (c : CountedUp ends_word v u) (m : Meets v u.seen.object) 
   told_by w views seat same honest shown here = let P : GatedQueue → Type 0 = λ o. IsLawful o × (o.queue.room ≡ 32) × (head_of o.queue < 4294967296) × AreShown o views in
       let p : P w.seen.object = subst P (sym same) (h.lawful, h.room, h.bounded, shown) in record { honest = honest; lawful = p.0; room = p.1; bounded = p.2; views = views; shown = p.3; seat = seat; here = here }
 
-  pub split_parted : (w : View) → w ≡ rest_of u → Rests v → ∥ IsValidChainView v ∥₁ → Parted v w
-  split_parted w is r x = let left : View = rest_of u in subst (Parted v) (sym is) record {
+  pub split_parted : (w : View) (parts : ℕ) → w ≡ rest_without parts u → Rests v → ∥ IsValidChainView v ∥₁ → Parted v w
+  split_parted w parts is r x = let left : View = rest_without parts u in subst (Parted v) (sym is) record {
     rests = rests_on v left ((λ i. (c.member i).ends - 1) ∙ one_less) (λ i. (c.own i).runs) (λ i. (c.own i).owes) r;
-    valid = told_by left (set h.views h.seat left) h.seat refl (record { leads = h.honest.leads; real = h.honest.real; own = h.honest.own }) (rest_shown u.seen.object h.views h.seat u h.shown h.here) (set_here h.views h.seat left (at_below h.views h.seat u h.here));
+    valid = told_by left (set h.views h.seat left) h.seat refl (record { leads = h.honest.leads; real = h.honest.real; own = h.honest.own }) (rest_shown u.seen.object h.views h.seat u parts h.shown h.here) (set_here h.views h.seat left (at_below h.views h.seat u h.here));
     notes = λ runs. notes_same (queue_of v) (queue_of u) m.grows (m.turn runs) (reported_after v x);
     taken = m.turn;
     runner = λ i. (c.own i).runner;
   }
 
   -- the new end
-  pub born_known : (w : View) → w ≡ newborn nothing_did u → Rests w × IsValidChainView w
-  born_known w is = let left : View = rest_of u in let born : View = newborn nothing_did u in subst (λ (z : View). Rests z × IsValidChainView z) (sym is)
-      (record { one = refl; raised = none_raised; settled = refl }, told_by born (set h.views h.seat left ++ born ∷ []) (length (set h.views h.seat left)) refl (record { leads = h.honest.leads; real = h.honest.real; own = tt }) (newborn_shown u.seen.object h.views h.seat u h.shown h.here) (at_last (set h.views h.seat left) born (length (set h.views h.seat left)) refl))
+  pub born_known : (w : View) (parts : ℕ) → w ≡ newborn_with parts nothing_did u → Rests w × IsValidChainView w
+  born_known w parts is = let left : View = rest_without parts u in let born : View = newborn_with parts nothing_did u in subst (λ (z : View). Rests z × IsValidChainView z) (sym is)
+      (record { one = refl; raised = none_raised; settled = refl }, told_by born (set h.views h.seat left ++ born ∷ []) (length (set h.views h.seat left)) refl (record { leads = h.honest.leads; real = h.honest.real; own = tt }) (newborn_shown u.seen.object h.views h.seat u parts h.shown h.here) (at_last (set h.views h.seat left) born (length (set h.views h.seat left)) refl))
 
 -- the end that took in another, and was counted down
 module _ (v u b w : View) (is : b ≡ both did_both v u) (d : CountedDown ends_word b w) (m : Meets b w.seen.object) (r : Rests v) (r' : Rests u) where

@@ -1,6 +1,7 @@
 -- The steps that make, split, join and count ends keep the rule.
 use Rattle.proc_chain.specs.Layout.{width, place_word}
-use Rattle.proc_chain.proofs.Common.{◌≡◌, ◌≢◌, ℕ, ◌+◌, ◌-◌, ◌<◌, ◌≤◌, ◌%◌, inl, ⊎_elim, Bool, true, false, ◌||◌, ◌&&◌, List, [], ◌∷◌, ◌++◌, map, get_or, set, sym, refl, ap, ◌∙◌, subst, arith, true≢false, map-set, map-append, some, none, some-ne-none, get_elem?, State, Me, step, Allows, Splits, Joins, at_map, set_here, set_else, Positions, QueueView, rest_of, newborn, both, emptied, ViewsShow, Grows, spot, listed_new, listed_join, at_push, at_below, grows_refl, GatedQueue, Shape, note_in, mark_in, Shows, first_queue, IsLawful, View, nothing_did, did_both, of_chains, part_of, AreShown, Rule, IsValidChainView, view_from, head_word, tail_word, ends_word, FIRST_PLACE}
+use Rattle.proc_chain.proofs.Common.{◌≡◌, ◌≢◌, ℕ, ◌+◌, ◌-◌, ◌<◌, ◌≤◌, ◌%◌, inl, ⊎_elim, Bool, true, false, ◌||◌, ◌&&◌, List, [], ◌∷◌, ◌++◌, map, get_or, set, sym, refl, ap, ◌∙◌, subst, arith, true≢false, map-set, map-append, some, none, some-ne-none, get_elem?, State, Me, step, Allows, Splits, Joins, at_map, set_here, set_else, Positions, QueueView, rest_without, newborn_with, both, emptied, ViewsShow, Grows, spot, listed_new, listed_join, at_push, at_below, grows_refl, GatedQueue, Shape, note_in, mark_in, Shows, first_queue, IsLawful, View, nothing_did, did_both, of_chains, part_of, AreShown, Rule, IsValidChainView, view_from, head_word, tail_word, ends_word, FIRST_PLACE}
+use Rattle.table_theory.specs.Sharing.{IsPortion}
 use Rattle.std.proofs.Common.{replicate, get_or-set_other}
 use Rattle.std.proofs.lemmas.List.{get_or-replicate}
 use Rattle.atomic_table.specs.Table.{opening}
@@ -31,14 +32,14 @@ zeros f j a b c to = let zs : List ℕ = replicate width 0 in let hs : List ℕ 
     get_or-set_other (set hs tail_word f) ends_word j 1 0 c ∙ (get_or-set_other hs tail_word j f 0 b ∙ (get_or-set_other zs head_word j f 0 a ∙ get_or-replicate width j 0 0 (omega arith)))
 
 -- the views after a split
-pub rest_shown : (o : GatedQueue) (views : List View) (id : ℕ) (v : View) → AreShown o views → get_elem? views id ≡ some v → AreShown o (set views id (rest_of v))
-rest_shown o views id v h at = let left : View = rest_of v in record {
+pub rest_shown : (o : GatedQueue) (views : List View) (id : ℕ) (v : View) (parts : ℕ) → AreShown o views → get_elem? views id ≡ some v → AreShown o (set views id (rest_without parts v))
+rest_shown o views id v parts h at = let left : View = rest_without parts v in record {
   listed = subst (ViewsShow o.queue) (sym (map-set part_of views id left)) (listed_look o.queue (map part_of views) id (part_of v) (part_of v) h.listed (at_map part_of views id v at) refl refl (h.listed.seen id (part_of v) (at_map part_of views id v at)));
   gate = gated_same o.queue o.queue o.gate views id v left h.gate at refl refl (λ r. h.gate.takes id v at r) (λ _. refl) (λ x. inl x) (settled_look o.queue views id v left at refl refl);
 }
 
-pub newborn_shown : (o : GatedQueue) (views : List View) (id : ℕ) (v : View) → AreShown o views → get_elem? views id ≡ some v → AreShown o (set views id (rest_of v) ++ newborn nothing_did v ∷ [])
-newborn_shown o views id v h at = let left : View = rest_of v in let right : View = newborn nothing_did v in let r = rest_shown o views id v h at in record {
+pub newborn_shown : (o : GatedQueue) (views : List View) (id : ℕ) (v : View) (parts : ℕ) → AreShown o views → get_elem? views id ≡ some v → AreShown o (set views id (rest_without parts v) ++ newborn_with parts nothing_did v ∷ [])
+newborn_shown o views id v parts h at = let left : View = rest_without parts v in let right : View = newborn_with parts nothing_did v in let r = rest_shown o views id v parts h at in record {
   listed = subst (ViewsShow o.queue) (sym (map-append part_of (set views id left) (right ∷ []))) (listed_new o.queue (map part_of (set views id left)) (part_of right) r.listed refl refl (h.listed.seen id (part_of v) (at_map part_of views id v at)));
   gate = gated_new o.queue o.gate (set views id left) right r.gate refl;
 }
@@ -76,15 +77,15 @@ module _ {Q W : Type 0} (made : W → Q → List ℕ → Type 0) (fits : W → Q
     pub tallies : me.0.member.ends ≡ 1 → Allows R n id me ends_word (λ x. x) (counts HasTallied (step n ends_word 0 0 none) me)
     tallies one = tables.looks (table made fits key) n id me (counts HasTallied (step n ends_word 0 0 none) me) ends_word (omega arith) (λ s k at b. (refl, (after_reported made fits key s _ id me.0 _ at b.0 b.1, tallied_now k.stands id me.0 at one, meets made fits key s k id me.0 at)))
 
-  pub splits : (id : ℕ) (v : View) → v.member.ends ≡ 2 → Splits R id v (rest_of v) (newborn nothing_did v)
-  splits id v two s k at = let both_shown = newborn_shown k.now.object s.views id v record { listed = k.listed; gate = k.gate } at in record {
+  pub splits : (id : ℕ) (v : View) (parts : ℕ) → (2 ≤ v.member.share → IsPortion parts v.member.share) → v.member.ends ≡ 2 → Splits R id v (rest_without parts v) (newborn_with parts nothing_did v)
+  splits id v parts fits two s k at = let both_shown = newborn_shown k.now.object s.views id v parts record { listed = k.listed; gate = k.gate } at in record {
     now = k.now;
-    stands = stands_split k.stands id v at two;
+    stands = stands_split k.stands id v at parts fits two;
     first = k.first;
     listed = both_shown.listed;
     gate = both_shown.gate;
     slot = k.slot;
-    undoubled = undoubled_new (set s.views id (rest_of v)) (newborn nothing_did v) (undoubled_set s.views id (rest_of v) k.undoubled (k.undoubled id v at)) refl;
+    undoubled = undoubled_new (set s.views id (rest_without parts v)) (newborn_with parts nothing_did v) (undoubled_set s.views id (rest_without parts v) k.undoubled (k.undoubled id v at)) refl;
   }
 
   pub joins : (id other : ℕ) (v w : View) → 1 ≤ v.member.ends → (w.own.runner ≡ true → v.own.runner ≡ true) → w.own.owes ≡ false → Joins R id v other w (both did_both v w) (emptied nothing_did v)

@@ -14,6 +14,13 @@ SplitBy v w = ends.SplitBy ends_word v w
 abbrev pub IsNewEnd : View → View → View → Type 0
 IsNewEnd old new born = ends.IsNewEnd nothing_did old new born
 
+-- the same two, of a split that gave so many parts
+abbrev pub SplitShare : ℕ → View → View → Type 0
+SplitShare parts v w = ends.SplitShare ends_word parts v w
+
+abbrev pub IsNewEndWith : ℕ → View → View → Type 0
+IsNewEndWith parts new born = ends.IsNewEndWith parts nothing_did new born
+
 -- the end has what both ends had, and the number of ends was made one less; not both ends had the turn
 abbrev pub JoinedBy : View → View → View → Type 0
 JoinedBy v u w = ends.JoinedBy did_both ends_word v u w × ((v.own.runner && u.own.runner) ≡ false)

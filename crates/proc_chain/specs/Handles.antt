@@ -1,7 +1,7 @@
 -- Names in the clauses for parts of a chain and of an end.
 use Rattle.std.specs.Prelude.{◌≡◌, ◌≤◌, ℕ, Bool}
 use Rattle.table_theory.specs.Seating.{IsSame}
-use Rattle.table_theory.specs.Sharing.{IsWhole}
+use Rattle.table_theory.specs.Sharing.{IsPortion, IsWhole}
 use Rattle.atomic_table.specs.Table.{Me}
 use Rattle.proc_chain.specs.declared.quaject.Quaject.{Ghosts}
 use Rattle.proc_chain.specs.declared.rule.Pact.{Pact}
@@ -44,6 +44,14 @@ module _ {Q W : Type 0} {g : Ghosts Q W} where
   -- the end can be split: it has two parts of the chain or more
   abbrev pub IsDivisible : ChainEnd Q W g → Type 0
   IsDivisible end = 2 ≤ end.seat.me.0.member.share
+
+  -- the end's share of its chain, in parts
+  abbrev pub share_of : ChainEnd Q W g → ℕ
+  share_of end = end.seat.me.0.member.share
+
+  -- the end can give so many parts to a new end: one or more, and one or more are kept
+  abbrev pub CanGive : ChainEnd Q W g → ℕ → Type 0
+  CanGive end parts = IsPortion parts end.seat.me.0.member.share
 
   -- the end has the whole share: every other end was joined
   abbrev pub IsOnlyEnd : ChainEnd Q W g → Type 0

@@ -9,6 +9,7 @@ pub mod Happenings
 pub mod Rules
 pub mod Between
 pub mod Steps
+pub mod Histories
 pub mod Turns
 pub mod Answers
 pub mod Servings

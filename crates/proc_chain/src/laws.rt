@@ -28,7 +28,8 @@ ghost use Rattle.proc_chain.specs.Endings.{JoinedBy, IsAmong};
 ghost use Rattle.proc_chain.specs.Handles.{view_of, IsOnlyEnd};
 ghost use Rattle.proc_chain.specs.Layout.{head_word, tail_word, ends_word, gate_word, place_word, note_of, mark_of};
 ghost use Rattle.proc_chain.specs.Layout.{raised_word, width};
-ghost use Rattle.proc_chain.specs.Happenings.{IsEvent, of_chains};
+ghost use Rattle.proc_chain.specs.Happenings.{of_chains};
+ghost use Rattle.proc_chain.specs.Histories.{History, IsEventOfEach, IsHistoryOf};
 ghost use Rattle.proc_chain.specs.Own.{View, queue_of};
 ghost use Rattle.proc_chain.specs.Shown.{Shows};
 ghost use Rattle.proc_chain.specs.Steps.{run};
@@ -162,12 +163,19 @@ pub fn numbers_say()
         → mark_of e.found ≢ e.then.object.queue.first + i + 1 → stage_at e.then.object.queue i < 2 }
 {}
 
-/// Each change that an answer lists is one event of the core: some views, which a proof chooses, show the queue and the
-/// gate that the step found. With one of them changed, the views show the queue and the gate that the step left. The
-/// event is the one with that name, for all views that show what the step found, if one of them is the end's view.
-pub fn changes_are_events()
+/// Each change is one event of the core, whichever ends made the runs, have the turn, or owe a notify: for each history
+/// of the chain as the step found it, and a history exists. The event leaves a history of the chain as the step left it.
+pub fn changes_are_events_of_histories()
+    ensures history { (e : Step GatedQueue) → IsValidStep of_chains e
+        → (h : History) × IsHistoryOf e.then.object h }
     ensures each { (e : Step GatedQueue) → IsValidStep of_chains e
-        → (e.next.object ≡ e.then.object) ⊎ IsEvent e.then.object e.next.object }
+        → (e.next.object ≡ e.then.object) ⊎ IsEventOfEach e.then.object e.next.object }
+{}
+
+/// Each change that an answer lists is the event of the core with that name, for all views that show the queue and the
+/// gate that the step found, if one of them is the end's view. With this view changed, the views show the queue and the
+/// gate that the step left.
+pub fn changes_are_events()
     ensures claimed { (head note : ℕ) (m : AbsState GatedQueue) (views : List View) (seat : ℕ) (v w : View)
         (shown : AreShown m.object views) → IsValidStep of_chains (change head_word head m (with_note m.object note))
         → get_elem? views seat ≡ some v → w.seen.object ≡ with_note m.object note

@@ -61,6 +61,7 @@ mod quaject;
 mod rule;
 mod running;
 mod serve;
+mod shares;
 mod steps;
 mod word;
 

@@ -1,6 +1,6 @@
 //! The report of each step. These types are for the proofs alone.
 ghost use Rattle.std.specs.Prelude.{ℕ, List};
-ghost use Rattle.table_theory.specs.Ledgers.{rest_of, newborn, both, emptied};
+ghost use Rattle.table_theory.specs.Ledgers.{rest_of, rest_without, newborn, newborn_with, both, emptied};
 ghost use Rattle.proc_chain.specs.Own.{View, nothing_did, did_both};
 ghost use Rattle.proc_chain.specs.Rules.{view_from};
 ghost use Rattle.proc_chain.specs.Steps.{finds, claims, raises, spies, takes, notifies, rounds, leaves};
@@ -10,6 +10,7 @@ use crate::quaject::Quaject;
 use crate::rule::View;
 use atomic_table::{Join, Play, Split};
 use std::marker::{Brand, PhantomData};
+use table_theory::end_steps::Portion;
 
 pub struct Finds;
 
@@ -103,6 +104,16 @@ impl Split<View> for Gives {
     ghost left = { rest_of };
 
     ghost right = { newborn nothing_did };
+}
+
+pub struct GivesShare<J> {
+    marker: PhantomData<J>,
+}
+
+impl<J: Portion> Split<View> for GivesShare<J> {
+    ghost left = { rest_without J.parts };
+
+    ghost right = { newborn_with J.parts nothing_did };
 }
 
 pub struct HandsOver;

@@ -6,7 +6,8 @@ ghost use lib.ListN.{get_elem?};
 ghost use Rattle.table_theory.specs.declared.positions.TheConstants.{POSITIONS};
 ghost use Rattle.table_theory.specs.declared.queues.Batch.{Batch};
 ghost use Rattle.table_theory.specs.Ledgers.{CountedUp, CountedDown};
-ghost use Rattle.table_theory.specs.Ledgers.{rest_of, newborn};
+ghost use Rattle.table_theory.specs.Ledgers.{rest_of, rest_without, newborn, newborn_with};
+ghost use Rattle.table_theory.specs.Sharing.{IsPortion};
 ghost use Rattle.table_theory.specs.Listing.{number_of};
 ghost use Rattle.table_theory.specs.Positioned.{blank, tail_of};
 ghost use Rattle.table_theory.specs.Seating.{IsSame};
@@ -21,12 +22,13 @@ ghost use Rattle.proc_chain.specs.Turns.{IsRunner};
 
 use crate::layout::{ENDS, GATE, HEAD, RUNNING, place_word};
 use crate::plays::{
-    ClaimedNote, Claims, CountsDown, CountsUp, Finds, Gives, Raises, Rounds, Spies,
+    ClaimedNote, Claims, CountsDown, CountsUp, Finds, Gives, GivesShare, Raises, Rounds, Spies,
 };
 use crate::quaject::Quaject;
 use crate::rule::{ChainRule, Pact, Shape, View};
 use crate::word::PlaceWord;
 use atomic_table::{Seat, Shared};
+use table_theory::end_steps::Portion;
 
 pub(crate) fn load<Q: Quaject>(
     words: &Shared<Q, View, Shape<Pact<Q::World, Q>>, ChainRule>,
@@ -153,4 +155,21 @@ pub(crate) fn split_off<Q: Quaject>(
         × (result.me ≡ (newborn nothing_did seat.old.me.0, [])) }
 {
     words.split_seat::<Gives>(seat)
+}
+
+// The new end gets `share` parts.
+pub(crate) fn split_share_off<Q: Quaject, J: Portion>(
+    words: &Shared<Q, View, Shape<Pact<Q::World, Q>>, ChainRule>,
+    seat: &mut Seat<Q, View>,
+    share: u64,
+) -> Seat<Q, View>
+    requires queue { (seat.old.table_id ≡ words.now.table_id) × (words.now.table_id.words ≡ width) }
+    requires live { seat.old.me.0.member.ends ≡ 2 }
+    requires portion { (J.parts ≡ share) × IsPortion share seat.old.me.0.member.share }
+    ensures queue { IsSame seat.old seat.new × (result.table_id ≡ seat.old.table_id) }
+    ensures split { (seat.new.me ≡ (rest_without share seat.old.me.0, seat.old.me.1))
+        × (result.me ≡ (newborn_with share nothing_did seat.old.me.0, [])) }
+{
+    let _ = share;
+    words.split_seat::<GivesShare<J>>(seat)
 }

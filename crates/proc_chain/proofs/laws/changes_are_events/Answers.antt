@@ -1,14 +1,10 @@
-use Rattle.proc_chain.proofs.Common.{inl, inr, ⊎_elim, of_chains, ◌≡◌, ℕ, ◌+◌, ◌-◌, ◌<◌, ◌≤◌, ◌∙◌, [], ◌∷◌, ◌++◌, map, ap, subst, sym, refl, arith, length, get_or, dite, dec_lt, at_map, raise_note, Cell, Positions, change, blank, place_at, item_at, stage_at, with_write, run_stands, raised_below, GatedQueue, IsChainEvent, with_note, with_raise, with_taken, with_gate, part_of, run, head_word, tail_word, gate_word}
+use Rattle.proc_chain.proofs.Common.{◌≡◌, ℕ, ◌+◌, ◌-◌, ◌<◌, ◌≤◌, ◌∙◌, [], ◌∷◌, ◌++◌, map, ap, subst, sym, refl, arith, length, get_or, dite, dec_lt, at_map, raise_note, Cell, Positions, change, blank, place_at, item_at, stage_at, with_write, run_stands, raised_below, GatedQueue, IsChainEvent, with_note, with_raise, with_taken, with_gate, part_of, run, head_word, tail_word, gate_word}
 use Rattle.table_theory.specs.Seeing.{RunIsIn}
-use Rattle.table_theory.proofs.Saying.{real_change}
 use Rattle.proc_chain.proofs.Becoming.{raise_is}
 use Rattle.proc_chain.proofs.Events.{claim_event, raise_event, take_event, won_event, notify_event, round_event, leave_event}
 use Rattle.proc_chain.proofs.Finding.{head_says, tail_says, gate_says}
 use Rattle.proc_chain.proofs.Lawful.{claim_room, take_up}
 use Rattle.proc_chain.proofs.laws.changes_are_events.Goals as goal
-
-pub returns-clause-each : goal.returns-clause-each
-returns-clause-each c = λ e r. ⊎_elim (λ same. inl same) (λ h. inr h.event) (real_change of_chains e r)
 
 pub returns-clause-claimed : goal.returns-clause-claimed
 returns-clause-claimed c = λ head note m views seat v w shown r at is own. let here = head_says (change head_word head m (with_note m.object note)) refl r in let x = claim_room head note m r in

@@ -8,10 +8,10 @@ use Rattle.proc_chain.proofs.Opening.{split_parted, born_known}
 use Rattle.proc_chain.proofs.ends.ProcChain.split.Goals as goal
 
 pub returns : goal.returns
-returns g c = let end = c.args.end.now in let n = c.count_up.ensures in let s = c.split_off-seat.ensures in let p = split_parted _ _ n.counted.0 n.counted.1 n.frame.1.1 _ (λ i. (s.split.0 i).0) end.rests end.valid in let held = (λ i. (s.split.0 i).1) ∙ n.frame.1.0 in
+returns g c = let end = c.args.end.now in let n = c.count_up.ensures in let s = c.split_off-seat.ensures in let p = split_parted _ _ n.counted.0 n.counted.1 n.frame.1.1 _ _ (λ i. (s.split.0 i).0) end.rests end.valid in let held = (λ i. (s.split.0 i).1) ∙ n.frame.1.0 in
     let views = split_views nothing_did did_both ends_word _ _ _ _ _ _ n.counted.0 s.split.0 s.split.1 in let pact = c.args.self.now.table.shared.key.pact in record {
       effect = same_notes _ _ ((λ i. (s.split.0 i).0.own) ∙ n.counted.0.own);
-      count = one_more _ _ views.0;
+      count = one_more _ _ _ views.0;
       owns = (λ i. (s.split.0 i).0.member.share + (s.split.1 i).0.member.share) ∙ (given_kept c.count_up.new.seat.me.0.member.share ∙ ap (λ (z : Part). z.share) n.counted.0.member);
       turns = ((refl, held), refl);
       born = views.1;
@@ -21,7 +21,7 @@ returns g c = let end = c.args.end.now in let n = c.count_up.ensures in let s = 
     }
 
 pub invariant_of-end : goal.invariant_of-end
-invariant_of-end g c = let end = c.args.end.now in let n = c.count_up.ensures in let p = split_parted _ _ n.counted.0 n.counted.1 n.frame.1.1 _ (λ i. (c.split_off-seat.ensures.split.0 i).0) end.rests end.valid in record { turned = p.runner ∙ end.turned; rests = p.rests; valid = ∣ p.valid ∣₁ }
+invariant_of-end g c = let end = c.args.end.now in let n = c.count_up.ensures in let p = split_parted _ _ n.counted.0 n.counted.1 n.frame.1.1 _ _ (λ i. (c.split_off-seat.ensures.split.0 i).0) end.rests end.valid in record { turned = p.runner ∙ end.turned; rests = p.rests; valid = ∣ p.valid ∣₁ }
 
 pub invariant_of-result : goal.invariant_of-result
-invariant_of-result g c = let n = c.count_up.ensures in let s = c.split_off-seat.ensures in let k = born_known _ _ n.counted.0 n.counted.1 n.frame.1.1 _ (λ i. (s.split.1 i).0) in record { turned = λ i. (s.split.1 i).0.own.runner; rests = k.0; valid = ∣ k.1 ∣₁ }
+invariant_of-result g c = let n = c.count_up.ensures in let s = c.split_off-seat.ensures in let k = born_known _ _ n.counted.0 n.counted.1 n.frame.1.1 _ _ (λ i. (s.split.1 i).0) in record { turned = λ i. (s.split.1 i).0.own.runner; rests = k.0; valid = ∣ k.1 ∣₁ }

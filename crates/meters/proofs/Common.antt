@@ -15,7 +15,7 @@ pub use Rattle.event_theory.specs.Meters.{advance, cancel, fire, tick}
 pub use Rattle.event_theory.specs.declared.alarm.Alarm.{Alarm}
 pub use Rattle.table_theory.proofs.Reaching.{alone_since, entries_real, reaches_since}
 pub use Rattle.table_theory.proofs.Saying.{reaches_go}
-pub use Rattle.table_theory.specs.Ledgers.{ExtendsTrace, IsValidView, IsValidStep, Looked, Performed, Reaches, Step, both, change, emptied, load, newborn, rest_of}
+pub use Rattle.table_theory.specs.Ledgers.{ExtendsTrace, IsValidView, IsValidStep, Looked, Performed, Reaches, Step, both, change, emptied, load, newborn_with, rest_without}
 pub use Rattle.table_theory.specs.Seating.{IsSame}
 pub use Rattle.table_theory.specs.declared.views.AbsState.{AbsState}
 pub use Rattle.meters.specs.Answers.{NotAdvanced, NotSet, scan}

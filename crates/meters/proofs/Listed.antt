@@ -1,5 +1,5 @@
 -- What the ends list after a step.
-use Rattle.meters.proofs.Common.{◌≡◌, ◌≢◌, ℕ, ◌+◌, ◌-◌, ◌%◌, ◌<◌, ◌≤◌, ◌⊎◌, ⊎_elim, inl, inr, cond, List, [], ◌∷◌, ◌++◌, set, get_or, get_or-set_same, get_or-set_other, length, length-append, Bool, refl, sym, ap, ◌∙◌, subst, arith, eqb, ne_eqb, dite, ℕ_discrete, some, get_elem?, set_else, Alarm, is_alarm, newborn, rest_of, both, emptied, MeterOps, Reading, with_tick, SeatView, nothing_did, did_both, amount_on, times, times_to, ViewsShow}
+use Rattle.meters.proofs.Common.{◌≡◌, ◌≢◌, ℕ, ◌+◌, ◌-◌, ◌%◌, ◌<◌, ◌≤◌, ◌⊎◌, ⊎_elim, inl, inr, cond, List, [], ◌∷◌, ◌++◌, set, get_or, get_or-set_same, get_or-set_other, length, length-append, Bool, refl, sym, ap, ◌∙◌, subst, arith, eqb, ne_eqb, dite, ℕ_discrete, some, get_elem?, set_else, Alarm, is_alarm, newborn_with, rest_without, both, emptied, MeterOps, Reading, with_tick, SeatView, nothing_did, did_both, amount_on, times, times_to, ViewsShow}
 use Rattle.std.proofs.Common.{eq-eqb}
 use Rattle.std.proofs.lemmas.List.Sums.{sum_by_push, sum_by-append}
 use Rattle.table_theory.specs.Sharing.{total}
@@ -43,9 +43,9 @@ pub listed_look : (first : ℕ) (m : Reading) (views : List SeatView) (id : ℕ)
 listed_look first m views id v w h at own = listed_same first m views (set views id w) h (λ f adds. total_kept (λ (u : SeatView). f u.own) views id v w at (ap f own))
 
 -- an end gives a part of its share to a new one, which did nothing
-pub listed_split : (first : ℕ) (m : Reading) (views : List SeatView) (id : ℕ) (v : SeatView) → ViewsShow first m views → get_elem? views id ≡ some v → ViewsShow first m (set views id (rest_of v) ++ newborn nothing_did v ∷ [])
-listed_split first m views id v h at = listed_same first m views (set views id (rest_of v) ++ newborn nothing_did v ∷ []) h
-    (λ f adds. let p = total_push (λ (u : SeatView). f u.own) (set views id (rest_of v)) (newborn nothing_did v) in let k = total_kept (λ (u : SeatView). f u.own) views id v (rest_of v) at refl in let none = adds.0 in omega arith)
+pub listed_split : (first : ℕ) (m : Reading) (views : List SeatView) (id : ℕ) (v : SeatView) (parts : ℕ) → ViewsShow first m views → get_elem? views id ≡ some v → ViewsShow first m (set views id (rest_without parts v) ++ newborn_with parts nothing_did v ∷ [])
+listed_split first m views id v parts h at = listed_same first m views (set views id (rest_without parts v) ++ newborn_with parts nothing_did v ∷ []) h
+    (λ f adds. let p = total_push (λ (u : SeatView). f u.own) (set views id (rest_without parts v)) (newborn_with parts nothing_did v) in let k = total_kept (λ (u : SeatView). f u.own) views id v (rest_without parts v) at refl in let none = adds.0 in omega arith)
 
 -- an end takes in another
 pub listed_join : (first : ℕ) (m : Reading) (views : List SeatView) (id other : ℕ) (v u : SeatView) → ViewsShow first m views → get_elem? views id ≡ some v → get_elem? views other ≡ some u → other ≢ id → ViewsShow first m (set (set views id (both did_both v u)) other (emptied nothing_did v))

@@ -1,5 +1,6 @@
 -- Each step keeps the rule, and returns to its end what the step's definition says.
-use Rattle.meters.proofs.Common.{◌≡◌, ℕ, ◌+◌, ◌-◌, ◌%◌, ◌<◌, ◌≤◌, [], ◌∷◌, ◌++◌, eqb, get_or, set, sym, refl, ◌∙◌, subst, arith, Option, Some, None, some, get_elem?, State, set_else, Alarm, change, IsValidView, Performed, rest_of, newborn, both, emptied, word_of, MeterOps, Reading, Shape, Becomes, first_reading, in_slot, ticked, advanced, was_set, fired, cancelled, with_tick, with_advance, with_alarm, with_fired, with_cancelled, SeatView, of_meters, nothing_did, did_both, ViewsShow, Fits, IsInRange, WordsShow, Rule, WasSet, WasFired}
+use Rattle.meters.proofs.Common.{◌≡◌, ℕ, ◌+◌, ◌-◌, ◌%◌, ◌<◌, ◌≤◌, [], ◌∷◌, ◌++◌, eqb, get_or, set, sym, refl, ◌∙◌, subst, arith, Option, Some, None, some, get_elem?, State, set_else, Alarm, change, IsValidView, Performed, rest_without, newborn_with, both, emptied, word_of, MeterOps, Reading, Shape, Becomes, first_reading, in_slot, ticked, advanced, was_set, fired, cancelled, with_tick, with_advance, with_alarm, with_fired, with_cancelled, SeatView, of_meters, nothing_did, did_both, ViewsShow, Fits, IsInRange, WordsShow, Rule, WasSet, WasFired}
+use Rattle.table_theory.specs.Sharing.{IsPortion}
 use mathlib.Core.Option.{none}
 use prog.Atomic.{either}
 use Rattle.atomic_table.specs.Table.{Me, step, keeps, Allows, Splits, Joins}
@@ -113,8 +114,8 @@ module _ (key : Shape) (n id : ℕ) (me : Me Unit SeatView) where
           (λ m. (refl, refl, refl, record { gauges = λ g t b h. h; set = λ a t h. h; fired = λ a t h. h; cancelled = λ a t h. one_more a alarm m.cancelled v.own.cancelled t h })) refl
           (λ s k at is. cancelled slot alarm below (stood s k is) refl) (λ s k w made. (k.now, made))
 
-pub splits : (key : Shape) (id : ℕ) (v : SeatView) → v.member.ends ≡ 2 → Splits (Rule key) id v (rest_of v) (newborn nothing_did v)
-splits key id v two s k at = record { now = k.now; stands = stands_split k.stands id v at two; listed = listed_split key.clock k.now.object s.views id v k.listed at }
+pub splits : (key : Shape) (id : ℕ) (v : SeatView) (parts : ℕ) → (2 ≤ v.member.share → IsPortion parts v.member.share) → v.member.ends ≡ 2 → Splits (Rule key) id v (rest_without parts v) (newborn_with parts nothing_did v)
+splits key id v parts fits two s k at = record { now = k.now; stands = stands_split k.stands id v at parts fits two; listed = listed_split key.clock k.now.object s.views id v parts k.listed at }
 
 pub joins : (key : Shape) (id other : ℕ) (v w : SeatView) → 1 ≤ v.member.ends → Joins (Rule key) id v other w (both did_both v w) (emptied nothing_did v)
 joins key id other v w live s k at ne has = let at' : get_elem? s.views other ≡ some w = sym (set_else s.views id other (both did_both v w) ne) ∙ has in

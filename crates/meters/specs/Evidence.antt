@@ -2,4 +2,4 @@
 -- stable interface: `Client` has what a call promises its client.
 pub use Rattle.meters.specs.Answers.{Ticked, Loaded, AdvancedNow, NotAdvanced, SetNow, NotSet, CancelledNow, FiredNow}
 pub use Rattle.meters.specs.Closings.{WereOpen}
-pub use Rattle.meters.specs.Endings.{SplitBy, JoinedBy}
+pub use Rattle.meters.specs.Endings.{SplitBy, SplitShare, JoinedBy}

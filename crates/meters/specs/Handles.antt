@@ -4,6 +4,7 @@ use Rattle.meters.specs.declared.ends.Meters.{Meters}
 use Rattle.meters.specs.declared.ends.MeterSeat.{MeterSeat}
 use Rattle.meters.specs.Own.{SeatView}
 use Rattle.table_theory.specs.Seating as seats
+use Rattle.table_theory.specs.Sharing.{IsPortion}
 
 -- the view of the end: what it knows
 abbrev pub view_of : MeterSeat → SeatView
@@ -20,6 +21,14 @@ IsOnlySeat end = seats.IsOnly end.seat
 -- the end can be split: it has two parts of the share or more
 abbrev pub IsDivisible : MeterSeat → Type 0
 IsDivisible end = seats.IsDivisible end.seat
+
+-- the end's share of its meters, in parts
+abbrev pub share_of : MeterSeat → ℕ
+share_of end = end.seat.me.0.member.share
+
+-- the end can give so many parts to a new end: one or more, and one or more are kept
+abbrev pub CanGive : MeterSeat → ℕ → Type 0
+CanGive end parts = IsPortion parts end.seat.me.0.member.share
 
 -- it is an end of these meters
 abbrev pub IsSeatOf : Meters → MeterSeat → Type 0

@@ -1,5 +1,5 @@
 -- An end's own: what it did, and its share. The contract of each call says how it changes.
-use Rattle.std.specs.Prelude.{◌≡◌, ℕ, ◌+◌, List, [], ◌∷◌, ◌++◌}
+use Rattle.std.specs.Prelude.{◌≡◌, ℕ, ◌+◌, ◌-◌, List, [], ◌∷◌, ◌++◌}
 use Rattle.event_theory.specs.declared.alarm.Alarm.{Alarm}
 use Rattle.table_theory.specs.declared.views.EndState.{EndState}
 use Rattle.table_theory.specs.Ledgers.{ObjectModel}
@@ -88,6 +88,14 @@ DidSplit v w = own_of w ≡ record (own_of v) {
   splits = v.member.splits + 1;
   unlisted = v.member.unlisted + 1;
   share = kept v.member.share;
+}
+
+-- one split more, one load more that no list has, and the share without these parts
+abbrev pub DidSplitShare : ℕ → SeatView → SeatView → Type 0
+DidSplitShare parts v w = own_of w ≡ record (own_of v) {
+  splits = v.member.splits + 1;
+  unlisted = v.member.unlisted + 1;
+  share = v.member.share - parts;
 }
 
 -- the end then has what both had, with one join more, and one load more that no list has

@@ -45,6 +45,7 @@ pub mod laws;
 mod layout;
 mod plays;
 mod rule;
+mod shares;
 mod steps;
 mod word;
 

@@ -1,5 +1,6 @@
 use Rattle.meters.proofs.Common.{sym, subst, ℕ, ◌+◌, ◌∙◌, ap, arith}
 use Rattle.table_theory.specs.declared.views.Part.{Part}
+use Rattle.table_theory.proofs.Counting.{given_fits}
 use Rattle.table_theory.specs.Moments.{StepsAtMost}
 use Rattle.meters.proofs.Stepping.{ups, splits}
 use Rattle.meters.proofs.Ending.{steps_by}
@@ -9,7 +10,7 @@ pub count_up-requires-clause-allowed : goal.count_up-requires-clause-allowed
 count_up-requires-clause-allowed c = let one = c.args.seat.now.one in let parts = c.requires.parts in ups _ _ _ _ (omega arith)
 
 pub split_off-new-requires-clause-allowed : goal.split_off-new-requires-clause-allowed
-split_off-new-requires-clause-allowed c = splits _ _ _ (ap (λ (z : Part). z.ends) c.count_up.ensures.counted.member ∙ ap (λ (z : ℕ). z + 1) c.args.seat.now.one)
+split_off-new-requires-clause-allowed c = splits _ _ _ _ (given_fits _) (ap (λ (z : Part). z.ends) c.count_up.ensures.counted.member ∙ ap (λ (z : ℕ). z + 1) c.args.seat.now.one)
 
 pub returns-clause-steps : goal.returns-clause-steps
 returns-clause-steps c = subst (λ z. StepsAtMost 1 c.args.seat.now.seat.me.0 z.0) (sym c.split_off-new.ensures.split.0) (steps_by 1 c.args.seat.now.seat.me.0 c.count_up.new.seat.me.0 _ c.count_up.ensures.counted.adds (omega arith))

@@ -25,7 +25,7 @@ pub use Rattle.table_theory.specs.Filing.{ListedOnce, Owned, entry_of}
 pub use Rattle.table_theory.specs.Listing.{Adjacent, PartsShow, all_places}
 pub use Rattle.table_theory.specs.Seating.{IsSame}
 pub use Rattle.table_theory.specs.Sharing.{IsWhole, total}
-pub use Rattle.table_theory.specs.Ledgers.{IsValidView, IsValidStep, Performed, TableInv, Step, load, both, change, emptied, newborn, opened, rest_of}
+pub use Rattle.table_theory.specs.Ledgers.{IsValidView, IsValidStep, Performed, TableInv, Step, load, both, change, emptied, newborn, newborn_with, opened, rest_of, rest_without}
 pub use Rattle.table_theory.specs.Positioned.{fresh, head_of, item_of, left_of, tail_of, with_claim, with_take}
 pub use Rattle.table_theory.specs.declared.queues.Batch.{Batch}
 pub use Rattle.table_theory.specs.declared.queues.Cell.{Cell}

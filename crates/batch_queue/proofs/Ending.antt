@@ -1,5 +1,6 @@
 -- The table as it is made, and the steps that count, make and join ends.
-use Rattle.batch_queue.proofs.Common.{parts_of, inl, Allows, Apart, Batch, BatchState, Bool, EndRecord, FIRST_MARK, Grows, Holds, IsEdge, InvHeldOf, IsUsed, Joins, List, Me, OwnShows, Positions, Rule, Shape, Splits, View, [], all_alike, ap, arith, at_joined, at_longer, at_map, at_snoc, both, by_ends, did_both, emptied, empty, ends_word, false, free_word, get_elem?, get_or, get_or-replicate, get_or-set_other, get_or-set_same, head_word, if◌then◌else◌, length, length-replicate, length-set, listed_first, mark_word, mod-lt, nat_lt, newborn, newcomer, no_slots, none, nothing_did, of_batches, opened, opening, part_of, positions_of, refl, replicate, rest_of, set, set_else, shuts_of, some, some-injective, some-ne-none, some_there, step, subst, suc, sym, tail_word, true, unused_kept, width, zero, ℕ, ⊎_elim, ◌%◌, ◌++◌, ◌+◌, ◌-◌, ◌<◌, ◌∙◌, ◌∷◌, ◌≡◌, ◌≢◌, ◌≤◌}
+use Rattle.table_theory.specs.Sharing.{IsPortion}
+use Rattle.batch_queue.proofs.Common.{parts_of, inl, Allows, Apart, Batch, BatchState, Bool, EndRecord, FIRST_MARK, Grows, Holds, IsEdge, InvHeldOf, IsUsed, Joins, List, Me, OwnShows, Positions, Rule, Shape, Splits, View, [], all_alike, ap, arith, at_joined, at_longer, at_map, at_snoc, both, by_ends, did_both, emptied, empty, ends_word, false, free_word, get_elem?, get_or, get_or-replicate, get_or-set_other, get_or-set_same, head_word, if◌then◌else◌, length, length-replicate, length-set, listed_first, mark_word, mod-lt, nat_lt, newborn_with, newcomer, no_slots, none, nothing_did, of_batches, opened, opening, part_of, positions_of, refl, replicate, rest_without, set, set_else, shuts_of, some, some-injective, some-ne-none, some_there, step, subst, suc, sym, tail_word, true, unused_kept, width, zero, ℕ, ⊎_elim, ◌%◌, ◌++◌, ◌+◌, ◌-◌, ◌<◌, ◌∙◌, ◌∷◌, ◌≡◌, ◌≢◌, ◌≤◌}
 use Rattle.table_theory.specs.Plays.{HasTallied, counts, counts_down, counts_up}
 use Rattle.table_theory.specs.Positioned as pos
 use Rattle.table_theory.proofs.Positioned as positioned
@@ -84,11 +85,11 @@ apart_more views w bare old j k v u ej ek ne i a b =
     let empty : (z : View) → w ≡ z → Holds z.own.held i → ⊥ = λ z e h. let h' = subst (λ (y : View). Holds y.own.held i) (sym e) h in let c = ap (λ y. y.count) bare in let l = h'.0 in let r = h'.1 in omega arith in
     ⊎_elim (λ tj. ⊎_elim (λ tk. old j k v u tj tk ne i a b) (λ tk. empty u tk b) (at_snoc views w u k ek)) (λ tj. empty v tj a) (at_snoc views w v j ej)
 
-pub splits : (key : Shape) (id : ℕ) (v : View) → v.member.ends ≡ 2 → Splits (Rule key) id v (rest_of v) (newborn nothing_did v)
-splits key id v two s k at = let o : BatchState = k.now.object in let q : Positions = positions_of o in let left : View = rest_of v in let right : View = newborn nothing_did v in let later = k.listed.seen id (part_of v) (at_map part_of s.views id v at) in record {
+pub splits : (key : Shape) (id : ℕ) (v : View) (parts : ℕ) → (2 ≤ v.member.share → IsPortion parts v.member.share) → v.member.ends ≡ 2 → Splits (Rule key) id v (rest_without parts v) (newborn_with parts nothing_did v)
+splits key id v parts fits two s k at = let o : BatchState = k.now.object in let q : Positions = positions_of o in let left : View = rest_without parts v in let right : View = newborn_with parts nothing_did v in let later = k.listed.seen id (part_of v) (at_map part_of s.views id v at) in record {
   now = k.now;
   room = k.room;
-  stands = ends.stands_split k.stands id v at two;
+  stands = ends.stands_split k.stands id v at parts fits two;
   listed = split_in part_of q s.views id v left right k.listed at refl refl later refl refl later;
   seen = λ j u e. ⊎_elim (λ t. views_set (λ (z : View). Grows z.seen.object o) s.views id left (k.seen id v at) (λ i z h ne. k.seen i z h) j u t) (λ t. subst (λ (z : View). Grows z.seen.object o) t (k.seen id v at)) (at_snoc (set s.views id left) right u j e);
   homes = k.homes;
@@ -140,11 +141,11 @@ new_ruled room some_room = let zs : List ℕ = replicate (width room) 0 in let s
 }
 
 -- both ends of a split are under the rule
-module _ (v : View) (two : v.member.ends ≡ 2) (r : InvHeldOf v) where
-  pub rest_ruled : InvHeldOf (rest_of v)
+module _ (v : View) (parts : ℕ) (fits : 2 ≤ v.member.share → IsPortion parts v.member.share) (two : v.member.ends ≡ 2) (r : InvHeldOf v) where
+  pub rest_ruled : InvHeldOf (rest_without parts v)
   unfolding splits
-  rest_ruled = ruling.rest_ruled Rule now_of nothing_did splits (λ key id u is s k at. refl) v two r
+  rest_ruled = ruling.rest_ruled Rule now_of v (rest_without parts v) (newborn_with parts nothing_did v) (λ key id. splits key id v parts fits two) (λ key id s k at. refl) r refl
 
-  pub born_ruled : InvHeldOf (newborn nothing_did v)
+  pub born_ruled : InvHeldOf (newborn_with parts nothing_did v)
   unfolding splits
-  born_ruled = ruling.born_ruled Rule now_of nothing_did splits (λ key id u is s k at. refl) v two r
+  born_ruled = ruling.born_ruled Rule now_of v (rest_without parts v) (newborn_with parts nothing_did v) (λ key id. splits key id v parts fits two) (λ key id s k at. refl) r refl

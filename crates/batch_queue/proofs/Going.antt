@@ -1,5 +1,5 @@
 -- What a call leaves: the end did not shut the queue, and it sees no less than it had seen.
-use Rattle.batch_queue.proofs.Common.{AbsState, BatchState, EndRecord, IsValidView, InvHeldOf, List, Performed, Step, View, [], ap, arith, inl, inr, newborn, nothing_did, of_batches, rest_of, refl, subst, sym, ℕ, ◌+◌, ◌∙◌, ◌∷◌, ◌≡◌}
+use Rattle.batch_queue.proofs.Common.{AbsState, BatchState, EndRecord, IsValidView, InvHeldOf, List, Performed, Step, View, [], ap, arith, inl, inr, newborn_with, nothing_did, of_batches, rest_without, refl, subst, sym, ℕ, ◌+◌, ◌-◌, ◌≤◌, ◌∙◌, ◌∷◌, ◌≡◌}
 use Rattle.std.proofs.Math.Bool.{Bool-set}
 use Rattle.std.proofs.Math.Bridge.{le_prop}
 use Rattle.std.proofs.Math.Logic.{∥∥₁_elim, ∥∥₁_map}
@@ -88,8 +88,8 @@ pub later_joined : (v u w : View) → ∥ InvHeldOf v ∥₁ → ∥ InvHeldOf u
 later_joined v u w a b c t = let r = surely_joined of_batches did_both ends_word v u w (valid_view w c) t (valid_view v a) (valid_view u b) in (later_of v.seen w.seen r.0, later_of u.seen w.seen r.1)
 
 -- the end was split
-pub parts_sum : (v u w born : View) → CountedUp ends_word v u → w ≡ rest_of u → born ≡ newborn nothing_did u → w.member.share + born.member.share ≡ v.member.share
-parts_sum v u w born t rest new = let a : w.member.share ≡ kept u.member.share = ap (λ (z : View). z.member.share) rest in let b : born.member.share ≡ given u.member.share = ap (λ (z : View). z.member.share) new in let c : u.member.share ≡ v.member.share = ap (λ (z : Part). z.share) t.member in omega arith
+pub parts_sum : (v u w born : View) (parts : ℕ) → CountedUp ends_word v u → parts ≤ u.member.share → w ≡ rest_without parts u → born ≡ newborn_with parts nothing_did u → w.member.share + born.member.share ≡ v.member.share
+parts_sum v u w born parts t few rest new = let a : w.member.share ≡ u.member.share - parts = ap (λ (z : View). z.member.share) rest in let b : born.member.share ≡ parts = ap (λ (z : View). z.member.share) new in let c : u.member.share ≡ v.member.share = ap (λ (z : Part). z.share) t.member in omega arith
 
-pub goes_split : (v u w : View) → ∥ InvHeldOf v ∥₁ → ∥ InvHeldOf u ∥₁ → CountedUp ends_word v u → w ≡ rest_of u → GoesOn v w
-goes_split v u w a b t is = let l = later v u _ a b t.adds in subst (λ (z : View). GoesOn v z) (sym is) (record { shuts = ap (λ (z : EndRecord). z.shuts) t.own; later = record { claims = l.claims; taken = l.taken; phases = l.phases; shut = l.shut } })
+pub goes_split : (v u w : View) (parts : ℕ) → ∥ InvHeldOf v ∥₁ → ∥ InvHeldOf u ∥₁ → CountedUp ends_word v u → w ≡ rest_without parts u → GoesOn v w
+goes_split v u w parts a b t is = let l = later v u _ a b t.adds in subst (λ (z : View). GoesOn v z) (sym is) (record { shuts = ap (λ (z : EndRecord). z.shuts) t.own; later = record { claims = l.claims; taken = l.taken; phases = l.phases; shut = l.shut } })

@@ -1,5 +1,6 @@
 -- Each step under a client's protocol: what the table's rule allows, the protocol allows too.
-use Rattle.batch_queue.proofs.Common.{Allows, Batch, EndRecord, HasBack, HasRun, HasStop, InvHeldOf, IsWithin, Joins, List, Me, POSITIONS, Released, Rule, SHUT, Shape, Splits, View, [], ap, both, claims, did_both, dite, either, emptied, ends_word, eqb, finds, free_word, frees, get_elem?, get_or, head_word, items_of, length, line_of, map-append, map-set, mark_word, newborn, newcomer, none, nothing_did, opening, parts, positions_of, raised_run, refl, releases, replicate, rest_of, run, set, set_again, shuts, slots_of, some, step, subst, suc, sym, tail_word, takes_tail, taking, width, with_parting, with_published, with_run, with_shutting, with_stage, with_taking, zero, ℕ, ℕ_discrete, ⊎_elim, ◌%◌, ◌*◌, ◌++◌, ◌+◌, ◌-◌, ◌/◌, ◌<◌, ◌∙◌, ◌∷◌, ◌≡◌, ◌≤◌, ◌⊎◌, at_map}
+use Rattle.table_theory.specs.Sharing.{IsPortion}
+use Rattle.batch_queue.proofs.Common.{Allows, Batch, EndRecord, HasBack, HasRun, HasStop, InvHeldOf, IsWithin, Joins, List, Me, POSITIONS, Released, Rule, SHUT, Shape, Splits, View, [], ap, both, claims, did_both, dite, either, emptied, ends_word, eqb, finds, free_word, frees, get_elem?, get_or, head_word, items_of, length, line_of, map-append, map-set, mark_word, newborn_with, newcomer, none, nothing_did, opening, parts, positions_of, raised_run, refl, releases, replicate, rest_without, run, set, set_again, shuts, slots_of, some, step, subst, suc, sym, tail_word, takes_tail, taking, width, with_parting, with_published, with_run, with_shutting, with_stage, with_taking, zero, ℕ, ℕ_discrete, ⊎_elim, ◌%◌, ◌*◌, ◌++◌, ◌+◌, ◌-◌, ◌/◌, ◌<◌, ◌∙◌, ◌∷◌, ◌≡◌, ◌≤◌, ◌⊎◌, at_map}
 use Rattle.std.specs.Int.Bits.{bit_or}
 use Rattle.std.specs.Prelude.{nat_lt}
 use Rattle.atomic_table.specs.Table.{Final, Seen}
@@ -105,8 +106,8 @@ module _ (allows : Condition) where
     tallies_as one = let P : ℕ → Me ℕ View → Type 0 = counts (HasTallied InvHeldOf ends_word) (step n ends_word 0 0 none) me in
         allows_with (Rule key) (KeepsTo allows) n id me ends_word (λ x. x) P P (tallies key n id me one) (λ r m h k. keeps_own me.0 m.0 me.0.own h.1.1.made.did refl refl k) (λ r m h s x at. h)
 
-  pub splits_as : ((first : ℕ) → allows first [] []) → (key : Shape) (id : ℕ) (v : View) → v.member.ends ≡ 2 → Splits (RuleWith allows key) id v (rest_of v) (newborn nothing_did v)
-  splits_as begins key id v two = splits_with (Rule key) (KeepsTo allows) id v (rest_of v) (newborn nothing_did v) (splits key id v two) (λ k. k) (λ k. begins 0)
+  pub splits_as : ((first : ℕ) → allows first [] []) → (key : Shape) (id : ℕ) (v : View) (parts : ℕ) → (2 ≤ v.member.share → IsPortion parts v.member.share) → v.member.ends ≡ 2 → Splits (RuleWith allows key) id v (rest_without parts v) (newborn_with parts nothing_did v)
+  splits_as begins key id v parts fits two = splits_with (Rule key) (KeepsTo allows) id v (rest_without parts v) (newborn_with parts nothing_did v) (splits key id v parts fits two) (λ k. k) (λ k. begins 0)
 
   pub joins_as : ((first : ℕ) → allows first [] [])
       → ((first : ℕ) (puts taken more_puts more_taken : List Placed) → allows first puts taken → allows first more_puts more_taken → allows first (puts ++ more_puts) (taken ++ more_taken))

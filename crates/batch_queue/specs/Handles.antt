@@ -1,6 +1,6 @@
 -- Names in the clauses for parts of a queue and of an end.
 use Rattle.std.specs.Prelude.{◌≡◌, ◌≤◌, ℕ}
-use Rattle.table_theory.specs.Sharing.{IsWhole}
+use Rattle.table_theory.specs.Sharing.{IsPortion, IsWhole}
 use Rattle.batch_queue.specs.declared.ends.BatchEnd.{BatchEnd}
 use Rattle.batch_queue.specs.declared.ends.BatchQueue.{BatchQueue}
 use Rattle.batch_queue.specs.Own.{View}
@@ -24,6 +24,14 @@ IsOnlyEnd end = IsWhole end.seat.me.0.member.share
 -- the end can be split: it has two parts of the share or more
 abbrev pub IsDivisible : BatchEnd → Type 0
 IsDivisible end = 2 ≤ end.seat.me.0.member.share
+
+-- the end's share of its queue, in parts
+abbrev pub share_of : BatchEnd → ℕ
+share_of end = end.seat.me.0.member.share
+
+-- the end can give so many parts to a new end: one or more, and one or more are kept
+abbrev pub CanGive : BatchEnd → ℕ → Type 0
+CanGive end parts = IsPortion parts end.seat.me.0.member.share
 
 -- the end is an end of this queue
 abbrev pub IsEndOf : {C : Type 0} → BatchQueue C → BatchEnd → Type 0

@@ -69,8 +69,9 @@ impl<C: Protocol> BatchQueue<C> {
     /// end that is dropped can never be joined. Besides the step that counts the new end, the first word is loaded
     /// once, and the number found there is not used.
     ///
-    /// Condition: the end has two or more of its queue's 2^64 - 1 parts. The first end can be split two million times
-    /// without a join, and each of those ends 43 times in a chain.
+    /// The new end gets half of the end's share, and 2^21 parts at most. Condition: the end has two or more of its
+    /// queue's 2^64 - 1 parts. The first end can be split 2^43 times without a join, and each of those ends 21 times in
+    /// a chain. `split_share` gives as many parts as its caller says.
     pub fn split(&self, end: &mut BatchEnd) -> BatchEnd
         requires queue { IsEndOf self.now end.old }
         requires parts { IsDivisible end.old }

@@ -51,6 +51,7 @@ mod plays;
 mod put;
 mod refusals;
 mod rule;
+mod shares;
 mod some;
 mod steps;
 mod take;

@@ -566,7 +566,7 @@ static void split_often(void)
     while (last < SPLITS - 1 && synth_hand_split(&chain[last], ALL, &chain[last + 1]) == SYNTH_OK) {
         last++;
     }
-    ROW(last, 44);
+    ROW(last, 22);
     ROW(synth_hand_split(&chain[last], ALL, &chain[last + 1]), SYNTH_NO_SHARE);
     ROW(synth_hand_split(&chain[last], ALL + 1, &chain[last + 1]), SYNTH_BAD_NUMBER);
     ROW(synth_hand_split(&chain[0], 1, &chain[last + 1]), SYNTH_NOT_SERVED);

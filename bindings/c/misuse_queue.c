@@ -289,7 +289,7 @@ static void split_often(void)
     while (last < SPLITS - 1 && synth_queue_split(&chain[last], &chain[last + 1]) == SYNTH_OK) {
         last++;
     }
-    ROW(last, 44);
+    ROW(last, 22);
     ROW(synth_queue_split(&chain[last], &chain[last + 1]), SYNTH_NO_SHARE);
     ROW(chain[last + 1].full, false);
     ROW(synth_queue_split(&chain[0], &chain[last + 1]), SYNTH_OK);

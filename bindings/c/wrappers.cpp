@@ -392,7 +392,7 @@ void batch_moves()
     for (auto next = chain[0].split(); next; next = chain[last].split()) {
         chain[++last] = std::move(*next);
     }
-    ROW(last, 44);
+    ROW(last, 22);
     ROW(chain[last].split().code(), Code::NoShare);
 }
 

@@ -248,8 +248,8 @@ struct synth_batch_totals {
 SYNTH_MUST_USE SYNTH_CALL_ synth_code synth_batch_new(size_t places, struct synth_batch *batch);
 
 /**
- * Fills `other`, one more handle of the queue, for another thread. The handle that new filled can be split two million
- * times without a join, and each handle that it fills 43 times in a chain.
+ * Fills `other`, one more handle of the queue, for another thread. The handle that new filled can be split 2^43 times
+ * without a join, and each handle that it fills 21 times in a chain.
  * @return SYNTH_EMPTY_HANDLE: `batch`; SYNTH_FULL_HANDLE: `other`; SYNTH_NO_SHARE; SYNTH_NO_MEMORY.
  */
 SYNTH_MUST_USE SYNTH_CALL_ synth_code synth_batch_split(struct synth_batch *SYNTH_RESTRICT_ batch,

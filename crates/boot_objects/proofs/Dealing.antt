@@ -2,8 +2,8 @@
 use Rattle.boot_objects.proofs.Common.{◌≡◌, ℕ, ◌+◌, ◌≤◌, List, refl, ◌∙◌, arith, given, Gave, CanGive, ◌/◌, min-le_right}
 
 -- what a split gives is a part at most
-pub given_few : (share : ℕ) → given share ≤ 8796093022208
-given_few share = min-le_right (share / 2) 8796093022208
+pub given_few : (share : ℕ) → given share ≤ 2097152
+given_few share = min-le_right (share / 2) 2097152
 
 pub gave_none : (splits : ℕ) (part : ℕ → ℕ) (shares : List ℕ) → ((q : ℕ) → part q ≡ 0) → Gave splits part shares shares
 gave_none splits part shares none = record {

@@ -51,8 +51,8 @@ module _ {E : Type 0} (share : E → ℕ) where
       let had = map_here share ends i end l e in
       let sum : share end' + share born ≡ get_or (map share ends) i 0 = (λ j. left j + part j) ∙ given_kept (share end) ∙ sym had in
       let lefts : map share (set ends i end') ≡ set (map share ends) i (share end') = map-set share ends i end' in
-      let few : share born ≤ 8796093022208 = subst (λ (z : ℕ). z ≤ 8796093022208) (sym part) (given_few (share end)) in record {
+      let few : share born ≤ 2097152 = subst (λ (z : ℕ). z ≤ 2097152) (sym part) (given_few (share end)) in record {
         long = ap length lefts ∙ length-set (map share ends) i (share end');
         rest = λ q. ap (λ (z : List ℕ). get_or z q 0 + at_one 0 i (share born) q) lefts ∙ whole_at (map share ends) i (share end') (share born) (let long = length-map ends share in omega (arith, long, l)) sum q;
-        few = λ q. number_few (q == i) (share born) 8796093022208 few;
+        few = λ q. number_few (q == i) (share born) 2097152 few;
       }

@@ -7,7 +7,7 @@ use Rattle.boot_objects.specs.Stocks.{CanGive}
 pub prepared_shares : (plan : BootPlan) (old new : Parts) → HasPrepared plan old new → shares new ≡ shares old
 prepared_shares plan old new p = ap shares p.rest ∙ (λ i. record (shares old) { hand = p.hand.moved.keeps.share i; meters = (p.alarms i).share })
 
-eight : (s t : ℕ) → t ≡ s → 1000 * 8796093022208 + 2 ≤ s → IsAmple 8 t
+eight : (s t : ℕ) → t ≡ s → 1000 * 2097152 + 2 ≤ s → IsAmple 8 t
 eight s t e h = omega arith
 
 eight_of_all : (s t : ℕ) → t ≡ s → s ≡ 18446744073709551615 → IsAmple 8 t

@@ -89,7 +89,7 @@ fewer n m parts low c = record {
 }
 
 kept_ample : (n s t : ℕ) → t ≡ kept s → IsAmple (n + 1) s → IsAmple n t
-kept_ample n s t is h = let m = min-le_right (s / 2) 8796093022208 in omega arith
+kept_ample n s t is h = let m = min-le_right (s / 2) 2097152 in omega arith
 
 as_many : {A B : Type 0} (f : A → B) (xs ys : List A) → map f ys ≡ map f xs → length ys ≡ length xs
 as_many f xs ys e = sym (length-map ys f) ∙ ap (λ z. length z) e ∙ length-map xs f

@@ -136,8 +136,8 @@ impl<const N: usize> Tags<N> {
     /// Splits off a new holder, which holds none. Both must be joined again before the tags can be closed; a dropped
     /// holder can never be joined.
     ///
-    /// Condition: the holder's end can be split. The first holder can be split two million times without a join, and
-    /// each of those 43 times in a chain.
+    /// Condition: the holder's end can be split. The first holder can be split 2^43 times without a join, and each of
+    /// those 21 times in a chain.
     pub fn split(&self, holder: &mut Holder<N>) -> Holder<N>
         requires pool { IsHolderOf self.now holder.old }
         requires parts { IsDivisible holder.old }

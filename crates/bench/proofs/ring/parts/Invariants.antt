@@ -5,6 +5,6 @@ use Rattle.bench.proofs.ring.parts.Given as goal
 abbrev pub invariant-loop-number : goal.invariant-loop-number
 invariant-loop-number l = record {
   same : IsSameHand l.initial.hand l.hand;
-  share : 8 * 8796093022208 + 2 ≤ (view_of l.hand).member.share + l.number * 8796093022208;
+  share : 8 * 2097152 + 2 ≤ (view_of l.hand).member.share + l.number * 2097152;
   passers : All (λ passer. IsHandOf l.table passer.hand) l.passers.items;
 }

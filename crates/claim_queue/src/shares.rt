@@ -14,8 +14,8 @@ use table_theory::protocol::Protocol;
 impl<const N: usize, C: Protocol> ClaimQueue<N, C> {
     ghost use Rattle.claim_queue.specs.Handles.{view_of, share_of, CanGive, IsEndOf, IsSameEnd, AreOfOneQueue};
 
-    /// A new end, as `split` makes it, that has exactly `share` parts of the queue; the end keeps the rest. An end has no
-    /// bytes, so the caller knows the shares: the first end has 2^64 - 1 parts, and a join adds them up.
+    /// A new end, as `split` makes it, that has exactly `share` parts of the queue. The end keeps the rest. An end has no
+    /// bytes, so the caller keeps account of the shares: the first end has 2^64 - 1 parts, and a join adds them up.
     ///
     /// Condition: `share` is 1 or more, and the end keeps a part or more.
     pub fn split_share(&self, end: &mut QueueEnd<N>, share: u64) -> QueueEnd<N>

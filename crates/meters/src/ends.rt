@@ -63,8 +63,8 @@ impl Meters {
     /// A new end, which has done nothing. Both ends are to be joined again before the meters can be closed. Besides the
     /// step that counts the new end, the first word is loaded once, and the number found there is not used.
     ///
-    /// The new end gets half of the end's share, and 2^21 parts at most. Condition: the end has two parts or more of its
-    /// meters' 2^64 - 1. The first end can be split 2^43 times without a join, and each of those ends 21 times in a
+    /// The new end gets half of the end's share, and 2^21 parts at most. Condition: the end has two parts or more of
+    /// its meters' 2^64 - 1. The first end can be split 2^43 times without a join, and each of those ends 21 times in a
     /// chain. `split_share` gives as many parts as its caller says.
     pub fn split(&self, seat: &mut MeterSeat) -> MeterSeat
         requires seat { IsSeatOf self.now seat.old }

@@ -14,8 +14,8 @@ use table_theory::end_steps::{count_up, split_share_off};
 impl Meters {
     ghost use Rattle.meters.specs.Handles.{view_of, share_of, CanGive, IsSeatOf, IsSameSeat, AreOfOneTable};
 
-    /// A new end, as `split` makes it, that has exactly `share` parts of the meters; the end keeps the rest. An end has no
-    /// bytes, so the caller knows the shares: the first end has 2^64 - 1 parts, and a join adds them up.
+    /// A new end, as `split` makes it, that has exactly `share` parts of the meters. The end keeps the rest. An end has no
+    /// bytes, so the caller keeps account of the shares: the first end has 2^64 - 1 parts, and a join adds them up.
     ///
     /// Condition: `share` is 1 or more, and the end keeps a part or more.
     pub fn split_share(&self, seat: &mut MeterSeat, share: u64) -> MeterSeat

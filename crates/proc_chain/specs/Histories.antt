@@ -1,6 +1,7 @@
 -- The chain of a queue and a gate with a history: which calls made the runs, which call has the turn, and which calls
 -- owe a notify. A change is an event of the core for each history of what the step found.
-use Rattle.std.specs.Prelude.{◌≡◌, ◌≢◌, ℕ, ◌+◌, ◌<◌, Bool, true, false, List, [], ◌∷◌, ◌++◌, slice_set, Option, Some, None, Result, Ok}
+use Rattle.std.specs.Prelude.{◌≡◌, ◌≢◌, ℕ, ◌+◌, Bool, true, false, List, [], ◌∷◌, ◌++◌, slice_set}
+use Rattle.std.specs.Prelude.{Option, Some, None, Result, Ok}
 use mathlib.Core.Option.{some}
 use lib.ListN.{get_elem?}
 use Rattle.event_theory.specs.declared.refusal.Refusal.{Refusal}

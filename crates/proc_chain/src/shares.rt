@@ -14,8 +14,9 @@ use std::marker::Brand;
 impl<Q: Quaject> ProcChain<Q> {
     ghost use Rattle.proc_chain.specs.Handles.{view_of, turn_of, share_of, CanGive, IsEndOf, KeepsTurn, IsSameEnd};
 
-    /// A new end, as `split` makes it, that has exactly `share` parts of the chain; the end keeps the rest. An end has no
-    /// number of its parts, so the caller knows the shares: the first end has 2^64 - 1 parts, and a join adds them up.
+    /// A new end, as `split` makes it, that has exactly `share` parts of the chain. The end keeps the rest. No end has
+    /// the number of its parts, so the caller keeps account of the shares: the first end has 2^64 - 1 parts, and a join
+    /// adds them up.
     ///
     /// Condition: `share` is 1 or more, and the end keeps a part or more.
     pub fn split_share(&self, end: &mut ChainEnd<Q>, share: u64) -> ChainEnd<Q>

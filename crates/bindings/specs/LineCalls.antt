@@ -1,9 +1,12 @@
 -- The effects of the calls for C on the handles of device lines. An empty handle holds None.
-use Rattle.std.specs.Prelude.{◌≡◌, ◌⊎◌, ◌≤◌, ◌<◌, ◌%◌, ◌^◌, ◌++◌, ℕ, ℤ, true, pos, length, None, Some}
+use Rattle.std.specs.Prelude.{◌≡◌, ◌⊎◌, ◌≤◌, ◌<◌, ◌%◌, ◌^◌, ◌+◌, ◌++◌, ℕ, ℤ, true, pos, List, [], length, take, drop}
+use Rattle.std.specs.Prelude.{None, Some}
 use Rattle.spsc_line.specs.Lines.{bytes_sent, bytes_received, bytes_left, capacity_in, known_room, known_bytes, IsLine}
-use Rattle.spsc_line.specs.Lines.{IsNewIn, IsNewOut, SameIn, SameOut, Sends, SendsNothing, Receives, ReceivesNothing}
+use Rattle.spsc_line.specs.Lines.{IsNewIn, IsNewOut, SameIn, SameOut, Sends, SendsAll, SendsNothing}
+use Rattle.spsc_line.specs.Lines.{Receives, ReceivesAll, ReceivesNothing}
 use Rattle.bindings.specs.Handles.{Option, Handle, LineIn, LineOut, HeldIn, HeldOut, held_by, line_in_of, line_out_of}
 use Rattle.bindings.specs.Handles.{AsItWas, is_some, Done, NoMemory, EmptyHandle, FullHandle, OtherObject, BadNumber}
+use Rattle.bindings.specs.Codes.{ShortBuffer}
 use Rattle.bindings.specs.declared.line.SynthLineTotals.{SynthLineTotals}
 
 -- the two ends have one mark
@@ -50,6 +53,27 @@ abbrev pub IsPopCall : HeldOut → ℕ → ℕ → Option HeldOut → ℤ → Ty
 IsPopCall x old_byte byte new code = (y : HeldOut) × (new ≡ Some y) × SameHeldOut x y
     × (((code ≡ pos 7) × ReceivesNothing x.line y.line × (length (known_bytes x.line) ≡ 0) × (byte ≡ old_byte))
     ⊎ ((code ≡ Done) × Receives byte x.line y.line))
+
+-- The effect of `push_some`, by its code: no bytes are given; or none is pushed, since no room is known and at least the
+-- capacity was pushed; or so many are, the first ones, and all unless no room is known after them
+abbrev pub IsPushSomeCall : HeldIn → List ℕ → ℕ → ℕ → Option HeldIn → ℤ → Type 0
+IsPushSomeCall x bytes old_count count new code = (y : HeldIn) × (new ≡ Some y) × SameHeldIn x y
+    × (((code ≡ pos 1) × (bytes ≡ []) × (y ≡ x) × (count ≡ old_count))
+    ⊎ ((code ≡ pos 5) × (0 < length bytes) × SendsNothing x.line y.line × (known_room x.line ≡ 0)
+    × (capacity_in x.line ≤ length (bytes_sent x.line)) × (count ≡ old_count))
+    ⊎ ((code ≡ Done) × (0 < count) × (count ≤ length bytes) × SendsAll (take count bytes) x.line y.line
+    × (count < length bytes → (known_room x.line ≤ count) × (known_room y.line ≡ 0)
+    × (capacity_in x.line ≤ length (bytes_sent x.line) + count))))
+
+-- The effect of `pop_some`, by its code: the buffer has no room; or there is no byte; or so many bytes are popped, they
+-- are the first ones of the buffer, its others stay, and the buffer is full unless no byte is seen after them
+abbrev pub IsPopSomeCall : HeldOut → List ℕ → List ℕ → ℕ → ℕ → Option HeldOut → ℤ → Type 0
+IsPopSomeCall x old_bytes bytes old_count count new code = (y : HeldOut) × (new ≡ Some y) × SameHeldOut x y
+    × (((code ≡ ShortBuffer) × (old_bytes ≡ []) × (y ≡ x) × (bytes ≡ old_bytes) × (count ≡ old_count))
+    ⊎ ((code ≡ pos 7) × (0 < length old_bytes) × ReceivesNothing x.line y.line × (known_bytes x.line ≡ [])
+    × (bytes ≡ old_bytes) × (count ≡ old_count))
+    ⊎ ((code ≡ Done) × (0 < count) × (count ≤ length old_bytes) × ReceivesAll (take count bytes) x.line y.line
+    × (drop count bytes ≡ drop count old_bytes) × (count < length old_bytes → known_bytes y.line ≡ [])))
 
 -- The bytes received, then those left, are the bytes sent; the totals count them, sent and received modulo 2^64
 pub record ReportsLine (x : HeldIn) (z : HeldOut) (reported : SynthLineTotals) : Type 0 where

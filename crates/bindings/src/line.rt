@@ -1,12 +1,14 @@
 //! The device line for C: each call is one of the library's, on the end that a handle holds.
 ghost use Rattle.std.specs.Prelude.{◌≡◌, ◌≤◌, ◌<◌};
 ghost use Rattle.bindings.specs.Handles.{EmptyHandle, line_in_of, line_out_of, NoneIn, LeadsTo, FreedHandle, MarksTell};
-ghost use Rattle.bindings.specs.LineCalls.{MadeLine, IsPushCall, IsPopCall, FinishedLine, HaveOneMark, AreOfOneLine};
+ghost use Rattle.bindings.specs.LineCalls.{MadeLine, IsPushCall, IsPushSomeCall, IsPopCall, IsPopSomeCall, FinishedLine};
+ghost use Rattle.bindings.specs.LineCalls.{HaveOneMark, AreOfOneLine};
 
 pub mod held;
 
 use crate::answer::{
-    BAD_NUMBER, DONE, EMPTY, EMPTY_HANDLE, FULL, FULL_HANDLE, NO_MEMORY, OTHER_OBJECT,
+    BAD_NUMBER, DONE, EMPTY, EMPTY_HANDLE, FULL, FULL_HANDLE, NO_ITEMS, NO_MEMORY, OTHER_OBJECT,
+    SHORT_BUFFER,
 };
 use crate::ends::free;
 use crate::handle::Handle;
@@ -75,6 +77,31 @@ pub extern "C" fn synth_raw_line_push(input: &mut Handle, byte: u8) -> i32
     }
 }
 
+/// `LineIn::push_some`. The count is 1 or more.
+#[unsafe(no_mangle)]
+pub extern "C" fn synth_raw_line_push_some(
+    input: &mut Handle,
+    bytes: &[u8],
+    count: &mut usize,
+) -> i32
+    ensures empty { NoneIn line_in_of input.old input.new ((result ≡ EmptyHandle) × (count.new ≡ count.old)) }
+    ensures pushed { LeadsTo line_in_of input.old input.new
+        (λ x y. IsPushSomeCall x bytes.now count.old count.new y result) }
+{
+    let Some(held) = input.find::<HeldIn>() else {
+        return EMPTY_HANDLE;
+    };
+    if bytes.is_empty() {
+        return NO_ITEMS;
+    }
+    let pushed = held.line.push_some(bytes);
+    if pushed == 0 {
+        return FULL;
+    }
+    *count = pushed;
+    DONE
+}
+
 /// `LineOut::pop`.
 #[unsafe(no_mangle)]
 pub extern "C" fn synth_raw_line_pop(output: &mut Handle, byte: &mut u8) -> i32
@@ -92,6 +119,32 @@ pub extern "C" fn synth_raw_line_pop(output: &mut Handle, byte: &mut u8) -> i32
         }
         None => EMPTY,
     }
+}
+
+/// `LineOut::pop_some`. The count is 1 or more.
+#[unsafe(no_mangle)]
+pub extern "C" fn synth_raw_line_pop_some(
+    output: &mut Handle,
+    bytes: &mut [u8],
+    count: &mut usize,
+) -> i32
+    ensures empty { NoneIn line_out_of output.old output.new
+        ((result ≡ EmptyHandle) × (bytes.new ≡ bytes.old) × (count.new ≡ count.old)) }
+    ensures popped { LeadsTo line_out_of output.old output.new
+        (λ x y. IsPopSomeCall x bytes.old bytes.new count.old count.new y result) }
+{
+    let Some(held) = output.find::<HeldOut>() else {
+        return EMPTY_HANDLE;
+    };
+    if bytes.is_empty() {
+        return SHORT_BUFFER;
+    }
+    let popped = held.line.pop_some(bytes);
+    if popped == 0 {
+        return EMPTY;
+    }
+    *count = popped;
+    DONE
 }
 
 /// `finish`. Both handles are then empty.

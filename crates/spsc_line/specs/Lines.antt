@@ -58,6 +58,10 @@ SameOut a b = SameConsumer a.consumer b.consumer
 abbrev pub Sends : ℕ → LineIn → LineIn → Type 0
 Sends byte a b = (bytes_sent b ≡ bytes_sent a ++ byte ∷ []) × (known_room a ≤ known_room b + 1)
 
+-- so many bytes more were sent, in their order, and at most as many places fewer are known to be free
+abbrev pub SendsAll : List ℕ → LineIn → LineIn → Type 0
+SendsAll bytes a b = (bytes_sent b ≡ bytes_sent a ++ bytes) × (known_room a ≤ known_room b + length bytes)
+
 -- nothing was sent, and as many places are known to be free
 abbrev pub SendsNothing : LineIn → LineIn → Type 0
 SendsNothing a b = (bytes_sent b ≡ bytes_sent a) × (known_room b ≡ known_room a)
@@ -66,6 +70,11 @@ SendsNothing a b = (bytes_sent b ≡ bytes_sent a) × (known_room b ≡ known_ro
 abbrev pub Receives : ℕ → LineOut → LineOut → Type 0
 Receives byte a b =
     (bytes_received b ≡ bytes_received a ++ byte ∷ []) × IsPrefix (known_bytes a) (byte ∷ known_bytes b)
+
+-- so many bytes more were received, in their order, first those that were seen; the other bytes seen still come next
+abbrev pub ReceivesAll : List ℕ → LineOut → LineOut → Type 0
+ReceivesAll bytes a b =
+    (bytes_received b ≡ bytes_received a ++ bytes) × IsPrefix (known_bytes a) (bytes ++ known_bytes b)
 
 -- nothing was received, and the same bytes are seen
 abbrev pub ReceivesNothing : LineOut → LineOut → Type 0

@@ -16,8 +16,8 @@ pub struct LineIn {
 }
 
 impl LineIn {
-    ghost use Rattle.std.specs.Prelude.{◌≡◌, ◌<◌, [], length, IsOk, OnOk, OnErr, IfErr};
-    ghost use Rattle.spsc_line.specs.Lines.{bytes_sent, known_room, capacity_in, SameIn, Sends, SendsNothing};
+    ghost use Rattle.std.specs.Prelude.{◌≡◌, ◌+◌, ◌<◌, ◌≤◌, [], length, take, IsOk, OnOk, OnErr, IfErr};
+    ghost use Rattle.spsc_line.specs.Lines.{bytes_sent, known_room, capacity_in, SameIn, Sends, SendsAll, SendsNothing};
 
     pub(crate) fn new(producer: Producer<u8>) -> LineIn
         requires sent { sent producer ≡ [] }
@@ -48,5 +48,23 @@ impl LineIn {
             }
             Err(PushError::Full(back)) => Err(back),
         }
+    }
+
+    /// Pushes as many of the first bytes as places are free, in their order after all others, and returns how many.
+    ///
+    /// If not all of them are pushed, no place of the line was seen free after those that were. No byte is refused
+    /// while fewer bytes were pushed than the line has room for.
+    pub fn push_some(&mut self, bytes: &[u8]) -> usize
+        ensures line { SameIn self.old self.new }
+        ensures within { result ≤ length bytes.now }
+        ensures sent { SendsAll (take result bytes.now) self.old self.new }
+        ensures full { result < length bytes.now → known_room self.new ≡ 0 }
+        ensures succeeds { result < length bytes.now → known_room self.old ≤ result }
+        ensures first { result < length bytes.now → capacity_in self.old ≤ length (bytes_sent self.old) + result }
+    {
+        let (pushed, _) = self.producer.push_partial_slice(bytes);
+        let count = pushed.len();
+        self.pushed = self.pushed.wrapping_add(count);
+        count
     }
 }

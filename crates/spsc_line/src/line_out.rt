@@ -15,8 +15,8 @@ pub struct LineOut {
 }
 
 impl LineOut {
-    ghost use Rattle.std.specs.Prelude.{◌≡◌, ◌<◌, [], length, IsSome, IfSome, IfNone};
-    ghost use Rattle.spsc_line.specs.Lines.{known_bytes, SameOut, Receives, ReceivesNothing};
+    ghost use Rattle.std.specs.Prelude.{◌≡◌, ◌<◌, ◌≤◌, [], length, take, drop, IsSome, IfSome, IfNone};
+    ghost use Rattle.spsc_line.specs.Lines.{known_bytes, SameOut, Receives, ReceivesAll, ReceivesNothing};
 
     pub(crate) fn new(consumer: Consumer<u8>) -> LineOut
         requires { received consumer ≡ [] }
@@ -44,5 +44,22 @@ impl LineOut {
             }
             Err(PopError::Empty) => None,
         }
+    }
+
+    /// Pops as many of the oldest bytes as there are, up to as many as `bytes` has room for, and returns how many.
+    ///
+    /// They become the first ones of `bytes`, in their order, and its others stay as they are. If `bytes` has room for
+    /// more, no byte of the line was seen after them.
+    pub fn pop_some(&mut self, bytes: &mut [u8]) -> usize
+        ensures line { SameOut self.old self.new }
+        ensures within { result ≤ length bytes.old }
+        ensures received { ReceivesAll (take result bytes.new) self.old self.new }
+        ensures rest { drop result bytes.new ≡ drop result bytes.old }
+        ensures empty { result < length bytes.old → known_bytes self.new ≡ [] }
+        ensures succeeds { result < length bytes.old → length (known_bytes self.old) ≤ result }
+    {
+        let count = self.consumer.pop_partial_slice(bytes);
+        self.popped = self.popped.wrapping_add(count);
+        count
     }
 }

@@ -61,6 +61,54 @@ fn the_longest_line(rt: HostRuntime) -> Result<(), Fail> {
     Ok(())
 }
 
+/// Runs of bytes go through a line of four: as many as fit, in their order, also round its end.
+#[test]
+fn runs_of_bytes(rt: HostRuntime) -> Result<(), Fail> {
+    let (mut input, mut output) = line(rt.alloc(), 4)?;
+    let mut three = [9u8; 3];
+    assert!(rt; output.pop_some(&mut three) == 0);
+    assert!(rt; three == [9, 9, 9]);
+    assert!(rt; input.push_some(&[]) == 0);
+    assert!(rt; input.push_some(&[1, 2, 3]) == 3);
+    assert!(rt; input.push_some(&[4, 5, 6]) == 1);
+    assert!(rt; input.push_some(&[5, 6]) == 0);
+    assert!(rt; input.push(5) == Err(5));
+    assert!(rt; output.pop_some(&mut []) == 0);
+    assert!(rt; output.pop_some(&mut three) == 3);
+    assert!(rt; three == [1, 2, 3]);
+    assert!(rt; input.push_some(&[5, 6, 7, 8]) == 3);
+    assert!(rt; output.pop_some(&mut three) == 3);
+    assert!(rt; three == [4, 5, 6]);
+    assert!(rt; output.pop_some(&mut three) == 1);
+    assert!(rt; three == [7, 5, 6]);
+    let totals = LineTotals {
+        sent: 7,
+        received: 7,
+        left: 0,
+    };
+    assert!(rt; finish(input, output) == totals);
+    Ok(())
+}
+
+/// Runs and single bytes go through the same line, and are counted together.
+#[test]
+fn runs_beside_single_bytes(rt: HostRuntime) -> Result<(), Fail> {
+    let (mut input, mut output) = line(rt.alloc(), 8)?;
+    let mut two = [0u8; 2];
+    assert!(rt; input.push(1) == Ok(()));
+    assert!(rt; input.push_some(&[2, 3, 4]) == 3);
+    assert!(rt; output.pop() == Some(1));
+    assert!(rt; output.pop_some(&mut two) == 2);
+    assert!(rt; two == [2, 3]);
+    let totals = LineTotals {
+        sent: 4,
+        received: 3,
+        left: 1,
+    };
+    assert!(rt; finish(input, output) == totals);
+    Ok(())
+}
+
 /// If an allocation is refused, there is no line, and a later try makes one.
 #[test]
 fn memory_may_run_out(rt: HostRuntime) {

@@ -135,9 +135,11 @@ static void to_hand_calls(struct synth_hand *other)
 
 static void to_line_in_calls(struct synth_line_in *other)
 {
+    const uint8_t byte = 9;
     struct synth_line_totals totals;
     ROW(synth_line_new(4, other, &no_output), SYNTH_FULL_HANDLE);
     ROW(synth_line_push(other, 1), SYNTH_EMPTY_HANDLE);
+    ROW(synth_line_push_some(other, &byte, 1, NULL), SYNTH_EMPTY_HANDLE);
     ROW(synth_line_finish(other, &output, &totals), SYNTH_EMPTY_HANDLE);
     ROW(synth_line_free_in(other), SYNTH_EMPTY_HANDLE);
     ROW(other->full, true);
@@ -149,6 +151,7 @@ static void to_line_out_calls(struct synth_line_out *other)
     uint8_t byte = 9;
     ROW(synth_line_new(4, &no_input, other), SYNTH_FULL_HANDLE);
     ROW(synth_line_pop(other, &byte), SYNTH_EMPTY_HANDLE);
+    ROW(synth_line_pop_some(other, &byte, 1, NULL), SYNTH_EMPTY_HANDLE);
     ROW(synth_line_finish(&input, other, &totals), SYNTH_EMPTY_HANDLE);
     ROW(synth_line_free_out(other), SYNTH_EMPTY_HANDLE);
     ROW(byte == 9 && other->full, true);

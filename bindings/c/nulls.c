@@ -114,10 +114,15 @@ static void lines(void)
 {
     struct synth_line_in input = SYNTH_LINE_IN_INIT;
     struct synth_line_out output = SYNTH_LINE_OUT_INIT;
+    uint8_t bytes[] = {7, 8};
     ROW(synth_line_new(2, &input, &output), SYNTH_OK);
     ROW(synth_line_push(&input, 7), SYNTH_OK);
     ROW(synth_line_pop(&output, NULL), SYNTH_OK);
     ROW(synth_line_pop(&output, NULL), SYNTH_EMPTY);
+    ROW(synth_line_push_some(&input, NULL, 0, NULL), SYNTH_NO_ITEMS);
+    ROW(synth_line_push_some(&input, bytes, 2, NULL), SYNTH_OK);
+    ROW(synth_line_pop_some(&output, NULL, 0, NULL), SYNTH_SHORT_BUFFER);
+    ROW(synth_line_pop_some(&output, bytes, 1, NULL), SYNTH_OK);
     ROW(synth_line_finish(&input, &output, NULL), SYNTH_OK);
 }
 

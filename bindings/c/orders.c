@@ -26,8 +26,8 @@ static struct synth_line_in input;
 static struct synth_line_out output;
 
 /* What is written before a call, a word for each kind of order. No lock and no atomic guards it. */
-static uint64_t words[11];
-enum kind { BATCH_ITEM, QUEUE_ITEM, BYTE, CHAINED, TICKED, ALARM, MOVED, SIGNALLED, STOPPED, NOTIFIED, SHUT };
+static uint64_t words[12];
+enum kind { BATCH_ITEM, QUEUE_ITEM, BYTE, RUN, CHAINED, TICKED, ALARM, MOVED, SIGNALLED, STOPPED, NOTIFIED, SHUT };
 
 /* Orders nothing by itself. */
 static int has_chained;
@@ -43,6 +43,7 @@ static void must(synth_code code, const char *what)
 static void *write_all(void *given)
 {
     const struct synth_alarm alarm = {0, ELEMENT, SIGNAL};
+    const uint8_t bytes[2] = {2, 3};
     uint64_t round = *(uint64_t *)given;
     uint64_t item = (uint64_t)(uintptr_t)&words[BATCH_ITEM];
     words[BATCH_ITEM] = round;
@@ -52,6 +53,8 @@ static void *write_all(void *given)
     must(synth_queue_put(&writer.queue, &item, 1, UINT32_MAX), "put");
     words[BYTE] = round;
     must(synth_line_push(&input, 1), "push");
+    words[RUN] = round;
+    must(synth_line_push_some(&input, bytes, 2, NULL), "push_some");
     words[CHAINED] = round;
     if (synth_chain_try_chain(&writer.chain, NOTE, NULL) != SYNTH_LEFT) {
         must(SYNTH_RUNNING, "chain");
@@ -148,12 +151,17 @@ static void read_elements(uint64_t *seen)
 static void read_all(uint64_t *seen)
 {
     uint64_t item;
+    uint8_t bytes[2];
     seen[BATCH_ITEM] = *take_from_batch();
     seen[QUEUE_ITEM] = *take_from_queue();
     while (synth_line_pop(&output, NULL) != SYNTH_OK) {
         sched_yield();
     }
     seen[BYTE] = words[BYTE];
+    while (synth_line_pop_some(&output, bytes, 2, NULL) != SYNTH_OK) {
+        sched_yield();
+    }
+    seen[RUN] = words[RUN];
     run_notes();
     seen[CHAINED] = words[CHAINED];
     read_meters(seen);
@@ -207,7 +215,7 @@ int main(int number, char **arguments)
 {
     uint64_t rounds = number > 1 ? strtoull(arguments[1], NULL, 10) : 200, faults = 0;
     for (uint64_t round = 1; round <= rounds; round++) {
-        uint64_t seen[11] = {0};
+        uint64_t seen[12] = {0};
         pthread_t thread;
         make_all();
         must(pthread_create(&thread, NULL, write_all, &round), "a thread");

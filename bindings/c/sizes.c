@@ -130,6 +130,7 @@ static void use_all(struct handles *all)
     const struct synth_alarm alarm = {0, 1, 2};
     struct synth_alarm alarms[16];
     uint64_t items[64] = {1, 10};
+    uint8_t byte = 1;
     ROW(synth_batch_try_put(&all->batch, items, 2, NULL), SYNTH_OK);
     ROW(synth_batch_try_put_some(&all->batch, items, 2, NULL, NULL), SYNTH_OK);
     ROW(synth_batch_try_take(&all->batch_part, items, 2, NULL, NULL), SYNTH_OK);
@@ -156,6 +157,8 @@ static void use_all(struct handles *all)
     ROW(synth_seat_due(&all->seat, alarms, 16, NULL), SYNTH_OK);
     ROW(synth_line_push(&all->input, 1), SYNTH_OK);
     ROW(synth_line_pop(&all->output, NULL), SYNTH_OK);
+    ROW(synth_line_push_some(&all->input, &byte, 1, NULL), SYNTH_OK);
+    ROW(synth_line_pop_some(&all->output, &byte, 1, NULL), SYNTH_OK);
 }
 
 /* The same of thread elements. */

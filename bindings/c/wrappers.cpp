@@ -725,13 +725,25 @@ void lines()
     ROW(in.push(33), Code::Full);
     auto byte = out.pop();
     ROW(byte && *byte == 0, true);
+    std::array<std::uint8_t, 3> bytes = {7, 8, 9};
+    auto pushed = in.push_some(bytes);
+    ROW(pushed && *pushed == 1, true);
+    ROW(in.push_some(bytes).code(), Code::Full);
+    ROW(in.push_some({}).code(), Code::NoItems);
+    ROW(out.pop_some({}).code(), Code::ShortBuffer);
+    auto popped = out.pop_some(bytes);
+    ROW(popped && *popped == 2 && bytes[0] == 105 && bytes[1] == 7 && bytes[2] == 9, true);
+    ROW(out.pop_some(bytes).code(), Code::Empty);
+    ROW(in.push(3), Code::Ok);
     synthesis::Line stranger = synthesis::make_line(65536).value();
     ROW(finish(std::move(in), std::move(stranger.out)).code(), Code::OtherObject);
     ROW(in.full() && stranger.out.full(), true);
     auto totals = finish(std::move(in), std::move(out));
-    ROW(totals && totals->sent == 2 && totals->received == 1 && totals->left == 1, true);
+    ROW(totals && totals->sent == 4 && totals->received == 3 && totals->left == 1, true);
     ROW(in.full() || out.full(), false);
     ROW(in.push(1), Code::EmptyHandle);
+    ROW(in.push_some(bytes).code(), Code::EmptyHandle);
+    ROW(out.pop_some(bytes).code(), Code::EmptyHandle);
     stranger.in = std::move(in);
     ROW(stranger.in.full(), false);
 }

@@ -821,11 +821,28 @@ SYNTH_MUST_USE SYNTH_CALL_ synth_code synth_line_new(size_t room, struct synth_l
 SYNTH_MUST_USE SYNTH_CALL_ synth_code synth_line_push(struct synth_line_in *input, uint8_t byte);
 
 /**
+ * Pushes the first of `count` bytes, as many as there is room for, after all others and in their order. Sets `pushed`,
+ * 1 to `count`.
+ * @return SYNTH_EMPTY_HANDLE; SYNTH_NO_ITEMS: `count` is 0; SYNTH_FULL, as of synth_line_push.
+ */
+SYNTH_MUST_USE SYNTH_CALL_ synth_code synth_line_push_some(struct synth_line_in *SYNTH_RESTRICT_ input,
+                                                           const uint8_t *SYNTH_RESTRICT_ bytes, size_t count,
+                                                           size_t *SYNTH_RESTRICT_ pushed);
+
+/**
  * Pops the oldest byte.
  * @return SYNTH_EMPTY_HANDLE; SYNTH_EMPTY.
  */
 SYNTH_MUST_USE SYNTH_CALL_ synth_code synth_line_pop(struct synth_line_out *SYNTH_RESTRICT_ output,
                                                      uint8_t *SYNTH_RESTRICT_ byte);
+
+/**
+ * Pops the oldest bytes, in their order: as many as there are, and at most `room`. Sets `count`, 1 to `room`.
+ * @return SYNTH_EMPTY_HANDLE; SYNTH_SHORT_BUFFER: `room` is 0; SYNTH_EMPTY.
+ */
+SYNTH_MUST_USE SYNTH_CALL_ synth_code synth_line_pop_some(struct synth_line_out *SYNTH_RESTRICT_ output,
+                                                          uint8_t *SYNTH_RESTRICT_ bytes, size_t room,
+                                                          size_t *SYNTH_RESTRICT_ count);
 
 /**
  * Ends a line whose halves are both the calling thread's, and empties them. The bytes left go with the line.

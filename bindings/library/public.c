@@ -98,7 +98,11 @@ extern inline synth_code synth_seat_free(struct synth_seat *seat);
 extern inline synth_code synth_line_new(size_t room, struct synth_line_in *restrict input,
                                         struct synth_line_out *restrict output);
 extern inline synth_code synth_line_push(struct synth_line_in *input, uint8_t byte);
+extern inline synth_code synth_line_push_some(struct synth_line_in *restrict input, const uint8_t *restrict bytes,
+                                              size_t count, size_t *restrict pushed);
 extern inline synth_code synth_line_pop(struct synth_line_out *restrict output, uint8_t *restrict byte);
+extern inline synth_code synth_line_pop_some(struct synth_line_out *restrict output, uint8_t *restrict bytes,
+                                             size_t room, size_t *restrict count);
 extern inline synth_code synth_line_finish(struct synth_line_in *restrict input,
                                            struct synth_line_out *restrict output,
                                            struct synth_line_totals *restrict totals);

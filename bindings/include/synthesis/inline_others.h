@@ -220,10 +220,30 @@ SYNTH_CALL_ synth_code synth_line_push(struct synth_line_in *input, uint8_t byte
     return synth_raw_line_push(input, byte);
 }
 
+SYNTH_CALL_ synth_code synth_line_push_some(struct synth_line_in *SYNTH_RESTRICT_ input,
+                                            const uint8_t *SYNTH_RESTRICT_ bytes, size_t count,
+                                            size_t *SYNTH_RESTRICT_ pushed)
+{
+    size_t unused;
+    SYNTH_RELEASE_(SYNTH_BYTE_, 0);
+    return synth_raw_line_push_some(input, bytes, count, pushed ? pushed : &unused);
+}
+
 SYNTH_CALL_ synth_code synth_line_pop(struct synth_line_out *SYNTH_RESTRICT_ output, uint8_t *SYNTH_RESTRICT_ byte)
 {
     uint8_t unused;
     const synth_code code = synth_raw_line_pop(output, byte ? byte : &unused);
+    if (code == SYNTH_OK) {
+        SYNTH_ACQUIRE_(SYNTH_BYTE_, 0);
+    }
+    return code;
+}
+
+SYNTH_CALL_ synth_code synth_line_pop_some(struct synth_line_out *SYNTH_RESTRICT_ output,
+                                           uint8_t *SYNTH_RESTRICT_ bytes, size_t room, size_t *SYNTH_RESTRICT_ count)
+{
+    size_t unused;
+    const synth_code code = synth_raw_line_pop_some(output, bytes, room, count ? count : &unused);
     if (code == SYNTH_OK) {
         SYNTH_ACQUIRE_(SYNTH_BYTE_, 0);
     }

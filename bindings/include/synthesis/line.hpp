@@ -19,6 +19,14 @@ public:
     {
         return detail::as_code(synth_line_push(raw(), byte));
     }
+
+    /// Pushes the first of the bytes, as many as there is room for, and returns how many. EmptyHandle; NoItems; Full.
+    Expected<std::size_t> push_some(View<const std::uint8_t> bytes) noexcept
+    {
+        std::size_t pushed = 0;
+        const synth_code code = synth_line_push_some(raw(), bytes.data(), bytes.size(), &pushed);
+        return detail::value_of(code, pushed);
+    }
 };
 
 /// The half of a device line that pops. The rest is as of LineIn.
@@ -32,6 +40,15 @@ public:
         std::uint8_t byte = 0;
         const synth_code code = synth_line_pop(raw(), &byte);
         return detail::value_of(code, byte);
+    }
+
+    /// Pops the oldest bytes, as many as there are and fit the buffer, whose first ones they become, and returns how
+    /// many. EmptyHandle; ShortBuffer: it has no room; Empty.
+    Expected<std::size_t> pop_some(View<std::uint8_t> buffer) noexcept
+    {
+        std::size_t count = 0;
+        const synth_code code = synth_line_pop_some(raw(), buffer.data(), buffer.size(), &count);
+        return detail::value_of(code, count);
     }
 };
 

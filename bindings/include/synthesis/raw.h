@@ -118,7 +118,9 @@ int32_t synth_raw_seat_free(struct synth_seat *seat);
 
 int32_t synth_raw_line_new(size_t room, struct synth_line_in *input, struct synth_line_out *output);
 int32_t synth_raw_line_push(struct synth_line_in *input, uint8_t byte);
+int32_t synth_raw_line_push_some(struct synth_line_in *input, const uint8_t *bytes, size_t count, size_t *pushed);
 int32_t synth_raw_line_pop(struct synth_line_out *output, uint8_t *byte);
+int32_t synth_raw_line_pop_some(struct synth_line_out *output, uint8_t *bytes, size_t room, size_t *count);
 int32_t synth_raw_line_finish(struct synth_line_in *input, struct synth_line_out *output,
                               struct synth_line_totals *totals);
 int32_t synth_raw_line_free_in(struct synth_line_in *input);

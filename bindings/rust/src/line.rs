@@ -151,6 +151,28 @@ impl LineIn {
         }
     }
 
+    /// Pushes the first of these bytes, as many as there is room for, after all others and in their order. Returns how
+    /// many. If not all are pushed, no place of the line was seen free after those.
+    ///
+    /// ```
+    /// let (mut input, mut output) = synthesis_kernel::line(4)?;
+    /// assert_eq!(input.push_some(b"hello"), 4);
+    /// let mut bytes = [0; 8];
+    /// assert_eq!(output.pop_some(&mut bytes), 4);
+    /// assert_eq!(&bytes[..4], b"hell");
+    /// # Ok::<(), Box<dyn std::error::Error>>(())
+    /// ```
+    pub fn push_some(&mut self, bytes: &[u8]) -> usize {
+        let mut pushed = 0;
+        // SAFETY: the pointer and the length are those of the slice.
+        let code = unsafe { raw::synth_raw_line_push_some(&mut self.handle, bytes.as_ptr(), bytes.len(), &mut pushed) };
+        match code {
+            raw::OK => pushed,
+            raw::NO_ITEMS | raw::FULL => 0,
+            code => raw::no_such_answer(code),
+        }
+    }
+
     /// Whether the other half was dropped, so that nobody pops any more.
     ///
     /// ```
@@ -194,6 +216,20 @@ impl LineOut {
         match raw::synth_raw_line_pop(&mut self.handle, &mut byte) {
             raw::OK => Some(byte),
             raw::EMPTY => None,
+            code => raw::no_such_answer(code),
+        }
+    }
+
+    /// Pops the oldest bytes, as many as there are and fit the buffer, in their order. They become its first ones, and
+    /// its others stay. Returns how many. If the buffer has room for more, no byte was seen after those.
+    pub fn pop_some(&mut self, buffer: &mut [u8]) -> usize {
+        let mut count = 0;
+        // SAFETY: the pointer and the length are those of the slice.
+        let code =
+            unsafe { raw::synth_raw_line_pop_some(&mut self.handle, buffer.as_mut_ptr(), buffer.len(), &mut count) };
+        match code {
+            raw::OK => count,
+            raw::SHORT_BUFFER | raw::EMPTY => 0,
             code => raw::no_such_answer(code),
         }
     }
@@ -273,7 +309,7 @@ impl Write for LineIn {
         if self.is_closed() {
             return Err(io::ErrorKind::BrokenPipe.into());
         }
-        let count = bytes.iter().take_while(|byte| self.push(**byte).is_ok()).count();
+        let count = self.push_some(bytes);
         if count == 0 && !bytes.is_empty() {
             return Err(io::ErrorKind::WouldBlock.into());
         }
@@ -291,7 +327,7 @@ impl Read for LineOut {
     fn read(&mut self, buffer: &mut [u8]) -> io::Result<usize> {
         // Before the bytes are popped: what comes of a half that is dropped meanwhile may not be passed over.
         let is_closed = self.is_closed();
-        let count = buffer.iter_mut().zip(self.try_iter()).map(|(place, byte)| *place = byte).count();
+        let count = self.pop_some(buffer);
         if count == 0 && !buffer.is_empty() && !is_closed {
             return Err(io::ErrorKind::WouldBlock.into());
         }

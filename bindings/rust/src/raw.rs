@@ -370,7 +370,19 @@ unsafe extern "C" {
 
     safe fn synth_raw_line_new(room: usize, input: &mut Input, output: &mut Output) -> i32;
     pub(crate) safe fn synth_raw_line_push(input: &mut Input, byte: u8) -> i32;
+    pub(crate) unsafe fn synth_raw_line_push_some(
+        input: &mut Input,
+        bytes: *const u8,
+        count: usize,
+        pushed: &mut usize,
+    ) -> i32;
     pub(crate) safe fn synth_raw_line_pop(output: &mut Output, byte: &mut u8) -> i32;
+    pub(crate) unsafe fn synth_raw_line_pop_some(
+        output: &mut Output,
+        bytes: *mut u8,
+        room: usize,
+        count: &mut usize,
+    ) -> i32;
     pub(crate) safe fn synth_raw_line_finish(input: &mut Input, output: &mut Output, totals: &mut LineTotals) -> i32;
     pub(crate) safe fn synth_raw_line_free_in(input: &mut Input) -> i32;
     pub(crate) safe fn synth_raw_line_free_out(output: &mut Output) -> i32;

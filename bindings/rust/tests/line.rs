@@ -34,6 +34,52 @@ fn all_bytes_come_in_order() {
     assert_eq!((totals.sent, totals.received, totals.left), (BYTES, BYTES, 0));
 }
 
+/// The bytes of a run from this index on.
+fn run_at(start: usize) -> [u8; 9] {
+    std::array::from_fn(|i| byte_at(start + i))
+}
+
+#[test]
+fn runs_come_in_order() {
+    let (mut input, mut output) = line(64).unwrap();
+    let pushing = thread::spawn(move || {
+        let mut next = 0;
+        while next < BYTES {
+            let run = run_at(next);
+            let count = input.push_some(&run[..(BYTES - next).min(9)]);
+            if count == 0 {
+                thread::yield_now();
+            }
+            next += count;
+        }
+        input
+    });
+    let (mut next, mut buffer) = (0, [0; 7]);
+    while next < BYTES {
+        let count = output.pop_some(&mut buffer);
+        assert_eq!(buffer[..count], run_at(next)[..count]);
+        if count == 0 {
+            thread::yield_now();
+        }
+        next += count;
+    }
+    let totals = finish(pushing.join().unwrap(), output).unwrap();
+    assert_eq!((totals.sent, totals.received, totals.left), (BYTES, BYTES, 0));
+}
+
+#[test]
+fn a_run_is_pushed_and_popped_as_far_as_it_fits() {
+    let (mut input, mut output) = line(4).unwrap();
+    let mut buffer = [9; 3];
+    assert_eq!((output.pop_some(&mut buffer), buffer), (0, [9; 3]));
+    assert_eq!((input.push_some(&[]), input.push_some(&[1, 2, 3]), input.push_some(&[4, 5])), (0, 3, 1));
+    assert_eq!((input.push_some(&[5]), output.pop_some(&mut [])), (0, 0));
+    assert_eq!((output.pop_some(&mut buffer), buffer), (3, [1, 2, 3]));
+    assert_eq!((output.pop_some(&mut buffer), buffer), (1, [4, 2, 3]));
+    let totals = finish(input, output).unwrap();
+    assert_eq!((totals.sent, totals.received, totals.left), (4, 4, 0));
+}
+
 #[test]
 fn errors_come_back() {
     assert_eq!(line(0).unwrap_err(), NewError::BadCapacity);

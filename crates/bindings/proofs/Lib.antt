@@ -5,6 +5,7 @@ mod HandFits
 mod HandKeeps
 mod Holding
 mod QueueEnds
+mod Runs
 mod Telling
 mod Walking
 mod Handing

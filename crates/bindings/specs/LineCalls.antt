@@ -54,11 +54,11 @@ IsPopCall x old_byte byte new code = (y : HeldOut) × (new ≡ Some y) × SameHe
     × (((code ≡ pos 7) × ReceivesNothing x.line y.line × (length (known_bytes x.line) ≡ 0) × (byte ≡ old_byte))
     ⊎ ((code ≡ Done) × Receives byte x.line y.line))
 
--- The effect of `push_some`, by its code: no bytes are given; or none is pushed, since no room is known and at least the
--- capacity was pushed; or so many are, the first ones, and all unless no room is known after them
+-- The effect of `push_some`, by its code: no bytes are given; or none is pushed, since no room is known and at least
+-- the capacity was pushed; or so many are, the first ones, and all unless no room is known after them
 abbrev pub IsPushSomeCall : HeldIn → List ℕ → ℕ → ℕ → Option HeldIn → ℤ → Type 0
 IsPushSomeCall x bytes old_count count new code = (y : HeldIn) × (new ≡ Some y) × SameHeldIn x y
-    × (((code ≡ pos 1) × (bytes ≡ []) × (y ≡ x) × (count ≡ old_count))
+    × (((code ≡ pos 1) × (length bytes ≡ 0) × (y ≡ x) × (count ≡ old_count))
     ⊎ ((code ≡ pos 5) × (0 < length bytes) × SendsNothing x.line y.line × (known_room x.line ≡ 0)
     × (capacity_in x.line ≤ length (bytes_sent x.line)) × (count ≡ old_count))
     ⊎ ((code ≡ Done) × (0 < count) × (count ≤ length bytes) × SendsAll (take count bytes) x.line y.line
@@ -69,7 +69,7 @@ IsPushSomeCall x bytes old_count count new code = (y : HeldIn) × (new ≡ Some 
 -- are the first ones of the buffer, its others stay, and the buffer is full unless no byte is seen after them
 abbrev pub IsPopSomeCall : HeldOut → List ℕ → List ℕ → ℕ → ℕ → Option HeldOut → ℤ → Type 0
 IsPopSomeCall x old_bytes bytes old_count count new code = (y : HeldOut) × (new ≡ Some y) × SameHeldOut x y
-    × (((code ≡ ShortBuffer) × (old_bytes ≡ []) × (y ≡ x) × (bytes ≡ old_bytes) × (count ≡ old_count))
+    × (((code ≡ ShortBuffer) × (length old_bytes ≡ 0) × (y ≡ x) × (bytes ≡ old_bytes) × (count ≡ old_count))
     ⊎ ((code ≡ pos 7) × (0 < length old_bytes) × ReceivesNothing x.line y.line × (known_bytes x.line ≡ [])
     × (bytes ≡ old_bytes) × (count ≡ old_count))
     ⊎ ((code ≡ Done) × (0 < count) × (count ≤ length old_bytes) × ReceivesAll (take count bytes) x.line y.line

@@ -1,8 +1,8 @@
 //! The device line for C: each call is one of the library's, on the end that a handle holds.
 ghost use Rattle.std.specs.Prelude.{◌≡◌, ◌≤◌, ◌<◌};
 ghost use Rattle.bindings.specs.Handles.{EmptyHandle, line_in_of, line_out_of, NoneIn, LeadsTo, FreedHandle, MarksTell};
-ghost use Rattle.bindings.specs.LineCalls.{MadeLine, IsPushCall, IsPushSomeCall, IsPopCall, IsPopSomeCall, FinishedLine};
-ghost use Rattle.bindings.specs.LineCalls.{HaveOneMark, AreOfOneLine};
+ghost use Rattle.bindings.specs.LineCalls.{MadeLine, IsPushCall, IsPushSomeCall, IsPopCall, IsPopSomeCall};
+ghost use Rattle.bindings.specs.LineCalls.{FinishedLine, HaveOneMark, AreOfOneLine};
 
 pub mod held;
 
@@ -91,7 +91,8 @@ pub extern "C" fn synth_raw_line_push_some(
     let Some(held) = input.find::<HeldIn>() else {
         return EMPTY_HANDLE;
     };
-    if bytes.is_empty() {
+    let given = bytes.len();
+    if given == 0 {
         return NO_ITEMS;
     }
     let pushed = held.line.push_some(bytes);
@@ -136,7 +137,8 @@ pub extern "C" fn synth_raw_line_pop_some(
     let Some(held) = output.find::<HeldOut>() else {
         return EMPTY_HANDLE;
     };
-    if bytes.is_empty() {
+    let room = bytes.len();
+    if room == 0 {
         return SHORT_BUFFER;
     }
     let popped = held.line.pop_some(bytes);

@@ -1,5 +1,5 @@
 -- One end of a list of chain ends is used.
-use Rattle.turn_io.proofs.Common.{◌≡◌, ℕ, ◌<◌, List, length, get_or, set, sym, ap, subst, ◌∙◌, arith, Some, Result, All, slice_get-get_or, ChainRefusal, ChainEnd, ProcChain, Ghosts, chain_table, chain_end_table, chain_end_call, IsIdle, AreChainEndsOf, AreSameChainEnds, true≢false, Poked, HasPoked, PokedAt, AreChainsOver}
+use Rattle.turn_io.proofs.Common.{◌≡◌, ℕ, ◌<◌, List, length, get_or, set, sym, ap, subst, ◌∙◌, arith, Some, Result, All, slice_get-get_or, ChainRefusal, ChainEnd, ProcChain, Ghosts, chain_table, chain_end_table, chain_end_call, IsIdle, AreChainEndsOf, AreSameChainEnds, true≢false, Poked, HasPoked, OnEnd, PokedAt, AreChainsOver}
 use Rattle.proc_chain.specs.Handles.{world_of, IsEndOf, IsSameEnd}
 use Rattle.turn_io.proofs.Places.{same_at, as_long, same_ends, on_end, all_still}
 
@@ -32,9 +32,12 @@ module _ {Q W : Type 0} {g : Ghosts Q W} where
     pub ends_fit : IsSameEnd end after → IsIdle after → AreChainEndsOf chains (set ends q after)
     ends_fit same idle = record { tables = (ends_same same).tables ∙ fit.tables; idle = all_still IsIdle ends q end after (in_ends chains ends q fit below) is (λ was. idle) fit.idle }
 
+    pub end_did : (Does : ChainEnd Q W g → ChainEnd Q W g → Type 0) → Does end after → OnEnd q Does ends (set ends q after)
+    end_did Does does = on_end ends q end after is Does (in_ends chains ends q fit below) does
+
     pub poked_at : (chain : ProcChain Q W) (note : ℕ) (answer : Result Poked ChainRefusal) → chain ≡ get_or chains q chain → HasPoked chain note answer end after → PokedAt chains q note answer ends (set ends q after)
     poked_at chain note answer is' does = record {
       chain = chain;
       its = slice_get-get_or chains q chain below ∙ ap Some (sym is');
-      on = on_end ends q end after is (HasPoked chain note answer) (in_ends chains ends q fit below) does;
+      on = end_did (HasPoked chain note answer) does;
     }

@@ -2,4 +2,5 @@ pub mod EndLists
 pub mod Outcomes
 pub mod Accounts
 pub mod Gates
+pub mod Points
 pub mod QueueEnds

@@ -3,6 +3,7 @@
 //! chains.
 #![tactic(auto)]
 
+mod end_gates;
 mod gate;
 mod hearing;
 mod items;
@@ -11,6 +12,7 @@ mod poking;
 mod queue_ends;
 mod saying;
 
+pub use end_gates::{ChainGate, QueueGate};
 pub use gate::{Gate, NoGate, Point};
 pub use hearing::hear;
 pub use items::item_at;

@@ -3,9 +3,11 @@ ghost use Rattle.std.specs.Prelude.{◌≡◌, ◌<◌, length};
 ghost use Rattle.proc_chain.specs.Handles.{world_of, IsEndOf, IsSameEnd};
 ghost use Rattle.turn_io.specs.declared.gate.Point.TheVariants as points;
 ghost use Rattle.turn_io.specs.Outcomes.{HasPoked, PokedAt};
-ghost use Rattle.turn_io.specs.EndLists.{AreChainsOver, AreChainEndsOf, AreSameChainEnds, IsIdle};
+ghost use Rattle.turn_io.specs.EndLists.{AreChainsOver, AreChainEndsOf, AreSameChainEnds, IsIdle, OnEnd};
+ghost use Rattle.turn_io.specs.Points.{PokePoint};
 
-use crate::gate::{Gate, Point};
+use crate::end_gates::ChainGate;
+use crate::gate::Point;
 use crate::items::item_at;
 use proc_chain::{ChainEnd, ChainRefusal, Chained, ProcChain};
 use quajects::{AnyQuaject, Queues};
@@ -24,7 +26,7 @@ pub enum Poked {
 }
 
 // One try to chain a note at this end, and all that a Turn has to serve.
-fn poke_end<R: Wait, G: Gate>(
+fn poke_end<R: Wait, G: ChainGate>(
     rt: &R,
     world: &Queues,
     chain: &ProcChain<AnyQuaject>,
@@ -39,9 +41,10 @@ fn poke_end<R: Wait, G: Gate>(
     ensures idle { IsIdle end.new }
     ensures poked { HasPoked chain.now 0 result end.old end.new }
     ensures hook { G.observes gate.old p points.Chained gate.new }
+    ensures points { PokePoint G.at_chain_end p 0 result gate.old gate.new end.old end.new }
 {
     let answer = chain.try_chain(end, POKED);
-    gate.between(p, Point::Chained);
+    gate.at_chain(end, p, Point::Chained);
     match answer {
         Ok(chained) => match chained {
             Chained::Run(turn) => {
@@ -60,7 +63,7 @@ fn poke_end<R: Wait, G: Gate>(
 ///
 /// Conditions: the ends are those of the chains, in their order, without a Turn; the index is one of theirs; and the
 /// queues are the world of each chain.
-pub fn poke<R: Wait, G: Gate>(
+pub fn poke<R: Wait, G: ChainGate>(
     rt: &R,
     world: &Queues,
     chains: &[ProcChain<AnyQuaject>],
@@ -73,6 +76,7 @@ pub fn poke<R: Wait, G: Gate>(
     requires known { index < length chains.now }
     requires world { AreChainsOver world.now chains.now }
     ensures hook { G.observes gate.old p points.Chained gate.new }
+    ensures points { OnEnd index (PokePoint G.at_chain_end p 0 result gate.old gate.new) ends.old ends.new }
     ensures poked { PokedAt chains.now index 0 result ends.old ends.new }
     ensures ends { AreChainEndsOf chains.now ends.new }
     ensures handle { AreSameChainEnds ends.old ends.new }

@@ -1,10 +1,11 @@
 //! The ends of all queues, small and large, of one owner.
 ghost use Rattle.std.specs.Prelude.{◌≡◌, ◌≤◌, [], length};
 ghost use Rattle.turn_io.specs.Gates.{HookSawSay};
+ghost use Rattle.turn_io.specs.Points.{HearPoint, OnEither, SayPoints};
 ghost use Rattle.turn_io.specs.QueueEnds.{AreQueueEndsOf, AreSameQueueEnds, IsThere, SaidAt, HeardAt, ShutAt};
 ghost use Rattle.turn_io.specs.declared.gate.Point.TheVariants.{TakeAnswered};
 
-use crate::gate::Gate;
+use crate::end_gates::QueueGate;
 use crate::hearing::hear;
 use crate::items::item_at;
 use crate::saying::say;
@@ -55,7 +56,7 @@ impl QueueEnds {
     /// One try to put a line in the queue with this index, as `say` makes it.
     ///
     /// Conditions: the ends are those of the queues, and the index is that of a queue.
-    pub fn say<G: Gate>(
+    pub fn say<G: QueueGate<64> + QueueGate<256>>(
         &mut self,
         queues: &Queues,
         queue: QueueIndex,
@@ -68,6 +69,9 @@ impl QueueEnds {
         ensures handle { AreSameQueueEnds self.old self.new }
         ensures said { SaidAt queue line.now result self.old self.new }
         ensures hook { HookSawSay G.observes p result gate.old gate.new }
+        ensures points { OnEither queue
+            (SayPoints ⟦<G as QueueGate<64>>⟧.at_end p line.now result gate.old gate.new)
+            (SayPoints ⟦<G as QueueGate<256>>⟧.at_end p line.now result gate.old gate.new) self.old self.new }
     {
         match queue {
             QueueIndex::Small(at) => {
@@ -85,7 +89,7 @@ impl QueueEnds {
     /// stays empty if the try is refused.
     ///
     /// Conditions: the ends are those of the queues, the index is that of a queue, and `room.line` is empty.
-    pub fn hear<G: Gate>(
+    pub fn hear<G: QueueGate<64> + QueueGate<256>>(
         &mut self,
         queues: &Queues,
         queue: QueueIndex,
@@ -99,6 +103,8 @@ impl QueueEnds {
         ensures handle { AreSameQueueEnds self.old self.new }
         ensures heard { HeardAt queue room.new.line.items result self.old self.new }
         ensures hook { G.observes gate.old p TakeAnswered gate.new }
+        ensures points { OnEither queue (HearPoint ⟦<G as QueueGate<64>>⟧.at_end p gate.old gate.new)
+            (HearPoint ⟦<G as QueueGate<256>>⟧.at_end p gate.old gate.new) self.old self.new }
     {
         match queue {
             QueueIndex::Small(at) => {

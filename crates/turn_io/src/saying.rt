@@ -5,8 +5,10 @@ ghost use Rattle.claim_queue.specs.Handles.{view_of, IsEndOf, IsSameEnd};
 ghost use Rattle.claim_queue.specs.Puts.{RaisedFrom};
 ghost use Rattle.turn_io.specs.Outcomes.{Said};
 ghost use Rattle.turn_io.specs.Gates.{HookSawSay};
+ghost use Rattle.turn_io.specs.Points.{SayPoints};
 
-use crate::gate::{Gate, Point};
+use crate::end_gates::QueueGate;
+use crate::gate::Point;
 use claim_queue::{Claim, ClaimQueue, ClaimRefusal, QueueEnd};
 
 // Raises all items of a run that was just claimed.
@@ -24,11 +26,11 @@ fn raise_all<const N: usize>(queue: &ClaimQueue<N>, end: &mut QueueEnd<N>, claim
 }
 
 /// One try to put a line in a queue: one claim, and if it wins all its raises. The gate is called with `Claimed` after
-/// the claim and with `Raised` after the last raise, and not at all if the claim was refused. Any refusal of
+/// the claim and before each raise, with `Raised` after the last raise, and not at all if the claim was refused. Any refusal of
 /// `ClaimQueue::try_claim` is possible; nothing is put then.
 ///
 /// Condition: the end is one of the queue.
-pub fn say<const N: usize, G: Gate>(
+pub fn say<const N: usize, G: QueueGate<N>>(
     queue: &ClaimQueue<N>,
     end: &mut QueueEnd<N>,
     line: &[u64],
@@ -39,12 +41,13 @@ pub fn say<const N: usize, G: Gate>(
     ensures handle { IsSameEnd end.old end.new }
     ensures said { Said line.now result end.old end.new }
     ensures hook { HookSawSay G.observes p result gate.old gate.new }
+    ensures points { SayPoints G.at_end p line.now result gate.old gate.new end.old end.new }
 {
     match queue.try_claim_as(end, line) {
         Ok(mut claim) => {
-            gate.between(p, Point::Claimed);
+            gate.at_queue(end, p, Point::Claimed);
             raise_all(queue, end, &mut claim);
-            gate.between(p, Point::Raised);
+            gate.at_queue(end, p, Point::Raised);
             Ok(())
         }
         Err(refusal) => Err(refusal),

@@ -1,4 +1,5 @@
-use Rattle.turn_io.proofs.Chains.{its_world, is_idle, its_end, ends_same, ends_fit, poked_at}
+use Rattle.turn_io.proofs.Chains.{its_world, is_idle, its_end, ends_same, ends_fit, end_did, poked_at}
+use Rattle.turn_io.specs.Points.{PokePoint}
 use Rattle.turn_io.proofs.poking.poke.Goals as goal
 
 pub poke_end-requires-clause-end : goal.poke_end-requires-clause-end
@@ -18,3 +19,6 @@ returns-clause-ends g c = ends_fit c.args.chains.now c.args.ends.now c.args.inde
 
 pub returns-clause-poked : goal.returns-clause-poked
 returns-clause-poked g c = poked_at c.args.chains.now c.args.ends.now c.args.index _ _ c.requires.ends c.requires.known c.item_at.ensures.value _ _ _ c.index-chains-index.is c.poke_end.ensures.poked
+
+pub returns-clause-points : goal.returns-clause-points
+returns-clause-points g c = end_did c.args.chains.now c.args.ends.now c.args.index _ _ c.requires.ends c.requires.known c.item_at.ensures.value (PokePoint g.G.ChainGate.at_chain_end c.args.p 0 c.poke_end.result c.args.gate.now c.poke_end.new.gate) c.poke_end.ensures.points

@@ -1,5 +1,6 @@
-use Rattle.turn_io.proofs.Common.{[], refl, ap, me_of, pact_of}
-use Rattle.proc_chain.specs.Answers.{is_run as chained_run}
+use Rattle.turn_io.proofs.Common.{[], refl, ap, subst, me_of, pact_of}
+use Rattle.proc_chain.specs.Answers.{ChainedNow, is_run as chained_run}
+use Rattle.proc_chain.specs.Handles.{view_of}
 use Rattle.proc_chain.specs.Rules.{suits, makes}
 use Rattle.quajects.specs.Anys.{MadeOf, Fits}
 use Rattle.quajects.proofs.Noting.{none_lost, is_run, is_left}
@@ -15,3 +16,24 @@ returns-in-Left-clause-poked g c = let me = me_of c.args.end.now in
 
 pub returns-in-Err-clause-poked : goal.returns-in-Err-clause-poked
 returns-in-Err-clause-poked g c = (c.in-Err.ensures.trace, c.in-Err.ensures.turn.1)
+
+pub returns-in-Run-clause-points : goal.returns-in-Run-clause-points
+returns-in-Run-clause-points g c = record {
+  tried = c.try_chain-answer.new.end;
+  does = (c.in-Run.turn, subst (λ z. ChainedNow (view_of c.args.end.now) 0 z (view_of c.try_chain-answer.new.end)) c.in-Run.is c.in-Ok.ensures.trace);
+  at_try = c.at_chain.ensures.shown;
+}
+
+pub returns-in-Left-clause-points : goal.returns-in-Left-clause-points
+returns-in-Left-clause-points g c = record {
+  tried = c.try_chain-answer.new.end;
+  does = subst (λ z. ChainedNow (view_of c.args.end.now) 0 z (view_of c.try_chain-answer.new.end)) c.in-Left.is c.in-Ok.ensures.trace;
+  at_try = c.at_chain.ensures.shown;
+}
+
+pub returns-in-Err-clause-points : goal.returns-in-Err-clause-points
+returns-in-Err-clause-points g c = record {
+  tried = c.try_chain-answer.new.end;
+  does = c.in-Err.ensures.trace;
+  at_try = c.at_chain.ensures.shown;
+}

@@ -9,6 +9,7 @@ ghost use Rattle.turn_dispatch.specs.Holdings.{Steady};
 ghost use Rattle.turn_dispatch.specs.Sendings.{Sent, WaitedAt, HoldsUnless, ring_of, retired, has_gone};
 ghost use Rattle.turn_dispatch.specs.Tallies.{AddsToTally, no_events};
 
+use crossbeam_utils::Backoff;
 use event_theory::{Element, WaitNumber};
 use std::sync::Wait;
 use thread_table::{Hand, MoveRefusal, ThreadTable};
@@ -66,11 +67,12 @@ fn send<R: Wait>(
     ensures sent { Sent (call_of hand.old) (ring_of target.now) element result (view_of hand.old) (view_of hand.new) }
     ensures handle { IsSameHand hand.old hand.new }
 {
+    let backoff = Backoff::new();
     for _ in rt.forever() {
         match try_send(threads, hand, target, element) {
             Ok(()) => return true,
             Err(MoveRefusal::Spent) => return false,
-            Err(MoveRefusal::Lost { seen: _ }) => (),
+            Err(MoveRefusal::Lost { seen: _ }) => backoff.spin(),
             Err(MoveRefusal::Moved { mark: _ }) => unreachable!(),
         }
     }
@@ -143,11 +145,12 @@ fn wait_or_ready<R: Wait>(
     ensures waited { WaitedAt (call_of hand.old) wait element ticket result (view_of hand.old) (view_of hand.new) }
     ensures handle { IsSameHand hand.old hand.new }
 {
+    let backoff = Backoff::new();
     for _ in rt.forever() {
         match threads.try_wait_at(hand, element, wait, ticket) {
             Ok(()) => return Waited::Waiting,
             Err(MoveRefusal::Spent) => return Waited::Spent,
-            Err(MoveRefusal::Lost { seen: _ }) => (),
+            Err(MoveRefusal::Lost { seen: _ }) => backoff.spin(),
             Err(MoveRefusal::Moved { mark }) => {
                 let ready = make_ready(rt, threads, hand, element);
                 return Waited::Moved { mark, ready };

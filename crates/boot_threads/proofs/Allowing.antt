@@ -6,7 +6,7 @@ use Rattle.std.specs.Option.{unwrap_or}
 use Rattle.processor.specs.declared.station.Station.{Station}
 use Rattle.processor.specs.Manning.{KeepsStation}
 use Rattle.processor.specs.Orders.{RanTurnsInOrder}
-use Rattle.processor.specs.Sights.{Sights}
+use Rattle.processor.specs.Sights.{Views}
 use Rattle.processor.proofs.Turning.{run_adds_up}
 use Rattle.boot_threads.specs.declared.work.Work.TheVariants as works
 use Rattle.boot_threads.specs.declared.work.Worked.TheVariants as worked
@@ -69,11 +69,11 @@ module _ {G : Type 0} where
   serving_none (w ∷ old) = (refl, serving_none old)
 
 -- the turns of a processor come to what their log says
-pub processed_so : {G : Type 0} (S : Sights) (T : Calls G) (shared : Shared) (work : Work G) (station back : Station) (p turns : ℕ) (gate gate' : G) → work ≡ works.Process station p turns gate → MayWork shared work
-    → KeepsStation shared p station.parts back.parts → RanTurnsInOrder S T shared p turns gate gate' station.parts back.parts → HasWorked T shared work (worked.Processed (record { station = back; gate = gate' }))
-processed_so {G} S T shared work station back p turns gate gate' is may keeps turned =
+pub processed_so : {G : Type 0} (V : Views G) (T : Calls G) (shared : Shared) (work : Work G) (station back : Station) (p turns : ℕ) (gate gate' : G) → work ≡ works.Process station p turns gate → MayWork shared work
+    → KeepsStation shared p station.parts back.parts → RanTurnsInOrder V T shared p turns gate gate' station.parts back.parts → HasWorked T shared work (worked.Processed (record { station = back; gate = gate' }))
+processed_so {G} V T shared work station back p turns gate gate' is may keeps turned =
     subst (λ (w : Work G). HasWorked T shared w (worked.Processed (record { station = back; gate = gate' }))) (sym is)
-    (keeps, (run_adds_up S T shared p turns gate gate' station.parts back.parts (subst (λ (w : Work G). MayWork shared w) is may) keeps turned).0)
+    (keeps, (run_adds_up V T shared p turns gate gate' station.parts back.parts (subst (λ (w : Work G). MayWork shared w) is may) keeps turned).0)
 
 pub served_so : {G : Type 0} (T : Calls G) (shared : Shared) (work : Work G) (chain count : ℕ) (line line' : LineOut) (tty tty' : RawTty) (its : ProcChain AnyQuaject Queues)
     → work ≡ works.Serve chain line tty count → MayWork shared work → its ≡ get_or shared.chains.items chain its

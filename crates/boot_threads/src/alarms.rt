@@ -3,6 +3,7 @@ ghost use Rattle.meters.specs.Handles.{view_of, IsSeatOf, IsSameSeat};
 ghost use Rattle.meters.specs.Own.{DidSet};
 ghost use Rattle.boot_threads.specs.Alarms.{DidSetAll};
 
+use crossbeam_utils::Backoff;
 use event_theory::Alarm;
 use meters::{MeterSeat, Meters};
 use std::sync::Wait;
@@ -13,10 +14,11 @@ fn set_alarm<R: Wait>(rt: &R, meters: &Meters, seat: &mut MeterSeat, alarm: &Ala
     ensures set { DidSet alarm.now (view_of seat.old) (view_of seat.new) }
     ensures handle { IsSameSeat seat.old seat.new }
 {
+    let backoff = Backoff::new();
     for _ in rt.forever() {
         match meters.try_set(seat, *alarm) {
             Ok(_) => return,
-            Err(_) => {}
+            Err(_) => backoff.spin(),
         }
     }
 }

@@ -6,6 +6,7 @@ ghost use Rattle.thread_table.specs.Answers.{MoveAnswer};
 ghost use Rattle.thread_table.specs.Rules.{has};
 ghost use Rattle.boot_threads.specs.Elements.{ring_of, claims, Moved, TookFree, PutInto, HoldsFrom, Prepared};
 
+use crossbeam_utils::Backoff;
 use event_theory::Element;
 use std::sync::Wait;
 use thread_table::{Hand, MoveRefusal, ThreadTable};
@@ -24,11 +25,14 @@ fn take_free<R: Wait>(rt: &R, threads: &ThreadTable, hand: &mut Hand, element: E
     ensures took { TookFree (view_of hand.old) (view_of hand.new) }
     ensures handle { IsSameHand hand.old hand.new }
 {
+    let backoff = Backoff::new();
     for _ in rt.forever() {
         if hand.holds(element) {
             return;
         }
-        let _taken = threads.try_free(hand);
+        if threads.try_free(hand).is_err() {
+            backoff.spin();
+        }
     }
 }
 
@@ -57,10 +61,11 @@ fn put<R: Wait>(rt: &R, threads: &ThreadTable, hand: &mut Hand, ring: Ring, elem
     ensures put { PutInto (call_of hand.old) (ring_of ring) element (view_of hand.old) (view_of hand.new) }
     ensures handle { IsSameHand hand.old hand.new }
 {
+    let backoff = Backoff::new();
     for _ in rt.forever() {
         match try_put(threads, hand, ring, element) {
             Ok(()) => return,
-            Err(_) => {}
+            Err(_) => backoff.spin(),
         }
     }
 }

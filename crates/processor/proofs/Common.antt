@@ -56,14 +56,14 @@ pub use Rattle.processor.specs.Doings.{chains_by, heard_by, is_heard, queues_by,
 pub use Rattle.processor.specs.Entries.{FollowsPlan, FollowsStep, LogEntry, OutcomeFollows, Tended, TurnResultFollows, beginning, entry_account, entry_of, gone, having, outcome_account, outcome_saw_shut, tending, trying, turn_saw_shut}
 pub use Rattle.processor.specs.Logs.{Climbs, HasDone, IsFresh, Leaves, Ran, RanTurns, Went, numbers_of, sum_of, was_shut}
 pub use Rattle.processor.specs.Manning.{IsRunnable, KeepsStation}
-pub use Rattle.processor.specs.Orders.{CameInOrder, ChainsInOrder, Count, InOrder, QueuesInOrder, RanTurnsInOrder, SeatInOrder, Stood, TriedAtEnds, TurnInOrder, TurnsInOrder, after_ticket, count_of, one_more}
+pub use Rattle.processor.specs.Orders.{CameInOrder, ChainsInOrder, Count, EndedInOrder, InOrder, QueuesInOrder, RanTurnsInOrder, SawStep, SeatInOrder, Stood, TriedAtEnds, TurnInOrder, TurnsInOrder, after_ticket, count_of, one_more}
 pub use Rattle.processor.specs.Outcomes.{IsOutcomeOf, is_done}
 pub use Rattle.processor.specs.Points.{Calls, GateSawTurn, HookedTurns, calls}
 pub use Rattle.processor.specs.Programs.{AreHears, IsHear, hear_count, hears_in, hears_large, is_hear, longest_line, one_hears_large, program, same_key, step_of}
 pub use Rattle.processor.specs.Refusals.{is_over, is_shut}
 pub use Rattle.processor.specs.Rooms.{HasRoom, IsPast, key_of}
 pub use Rattle.processor.specs.Running.{EndsDid, Goes, Stepped}
-pub use Rattle.processor.specs.Sights.{Sights}
+pub use Rattle.processor.specs.Sights.{Sights, Views, views}
 pub use Rattle.processor.specs.Stations.{ArePartsOf, AreSameParts, no_signals}
 pub use Rattle.processor.specs.Steps.{ChainsDid, Fits, HandDid, QueuesDid, SeatDid, WokeByHear, WokeBySay}
 pub use Rattle.processor.specs.Turns.{AreAtRest, CameOf, HadTurn, RanStep, TendedBy, is_last}

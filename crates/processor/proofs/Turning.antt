@@ -1,5 +1,5 @@
 -- What turns come to, by what each of them did.
-use Rattle.processor.proofs.Common.{◌≡◌, ◌<◌, ℕ, suc, true, List, [], ◌∷◌, Option, Some, None, Ok, Err, refl, sym, ap, subst, ◌∙◌, Begun, tick_to, nothing_did, Shared, Parts, view_of, call_of, done_at, Keeps, nothing, shown_in, beginning, LogEntry, HasDone, Ran, Went, KeepsStation, Calls, has, IsFree, retired, signals_for, began_is, idle_is, more_has, raised_goes, retired_goes, found_steps, TurnOutcome, OutcomeFollows, Tended, TurnResultFollows, having, outcome_account, outcome_saw_shut, tending, RanTurns, IsRunnable, CameInOrder, RanTurnsInOrder, TurnInOrder, TurnsInOrder, Sights, HadTurn, TendedBy}
+use Rattle.processor.proofs.Common.{◌≡◌, ◌<◌, ℕ, suc, true, List, [], ◌∷◌, Option, Some, None, Ok, Err, refl, sym, ap, subst, ◌∙◌, Begun, tick_to, nothing_did, Shared, Parts, view_of, call_of, done_at, Keeps, nothing, shown_in, beginning, LogEntry, HasDone, Ran, Went, KeepsStation, Calls, has, IsFree, retired, signals_for, began_is, idle_is, more_has, raised_goes, retired_goes, found_steps, TurnOutcome, OutcomeFollows, Tended, TurnResultFollows, having, outcome_account, outcome_saw_shut, tending, RanTurns, IsRunnable, CameInOrder, RanTurnsInOrder, TurnInOrder, TurnsInOrder, Views, HadTurn, TendedBy}
 use Rattle.meters.specs.Handles as seats
 use Rattle.turn_dispatch.proofs.Calm as calm
 use Rattle.processor.specs.declared.outcome.TurnResult.{TurnResult}
@@ -44,12 +44,13 @@ had_went shared p begun (hads.Retired moved) line old new low now held free h =
     )
 had_went shared p begun (hads.Ran sent) line old new low now held free h = ran_went shared p begun.element begun.number sent line old new low now held free h
 
-came_went : (S : Sights) (shared : Shared) (p : ℕ) (outcome : TurnOutcome) (line : List ℕ) (old new : Parts) → IsFree p (view_of old.hand) → CameInOrder S shared p outcome line old new
+came_went : {G : Type 0} (V : Views G) (shared : Shared) (p : ℕ) (outcome : TurnOutcome) (line : List ℕ) (g g' : G) (old new : Parts) → IsFree p (view_of old.hand) → CameInOrder V shared p outcome line g g' old new
     → Went (OutcomeFollows shared.plan outcome line) (outcome_account outcome line) (outcome_saw_shut outcome) old new × KeepsHand old new
-came_went S shared p (outcomes.Idle idle) line old new free c =
-    let g = (idle_is (call_of old.hand) idle (view_of old.hand) (view_of new.hand) c.0.0).0 in
-    (record { planned = c.1; done = begun_done (Err idle) old new g.adds (fallen old.hand new.hand g.later) c.0.1 c.0.2 c.0.3; reported = λ q shut. cc }, g.keeps)
-came_went S shared p (outcomes.OfElement begun had) line old new free c =
+came_went V shared p (outcomes.Idle idle) line g g' old new free c =
+    let did = c.0.0 in
+    let gone = (idle_is (call_of old.hand) idle (view_of old.hand) (view_of new.hand) did.0).0 in
+    (record { planned = c.0.1; done = begun_done (Err idle) old new gone.adds (fallen old.hand new.hand gone.later) did.1 did.2 did.3; reported = λ q shut. cc }, gone.keeps)
+came_went V shared p (outcomes.OfElement begun had) line g g' old new free c =
     let mid : Parts = c.0 in
     let b = c.1 in
     let v = view_of old.hand in
@@ -66,30 +67,30 @@ came_went S shared p (outcomes.OfElement begun had) line old new free c =
       calm.keeps_on v w (view_of new.hand) k.0.keeps rest.1,
     )
 
-turn_went : (S : Sights) (shared : Shared) (p : ℕ) (entry : LogEntry) (old new : Parts) → IsFree p (view_of old.hand) → TurnInOrder S shared p entry old new → Ran shared.plan (entry ∷ []) old new × (IsFree p (view_of new.hand))
-turn_went S shared p entry old new free t =
+turn_went : {G : Type 0} (V : Views G) (shared : Shared) (p : ℕ) (entry : LogEntry) (g g' : G) (old new : Parts) → IsFree p (view_of old.hand) → TurnInOrder V shared p entry g g' old new → Ran shared.plan (entry ∷ []) old new × (IsFree p (view_of new.hand))
+turn_went V shared p entry g g' old new free t =
     let mid : Parts = t.0 in
     let first = tended_done p entry.tended old mid t.1 in
     let still = free_still p (view_of old.hand) (view_of mid.hand) first.1.serves first.1.on free in
-    let rest = came_went S shared p entry.outcome entry.line mid new still t.2 in
+    let rest = came_went V shared p entry.outcome entry.line g g' mid new still t.2 in
     (turn_ran shared.plan entry old mid new first.0 rest.0, free_still p (view_of mid.hand) (view_of new.hand) rest.1.serves rest.1.on still)
 
-turns_went : {G : Type 0} (S : Sights) (T : Calls G) (shared : Shared) (p number : ℕ) (log : List LogEntry) (old new : Parts) (g g' : G) → IsFree p (view_of old.hand) → TurnsInOrder S T shared p number log old new g g'
+turns_went : {G : Type 0} (V : Views G) (T : Calls G) (shared : Shared) (p number : ℕ) (log : List LogEntry) (old new : Parts) (g g' : G) → IsFree p (view_of old.hand) → TurnsInOrder V T shared p number log old new g g'
     → Ran shared.plan log old new
-turns_went S T shared p number [] old new g g' free t = subst (Ran shared.plan [] old) (sym t.0) (none_ran shared.plan old)
-turns_went S T shared p number (entry ∷ log) old new g g' free t =
-    let one = turn_went S shared p entry old t.0 free t.2 in
-    ran_on shared.plan (entry ∷ []) log old t.0 new one.0 (turns_went S T shared p (suc number) log t.0 new t.1 g' one.1 t.4)
+turns_went V T shared p number [] old new g g' free t = subst (Ran shared.plan [] old) (sym t.0) (none_ran shared.plan old)
+turns_went V T shared p number (entry ∷ log) old new g g' free t =
+    let one = turn_went V shared p entry t.1 t.4.0 old t.0 free t.4.1 in
+    ran_on shared.plan (entry ∷ []) log old t.0 new one.0 (turns_went V T shared p (suc number) log t.0 new t.2 g' one.1 t.5)
 
 -- the turns that `run` had
-pub run_adds_up : {G : Type 0} (S : Sights) (T : Calls G) (shared : Shared) (p turns : ℕ) (g g' : G) (old new : Parts) → IsRunnable shared p old → KeepsStation shared p old new → (turned : RanTurnsInOrder S T shared p turns g g' old new)
+pub run_adds_up : {G : Type 0} (V : Views G) (T : Calls G) (shared : Shared) (p turns : ℕ) (g g' : G) (old new : Parts) → IsRunnable shared p old → KeepsStation shared p old new → (turned : RanTurnsInOrder V T shared p turns g g' old new)
     → (ran : RanTurns T shared p turns g g' old new) × (ran.log ≡ turned.log)
-run_adds_up S T shared p turns g g' old new able keeps turned =
-    let ran = turns_went S T shared p 0 turned.log old new g g' able.free turned.order in (
+run_adds_up V T shared p turns g g' old new able keeps turned =
+    let ran = turns_went V T shared p 0 turned.log old new g g' able.free turned.order in (
       record {
         log = turned.log;
         many = turned.many;
-        reported = hooked_of S T shared p 0 turned.log old new g g' turned.order;
+        reported = hooked_of V T shared p 0 turned.log old new g g' turned.order;
         ran = ran;
         leaves = λ fresh. leaves shared.plan turned.log old new fresh keeps.seat ran;
       },

@@ -13,9 +13,11 @@ ghost use Rattle.processor.specs.Manning.{IsRunnable, KeepsStation};
 ghost use Rattle.processor.specs.Orders.{RanTurnsInOrder};
 ghost use Rattle.processor.specs.Points.{calls};
 ghost use Rattle.processor.specs.Programs.{AreHears, hear_count, program, step_of};
+ghost use Rattle.processor.specs.Sights.{views};
 ghost use Rattle.processor.specs.Steps.{Fits};
 
 use crate::watch::Watch;
+use turn_io::QueueGate;
 
 /// A list of steps of a plan that hear, none of them twice, is no longer than the number of such steps in the plan.
 pub fn hears_are_few()
@@ -35,7 +37,9 @@ pub fn steps_fit()
 pub fn turns_add_up<G: Watch>()
     ensures { (shared : Shared) (p turns : ℕ) (gate gate' : G) (old new : Parts) → IsRunnable shared p old
         → KeepsStation shared p old new
-        → (turned : RanTurnsInOrder G.shown (calls G.observes G.learns) shared p turns gate gate' old new)
+        → (turned : RanTurnsInOrder
+        (views G.shown ⟦<G as QueueGate<64>>⟧.at_end ⟦<G as QueueGate<256>>⟧.at_end G.at_chain_end)
+        (calls G.observes G.learns) shared p turns gate gate' old new)
         → (ran : RanTurns (calls G.observes G.learns) shared p turns gate gate' old new) × (ran.log ≡ turned.log) }
 {}
 

@@ -32,6 +32,6 @@ pub use shared::Shared;
 pub use station::{Parts, Station};
 pub use step_outcome::StepOutcome;
 pub use turn::run;
-pub use turn_gate::TurnGate;
+pub use turn_gate::{Plain, TurnGate};
 pub use turn_io::{Gate, Point};
 pub use watch::Watch;

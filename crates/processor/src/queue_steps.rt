@@ -2,7 +2,7 @@
 //!
 //! The ticket is read before the try. Those who wait are woken after it: after an earlier wake those who come to wait in
 //! between would stay asleep.
-ghost use Rattle.std.specs.Prelude.{◌≡◌, []};
+ghost use Rattle.std.specs.Prelude.{◌≡◌, ℕ, []};
 ghost use Rattle.boot_data.specs.declared.plan.QueueIndex.TheVariants.{Small};
 ghost use Rattle.thread_table.specs.Handles.{view_of, call_of};
 ghost use Rattle.turn_io.specs.QueueEnds.{IsThere};
@@ -10,6 +10,7 @@ ghost use Rattle.processor.specs.declared.step_outcome.StepOutcome.TheVariants a
 ghost use Rattle.processor.specs.Orders.{TriedAtEnds, count_of};
 ghost use Rattle.processor.specs.Points.{GateSaw, points_of};
 ghost use Rattle.processor.specs.Queues.{said_line};
+ghost use Rattle.processor.specs.Sights.{views};
 ghost use Rattle.processor.specs.Stations.{ArePartsOf};
 ghost use Rattle.processor.specs.Steps.{HandDid};
 ghost use Rattle.processor.specs.Refusals.{is_shut, is_over};
@@ -27,7 +28,7 @@ use boot_data::plan::QueueIndex;
 use claim_queue::{ClaimRefusal, TakeRefusal};
 use std::sync::Wait;
 use turn_dispatch::Woken;
-use turn_io::LineRoom;
+use turn_io::{LineRoom, QueueGate};
 
 // Whether a claim was refused because the queue is shut.
 fn is_shut(refusal: &ClaimRefusal) -> bool
@@ -59,8 +60,10 @@ pub(crate) fn say_step<R: Wait, G: Watch>(
     ensures line { room.new.line.items ≡ said_line text.now }
     ensures hand { HandDid (call_of parts.old.hand) shared.now.plan (step_outcomes.Say queue result)
         (view_of parts.old.hand) (view_of parts.new.hand) }
-    ensures ends { TriedAtEnds G.shown shared.now (count_of parts.old.hand) (step_outcomes.Say queue result)
-        room.new.line.items parts.old parts.new }
+    ensures ends { TriedAtEnds
+        (views G.shown ⟦<G as QueueGate<64>>⟧.at_end ⟦<G as QueueGate<256>>⟧.at_end G.at_chain_end)
+        shared.now p (count_of parts.old.hand) (step_outcomes.Say queue result) room.new.line.items gate.old gate.new
+        parts.old parts.new }
     ensures hook { GateSaw G.observes p (points_of (step_outcomes.Say queue result)) gate.old gate.new }
 {
     let threads = &shared.threads;
@@ -98,8 +101,10 @@ pub(crate) fn hear_step<R: Wait, G: Watch>(
     requires empty { room.old.line.items ≡ [] }
     ensures hand { HandDid (call_of parts.old.hand) shared.now.plan (step_outcomes.Hear queue result)
         (view_of parts.old.hand) (view_of parts.new.hand) }
-    ensures ends { TriedAtEnds G.shown shared.now (count_of parts.old.hand) (step_outcomes.Hear queue result)
-        room.new.line.items parts.old parts.new }
+    ensures ends { TriedAtEnds
+        (views G.shown ⟦<G as QueueGate<64>>⟧.at_end ⟦<G as QueueGate<256>>⟧.at_end G.at_chain_end)
+        shared.now p (count_of parts.old.hand) (step_outcomes.Hear queue result) room.new.line.items gate.old gate.new
+        parts.old parts.new }
     ensures hook { GateSaw G.observes p (points_of (step_outcomes.Hear queue result)) gate.old gate.new }
 {
     let threads = &shared.threads;
@@ -133,8 +138,10 @@ pub(crate) fn close_step<R: Wait, G: Watch>(
     requires there { IsThere shared.now.queues (Small queue) }
     ensures hand { HandDid (call_of parts.old.hand) shared.now.plan
         (step_outcomes.Close queue result.0 result.1 result.2) (view_of parts.old.hand) (view_of parts.new.hand) }
-    ensures ends { TriedAtEnds G.shown shared.now (count_of parts.old.hand)
-        (step_outcomes.Close queue result.0 result.1 result.2) [] parts.old parts.new }
+    ensures ends { (p : ℕ) → TriedAtEnds
+        (views G.shown ⟦<G as QueueGate<64>>⟧.at_end ⟦<G as QueueGate<256>>⟧.at_end G.at_chain_end)
+        shared.now p (count_of parts.old.hand) (step_outcomes.Close queue result.0 result.1 result.2) [] gate.now gate.now
+        parts.old parts.new }
 {
     let threads = &shared.threads;
     let index = QueueIndex::Small(queue);

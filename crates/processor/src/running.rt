@@ -7,6 +7,7 @@ ghost use Rattle.processor.specs.Orders.{TriedAtEnds, count_of, one_more};
 ghost use Rattle.processor.specs.Outcomes.{IsOutcomeOf};
 ghost use Rattle.processor.specs.Points.{GateSaw, points_of};
 ghost use Rattle.processor.specs.Running.{IsAtHand, Stepped};
+ghost use Rattle.processor.specs.Sights.{views};
 
 use crate::laws::steps_fit;
 use crate::phases::{HearAnswer, StepCounted};
@@ -20,7 +21,7 @@ use boot_data::plan::Step;
 use event_theory::{Element, Processor};
 use std::sync::Wait;
 use turn_dispatch::{Begun, count, put_on, take_off};
-use turn_io::LineRoom;
+use turn_io::{LineRoom, QueueGate};
 
 // Tries a step of an element at hand once, with the element on the processor, and counts the step if it is done.
 pub(crate) fn run_step<R: Wait, G: Watch>(
@@ -39,8 +40,10 @@ pub(crate) fn run_step<R: Wait, G: Watch>(
     ensures step_outcome { IsOutcomeOf step.now result.step_outcome room.new.line.items }
     ensures hand { Stepped (call_of parts.old.hand) shared.now.plan p begun.now.element result.step_outcome result.counted
         (view_of parts.old.hand) (view_of parts.new.hand) }
-    ensures ends { TriedAtEnds G.shown shared.now (one_more (count_of parts.old.hand)) result.step_outcome
-        room.new.line.items parts.old parts.new }
+    ensures ends { TriedAtEnds
+        (views G.shown ⟦<G as QueueGate<64>>⟧.at_end ⟦<G as QueueGate<256>>⟧.at_end G.at_chain_end)
+        shared.now p (one_more (count_of parts.old.hand)) result.step_outcome room.new.line.items gate.old gate.new
+        parts.old parts.new }
     ensures hook { GateSaw G.observes p (points_of result.step_outcome) gate.old gate.new }
 {
     steps_fit();

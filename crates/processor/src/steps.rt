@@ -4,6 +4,7 @@ ghost use Rattle.thread_table.specs.Handles.{view_of, call_of};
 ghost use Rattle.processor.specs.Orders.{TriedAtEnds, count_of};
 ghost use Rattle.processor.specs.Outcomes.{IsOutcomeOf};
 ghost use Rattle.processor.specs.Points.{GateSaw, points_of};
+ghost use Rattle.processor.specs.Sights.{views};
 ghost use Rattle.processor.specs.Stations.{ArePartsOf};
 ghost use Rattle.processor.specs.Steps.{Fits, HandDid};
 
@@ -15,7 +16,7 @@ use crate::watch::Watch;
 use boot_data::plan::Step;
 use std::sync::Wait;
 use turn_dispatch::{start, wake};
-use turn_io::{LineRoom, poke};
+use turn_io::{LineRoom, QueueGate, poke};
 
 // Tries a step of a thread once. The line that it says or hears goes into `room.line`.
 pub(crate) fn try_step<R: Wait, G: Watch>(
@@ -33,7 +34,9 @@ pub(crate) fn try_step<R: Wait, G: Watch>(
     ensures step_outcome { IsOutcomeOf step.now result room.new.line.items }
     ensures hand { HandDid (call_of parts.old.hand) shared.now.plan result (view_of parts.old.hand)
         (view_of parts.new.hand) }
-    ensures ends { TriedAtEnds G.shown shared.now (count_of parts.old.hand) result room.new.line.items parts.old parts.new }
+    ensures ends { TriedAtEnds
+        (views G.shown ⟦<G as QueueGate<64>>⟧.at_end ⟦<G as QueueGate<256>>⟧.at_end G.at_chain_end)
+        shared.now p (count_of parts.old.hand) result room.new.line.items gate.old gate.new parts.old parts.new }
     ensures hook { GateSaw G.observes p (points_of result) gate.old gate.new }
 {
     let threads = &shared.threads;

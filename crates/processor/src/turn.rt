@@ -5,10 +5,11 @@ ghost use Rattle.thread_table.specs.Handles.{view_of, call_of};
 ghost use Rattle.thread_table.specs.Rules.{has, done_at};
 ghost use Rattle.processor.specs.Entries.{LogEntry, tended_of};
 ghost use Rattle.processor.specs.Manning.{IsRunnable, KeepsStation};
-ghost use Rattle.processor.specs.Orders.{CameInOrder, RanTurnsInOrder, InOrder, TurnInOrder, count_of, one_more};
-ghost use Rattle.processor.specs.Points.{GateSaw, TurnEnded, calls, points_of, points_out};
+ghost use Rattle.processor.specs.Orders.{CameInOrder, EndedInOrder, RanTurnsInOrder, InOrder, count_of, one_more};
+ghost use Rattle.processor.specs.Points.{GateSaw, calls, points_of, points_out};
 ghost use Rattle.processor.specs.Programs.{program};
 ghost use Rattle.processor.specs.Running.{IsAtHand};
+ghost use Rattle.processor.specs.Sights.{views};
 ghost use Rattle.processor.specs.Turns.{AreAtRest, BegunAt, IdleAt, TendedBy, RanStep, is_last};
 
 use crate::laws::steps_fit;
@@ -26,7 +27,7 @@ use event_theory::{Alarm, Element, Processor};
 use meters::AdvanceRefusal;
 use std::sync::Wait;
 use turn_dispatch::{Begun, Idle, begin, retire, tend_alarms};
-use turn_io::{LineRoom, Point};
+use turn_io::{LineRoom, Point, QueueGate};
 
 // Whether a step that was tried is done, and was the last of this many steps.
 fn is_last(done: bool, number: u64, steps: usize) -> bool
@@ -54,7 +55,9 @@ fn run_element<R: Wait, G: Watch>(
     requires empty { room.old.line.items ≡ [] }
     ensures station { KeepsStation shared.now p parts.old parts.new }
     ensures ran { RanStep shared.now p begun.now.element begun.now.number result room.new.line.items parts.old parts.new
-        × InOrder G.shown shared.now.plan (one_more (count_of parts.old.hand)) result.tried.step_outcome parts.old parts.new }
+        × InOrder (views G.shown ⟦<G as QueueGate<64>>⟧.at_end ⟦<G as QueueGate<256>>⟧.at_end G.at_chain_end)
+        shared.now.plan p (one_more (count_of parts.old.hand)) result.tried.step_outcome room.new.line.items
+        gate.old gate.new parts.old parts.new }
     ensures hook { GateSaw G.observes p (points_of result.tried.step_outcome) gate.old gate.new }
 {
     let element = begun.element;
@@ -121,7 +124,9 @@ fn dispatch<R: Wait, G: Watch>(
 ) -> TurnOutcome
     requires station { IsRunnable shared.now p parts.old }
     ensures station { KeepsStation shared.now p parts.old parts.new }
-    ensures came { CameInOrder G.shown shared.now p result room.new.line.items parts.old parts.new }
+    ensures came { CameInOrder
+        (views G.shown ⟦<G as QueueGate<64>>⟧.at_end ⟦<G as QueueGate<256>>⟧.at_end G.at_chain_end)
+        shared.now p result room.new.line.items gate.old gate.new parts.old parts.new }
     ensures hook { GateSaw G.observes p (points_out result) gate.old gate.new }
 {
     steps_fit();
@@ -180,8 +185,9 @@ fn turn<R: Wait, G: Watch>(
 )
     requires station { IsRunnable shared.now p parts.old }
     ensures station { KeepsStation shared.now p parts.old parts.new }
-    ensures turn { (entry : LogEntry) × TurnInOrder G.shown shared.now p entry parts.old parts.new
-        × TurnEnded (calls G.observes G.learns) p entry gate.old gate.new }
+    ensures turn { (entry : LogEntry) × EndedInOrder
+        (views G.shown ⟦<G as QueueGate<64>>⟧.at_end ⟦<G as QueueGate<256>>⟧.at_end G.at_chain_end)
+        (calls G.observes G.learns) shared.now p entry gate.old gate.new parts.old parts.new }
 {
     let advanced = tend(shared, parts, p, fired);
     let outcome = dispatch(rt, shared, parts, p, room, gate);
@@ -196,7 +202,7 @@ fn turn<R: Wait, G: Watch>(
 
 /// Exactly this many turns of a processor. In each turn the gate is called with the turn's number, from 0. Then
 /// processor 0 tends the alarms, and the oldest element of the ready ring has its turn: one try of its next step.
-/// Within a step the gate is called as `Point` says. At the end of the turn it gets the turn's result, by
+/// Within a step the gate is called as `Point` says, between the atomic steps that `SawStep` names. At the end of the turn it gets the turn's result, by
 /// `TurnGate::turned`. It is never called otherwise. Returns the station, with what its ends did, and what was heard and
 /// signalled. `turns_add_up` says what all turns come to.
 ///
@@ -211,8 +217,9 @@ pub fn run<R: Wait, G: Watch>(
 ) -> Station
     requires station { IsRunnable shared.now p station.parts }
     ensures station { KeepsStation shared.now p station.parts result.parts }
-    ensures turned { RanTurnsInOrder G.shown (calls G.observes G.learns) shared.now p turns gate.old gate.new station.parts
-        result.parts }
+    ensures turned { RanTurnsInOrder
+        (views G.shown ⟦<G as QueueGate<64>>⟧.at_end ⟦<G as QueueGate<256>>⟧.at_end G.at_chain_end)
+        (calls G.observes G.learns) shared.now p turns gate.old gate.new station.parts result.parts }
 {
     let Station { mut parts } = station;
     let mut fired = ArrayVec::new();

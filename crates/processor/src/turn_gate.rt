@@ -5,7 +5,7 @@ ghost use Rattle.processor.specs.Entries.{LogEntry, entry_of};
 use crate::outcome::TurnOutcome;
 use event_theory::Alarm;
 use meters::AdvanceRefusal;
-use turn_io::{Gate, NoGate};
+use turn_io::{Gate, NoGate, Point};
 
 /// A gate that gets the result of each turn at its end: the turn's entry in the log of its processor, as values that the
 /// gate may keep. A gate that keeps nothing has an empty body, and stays as it was.
@@ -29,6 +29,32 @@ pub trait TurnGate: Gate {
 }
 
 impl TurnGate for NoGate {
+    fn turned(
+        &mut self,
+        _p: u8,
+        _advanced: Option<Result<u32, AdvanceRefusal>>,
+        _fired: &[Alarm],
+        _outcome: TurnOutcome,
+        _line: &[u64],
+    ) {}
+}
+
+/// A gate that gets the points of each turn and not its result. So a type that implements `Gate` alone is enough for a
+/// processor: `Plain { gate }`.
+#[derive(Drop)]
+pub struct Plain<G> {
+    pub gate: G,
+}
+
+impl<G: Gate> Gate for Plain<G> {
+    ghost observes = { λ old p point new. G.observes old.gate p point new.gate };
+
+    fn between(&mut self, p: u8, point: Point) {
+        self.gate.between(p, point);
+    }
+}
+
+impl<G: Gate> TurnGate for Plain<G> {
     fn turned(
         &mut self,
         _p: u8,

@@ -13,33 +13,33 @@ use meters::MeterSeat;
 use proc_chain::ChainEnd;
 use quajects::AnyQuaject;
 use thread_table::Hand;
-use turn_io::QueueEnds;
+use turn_io::{ChainGate, QueueEnds, QueueGate};
 
 /// A gate that is shown a hand and other ends together. Every gate is one. Code that is generic over a gate knows of
-/// `shown` only what a call of its methods ensured. So a contract that says of a hand and of ends that they were shown
-/// says that they were there at one moment.
-pub trait Watch: TurnGate {
-    // The gate was shown this hand and these ends, as they were at one moment.
-    ghost shown: { Sights };
+/// `shown` only what a call of its methods ensured. So a contract that says of a gate, of a hand and of ends that they
+/// were shown says that they were there at one moment.
+pub trait Watch: TurnGate + QueueGate<64> + QueueGate<256> + ChainGate {
+    // The gate, as it was then, was shown this hand and these ends, as they were at one moment.
+    ghost shown: { Sights Self };
 
     /// Shows the gate a hand and the ends of all queues, and changes nothing.
     fn show_queues(&self, hand: &Hand, ends: &QueueEnds)
-        ensures { shown.queues hand.now ends.now };
+        ensures { shown.queues self.now hand.now ends.now };
 
     /// Shows the gate a hand and the ends of all chains, and changes nothing.
     fn show_chains(&self, hand: &Hand, ends: &Vec<ChainEnd<AnyQuaject>>)
-        ensures { shown.chains hand.now ends.now };
+        ensures { shown.chains self.now hand.now ends.now };
 
     /// Shows the gate a hand and a seat of the meters, and changes nothing.
     fn show_seat(&self, hand: &Hand, seat: &MeterSeat)
-        ensures { shown.seat hand.now seat.now };
+        ensures { shown.seat self.now hand.now seat.now };
 }
 
 impl<G: TurnGate> Watch for G {
     ghost shown = { record {
-      queues = λ hand ends. Unit {0};
-      chains = λ hand ends. Unit {0};
-      seat = λ hand seat. Unit {0};
+      queues = λ gate hand ends. Unit {0};
+      chains = λ gate hand ends. Unit {0};
+      seat = λ gate hand seat. Unit {0};
     } };
 
     fn show_queues(&self, _hand: &Hand, _ends: &QueueEnds) {}

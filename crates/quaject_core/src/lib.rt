@@ -57,6 +57,6 @@ mod threading;
 pub use event_theory::{
     Alarm, AlarmStatus, Call, ChainNumber, ChainStatus, Element, ElementStatus, Event, Gate, Gauge,
     Items, OutOfMemory, Place, Processor, QueueName, QueueNumber, QueueStatus, Refusal, Signal,
-    Slot, Status, WaitNumber,
+    Slot, Status, WaitNumber, laws,
 };
 pub use machine::Core;

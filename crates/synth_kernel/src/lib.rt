@@ -29,5 +29,5 @@ pub use kernel::{boot, boot_on, boot_on_with, boot_with};
 pub use laws::turns_were_had;
 pub use outcome::{BootFault, Ended};
 pub use printing::Booted;
-pub use processor::{Shared, TurnGate};
+pub use processor::{Plain, Shared, TurnGate};
 pub use turn_io::{Gate, NoGate, Point};

@@ -1,12 +1,7 @@
 //! Processors that are held at points of their turns until others are at points of their turns.
-ghost use Rattle.std.specs.Prelude.{◌≡◌, ◌≤◌, vec_len};
-
 use super::*;
 use crossbeam_utils::Backoff;
 use crossbeam_utils::atomic::AtomicCell;
-use event_theory::Alarm;
-use meters::AdvanceRefusal;
-use processor::{TurnGate, TurnOutcome};
 use std::alloc::AllocError;
 use turn_io::{Gate, Point};
 
@@ -56,21 +51,10 @@ impl Gate for Hold<'_> {
     }
 }
 
-impl TurnGate for Hold<'_> {
-    fn turned(
-        &mut self,
-        _p: u8,
-        _advanced: Option<Result<u32, AdvanceRefusal>>,
-        _fired: &[Alarm],
-        _outcome: TurnOutcome,
-        _line: &[u64],
-    ) {}
-}
-
 /// Whether these are the gates of so many processors, from 0 on, and each counted so many turns.
-fn were_reported(gates: &[Hold<'_>], processors: u8, turns: u32) -> bool {
+fn were_reported(gates: &[Plain<Hold<'_>>], processors: u8, turns: u32) -> bool {
     let mut p = 0u8;
-    for gate in gates {
+    for Plain { gate } in gates {
         if gate.p != p || gate.turns != turns {
             return false;
         }
@@ -79,24 +63,13 @@ fn were_reported(gates: &[Hold<'_>], processors: u8, turns: u32) -> bool {
     p == processors
 }
 
-/// Boots a script with a gate for each processor. If the boot returns `Ok`, the gates come back, each with its turns
-/// counted.
-fn boot_counted<R: Threads + Wait + Sync + Abort>(
-    rt: &R,
-    alloc: Global,
-    script: &str,
-    output: &mut Vec<u8>,
-    processors: u8,
-    turns: u32,
-    gates: Vec<Hold<'_>>,
-) -> Result<Ended, BootFault>
-    requires number { (1 ≤ processors) × (processors ≤ 8) }
-    requires gates { vec_len gates ≡ processors }
-{
-    let mut reader = script.as_bytes();
-    let booted = boot_on_with(rt, alloc, &mut reader, output, processors, turns, gates)?;
-    assert!(rt; were_reported(booted.gates(), processors, turns));
-    Ok(booted.ended())
+/// The gates, as a boot takes them.
+fn plain<'a>(alloc: Global, gates: Vec<Hold<'a>>) -> Result<Vec<Plain<Hold<'a>>>, AllocError> {
+    let mut all = Vec::new(alloc);
+    for gate in gates {
+        all.push(Plain { gate })?;
+    }
+    Ok(all)
 }
 
 /// Boots a script with a gate for each processor, and returns the answer and the output.
@@ -108,11 +81,22 @@ fn boot_held<R: Threads + Wait + Sync + Abort>(
     turns: u32,
     gates: Vec<Hold<'_>>,
 ) -> (Result<Ended, BootFault>, Vec<u8>) {
+    let Ok(gates) = plain(alloc, gates) else {
+        panic!(rt; "memory")
+    };
     if processors < 1 || 8 < processors || gates.len() != processors as usize {
         panic!(rt; "gates");
     }
     let mut output = Vec::new(alloc);
-    let answer = boot_counted(rt, alloc, script, &mut output, processors, turns, gates);
+    let answer = boot_with(
+        rt,
+        alloc,
+        script.as_bytes(),
+        &mut output,
+        processors,
+        turns,
+        gates,
+    );
     (answer, output)
 }
 
@@ -284,21 +268,38 @@ fn all_processors_meet(rt: HostRuntime) {
     }
 }
 
-/// Each processor has a thread of its own if the streams are handed over.
+/// The gates come back, each with its turns counted.
 #[test]
-fn processors_meet_by_streams_that_are_handed_over(rt: HostRuntime) {
-    let given_up = AtomicCell::new(false);
-    let count = AtomicCell::new(0);
-    let Ok(gates) = meeting(rt.alloc(), 2, &count, &given_up) else {
-        panic!(rt; "memory")
-    };
-    if gates.len() != 2 {
-        panic!(rt; "gates");
+fn gates_come_back_with_their_turns(rt: HostRuntime) {
+    for processors in 1..=8u8 {
+        let given_up = AtomicCell::new(false);
+        let count = AtomicCell::new(0);
+        let Ok(gates) = meeting(rt.alloc(), processors, &count, &given_up) else {
+            panic!(rt; "memory")
+        };
+        let Ok(gates) = plain(rt.alloc(), gates) else {
+            panic!(rt; "memory")
+        };
+        if gates.len() != processors as usize {
+            panic!(rt; "gates");
+        }
+        let mut script = b"synthesis 1\nthread a\npass\n".as_slice();
+        let mut output = Vec::new(rt.alloc());
+        let booted = boot_on_with(
+            &rt,
+            rt.alloc(),
+            &mut script,
+            &mut output,
+            processors,
+            1_000,
+            gates,
+        );
+        let Ok(booted) = booted else {
+            panic!(rt; "a fault")
+        };
+        assert!(rt; !given_up.load());
+        assert!(rt; were_reported(booted.gates(), processors, 1_000));
+        assert!(rt; booted.ended() == Ended::AllEnded);
+        assert!(rt; output.as_slice() == b"thread a ended 1\nchained 0\n".as_slice());
     }
-    let script = b"synthesis 1\nthread a\npass\n".as_slice();
-    let mut output = Vec::new(rt.alloc());
-    let answer = boot_with(&rt, rt.alloc(), script, &mut output, 2, 1_000, gates);
-    assert!(rt; (given_up.load(), count.load()) == (false, 2));
-    assert!(rt; answer == Ok(Ended::AllEnded));
-    assert!(rt; output.as_slice() == b"thread a ended 1\nchained 0\n".as_slice());
 }

@@ -118,14 +118,11 @@ fn on_its_way<R: Abort>(rt: &R, alloc: Global) -> Vec<Event> {
     list_of(rt, alloc, made)
 }
 
-/// A note is claimed, raised and notified, and the call that found the gate Idle takes it and leaves. Then an item goes
-/// through a queue, which is shut.
-fn a_note_and_an_item<R: Abort>(rt: &R, alloc: Global) -> Vec<Event> {
+/// A note is claimed, raised and notified, and the call that found the gate Idle takes it and leaves.
+fn a_note<R: Abort>(rt: &R, alloc: Global) -> Vec<Event> {
     let call = Call::new(1).expect(rt, "call");
     let chain = ChainNumber::new(0).expect(rt, "chain");
-    let queue = QueueNumber::new(0).expect(rt, "queue");
-    let note = items_of(rt, alloc, &[0]);
-    let item = items_of(rt, alloc, &[0]);
+    let note = items_of(rt, alloc, &[7]);
     let made = vec![in alloc;
         Event::Chain,
         claim(call, QueueName::Notes(chain), note),
@@ -134,6 +131,16 @@ fn a_note_and_an_item<R: Abort>(rt: &R, alloc: Global) -> Vec<Event> {
         Event::Round { call, chain },
         take(call, QueueName::Notes(chain)),
         Event::Leave { call, chain },
+    ];
+    list_of(rt, alloc, made)
+}
+
+/// An item goes through a queue, which is shut.
+fn an_item<R: Abort>(rt: &R, alloc: Global) -> Vec<Event> {
+    let call = Call::new(1).expect(rt, "call");
+    let queue = QueueNumber::new(0).expect(rt, "queue");
+    let item = items_of(rt, alloc, &[0]);
+    let made = vec![in alloc;
         Event::Queue { capacity: 4 },
         claim(call, QueueName::Bytes(queue), item),
         raise(call, QueueName::Bytes(queue), 0),
@@ -211,10 +218,17 @@ const EMPTIED: QueueStatus = QueueStatus {
 };
 
 #[test]
+fn chain_memory_may_run_out(rt: HostRuntime) {
+    let alloc = rt.alloc();
+    let status = status_after(&rt, alloc, &a_note(&rt, alloc));
+    assert!(rt; status.events == 7 && status.queues.as_slice().is_empty());
+    assert!(rt; status.chains.as_slice() == [SERVED].as_slice());
+}
+
+#[test]
 fn queue_memory_may_run_out(rt: HostRuntime) {
     let alloc = rt.alloc();
-    let status = status_after(&rt, alloc, &a_note_and_an_item(&rt, alloc));
-    assert!(rt; status.events == 12);
-    assert!(rt; status.chains.as_slice() == [SERVED].as_slice());
+    let status = status_after(&rt, alloc, &an_item(&rt, alloc));
+    assert!(rt; status.events == 5);
     assert!(rt; status.queues.as_slice() == [EMPTIED].as_slice());
 }

@@ -54,16 +54,22 @@ const ONE_END_ALONE: Script = Script {
     left: &[Some(1), Some(2), Some(3), Some(4)],
 };
 
+/// In an empty queue, and in the same queue when it is full.
 const RUNS_THAT_NEVER_FIT: Script = Script {
     first: 0,
     acts: &[
         Act::Put(&[], Err(ClaimRefusal::NoItems)),
         Act::Put(&[1, 2, 3, 4, 5], Err(ClaimRefusal::TooLong)),
         Act::Take(Err(TakeRefusal::Empty { at: 0 })),
+        Act::Put(&[10, 11], Ok(0)),
+        Act::Put(&[12, 13], Ok(2)),
+        Act::Put(&[14], Err(ClaimRefusal::Full { head: 4, tail: 0 })),
+        Act::Put(&[], Err(ClaimRefusal::NoItems)),
+        Act::Put(&[1, 2, 3, 4, 5], Err(ClaimRefusal::TooLong)),
     ],
-    put: 0,
+    put: 4,
     taken: 0,
-    left: &[],
+    left: &[Some(10), Some(11), Some(12), Some(13)],
 };
 
 const RUNS_THAT_NEVER_FIT_AGAIN: Script = Script {

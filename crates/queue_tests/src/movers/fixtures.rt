@@ -1,11 +1,14 @@
 //! Queues for the tests, with ends of each, and a tty that leaves its chain.
-ghost use Rattle.std.specs.Prelude.{◌≡◌, false};
+ghost use Rattle.std.specs.Prelude.{◌≡◌, ◌+◌, false, length, IfOk};
+ghost use Rattle.claim_queue.specs.Handles as claims;
 ghost use Rattle.proc_chain.specs.Handles.{turn_of, IsEndOf};
 ghost use Rattle.quajects.specs.Ports.{IsEndAt};
+ghost use Rattle.quajects.specs.Worlds.{AreFront, IsFresh};
 
 use crate::fixtures::{Two, queue_with_two};
 use arrayvec::ArrayVec;
 use claim_queue::{ClaimQueue, QueueEnd};
+use event_theory::OutOfMemory;
 use proc_chain::{ChainEnd, ProcChain};
 use quajects::{AnyQuaject, Queues, RawTty};
 use std::alloc::Global;
@@ -13,6 +16,67 @@ use std::panic::Expect;
 use std::process::Abort;
 
 pub(crate) type Chain = ProcChain<AnyQuaject>;
+
+/// This many small and large queues, each empty at 0, and the only end of each.
+fn fresh_queues(
+    alloc: Global,
+    small: usize,
+    large: usize,
+) -> Result<(Queues, Vec<QueueEnd<64>>, Vec<QueueEnd<256>>), OutOfMemory>
+    ensures small { IfOk result (λ r. (length r.1.items ≡ small) × AreFront r.0.small.items r.1.items) }
+    ensures large { IfOk result (λ r. (length r.2.items ≡ large) × AreFront r.0.large.items r.2.items) }
+{
+    Queues::new(alloc, small, large)
+}
+
+/// The only end of a queue, and another end of it.
+fn two_of<const N: usize>(queue: &ClaimQueue<N>, end: QueueEnd<N>) -> Two<N>
+    requires { IsFresh queue.now end }
+    ensures { claims.IsEndOf queue.now result.mine × claims.IsEndOf queue.now result.other }
+{
+    let mut mine = end;
+    let other = queue.split(&mut mine);
+    Two { mine, other }
+}
+
+/// The last of these ends, which is taken off, and another end of its queue.
+fn last_two<R: Abort, const N: usize>(
+    rt: &R,
+    queues: &[ClaimQueue<N>],
+    ends: &mut Vec<QueueEnd<N>>,
+) -> Two<N>
+    requires front { AreFront queues.now ends.old.items }
+    ensures front { AreFront queues.now ends.new.items }
+    ensures one_less { length ends.old.items ≡ length ends.new.items + 1 }
+    ensures at { IsEndAt queues.now (length ends.new.items) result.mine
+        × IsEndAt queues.now (length ends.new.items) result.other }
+{
+    let Some(end) = ends.pop() else {
+        panic!(rt; "no end")
+    };
+    two_of(&queues[ends.len()], end)
+}
+
+/// Two small queues, and two ends of each.
+#[derive(Drop)]
+pub(crate) struct Pair {
+    pub(crate) queues: Queues,
+    pub(crate) ends: (Two<64>, Two<64>),
+    ghost first: { IsEndAt queues.small.items 0 ends.0.mine × IsEndAt queues.small.items 0 ends.0.other },
+    ghost second: { IsEndAt queues.small.items 1 ends.1.mine × IsEndAt queues.small.items 1 ends.1.other },
+}
+
+pub(crate) fn two_small<R: Abort>(rt: &R, alloc: Global) -> Pair {
+    let Ok((queues, mut small, _large)) = fresh_queues(alloc, 2, 0) else {
+        panic!(rt; "memory")
+    };
+    let second = last_two(rt, queues.small.as_slice(), &mut small);
+    let first = last_two(rt, queues.small.as_slice(), &mut small);
+    Pair {
+        queues,
+        ends: (first, second),
+    }
+}
 
 /// Three small queues, and two ends of each.
 #[derive(Drop)]
@@ -52,16 +116,14 @@ pub(crate) struct Typing {
 }
 
 pub(crate) fn tty_queues<R: Abort>(rt: &R, alloc: Global) -> Typing {
-    let (first, raw) = queue_with_two(rt, alloc, 0);
-    let (second, line) = queue_with_two(rt, alloc, 0);
-    let (third, screen) = queue_with_two(rt, alloc, 0);
-    let mut small = Vec::new(alloc);
-    small.push(first).expect(rt, "memory");
-    let mut large = Vec::new(alloc);
-    large.push(second).expect(rt, "memory");
-    large.push(third).expect(rt, "memory");
+    let Ok((queues, mut small, mut large)) = fresh_queues(alloc, 1, 2) else {
+        panic!(rt; "memory")
+    };
+    let raw = last_two(rt, queues.small.as_slice(), &mut small);
+    let screen = last_two(rt, queues.large.as_slice(), &mut large);
+    let line = last_two(rt, queues.large.as_slice(), &mut large);
     Typing {
-        queues: Queues { small, large },
+        queues,
         raw,
         line,
         screen,

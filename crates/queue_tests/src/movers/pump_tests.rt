@@ -1,7 +1,7 @@
 ghost use Rattle.quajects.specs.Ports.{IsEndAt};
 ghost use Rattle.quajects.specs.Pumps.{Fits};
 
-use crate::movers::fixtures::{Three, puts_at, takes_at, three_small};
+use crate::movers::fixtures::{Pair, puts_at, takes_at, two_small};
 use arrayvec::ArrayVec;
 use claim_queue::QueueEnd;
 use proc_chain::{Quaject, Ran};
@@ -32,6 +32,16 @@ const WITH_AND_WITHOUT_A_LINE: &[Act] = &[
     Act::Is(2, 3, 3, 0),
     Act::Note(false),
     Act::Is(3, 3, 3, 0),
+    Act::Take(&[104, 105, 10]),
+];
+
+/// A line goes from the source to the target at its note, and the next note finds nothing.
+const A_LINE: &[Act] = &[
+    Act::Put(&[104, 105, 10]),
+    Act::Note(true),
+    Act::Is(1, 3, 3, 0),
+    Act::Note(false),
+    Act::Is(2, 3, 3, 0),
     Act::Take(&[104, 105, 10]),
 ];
 
@@ -99,10 +109,10 @@ fn does<R: Abort>(
     }
 }
 
-/// A pump from the first of three small queues to the second does this.
+/// A pump from the first of two small queues to the second does this.
 fn plays<R: Abort>(rt: &R, alloc: Global, acts: &[Act]) {
-    let Three { queues, ends } = three_small(rt, alloc);
-    let (from, to, _other) = ends;
+    let Pair { queues, ends } = two_small(rt, alloc);
+    let (from, to) = ends;
     let pump = Pump::new(0, from.mine, 1, to.mine);
     does(rt, &queues, (from.other, to.other), pump, acts);
 }
@@ -110,6 +120,11 @@ fn plays<R: Abort>(rt: &R, alloc: Global, acts: &[Act]) {
 #[test]
 fn works_with_a_line(rt: HostRuntime) {
     plays(&rt, rt.alloc(), WITH_AND_WITHOUT_A_LINE);
+}
+
+#[test]
+fn moves_a_line(rt: HostRuntime) {
+    plays(&rt, rt.alloc(), A_LINE);
 }
 
 #[test]

@@ -1,4 +1,5 @@
-use Rattle.processor.proofs.Common.{rules, ◌≡◌, inr, ℕ, Option, Some, None, sym, subst, ◌∙◌, TakesOff, view_of, call_of, running, Parts, Count, InOrder}
+use Rattle.processor.proofs.Common.{rules, ◌≡◌, inr, ℕ, Option, Some, None, sym, subst, ◌∙◌, TakesOff, view_of, call_of, running, Parts, Count, InOrder, SawStep, views}
+use Rattle.turn_io.specs.Points.{beside}
 use Rattle.turn_dispatch.proofs.Calm as calm
 use Rattle.processor.proofs.Ordering.{put_counts}
 use Rattle.processor.proofs.Tallying.{tried_on}
@@ -50,11 +51,13 @@ returns-clause-ends g c =
     let old = c.args.parts.now in
     let e = c.try_step-step_outcome.ensures.ends in
     let new : Parts = record c.try_step-step_outcome.new.parts { hand = c.take_off.new.hand } in
-    let o = e.order in record {
+    let o = e.order in
+    let points = subst (λ (p : ℕ). SawStep (beside g.G.QueueGate-1.at_end g.G.QueueGate-2.at_end g.G.ChainGate.at_chain_end) p c.try_step-step_outcome.result c.try_step-step_outcome.new.room.line.items c.args.gate.now c.try_step-step_outcome.new.gate old.queues new.queues old.chains.items new.chains.items) c.number.ensures.value o.points in
+    record {
       did = record { queues = e.did.queues; chains = e.did.chains; seat = e.did.seat };
-      order = subst (λ (z : Count). InOrder g.G.Watch.shown c.args.shared.now.plan z c.try_step-step_outcome.result old new)
+      order = subst (λ (z : Count). InOrder (views g.G.Watch.shown g.G.QueueGate-1.at_end g.G.QueueGate-2.at_end g.G.ChainGate.at_chain_end) c.args.shared.now.plan c.args.p z c.try_step-step_outcome.result c.try_step-step_outcome.new.room.line.items c.args.gate.now c.try_step-step_outcome.new.gate old new)
           (put_counts _ _ _ old.hand c.put_on.new.hand c.put_on.ensures.put c.put_on.ensures.handle)
-          (record { queues = o.queues; chains = o.chains; seat = o.seat });
+          (record { queues = o.queues; chains = o.chains; seat = o.seat; points = points });
       same = record {
         hand = search rules;
         queues = e.same.queues;

@@ -1,4 +1,4 @@
-use Rattle.processor.proofs.Common.{◌≡◌, ◌<◌, ◌≤◌, ℕ, true, List, length, ◌++◌, map, rules, sym, ap, ◌∙◌, subst, arith, AllByRecursion, view_of, call_of, StepOutcome, Rescheduled, Parts, is_done, heard_by, is_heard, Key, AreHears, hear_count, program, key_of, IsPast, Goes, is_last, length-map, Heard, shares_still, longest_line, InOrder, count_of, one_more, EndsDid, AreSameParts, RanStep}
+use Rattle.processor.proofs.Common.{◌≡◌, ◌<◌, ◌≤◌, ℕ, true, List, length, ◌++◌, map, rules, sym, ap, ◌∙◌, subst, arith, AllByRecursion, view_of, call_of, StepOutcome, Rescheduled, Parts, is_done, heard_by, is_heard, Key, AreHears, hear_count, program, key_of, IsPast, Goes, is_last, length-map, Heard, shares_still, longest_line, InOrder, count_of, one_more, EndsDid, AreSameParts, RanStep, views}
 use Rattle.processor.specs.declared.phases.StepCounted.{StepCounted}
 use Rattle.processor.proofs.Keeping.{free_still, parts_still}
 use Rattle.processor.proofs.Longest.{heard_within}
@@ -109,7 +109,7 @@ returns-clause-ran g c =
     let goes = subst (λ k. Goes k tried.step_outcome (is_last (is_done tried.step_outcome) n (length (program shared.plan e))) e sent.moved (view_of mid.hand) (view_of new.hand)) r.ends.same.hand.1
     (subst (λ b. Goes (call_of mid.hand) tried.step_outcome b e sent.moved (view_of mid.hand) (view_of new.hand)) last s.goes) in
     subst (λ (z : StepCounted). RanStep shared c.args.p e n (record { tried = z; moved = c.send_on.result.moved }) line old new
-    × InOrder g.G.Watch.shown shared.plan (one_more (count_of old.hand)) z.step_outcome old new)
+    × InOrder (views g.G.Watch.shown g.G.QueueGate-1.at_end g.G.QueueGate-2.at_end g.G.ChainGate.at_chain_end) shared.plan c.args.p (one_more (count_of old.hand)) z.step_outcome line c.args.gate.now c.run_step-tried.new.gate old new)
     (sym s.tried) (
       record {
         step = c.args.step.now;
@@ -122,5 +122,5 @@ returns-clause-ran g c =
         lines = lines;
         signals = r.ends.signals;
       },
-      record { queues = r.ends.order.queues; chains = r.ends.order.chains; seat = r.ends.order.seat },
+      record { queues = r.ends.order.queues; chains = r.ends.order.chains; seat = r.ends.order.seat; points = r.ends.order.points },
     )

@@ -14,6 +14,5 @@ returns-clause-turn g c =
     (subst (λ (z : List Alarm). g.G.TurnGate.learns c.dispatch-outcome.new.gate c.number.result (entry_of c.tend-advanced.result z c.dispatch-outcome.result line) c.turned.new.self) c.as_slice.ensures.value
     (subst (λ (z : List ℕ). g.G.TurnGate.learns c.dispatch-outcome.new.gate c.number.result (entry_of c.tend-advanced.result c.as_slice.result.now c.dispatch-outcome.result z) c.turned.new.self) c.as_slice-2.ensures.value c.turned.ensures)) in (
       entry,
-      (c.tend-advanced.new.parts, c.tend-advanced.ensures.tended, c.dispatch-outcome.ensures.came),
-      (c.dispatch-outcome.new.gate, c.dispatch-outcome.ensures.hook, learned),
+      (c.dispatch-outcome.new.gate, (c.tend-advanced.new.parts, c.tend-advanced.ensures.tended, c.dispatch-outcome.ensures.came), c.dispatch-outcome.ensures.hook, learned),
     )

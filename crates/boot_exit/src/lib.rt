@@ -1,21 +1,23 @@
 //! The exit status of a program that boots a script, and its words for standard error.
 #![tactic(auto)]
 
-ghost use Rattle.std.specs.Prelude.{◌≡◌};
+ghost use Rattle.std.specs.Prelude.{◌≡◌, OnErr};
 ghost use Rattle.boot_script.specs.Exits.{IsExit};
+ghost use Rattle.boot_script.specs.StreamFaults.{IsWriteFault};
 ghost use Rattle.boot_exit.specs.Exits.{boot_exit_code_of, boot_words_of};
 
+use boot_script::Sink;
 use boot_script::exit::Exit;
-use std::io::Write;
 use synth_kernel::{BootFault, Ended};
 
 /// Reports how a boot has ended.
 ///
 /// Status 0 is returned if all threads have ended; 1 if the script is invalid; 3 if memory was exhausted; 4 if threads
 /// have not ended; 5 if the reader or the writer failed. Words are written only for a fault.
-pub fn after_boot<E: Write>(answer: Result<Ended, BootFault>, errors: &mut E) -> Exit
-    ensures { IsExit result (boot_exit_code_of answer) (boot_words_of answer)
+pub fn after_boot<E: Sink>(answer: Result<Ended, BootFault>, errors: &mut E) -> Exit
+    ensures exit { IsExit result (boot_exit_code_of answer) (boot_words_of answer)
         (E.contents errors.old) (E.contents errors.new) }
+    ensures error { OnErr result.reported (IsWriteFault E.fails errors.new) }
 {
     let status = boot_status(answer);
     match answer {
@@ -25,7 +27,7 @@ pub fn after_boot<E: Write>(answer: Result<Ended, BootFault>, errors: &mut E) ->
         },
         Err(fault) => Exit {
             status,
-            reported: writeln!(errors, "{fault}"),
+            reported: errors.write_line(fault),
         },
     }
 }

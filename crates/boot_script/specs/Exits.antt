@@ -1,5 +1,6 @@
 -- How a program ends that reads a list of events: its exit status, its words for standard error, and what it wrote.
-use Rattle.std.specs.Prelude.{◌≡◌, ◌≢◌, ℕ, List, [], ◌++◌, codes, Option, Result, Ok, Err, IfSome, OnOk}
+use Rattle.std.specs.Prelude.{◌≡◌, ◌≢◌, ◌⊎◌, ℕ, List, [], ◌++◌, codes, Option, Result, Ok, Err, IfErr, IfSome, OnOk}
+use Rattle.std.specs.declared.io.Error.{Error}
 use Rattle.std.specs.Io.KnownBytes.{Appends, Keeps}
 use Rattle.event_theory.specs.declared.event.Event.{Event}
 use Rattle.boot_script.specs.declared.exit.Exit.{Exit}
@@ -11,6 +12,7 @@ use Rattle.boot_script.specs.declared.outcome.ReplayFault.TheVariants.{Script, M
 use Rattle.boot_script.specs.Printed.{end_of_line, replay_fault_text}
 use Rattle.boot_script.specs.Replays.{IsReplayFault}
 use Rattle.boot_script.specs.Scripts.{text_events}
+use Rattle.boot_script.specs.StreamFaults.{IsReadFault, IsWriteFault, LetGo}
 
 -- the words for standard error if there is no memory
 abbrev pub no_memory_words : List ℕ
@@ -34,6 +36,17 @@ words_of (Err fault) = replay_fault_text fault ++ end_of_line
 abbrev pub IsExit : Exit → ℕ → List ℕ → Option (List ℕ) → Option (List ℕ) → Type 0
 IsExit exit status words old new = (exit.status ≡ status) × OnOk exit.reported (Appends old new words)
 
+-- a read or write fault of a replay has its cause in the calls on the streams
+abbrev pub HasCause : {R W : Type 0} → (R → Result ℕ Error → R → Type 0) → (W → W → Type 0)
+    → Result Replayed ReplayFault → R → R → W → Type 0
+HasCause answers fails answer old new written = IfErr answer (λ fault.
+    (fault ≡ Read → IsReadFault answers old new) × (fault ≡ Write → IsWriteFault fails written))
+
+-- the error stream was let go with exactly these words appended to it, or after a call on it that returned an error
+abbrev pub HasReported : {E : Type 0} → (E → Type 0) → (E → E → Type 0) → (E → Option (List ℕ)) → List ℕ → E → Type 0
+HasReported gone fails contents words errors =
+    LetGo gone (λ last. Appends (contents errors) (contents last) words ⊎ IsWriteFault fails last)
+
 -- what a program prints for what a text says and the answer of its replay: from old to new it is appended
 abbrev pub Prints : Type 1
 Prints = Result (ℕ × List (ℕ × Event)) ScriptFault → Replayed → Option (List ℕ) → Option (List ℕ) → Type 0
@@ -54,15 +67,3 @@ abbrev pub AnswersInput : Prints → Option (List ℕ) → Result Replayed Repla
     → Option (List ℕ) → Option (List ℕ) → Type 0
 AnswersInput prints known answer old new =
     IfSome known (λ bytes. Answers prints (text_events bytes) answer old new) × IsUnwritten answer old new
-
--- the answer is correct for the text, whatever was written; `is_right` is of what a text says and an answer
-abbrev pub IsAnswerOf : (Result (ℕ × List (ℕ × Event)) ScriptFault → Replayed → Type 0)
-    → Result (ℕ × List (ℕ × Event)) ScriptFault → Result Replayed ReplayFault → Type 0
-IsAnswerOf is_right said (Ok replayed) = is_right said replayed
-IsAnswerOf is_right said (Err fault) = IsReplayFault said fault
-
--- the status is the exit status of such an answer for a text that says this
-abbrev pub IsStatus : (Result (ℕ × List (ℕ × Event)) ScriptFault → Replayed → Type 0)
-    → Result (ℕ × List (ℕ × Event)) ScriptFault → ℕ → Type 0
-IsStatus is_right said status =
-    (answer : Result Replayed ReplayFault) × IsAnswerOf is_right said answer × (status ≡ exit_code_of answer)

@@ -43,11 +43,6 @@ IsReplay (Err fault) replayed old new = ⊥
 IsReplay (Ok said) replayed old new =
     (status : Status) × Ends replayed status said.1 (first_state said.0) × Appends old new (replay_text replayed status)
 
--- the text has no fault, and its events on a fresh core have this answer, whatever is printed
-abbrev pub IsAnswer : Result (ℕ × List (ℕ × Event)) ScriptFault → Replayed → Type 0
-IsAnswer (Err fault) replayed = ⊥
-IsAnswer (Ok said) replayed = (status : Status) × Ends replayed status said.1 (first_state said.0)
-
 -- `Script` has the first fault of the text; `Memory` and `Write` are returned only if the text has no fault; `Read` may
 -- be returned for any text
 abbrev pub IsReplayFault : Result (ℕ × List (ℕ × Event)) ScriptFault → ReplayFault → Type 0

@@ -1,4 +1,5 @@
--- How reading ends, and the causes of read and write faults. `answers` and `fails` describe single calls on a stream.
+-- How reading ends, the causes of read and write faults, and streams that were let go. `answers`, `fails` and `gone`
+-- describe single calls on a stream.
 use Rattle.std.specs.Prelude.{◌≡◌, ◌≢◌, ◌⊎◌, ◌<◌, ◌≤◌, ◌+◌, ℕ, List, [], ◌∷◌, length, All, Result, Ok, Err}
 use Rattle.std.specs.IoError.{error_kind}
 use Rattle.std.specs.declared.io.Error.{Error}
@@ -62,3 +63,7 @@ HasRead answers n old new = HasEnded answers n old new ⊎ IsTooMuch answers n o
 -- the cause of a write fault: the last call on the writer returned an error
 abbrev pub IsWriteFault : {W : Type 0} → (W → W → Type 0) → W → Type 0
 IsWriteFault {W} fails new = (before : W) × fails before new
+
+-- a stream was let go, and this holds of it as it then was
+abbrev pub LetGo : {S : Type 0} → (S → Type 0) → (S → Type 0) → Type 0
+LetGo {S} gone holds = (last : S) × gone last × holds last

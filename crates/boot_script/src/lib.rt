@@ -55,6 +55,6 @@ pub use printing::{print_refused, print_status};
 pub use reading::{ReadFault, read_script};
 pub use report_printing::print_report;
 pub use run::{replay, replay_on};
-pub use streams::{Sink, Source};
+pub use streams::{Handover, Sink, Source};
 pub use text::number as parse_number;
 pub use version::Version;

@@ -5,8 +5,8 @@ ghost use Rattle.std.specs.Io.KnownBytes.{Appends, Keeps};
 ghost use Rattle.event_theory.specs.States.{first_state};
 ghost use Rattle.quaject_core.specs.ShownCores.{state};
 ghost use Rattle.boot_script.specs.Scripts.{text_events};
-ghost use Rattle.boot_script.specs.Replays.{Replays, replay_text, IsReplay, IsAnswer, IsReplayFault, Ends};
-ghost use Rattle.boot_script.specs.StreamFaults.{HasRead, IsReadFault, IsWriteFault};
+ghost use Rattle.boot_script.specs.Replays.{Replays, replay_text, IsReplay, IsReplayFault, Ends};
+ghost use Rattle.boot_script.specs.StreamFaults.{HasRead, IsReadFault, IsWriteFault, LetGo};
 
 use crate::events::parse_events;
 use crate::fault::ScriptRefusal;
@@ -14,7 +14,7 @@ use crate::opening::MOST_BYTES;
 use crate::outcome::{ReplayFault, Replayed};
 use crate::printing::{print_refused, print_status};
 use crate::reading::read_script;
-use crate::streams::{Sink, Source};
+use crate::streams::{Handover, Sink, Source};
 use event_theory::{Event, Refusal, Status};
 use quaject_core::Core;
 use std::alloc::Global;
@@ -123,20 +123,25 @@ pub fn replay_on<R: Source, W: Sink>(
     run_text(alloc, &buffer[..filled], writer)
 }
 
-/// As `replay_on`, for a reader and a writer that are handed over.
-pub fn replay<R: Source + Drop, W: Sink + Drop>(
+/// As `replay_on`, for a reader and a writer that are handed over. The last step is to let both go: nothing is read or
+/// written after the answer or the fault.
+pub fn replay<R: Source + Handover, W: Sink + Handover>(
     alloc: Global,
     mut reader: R,
     mut writer: W,
 ) -> Result<Replayed, ReplayFault>
-    ensures ok { IfOk result (λ replayed. IfSome (R.remaining reader) (λ bytes. IsAnswer
-        (text_events bytes) replayed)) }
+    ensures ok { IfOk result (λ replayed. LetGo W.gone (λ last. IfSome (R.remaining reader) (λ bytes. IsReplay
+        (text_events bytes) replayed (W.contents writer) (W.contents last)))) }
     ensures fault { IfErr result (λ fault. IfSome (R.remaining reader) (λ bytes. IsReplayFault
         (text_events bytes) fault)) }
-    ensures read { IfErr result (λ fault. fault ≡ ReplayFault.Read
-        → (last : R) × IsReadFault R.answers reader last) }
-    ensures trace { result ≢ Err ReplayFault.Read → (last : R) × (n : ℕ) × HasRead R.answers n reader last }
-    ensures write { IfErr result (λ fault. fault ≡ ReplayFault.Write → (last : W) × IsWriteFault W.fails last) }
+    ensures unwritten { IfErr result (λ fault. fault ≢ ReplayFault.Write
+        → LetGo W.gone (λ last. Keeps (W.contents writer) (W.contents last))) }
+    ensures read { IfErr result (λ fault. fault ≡ ReplayFault.Read → LetGo R.gone (IsReadFault R.answers reader)) }
+    ensures trace { result ≢ Err ReplayFault.Read → LetGo R.gone (λ last. (n : ℕ) × HasRead R.answers n reader last) }
+    ensures write { IfErr result (λ fault. fault ≡ ReplayFault.Write → LetGo W.gone (IsWriteFault W.fails)) }
 {
-    replay_on(alloc, &mut reader, &mut writer)
+    let answer = replay_on(alloc, &mut reader, &mut writer);
+    reader.let_go();
+    writer.let_go();
+    answer
 }

@@ -2,13 +2,16 @@
 //!
 //! A fault of a stream has to have its cause. `answers` and `fails` carry the cause. Code that is generic over a stream
 //! knows of them only what a call ensured. A contract that names one of them therefore states that the call was made.
+//! `gone` names a stream that was handed over, as it was when it was let go: no call on it came later.
 
-ghost use Rattle.std.specs.Prelude.{◌≡◌, ℕ, List, Result, ⊤, OnOk, OnErr};
+ghost use Rattle.std.specs.Prelude.{◌≡◌, ◌++◌, ℕ, List, Result, ⊤, IfSome, OnOk, OnErr};
 ghost use Rattle.std.specs.declared.io.Error.{Error};
 ghost use Rattle.std.specs.Io.{ReadsAtMost};
 ghost use Rattle.std.specs.Io.KnownBytes.{Appends, ReadConsumes};
+ghost use Rattle.boot_script.specs.Printed.{end_of_line};
 ghost use Rattle.boot_script.specs.StreamFaults.{IsWriteFault};
 
+use std::fmt::Display;
 use std::io;
 use std::io::{Read, Write};
 
@@ -41,6 +44,12 @@ pub trait Sink: Write {
     fn write_text(&mut self, text: &[u8]) -> io::Result<()>
         ensures bytes { OnOk result (Appends (Self.contents self.old) (Self.contents self.new) text.now) }
         ensures failed { OnErr result (fails self.old self.new) };
+
+    /// Writes the text of a value and an end of line, by `write_fmt`.
+    fn write_line<D: Display + Drop>(&mut self, line: D) -> io::Result<()>
+        ensures bytes { OnOk result (IfSome (D.output line) (λ text. Appends (Self.contents self.old)
+            (Self.contents self.new) (text ++ end_of_line))) }
+        ensures failed { OnErr result (fails self.old self.new) };
 }
 
 impl<W: Write> Sink for W {
@@ -48,6 +57,28 @@ impl<W: Write> Sink for W {
 
     fn write_text(&mut self, text: &[u8]) -> io::Result<()> {
         self.write_all(text)
+    }
+
+    fn write_line<D: Display + Drop>(&mut self, line: D) -> io::Result<()> {
+        writeln!(self, "{line}")
+    }
+}
+
+/// A stream that can be handed over. Every stream that can be dropped is one.
+pub trait Handover: Drop {
+    /// This stream was let go.
+    ghost gone: { Self → Type 0 };
+
+    /// Lets the stream go.
+    fn let_go(self)
+        ensures { gone self };
+}
+
+impl<S: Drop> Handover for S {
+    ghost gone = { λ _. ⊤ };
+
+    fn let_go(self) {
+        drop(self);
     }
 }
 

@@ -32,7 +32,3 @@ usage_words = codes "usage: draw < LIST" ++ end_of_line
 -- the answer is correct for the bytes that were read, if known; if a drawing was printed, exactly its page is appended
 abbrev pub IsDrawingOf : Option (List ℕ) → Result Replayed ReplayFault → Option (List ℕ) → Option (List ℕ) → Type 0
 IsDrawingOf known answer old new = AnswersInput IsDrawing known answer old new
-
--- the text has no fault, and its events on a fresh core have this answer, whatever is printed
-abbrev pub IsAnswer : Result (ℕ × List (ℕ × Event)) ScriptFault → Replayed → Type 0
-IsAnswer said replayed = (page : List ℕ) × IsDrawn said replayed page

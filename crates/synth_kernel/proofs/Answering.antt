@@ -1,14 +1,37 @@
 -- Answers of a boot, from those of its parts.
-use Rattle.synth_kernel.proofs.Common.{◌≡◌, ℕ, suc, ◌+◌, List, [], ◌∷◌, length, Option, Some, None, refl, sym, ap, subst, ◌∙◌, AllByRecursion, BootPlan, TornDown, Calls, Shared, Parts, LogEntry, Leaves, HooksSaw, BootWithHooks, ◌==◌, Result, Ok, Err, IfOk, eq-eqb, ne_eqb, Tended, HookedTurns, TendedBy, Ended, IsLogOf, AreLogs, LogsHaveTurns, HookSaw, SawNothing, CameBackPlain, IsRun, Says, IsBoot, IsBootAnswer, RunsOf}
+use Rattle.synth_kernel.proofs.Common.{◌≡◌, ℕ, suc, ◌+◌, List, [], ◌∷◌, length, Option, Some, None, refl, sym, ap, subst, ◌∙◌, AllByRecursion, BootPlan, TornDown, Calls, Shared, Parts, LogEntry, Leaves, HooksSaw, BootWithHooks, ◌==◌, Result, Ok, Err, IfOk, eq-eqb, ne_eqb, Tended, HookedTurns, TendedBy, Ended, IsLogOf, AreLogs, LogsHaveTurns, HookSaw, SawNothing, CameBackPlain, IsRun, Says, IsBoot, ended_in, IfErr, ◌≢◌, LetGo, RunsOf}
 use Rattle.std.specs.Option.{is_some}
 use Rattle.boot_laws.specs.ClosedTables.{ClosedTables}
 use Rattle.turn_io.specs.declared.gate.NoGate.{NoGate}
 use Rattle.synth_kernel.specs.declared.printing.Booted.{Booted}
 use Rattle.synth_kernel.specs.declared.outcome.BootFault.{BootFault}
 
--- the answer alone
-pub alone : (Did : BootPlan → ClosedTables → List (List LogEntry) → Type 0) (read : Option (List ℕ)) (ended : Ended) (old new : Option (List ℕ)) → IsBoot Did read ended old new → IsBootAnswer Did read ended
-alone Did read ended old new boot = record { plan = boot.plan; says = boot.says; report = boot.run.report; booted = boot.run.booted; ends = boot.run.ends }
+-- the answer of a boot alone, after its streams were let go
+module _ {G : Type 0} (answer : Result (Booted G) BootFault) (ended : Result Ended BootFault) (is : ended ≡ ended_in answer) where
+  ok_alone : (Did : List G → TornDown → BootPlan → ClosedTables → List (List LogEntry) → Type 0) (read : Option (List ℕ)) {O : Type 0} (gone : O → Type 0) (contents : O → Option (List ℕ)) (old : Option (List ℕ)) (end : O) → gone end
+      → (answer : Result (Booted G) BootFault) → IfOk answer (λ booted. IsBoot (Did booted.gates.items booted.closed) read booted.ended old (contents end))
+      → IfOk (ended_in answer) (λ e. (back : List G) × (closed : TornDown) × LetGo gone (λ last. IsBoot (Did back closed) read e old (contents last)))
+  ok_alone Did read gone contents old end went (Ok booted) boot = (booted.gates.items, booted.closed, (end, went, boot))
+  ok_alone Did read gone contents old end went (Err fault) boot = tt
+
+  pub let_go_ok : (Did : List G → TornDown → BootPlan → ClosedTables → List (List LogEntry) → Type 0) (read : Option (List ℕ)) {O : Type 0} (gone : O → Type 0) (contents : O → Option (List ℕ)) (old : Option (List ℕ)) (end : O) → gone end
+      → IfOk answer (λ booted. IsBoot (Did booted.gates.items booted.closed) read booted.ended old (contents end))
+      → IfOk ended (λ e. (back : List G) × (closed : TornDown) × LetGo gone (λ last. IsBoot (Did back closed) read e old (contents last)))
+  let_go_ok Did read gone contents old end went boot =
+      subst (λ (z : Result Ended BootFault). IfOk z (λ e. (back : List G) × (closed : TornDown) × LetGo gone (λ last. IsBoot (Did back closed) read e old (contents last)))) (sym is) (ok_alone Did read gone contents old end went answer boot)
+
+  fault_alone : (P Q : BootFault → Type 0) → ((fault : BootFault) → P fault → Q fault) → (answer : Result (Booted G) BootFault) → IfErr answer P → IfErr (ended_in answer) Q
+  fault_alone P Q more (Ok booted) h = tt
+  fault_alone P Q more (Err fault) h = more fault h
+
+  pub let_go_fault : (P Q : BootFault → Type 0) → ((fault : BootFault) → P fault → Q fault) → IfErr answer P → IfErr ended Q
+  let_go_fault P Q more h = subst (λ (z : Result Ended BootFault). IfErr z Q) (sym is) (fault_alone P Q more answer h)
+
+  pub same_fault : (P : BootFault → Type 0) → IfErr answer P → IfErr ended P
+  same_fault P h = let_go_fault P P (λ fault it. it) h
+
+  pub other_answer : (fault : BootFault) → ended ≢ Err fault → answer ≢ Err fault
+  other_answer fault h = λ e. h (is ∙ ap ended_in e)
 
 module _ {G : Type 0} (ran : RunsOf G) (shown : TornDown → Type 0) (T : Calls G) (turns : ℕ) (gates : List G) where
   pub boots : (read : Option (List ℕ)) (answer : Result (Booted G) BootFault) (plan : BootPlan) (old new : Option (List ℕ)) → Says read plan

@@ -1,5 +1,5 @@
 -- The names from elsewhere that several proofs of this crate cite, passed on from one place. Declares nothing.
-pub use Rattle.std.proofs.Common.{Bool, Err, IfOk, IsOk, List, None, Ok, Option, Result, Some, [], ap, append-nil, append_assoc, arith, drop, eq-eqb, false, flat_map, inl, inr, length, length-append, map, ne_eqb, refl, rules, slice_get, subst, suc, sym, take, true, vec_capacity, vec_len, zero, ℕ, ◌%◌, ◌++◌, ◌+◌, ◌<◌, ◌==◌, ◌∙◌, ◌∷◌, ◌≡◌, ◌≤◌}
+pub use Rattle.std.proofs.Common.{Bool, Err, IfErr, IfOk, IsOk, List, None, Ok, Option, Result, Some, [], ap, append-nil, append_assoc, arith, drop, eq-eqb, false, flat_map, inl, inr, length, length-append, map, ne_eqb, refl, rules, slice_get, subst, suc, sym, take, true, vec_capacity, vec_len, zero, ℕ, ◌%◌, ◌++◌, ◌+◌, ◌<◌, ◌==◌, ◌∙◌, ◌∷◌, ◌≡◌, ◌≢◌, ◌≤◌}
 pub use Rattle.std.proofs.lemmas.List.{length-map, map-append, nil_from_length}
 pub use Rattle.std.specs.List.{All, AllByRecursion, AllZip}
 pub use Rattle.std.specs.Vec.Iter.{into_iter_items, into_iter_len}
@@ -15,6 +15,7 @@ pub use Rattle.boot_objects.specs.declared.closing.all.TornDown.{TornDown}
 pub use Rattle.boot_objects.specs.declared.device.Device.{Device}
 pub use Rattle.boot_report.specs.Reported.{IsReported, lines_of}
 pub use Rattle.boot_report.specs.declared.ttys.Typed.{Typed}
+pub use Rattle.boot_script.specs.StreamFaults.{LetGo}
 pub use Rattle.boot_threads.proofs.Allowing.{all_may, as_many_posts, as_many_works}
 pub use Rattle.boot_threads.proofs.Firstness.{all_back, all_free, can_split_eight}
 pub use Rattle.boot_threads.proofs.Preparedness.{first_prepared, freed_spare}
@@ -43,7 +44,7 @@ pub use Rattle.spsc_line.specs.Lines.{IsLine, bytes_received}
 pub use Rattle.spsc_line.specs.declared.line_in.LineIn.{LineIn}
 pub use Rattle.stations.specs.Partings.{AllJoined, AreJoined}
 pub use Rattle.stations.specs.Splits.{AllThree}
-pub use Rattle.synth_kernel.specs.Boots.{AreLogs, BootWithHooks, CameBackPlain, DidAll, HookSaw, HooksSaw, IsBoot, IsBootAnswer, IsBootOf, IsLogOf, IsRun, LogsHaveTurns, SawNothing, Says}
+pub use Rattle.synth_kernel.specs.Boots.{AreLogs, BootWithHooks, CameBackPlain, DidAll, HookSaw, HooksSaw, IsBoot, IsBootOf, IsLogOf, IsRun, LogsHaveTurns, SawNothing, Says, ended_in}
 pub use Rattle.synth_kernel.specs.Gatherings.{TotalsAre, all_there, processed_in, served_in, tty_of}
 pub use Rattle.synth_kernel.specs.Readies.{HasPlaces, IsReady}
 pub use Rattle.synth_kernel.specs.Stops.{HasStopped}

@@ -176,14 +176,10 @@ pub record IsBoot (Did : BootPlan → ClosedTables → List (List LogEntry) → 
   pub says : Says read plan
   pub run : IsRun Did plan ended old new
 
--- a boot of some plan gave the answer; the bytes read, if the reader reports them, parse as this plan
-pub record IsBootAnswer (Did : BootPlan → ClosedTables → List (List LogEntry) → Type 0) (read : Option (List ℕ))
-    (ended : Ended) : Type 0 where
-  pub plan : BootPlan
-  pub says : Says read plan
-  pub report : Report
-  pub booted : IsBootOf Did plan report
-  pub ends : ended ≡ ended_of (live_threads report)
+-- the answer of a boot alone
+abbrev pub ended_in : {G : Type 0} → Result (Booted G) BootFault → Result Ended BootFault
+ended_in (Ok booted) = Ok booted.ended
+ended_in (Err fault) = Err fault
 
 -- FAILURES
 

@@ -1,17 +1,17 @@
 //! A boot, from the bytes of its script to the printed report.
-ghost use Rattle.std.specs.Prelude.{◌≡◌, ◌≢◌, ◌≤◌, List, vec_len, IfOk, IfErr, IfSome};
+ghost use Rattle.std.specs.Prelude.{◌≡◌, ◌≢◌, ◌≤◌, ℕ, List, vec_len, Err, IfOk, IfErr, IfSome};
 ghost use Rattle.std.specs.Io.KnownBytes.{Keeps};
 ghost use Rattle.boot_script.specs.Plans.{text_plan};
-ghost use Rattle.boot_script.specs.StreamFaults.{IsReadFault, IsWriteFault};
+ghost use Rattle.boot_script.specs.StreamFaults.{HasRead, IsReadFault, IsWriteFault, LetGo};
 ghost use Rattle.boot_objects.specs.declared.closing.all.TornDown.{TornDown};
 ghost use Rattle.processor.specs.Points.{calls};
-ghost use Rattle.synth_kernel.specs.Boots.{BootWithHooks, CameBackPlain, HasNumbers, IsBoot, IsBootAnswer};
-ghost use Rattle.synth_kernel.specs.Boots.{IsBootFault, IsRead};
+ghost use Rattle.synth_kernel.specs.Boots.{BootWithHooks, CameBackPlain, HasNumbers, IsBoot, IsBootFault};
+ghost use Rattle.synth_kernel.specs.Boots.{IsRead, ended_in};
 
 use crate::outcome::{BootFault, Ended};
 use crate::printing::{Booted, boot_and_print};
 use boot_data::BootPlan;
-use boot_script::{ScriptRefusal, Sink, Source, parse_boot, read_script};
+use boot_script::{Handover, ScriptRefusal, Sink, Source, parse_boot, read_script};
 use boot_threads::{Witness, Work, Worked};
 use event_theory::OutOfMemory;
 use processor::{Shared, TurnGate};
@@ -42,6 +42,7 @@ fn read_plan<I: Source>(alloc: Global, reader: &mut I) -> Result<BootPlan, BootF
     ensures read { IfSome (I.remaining reader.old) (λ bytes. IsRead (text_plan bytes) result) }
     ensures unwritten { IfErr result (λ fault. fault ≢ BootFault.Write) }
     ensures error { IfErr result (λ fault. fault ≡ BootFault.Read → IsReadFault I.answers reader.old reader.new) }
+    ensures trace { result ≢ Err BootFault.Read → (n : ℕ) × HasRead I.answers n reader.old reader.new }
 {
     let mut buffer = [0u8; BUFFER_BYTES];
     let filled = read_script(reader, &mut buffer)?;
@@ -64,8 +65,8 @@ pub(crate) fn no_gates(alloc: Global, processors: u8) -> Result<Vec<NoGate>, Out
 ///
 /// After a fault other than `Write` nothing was written. `Memory` is returned only if the text is valid: an allocation
 /// was refused, or a thread could not be started. `Read` is returned only if the last call on the reader returned an
-/// error other than an interruption, or at 131,072 calls. `Write` is returned only if the last call on the writer
-/// returned an error.
+/// error other than an interruption, or at 131,072 calls. Any other answer comes only if the last call found the end,
+/// or read a byte too much. `Write` is returned only if the last call on the writer returned an error.
 ///
 /// Condition: there are 1 to 8 processors.
 pub fn boot_on<R, I, O>(
@@ -89,6 +90,7 @@ where
     ensures unwritten { IfErr result (λ fault. fault ≢ BootFault.Write
         → Keeps (O.contents writer.old) (O.contents writer.new)) }
     ensures read { IfErr result (λ fault. fault ≡ BootFault.Read → IsReadFault I.answers reader.old reader.new) }
+    ensures trace { result ≢ Err BootFault.Read → (n : ℕ) × HasRead I.answers n reader.old reader.new }
     ensures write { IfErr result (λ fault. fault ≡ BootFault.Write → IsWriteFault O.fails writer.new) }
 {
     let plan = read_plan(alloc, reader)?;
@@ -126,13 +128,30 @@ where
     ensures unwritten { IfErr result (λ fault. fault ≢ BootFault.Write
         → Keeps (O.contents writer.old) (O.contents writer.new)) }
     ensures read { IfErr result (λ fault. fault ≡ BootFault.Read → IsReadFault I.answers reader.old reader.new) }
+    ensures trace { result ≢ Err BootFault.Read → (n : ℕ) × HasRead I.answers n reader.old reader.new }
     ensures write { IfErr result (λ fault. fault ≡ BootFault.Write → IsWriteFault O.fails writer.new) }
 {
     let plan = read_plan(alloc, reader)?;
     boot_and_print(rt, alloc, plan, writer, processors, turns, gates)
 }
 
-/// Boots the script as `boot_on` does, with a reader and a writer that are handed over.
+// The answer of a boot alone. All else that came of the boot is dropped.
+fn ended_alone<G: Drop>(answer: Result<Booted<G>, BootFault>) -> Result<Ended, BootFault>
+    ensures { result ≡ ended_in answer }
+{
+    match answer {
+        Ok(booted) => {
+            let ended = booted.ended();
+            // A call drops all fields. Without it the proof goes through each of them here, which takes long.
+            drop(booted);
+            Ok(ended)
+        }
+        Err(fault) => Err(fault),
+    }
+}
+
+/// Boots the script as `boot_on` does, with a reader and a writer that are handed over. The last step is to let both go:
+/// nothing is read or written after the answer or the fault.
 ///
 /// Condition: there are 1 to 8 processors.
 pub fn boot<R, I, O>(
@@ -145,24 +164,29 @@ pub fn boot<R, I, O>(
 ) -> Result<Ended, BootFault>
 where
     R: Witness<Shared, Worked<NoGate>, Work<NoGate>> + Wait + Sync,
-    I: Source + Drop,
-    O: Sink + Drop,
+    I: Source + Handover,
+    O: Sink + Handover,
     requires { (1 ≤ processors) × (processors ≤ 8) }
-    ensures ok { IfOk result (λ ended. (back : List NoGate) × (closed : TornDown)
-        × IsBootAnswer (CameBackPlain R.ran R.shown processors turns back closed) (I.remaining reader) ended) }
+    ensures ok { IfOk result (λ ended. (back : List NoGate) × (closed : TornDown) × LetGo O.gone (λ last. IsBoot
+        (CameBackPlain R.ran R.shown processors turns back closed) (I.remaining reader)
+        ended (O.contents writer) (O.contents last))) }
     ensures fault { IfErr result (λ fault. IfSome (I.remaining reader) (λ bytes. IsBootFault (text_plan bytes)
         fault)) }
-    ensures read { IfErr result (λ fault. fault ≡ BootFault.Read → (last : I) × IsReadFault I.answers reader last) }
-    ensures write { IfErr result (λ fault. fault ≡ BootFault.Write → (last : O) × IsWriteFault O.fails last) }
+    ensures unwritten { IfErr result (λ fault. fault ≢ BootFault.Write
+        → LetGo O.gone (λ last. Keeps (O.contents writer) (O.contents last))) }
+    ensures read { IfErr result (λ fault. fault ≡ BootFault.Read → LetGo I.gone (IsReadFault I.answers reader)) }
+    ensures trace { result ≢ Err BootFault.Read → LetGo I.gone (λ last. (n : ℕ) × HasRead I.answers n reader last) }
+    ensures write { IfErr result (λ fault. fault ≡ BootFault.Write → LetGo O.gone (IsWriteFault O.fails)) }
 {
-    let booted = boot_on(rt, alloc, &mut reader, &mut writer, processors, turns)?;
-    let ended = booted.ended();
-    // A call drops all fields. Without it the proof goes through each of them here, which takes long.
-    drop(booted);
-    Ok(ended)
+    let answer = boot_on(rt, alloc, &mut reader, &mut writer, processors, turns);
+    let ended = ended_alone(answer);
+    reader.let_go();
+    writer.let_go();
+    ended
 }
 
-/// Boots the script as `boot_on_with` does, with a reader and a writer that are handed over. The gates don't come back.
+/// Boots the script as `boot_on_with` does, with a reader and a writer that are handed over. The last step is to let
+/// both go. The gates don't come back.
 ///
 /// Conditions: there are 1 to 8 processors, and a gate for each.
 pub fn boot_with<R, I, O, G>(
@@ -176,19 +200,23 @@ pub fn boot_with<R, I, O, G>(
 ) -> Result<Ended, BootFault>
 where
     R: Witness<Shared, Worked<G>, Work<G>> + Wait + Sync,
-    I: Source + Drop,
-    O: Sink + Drop,
+    I: Source + Handover,
+    O: Sink + Handover,
     G: TurnGate + Send + Drop,
     requires number { (1 ≤ processors) × (processors ≤ 8) }
     requires gates { vec_len gates ≡ processors }
-    ensures ok { IfOk result (λ ended. (back : List G) × (closed : TornDown)
-        × IsBootAnswer (BootWithHooks R.ran R.shown (calls G.observes G.learns) turns gates.items back closed) (I.remaining reader) ended) }
+    ensures ok { IfOk result (λ ended. (back : List G) × (closed : TornDown) × LetGo O.gone (λ last. IsBoot
+        (BootWithHooks R.ran R.shown (calls G.observes G.learns) turns gates.items back closed) (I.remaining reader)
+        ended (O.contents writer) (O.contents last))) }
     ensures fault { IfErr result (λ fault. IfSome (I.remaining reader) (λ bytes. IsBootFault (text_plan bytes)
         fault)) }
-    ensures read { IfErr result (λ fault. fault ≡ BootFault.Read → (last : I) × IsReadFault I.answers reader last) }
-    ensures write { IfErr result (λ fault. fault ≡ BootFault.Write → (last : O) × IsWriteFault O.fails last) }
+    ensures unwritten { IfErr result (λ fault. fault ≢ BootFault.Write
+        → LetGo O.gone (λ last. Keeps (O.contents writer) (O.contents last))) }
+    ensures read { IfErr result (λ fault. fault ≡ BootFault.Read → LetGo I.gone (IsReadFault I.answers reader)) }
+    ensures trace { result ≢ Err BootFault.Read → LetGo I.gone (λ last. (n : ℕ) × HasRead I.answers n reader last) }
+    ensures write { IfErr result (λ fault. fault ≡ BootFault.Write → LetGo O.gone (IsWriteFault O.fails)) }
 {
-    let booted = boot_on_with(
+    let answer = boot_on_with(
         rt,
         alloc,
         &mut reader,
@@ -196,8 +224,9 @@ where
         processors,
         turns,
         gates,
-    )?;
-    let ended = booted.ended();
-    drop(booted);
-    Ok(ended)
+    );
+    let ended = ended_alone(answer);
+    reader.let_go();
+    writer.let_go();
+    ended
 }

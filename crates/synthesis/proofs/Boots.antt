@@ -1,4 +1,4 @@
--- The answer of a boot, in the exit of a run and alone.
+-- The answer of a boot, in the exit of a run.
 use Rattle.std.proofs.Common.{◌≢◌, refl, ℕ, List, Option, Some, None, Result, Ok, Err, IfOk, IfErr, IfSome}
 use Rattle.std.specs.Result.{result_ok}
 use Rattle.std.specs.Io.KnownBytes.{Keeps}
@@ -9,8 +9,8 @@ use Rattle.synth_kernel.specs.declared.outcome.BootFault.TheVariants as boot_fau
 use Rattle.synth_kernel.specs.declared.printing.Booted.{Booted}
 use Rattle.synth_kernel.specs.Boots.{CameBackPlain, HasNumbers, IsBoot, IsBootFault}
 use Rattle.turn_io.specs.declared.gate.NoGate.{NoGate}
-use Rattle.synthesis.specs.Runs.{answer_in, BootAnswers, IsBootedBy, IsBootAnswerOf}
-use Rattle.synth_kernel.specs.Boots.{RunsOf}
+use Rattle.synth_kernel.specs.Boots.{RunsOf, ended_in}
+use Rattle.synthesis.specs.Runs.{IsBootedBy}
 use Rattle.boot_objects.specs.declared.closing.all.TornDown.{TornDown}
 
 -- what a boot returned is in the exit
@@ -19,24 +19,6 @@ pub booted_by : (ran : RunsOf NoGate) (shown : TornDown → Type 0) (read : Opti
     → IfOk answer (λ booted. IsBoot (CameBackPlain ran shown processors turns booted.gates.items booted.closed) read booted.ended old new)
     → IfErr answer (λ fault. IfSome read (λ bytes. IsBootFault (text_plan bytes) fault))
     → IfErr answer (λ fault. fault ≢ boot_faults.Write → Keeps old new)
-    → IsBootedBy ran shown read processors turns (answer_in answer) (result_ok answer) old new
+    → IsBootedBy ran shown read processors turns (ended_in answer) (result_ok answer) old new
 booted_by ran shown read processors turns (Ok booted) old new numbers boot fault unwritten = ((refl, numbers, boot), tt)
 booted_by ran shown read processors turns (Err why) old new numbers boot fault unwritten = (fault, unwritten)
-
-pub answer_alone :
-    (ran : RunsOf NoGate) (shown : TornDown → Type 0) (read : Option (List ℕ)) (processors turns : ℕ) (answer : Result endings.Ended BootFault) (booted : Option (Booted NoGate)) (old new : Option (List ℕ))
-    → BootAnswers ran shown read processors turns answer booted old new → IsBootAnswerOf ran shown read processors turns answer
-answer_alone ran shown read processors turns (Ok ended) (Some booted) old new h = (
-  booted.gates.items,
-  booted.closed,
-  record {
-    plan = h.2.plan;
-    says = h.2.says;
-    report = h.2.run.report;
-    booted = h.2.run.booted;
-    ends = h.2.run.ends;
-  },
-)
-answer_alone ran shown read processors turns (Ok ended) None old new h = absurd h
-answer_alone ran shown read processors turns (Err fault) (Some booted) old new h = absurd h
-answer_alone ran shown read processors turns (Err fault) None old new h = h

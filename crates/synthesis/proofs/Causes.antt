@@ -1,5 +1,5 @@
 -- The cause of a read or write fault, as the status of a run has it.
-use Rattle.std.proofs.Common.{◌≡◌, inl, inr, ℕ, refl, arith, Result, Ok, Err, IfErr}
+use Rattle.std.proofs.Common.{◌≡◌, ◌≢◌, inl, inr, ℕ, refl, arith, Result, Ok, Err, IfErr, sym, ap, ◌∙◌}
 use Rattle.std.specs.declared.io.Error.{Error}
 use Rattle.boot_script.specs.declared.outcome.Replayed.{Replayed}
 use Rattle.boot_script.specs.declared.outcome.Replayed.TheVariants.{AllAllowed, Refused}
@@ -10,17 +10,20 @@ use Rattle.synth_kernel.specs.declared.outcome.BootFault.{BootFault}
 use Rattle.synth_kernel.specs.declared.outcome.BootFault.TheVariants as boot_faults
 use Rattle.synth_kernel.specs.declared.printing.Booted.{Booted}
 use Rattle.turn_io.specs.declared.gate.NoGate.{NoGate}
-use Rattle.boot_script.specs.Exits.{exit_code_of}
+use Rattle.boot_script.specs.Exits.{exit_code_of, HasCause}
 use Rattle.boot_exit.specs.Exits.{HasBootCause, HasStreamFailed}
-use Rattle.synthesis.specs.Runs.{answer_in, HasCause}
+use Rattle.synth_kernel.specs.Boots.{ended_in}
 
 module _ {R W : Type 0} (answers : R → Result ℕ Error → R → Type 0) (fails : W → W → Type 0) where
   pub boot_caused : (answer : Result (Booted NoGate) BootFault) (old new : R) (written : W)
       → IfErr answer (λ fault. fault ≡ boot_faults.Read → IsReadFault answers old new)
       → IfErr answer (λ fault. fault ≡ boot_faults.Write → IsWriteFault fails written)
-      → HasBootCause answers fails (answer_in answer) old new written
+      → HasBootCause answers fails (ended_in answer) old new written
   boot_caused (Ok booted) old new written read write = tt
   boot_caused (Err fault) old new written read write = (read, write)
+
+  pub unread : (answer : Result (Booted NoGate) BootFault) → ended_in answer ≢ Err boot_faults.Read → answer ≢ Err boot_faults.Read
+  unread answer h = λ e. h (ap ended_in e)
 
   -- status 5 is that of a read or a write fault
   pub replay_failed : (answer : Result Replayed ReplayFault) (old new : R) (written : W) → exit_code_of answer ≡ 5

@@ -1,3 +1,4 @@
 pub mod Boots
 pub mod Words
 pub mod Causes
+pub mod Exiting

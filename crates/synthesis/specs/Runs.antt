@@ -1,22 +1,18 @@
--- The exit status of each run, and the words for standard error.
-use Rattle.std.specs.Prelude.{◌≡◌, ◌≢◌, ℕ, List, ◌++◌, codes, Option, Some, None, Result, Ok, Err, IfErr, IfSome}
-use Rattle.std.specs.declared.io.Error.{Error}
+-- What a run wrote, by its answer, and the words for standard error.
+use Rattle.std.specs.Prelude.{◌≡◌, ◌≢◌, ℕ, List, ◌++◌, codes, Option, Some, None, Result, Ok, Err, IfSome}
 use Rattle.std.specs.Io.KnownBytes.{Keeps}
-use Rattle.boot_exit.specs.Exits.{boot_exit_code_of}
 use Rattle.boot_script.specs.declared.outcome.Replayed.{Replayed}
 use Rattle.boot_script.specs.declared.outcome.ReplayFault.{ReplayFault}
-use Rattle.boot_script.specs.declared.outcome.ReplayFault.TheVariants.{Read, Write}
 use Rattle.boot_script.specs.Exits.{AnswersInput}
 use Rattle.boot_script.specs.Printed.{end_of_line}
 use Rattle.boot_objects.specs.declared.closing.all.TornDown.{TornDown}
 use Rattle.boot_script.specs.Plans.{text_plan}
 use Rattle.boot_script.specs.Replays.{IsReplay}
-use Rattle.boot_script.specs.StreamFaults.{IsReadFault, IsWriteFault}
 use Rattle.synth_kernel.specs.declared.outcome.Ended as endings
 use Rattle.synth_kernel.specs.declared.outcome.BootFault.{BootFault}
 use Rattle.synth_kernel.specs.declared.outcome.BootFault.TheVariants as boot_faults
 use Rattle.synth_kernel.specs.declared.printing.Booted.{Booted}
-use Rattle.synth_kernel.specs.Boots.{RunsOf, CameBackPlain, HasNumbers, IsBoot, IsBootAnswer, IsBootFault}
+use Rattle.synth_kernel.specs.Boots.{RunsOf, CameBackPlain, HasNumbers, IsBoot, IsBootFault}
 use Rattle.turn_io.specs.declared.gate.NoGate.{NoGate}
 
 -- the words for standard error if the words of the program are no command
@@ -27,17 +23,6 @@ usage_words = codes "usage: synthesis replay | synthesis boot P TURNS" ++ end_of
 -- appended; after a fault other than `Write` nothing was written
 abbrev pub IsReplayOf : Option (List ℕ) → Result Replayed ReplayFault → Option (List ℕ) → Option (List ℕ) → Type 0
 IsReplayOf known answer old new = AnswersInput IsReplay known answer old new
-
--- a read or write fault of a replay has its cause in the calls on the streams
-abbrev pub HasCause : {R W : Type 0} → (R → Result ℕ Error → R → Type 0) → (W → W → Type 0)
-    → Result Replayed ReplayFault → R → R → W → Type 0
-HasCause answers fails answer old new written = IfErr answer (λ fault.
-    (fault ≡ Read → IsReadFault answers old new) × (fault ≡ Write → IsWriteFault fails written))
-
--- the answer of a boot alone
-abbrev pub answer_in : Result (Booted NoGate) BootFault → Result endings.Ended BootFault
-answer_in (Ok booted) = Ok booted.ended
-answer_in (Err fault) = Err fault
 
 -- The answer of a boot on this many processors, with this many turns each, is correct for what was read. If the report
 -- was printed, exactly the report is appended, and `booted` has this answer and both numbers; else `booted` is None
@@ -61,16 +46,3 @@ abbrev pub IsBootedBy : RunsOf NoGate → (TornDown → Type 0) → Option (List
     → Result endings.Ended BootFault → Option (Booted NoGate) → Option (List ℕ) → Option (List ℕ) → Type 0
 IsBootedBy ran shown read processors turns answer booted old new =
     BootAnswers ran shown read processors turns answer booted old new × IsBootUnwritten answer old new
-
--- the answer of a boot is correct for what was read, whatever was written
-abbrev pub IsBootAnswerOf : RunsOf NoGate → (TornDown → Type 0) → Option (List ℕ) → ℕ → ℕ
-    → Result endings.Ended BootFault → Type 0
-IsBootAnswerOf ran shown read processors turns (Ok ended) = (back : List NoGate) × (closed : TornDown)
-    × IsBootAnswer (CameBackPlain ran shown processors turns back closed) read ended
-IsBootAnswerOf ran shown read processors turns (Err fault) = IfSome read (λ bytes. IsBootFault (text_plan bytes) fault)
-
--- the status is the exit status of a boot of what was read, on this many processors, with this many turns of each
-abbrev pub IsBootStatus : RunsOf NoGate → (TornDown → Type 0) → Option (List ℕ) → ℕ → ℕ → ℕ
-    → Type 0
-IsBootStatus ran shown read processors turns status = (answer : Result endings.Ended BootFault)
-    × IsBootAnswerOf ran shown read processors turns answer × (status ≡ boot_exit_code_of answer)

@@ -11,12 +11,12 @@ returns-in-Some-clause-view g c = λ command asked. (
       (one_command _ c.in-Some.command command c.in-Some.ensures.some asked)
       c.view_on-answer.ensures.ok c.view_on-answer.ensures.fault c.view_on-answer.ensures.unwritten,
   caused g.R.Source.answers g.W.Sink.fails c.view_on-answer.result c.args.reader.now c.view_on-answer.new.reader c.view_on-answer.new.writer c.view_on-answer.ensures.read c.view_on-answer.ensures.write,
-  c.after_boot.ensures,
+  c.after_boot.ensures.exit,
 )
 
 pub returns-in-Some-clause-error : goal.returns-in-Some-clause-error
 returns-in-Some-clause-error g c = λ five.
-    boot_failed g.R.Source.answers g.W.Sink.fails c.view_on-answer.result c.args.reader.now c.view_on-answer.new.reader c.view_on-answer.new.writer (sym c.after_boot.ensures.0 ∙ five)
+    boot_failed g.R.Source.answers g.W.Sink.fails c.view_on-answer.result c.args.reader.now c.view_on-answer.new.reader c.view_on-answer.new.writer (sym c.after_boot.ensures.exit.0 ∙ five)
     (caused g.R.Source.answers g.W.Sink.fails c.view_on-answer.result c.args.reader.now c.view_on-answer.new.reader c.view_on-answer.new.writer c.view_on-answer.ensures.read c.view_on-answer.ensures.write)
 
 pub returns-in-None-clause-view : goal.returns-in-None-clause-view

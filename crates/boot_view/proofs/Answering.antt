@@ -13,25 +13,27 @@ says_read None script plan same says = same
 says_read (Some bytes) script plan same says = same ∙ says
 
 -- a boot of the script that was read is a boot of what was read
-pub booted_read : {C : Type 0} (ran : RunsOf (Recorder C)) (shown : TornDown → Type 0) (T : Calls (Recorder C)) (clock : C) (from : ℕ) (command : Command) (read : Option (List ℕ)) (script report : List ℕ) (booted : Booted (Recorder C))
-    → IfSome read (λ bytes. text_plan bytes ≡ text_plan script) → HasBooted ran shown T clock from command (Some script) report booted → HasBooted ran shown T clock from command read report booted
-booted_read ran shown T clock from command read script report booted same came = record {
+pub booted_read : {C : Type 0} (ran : RunsOf (Recorder C)) (shown : TornDown → Type 0) (T : Calls (Recorder C)) (made : List (Recorder C) → Type 0) (clock : C) (from : ℕ) (command : Command) (read : Option (List ℕ)) (script report : List ℕ) (booted : Booted (Recorder C))
+    → IfSome read (λ bytes. text_plan bytes ≡ text_plan script) → HasBooted ran shown T made clock from command (Some script) report booted → HasBooted ran shown T made clock from command read report booted
+booted_read ran shown T made clock from command read script report booted same came = record {
   recorders = came.recorders;
+  all_made = came.all_made;
   many = came.many;
-  empty = came.empty;
+  new = came.new;
   boot = record { plan = came.boot.plan; says = says_read read script came.boot.plan same came.boot.says; run = came.boot.run };
 }
 
 -- the page of the script that was read is the page of what was read
-pub viewed_read : {C : Type 0} (ran : RunsOf (Recorder C)) (shown : TornDown → Type 0) (T : Calls (Recorder C)) (clock : C) (said : ℕ → Type 0) (command : Command) (read : Option (List ℕ)) (script : List ℕ) (ended : Ended) (page : List ℕ)
-    → IfSome read (λ bytes. text_plan bytes ≡ text_plan script) → IsViewed ran shown T clock said command (Some script) ended page → IsViewed ran shown T clock said command read ended page
+pub viewed_read : {C : Type 0} (ran : RunsOf (Recorder C)) (shown : TornDown → Type 0) (T : Calls (Recorder C)) (made : List (Recorder C) → Type 0) (gone : Booted (Recorder C) → Type 0) (clock : C) (said : ℕ → Type 0) (command : Command) (read : Option (List ℕ)) (script : List ℕ) (ended : Ended) (page : List ℕ)
+    → IfSome read (λ bytes. text_plan bytes ≡ text_plan script) → IsViewed ran shown T made gone clock said command (Some script) ended page → IsViewed ran shown T made gone clock said command read ended page
 unfolding booted_read
-viewed_read ran shown T clock said command read script ended page same viewed = record {
+viewed_read ran shown T made gone clock said command read script ended page same viewed = record {
   from = viewed.from;
   from_said = viewed.from_said;
   booted = viewed.booted;
   report = viewed.report;
-  came = booted_read ran shown T clock viewed.from command read script viewed.report viewed.booted same viewed.came;
+  came = booted_read ran shown T made clock viewed.from command read script viewed.report viewed.booted same viewed.came;
+  let_go = viewed.let_go;
   ended_is = viewed.ended_is;
   plan = viewed.plan;
   plan_is = viewed.plan_is;
@@ -56,7 +58,7 @@ hooks_many ran T shared p turns (gate ∷ gates) (gate' ∷ back) [] saw = absur
 hooks_many ran T shared p turns (gate ∷ gates) (gate' ∷ back) (log ∷ logs) saw = ap suc (hooks_many ran T shared (p + 1) turns gates back logs saw.1)
 
 -- as many recorders come back as there are processors
-pub back_many : {C : Type 0} (ran : RunsOf (Recorder C)) (shown : TornDown → Type 0) (T : Calls (Recorder C)) (clock : C) (from : ℕ) (command : Command) (read : Option (List ℕ)) (report : List ℕ) (booted : Booted (Recorder C)) → HasBooted ran shown T clock from command read report booted → length booted.gates.items ≡ command.processors
-back_many ran shown T clock from command read report booted came =
+pub back_many : {C : Type 0} (ran : RunsOf (Recorder C)) (shown : TornDown → Type 0) (T : Calls (Recorder C)) (made : List (Recorder C) → Type 0) (clock : C) (from : ℕ) (command : Command) (read : Option (List ℕ)) (report : List ℕ) (booted : Booted (Recorder C)) → HasBooted ran shown T made clock from command read report booted → length booted.gates.items ≡ command.processors
+back_many ran shown T made clock from command read report booted came =
     let did = came.boot.run.booted.did in
     hooks_many ran T did.shared 0 command.turns came.recorders booted.gates.items came.boot.run.booted.logs did.reported ∙ came.many

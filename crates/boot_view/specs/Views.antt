@@ -7,7 +7,8 @@ use Rattle.boot_data.specs.BootPlans.{plan_of}
 use Rattle.boot_objects.specs.declared.closing.all.TornDown.{TornDown}
 use Rattle.boot_log.specs.declared.recorder.Recorder.{Recorder}
 use Rattle.boot_log.specs.Fronts.{IsRecordOf}
-use Rattle.boot_log.specs.Kept.{Kept, Room, nothing_kept}
+use Rattle.boot_log.specs.Kept.{Kept, Room}
+use Rattle.boot_log.specs.Recorders.{IsNewRecorder}
 use Rattle.boot_picture.specs.Pictures.{ShowsTurns}
 use Rattle.svg.specs.declared.shapes.Picture.{Picture}
 use Rattle.svg.specs.Pictures.{picture_text}
@@ -26,20 +27,16 @@ use Rattle.trace_events.specs.Traces.{trace_events}
 abbrev pub room_for : ℕ → Room
 room_for turns = record { turns = min turns 50000; bytes = 1000000; alarms = 16 }
 
--- the recorder reads this clock, from this time on, has kept nothing so far, and has room for so many turns
-pub record IsEmpty {C : Type 0} (clock : C) (from turns : ℕ) (recorder : Recorder C) : Type 0 where
-  pub reads : recorder.clock ≡ clock
-  pub starts : recorder.last ≡ from
-  pub log_is : recorder.log ≡ nothing_kept (room_for turns)
-
--- A boot of what was read, with an empty recorder on each processor, came to an end, and these recorders came back. The
--- recorders read this clock, from this time on. The report was printed
+-- A boot of what was read, with a new recorder on each processor, came to an end, and these recorders came back. The
+-- recorders read this clock, from this time on. `made` holds of them: no other boot had recorders. The report was
+-- printed
 pub record HasBooted {C : Type 0} (ran : RunsOf (Recorder C)) (shown : TornDown → Type 0) (T : Calls (Recorder C))
-    (clock : C) (from : ℕ) (command : Command) (read : Option (List ℕ)) (report : List ℕ) (booted : Booted (Recorder C))
-    : Type 0 where
+    (made : List (Recorder C) → Type 0) (clock : C) (from : ℕ) (command : Command) (read : Option (List ℕ))
+    (report : List ℕ) (booted : Booted (Recorder C)) : Type 0 where
   pub recorders : List (Recorder C)
+  pub all_made : made recorders
   pub many : length recorders ≡ command.processors
-  pub empty : All (IsEmpty clock from command.turns) recorders
+  pub new : All (IsNewRecorder clock from (room_for command.turns)) recorders
   pub boot : IsBoot (BootWithHooks ran shown T command.turns recorders booted.gates.items booted.closed) read
       booted.ended (Some []) (Some report)
 
@@ -67,23 +64,26 @@ IsPageOf ByTime plan from logs page = IsPictureOf true logs page
 IsPageOf Trace plan from logs page = page ≡ trace_text (trace_events plan from logs)
 
 -- A boot of what was read came to this end, and the page shows the turns that its recorders had when they came back,
--- with the names of the plan that was booted. The recorders read this clock. It was read before the boot, with an
--- answer for which `said` holds: a trace starts then, and no turn's time is before it
+-- with the names of the plan that was booted. `made` holds of all its recorders. They read this clock. It was read
+-- before the boot, with an answer for which `said` holds: a trace starts then, and no turn's time is before it. What
+-- came back was let go, as `gone` says
 pub record IsViewed {C : Type 0} (ran : RunsOf (Recorder C)) (shown : TornDown → Type 0) (T : Calls (Recorder C))
-    (clock : C) (said : ℕ → Type 0) (command : Command) (read : Option (List ℕ)) (ended : Ended) (page : List ℕ)
-    : Type 0 where
+    (made : List (Recorder C) → Type 0) (gone : Booted (Recorder C) → Type 0) (clock : C) (said : ℕ → Type 0)
+    (command : Command) (read : Option (List ℕ)) (ended : Ended) (page : List ℕ) : Type 0 where
   pub from : ℕ
   pub from_said : said from
   pub booted : Booted (Recorder C)
   pub report : List ℕ
-  pub came : HasBooted ran shown T clock from command read report booted
+  pub came : HasBooted ran shown T made clock from command read report booted
+  pub let_go : gone booted
   pub ended_is : ended ≡ booted.ended
   pub plan : BootPlan
   pub plan_is : plan_of plan ≡ plan_of came.boot.plan
   pub page_of : IsPageOf command.view plan from (logs_in booted.gates.items) page
 
 -- a boot of what was read came to this end, and exactly its page is appended
-abbrev pub IsPrinted : {C : Type 0} → RunsOf (Recorder C) → (TornDown → Type 0) → Calls (Recorder C) → C → (ℕ → Type 0)
-    → Command → Option (List ℕ) → Ended → Option (List ℕ) → Option (List ℕ) → Type 0
-IsPrinted ran shown T clock said command read ended old new =
-    (page : List ℕ) × IsViewed ran shown T clock said command read ended page × Appends old new page
+abbrev pub IsPrinted : {C : Type 0} → RunsOf (Recorder C) → (TornDown → Type 0) → Calls (Recorder C)
+    → (List (Recorder C) → Type 0) → (Booted (Recorder C) → Type 0) → C → (ℕ → Type 0) → Command → Option (List ℕ)
+    → Ended → Option (List ℕ) → Option (List ℕ) → Type 0
+IsPrinted ran shown T made gone clock said command read ended old new =
+    (page : List ℕ) × IsViewed ran shown T made gone clock said command read ended page × Appends old new page

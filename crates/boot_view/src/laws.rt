@@ -18,9 +18,9 @@ pub fn pages_have_fronts<R, C>()
 where
     R: Witness<Shared, Worked<Recorder<C>>, Work<Recorder<C>>>,
     C: TurnClock,
-    ensures { (clock : C) (from : ℕ) (command : Command) (read : Option (List ℕ)) (report : List ℕ)
-        (booted : Booted (Recorder C)) (came : HasBooted R.ran R.shown
-        (calls ⟦<Recorder<C> as Gate>⟧.observes ⟦<Recorder<C> as TurnGate>⟧.learns) clock from command read report
-        booted) → command.turns < 2 ^ 64 → AllZip (HasFrontOf (C.says clock) from (room_for command.turns))
+    ensures { (made : List (Recorder C) → Type 0) (clock : C) (from : ℕ) (command : Command)
+        (read : Option (List ℕ)) (report : List ℕ) (booted : Booted (Recorder C)) (came : HasBooted R.ran R.shown
+        (calls ⟦<Recorder<C> as Gate>⟧.observes ⟦<Recorder<C> as TurnGate>⟧.learns) made clock from command read
+        report booted) → command.turns < 2 ^ 64 → AllZip (HasFrontOf (C.says clock) from (room_for command.turns))
         came.boot.run.booted.logs booted.gates.items }
 {}

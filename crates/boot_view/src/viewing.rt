@@ -1,11 +1,11 @@
 //! The view of a boot of a script: a picture of its turns, or a trace.
 
-ghost use Rattle.std.specs.Prelude.{◌≡◌, ◌≢◌, ◌≤◌, length, Some, Ok, IfOk, IfErr, IfSome};
+ghost use Rattle.std.specs.Prelude.{◌≡◌, ◌≢◌, ◌≤◌, ℕ, length, Some, Ok, Err, IfOk, IfErr, IfSome};
 ghost use Rattle.std.specs.Io.KnownBytes.{Keeps};
 ghost use Rattle.boot_data.specs.BootPlans.{plan_of};
 ghost use Rattle.boot_log.specs.Kept.{kept_in};
 ghost use Rattle.boot_script.specs.Plans.{text_plan};
-ghost use Rattle.boot_script.specs.StreamFaults.{IsReadFault, IsWriteFault};
+ghost use Rattle.boot_script.specs.StreamFaults.{HasRead, IsReadFault, IsWriteFault};
 ghost use Rattle.processor.specs.Points.{calls};
 ghost use Rattle.synth_kernel.specs.Boots.{IsBootFault, IsRead};
 ghost use Rattle.synth_kernel.specs.declared.outcome.BootFault.{BootFault};
@@ -13,8 +13,10 @@ ghost use Rattle.boot_view.specs.Views.{IsPageOf, IsPictureOf, IsPrinted, IsView
 ghost use Rattle.trace_events.specs.Documents.{trace_text};
 ghost use Rattle.trace_events.specs.Traces.{trace_events};
 
+use crate::boot_timer::BootTimer;
 use crate::booting::boot_recorded;
 use crate::command::{Command, View};
+use crate::dropping::Dropper;
 use boot_data::BootPlan;
 use boot_log::{Log, Recorder, TurnClock};
 use boot_picture::{Boot, picture_of};
@@ -24,7 +26,7 @@ use processor::{Gate, Shared, TurnGate};
 use std::alloc::Global;
 use std::sync::Wait;
 use svg::print_picture;
-use synth_kernel::{BootFault, Ended, Witness, Work, Worked};
+use synth_kernel::{BootFault, Booted, Ended, Witness, Work, Worked};
 use trace_events::print_trace;
 
 /// One byte more than a script may have, so that a longer one is seen.
@@ -117,25 +119,30 @@ fn page_of<C: TurnClock>(
 /// Boots a script of this plan, and returns how the boot has ended, and the page with this view of it.
 ///
 /// Condition: there are 1 to 8 processors.
-fn view_plan<R, C>(
+fn view_plan<R, B, C>(
     rt: &R,
-    clock: C,
+    clock: B,
     alloc: Global,
     command: Command,
     script: &[u8],
     plan: &BootPlan,
 ) -> Result<(Ended, Vec<u8>), OutOfMemory>
 where
-    R: Witness<Shared, Worked<Recorder<C>>, Work<Recorder<C>>> + Wait + Sync,
-    C: TurnClock + Copy + Send + Drop,
+    R: Witness<Shared, Worked<Recorder<C>>, Work<Recorder<C>>>
+        + Dropper<Booted<Recorder<C>>>
+        + Wait
+        + Sync,
+    B: BootTimer<C> + Drop,
+    C: TurnClock + Send + Drop,
     requires number { (1 ≤ command.processors) × (command.processors ≤ 8) }
     requires plan { text_plan script.now ≡ Ok (plan_of plan.now) }
     ensures ok { IfOk result (λ viewed. IsViewed R.ran R.shown
         (calls ⟦<Recorder<C> as Gate>⟧.observes ⟦<Recorder<C> as TurnGate>⟧.learns)
-        clock (C.says clock 0) command (Some script.now) viewed.0 viewed.1.items) }
+        (B.made clock) R.gone (B.read_by clock) (C.says (B.read_by clock) 0) command (Some script.now)
+        viewed.0 viewed.1.items) }
 {
     let mut report = Vec::new(alloc);
-    let from = clock.time(0);
+    let from = clock.boot_time(0);
     let booted = boot_recorded(rt, clock, alloc, from, command, script, &mut report)?;
     let boot = Boot {
         script,
@@ -147,29 +154,32 @@ where
     };
     let page = page_of(alloc, &boot, command.view, from, booted.gates());
     let ended = booted.ended();
-    // A call drops all fields. Without it the proof goes through each of them here, which takes long.
-    drop(booted);
-    let page = page?;
-    Ok((ended, page))
+    rt.let_go(booted);
+    Ok((ended, page?))
 }
 
 /// Boots a script, and returns how the boot has ended, and the page with this view of it.
 ///
 /// Condition: there are 1 to 8 processors.
-fn view_script<R, C>(
+fn view_script<R, B, C>(
     rt: &R,
-    clock: C,
+    clock: B,
     alloc: Global,
     command: Command,
     script: &[u8],
 ) -> Result<(Ended, Vec<u8>), BootFault>
 where
-    R: Witness<Shared, Worked<Recorder<C>>, Work<Recorder<C>>> + Wait + Sync,
-    C: TurnClock + Copy + Send + Drop,
+    R: Witness<Shared, Worked<Recorder<C>>, Work<Recorder<C>>>
+        + Dropper<Booted<Recorder<C>>>
+        + Wait
+        + Sync,
+    B: BootTimer<C> + Drop,
+    C: TurnClock + Send + Drop,
     requires { (1 ≤ command.processors) × (command.processors ≤ 8) }
     ensures ok { IfOk result (λ viewed. IsViewed R.ran R.shown
         (calls ⟦<Recorder<C> as Gate>⟧.observes ⟦<Recorder<C> as TurnGate>⟧.learns)
-        clock (C.says clock 0) command (Some script.now) viewed.0 viewed.1.items) }
+        (B.made clock) R.gone (B.read_by clock) (C.says (B.read_by clock) 0) command (Some script.now)
+        viewed.0 viewed.1.items) }
     ensures fault { IfErr result (λ fault. IsBootFault (text_plan script.now) fault) }
     ensures unwritten { IfErr result (λ fault. (fault ≢ BootFault.Write) × (fault ≢ BootFault.Read)) }
 {
@@ -180,35 +190,41 @@ where
 /// Boots the script that is read, and prints this view of the boot: a picture, or a trace, of the turns that a recorder
 /// on each processor has kept. The turns that are kept are the first 50,000 of each processor, and no more than have
 /// lines of 1,000,000 bytes together. Times are the clock's, in nanoseconds. The clock is read before the boot, and no
-/// turn's time is before that.
+/// turn's time is before that. This boot alone had recorders of the clock, and what came back of it was let go.
 ///
-/// Returns how the boot has ended. After a fault other than `Write` nothing was written. `Script` is returned if the
-/// script is invalid, `Memory` if an allocation was refused or a thread couldn't be started, `Read` if the reader
-/// failed, and `Write` if the writer did.
+/// Returns how the boot has ended. The script was read once. After a fault other than `Write` nothing was written.
+/// `Script` is returned if the script is invalid, `Memory` if an allocation was refused or a thread couldn't be started,
+/// `Read` if the reader failed, and `Write` if the writer did.
 ///
 /// Condition: there are 1 to 8 processors.
-pub fn view_on<R, C, I, O>(
+pub fn view_on<R, B, C, I, O>(
     rt: &R,
-    clock: C,
+    clock: B,
     alloc: Global,
     command: Command,
     reader: &mut I,
     writer: &mut O,
 ) -> Result<Ended, BootFault>
 where
-    R: Witness<Shared, Worked<Recorder<C>>, Work<Recorder<C>>> + Wait + Sync,
-    C: TurnClock + Copy + Send + Drop,
+    R: Witness<Shared, Worked<Recorder<C>>, Work<Recorder<C>>>
+        + Dropper<Booted<Recorder<C>>>
+        + Wait
+        + Sync,
+    B: BootTimer<C> + Drop,
+    C: TurnClock + Send + Drop,
     I: Source,
     O: Sink,
     requires { (1 ≤ command.processors) × (command.processors ≤ 8) }
     ensures ok { IfOk result (λ ended. IsPrinted R.ran R.shown
         (calls ⟦<Recorder<C> as Gate>⟧.observes ⟦<Recorder<C> as TurnGate>⟧.learns)
-        clock (C.says clock 0) command (I.remaining reader.old) ended (O.contents writer.old) (O.contents writer.new)) }
+        (B.made clock) R.gone (B.read_by clock) (C.says (B.read_by clock) 0) command (I.remaining reader.old) ended
+        (O.contents writer.old) (O.contents writer.new)) }
     ensures fault { IfErr result (λ fault. IfSome (I.remaining reader.old) (λ bytes. IsBootFault
         (text_plan bytes) fault)) }
     ensures unwritten { IfErr result (λ fault. fault ≢ BootFault.Write
         → Keeps (O.contents writer.old) (O.contents writer.new)) }
     ensures read { IfErr result (λ fault. fault ≡ BootFault.Read → IsReadFault I.answers reader.old reader.new) }
+    ensures trace { result ≢ Err BootFault.Read → (n : ℕ) × HasRead I.answers n reader.old reader.new }
     ensures write { IfErr result (λ fault. fault ≡ BootFault.Write → IsWriteFault O.fails writer.new) }
 {
     let mut buffer = [0u8; BUFFER];

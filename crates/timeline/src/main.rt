@@ -3,6 +3,7 @@
 
 mod program;
 
+use boot_log::BootClock;
 use boot_script::exit::no_memory;
 use program::{run_main, usage};
 use std::io::ErrorKind;
@@ -11,7 +12,7 @@ use std::sync::Wait;
 use std::thread::Threads;
 use std::{env, io};
 
-/// Runs the program with the words that it was given, without its own name. The clock is the machine's.
+/// Runs the program with the words that it was given, without its own name. The clock is the machine's, for one boot.
 fn run<RT: Threads + Wait + Sync>(rt: &RT, host: &HostRuntime) -> io::Result<u8> {
     let mut arguments = Vec::new(host.alloc());
     for argument in env::args(host)?.skip(1) {
@@ -22,7 +23,8 @@ fn run<RT: Threads + Wait + Sync>(rt: &RT, host: &HostRuntime) -> io::Result<u8>
         words.push(argument.as_str())?;
     }
     let (input, output, errors) = (host.stdin(), host.stdout(), host.stderr());
-    Ok(run_main(rt, host, host.alloc(), &words, input, output, errors))
+    let clock = BootClock::new(host);
+    Ok(run_main(rt, clock, host.alloc(), &words, input, output, errors))
 }
 
 fn main(rt: HostRuntime) -> ExitCode {

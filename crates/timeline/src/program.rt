@@ -1,8 +1,9 @@
 //! The exit status of each run, and the words for standard error.
 
-ghost use Rattle.std.specs.Prelude.{◌≡◌, ℕ, map, Result};
+ghost use Rattle.std.specs.Prelude.{◌≡◌, ◌≢◌, ℕ, map, Err, Result};
 ghost use Rattle.boot_exit.specs.Exits.{HasBootCause, HasStreamFailed, boot_exit_code_of, boot_words_of};
 ghost use Rattle.boot_script.specs.Exits.{IsExit};
+ghost use Rattle.boot_script.specs.StreamFaults.{HasRead};
 ghost use Rattle.boot_view.specs.Commands.{IsCommand, IsNoCommand};
 ghost use Rattle.boot_view.specs.declared.command.Command as commands;
 ghost use Rattle.processor.specs.Points.{calls};
@@ -14,22 +15,23 @@ use boot_exit::after_boot;
 use boot_log::{Recorder, TurnClock};
 use boot_script::exit::Exit;
 use boot_script::{Sink, Source, exit};
-use boot_view::{command_of, view_on};
+use boot_view::{BootTimer, Dropper, command_of, view_on};
 use processor::{Gate, Shared, TurnGate};
 use std::alloc::Global;
 use std::io::Write;
 use std::sync::Wait;
-use synth_kernel::{Witness, Work, Worked};
+use synth_kernel::{Booted, Witness, Work, Worked};
 
 /// Runs the program with its words.
 ///
 /// The words are read before anything else. Status 0 is returned if all threads of the boot have ended; 1 if the script
 /// is invalid; 2 if the words are no command; 3 if memory was exhausted; 4 if threads have not ended; 5 if the reader
 /// or the writer failed. Under 0 and 4 the page was written. Under 1, 2 and 3 nothing was written. Under 5 the last
-/// call on the reader or the writer returned an error, or there were 131,072 calls of `read`.
-pub fn run_on<RT, C, R, W, E>(
+/// call on the reader or the writer returned an error, or there were 131,072 calls of `read`. The script is read once.
+/// The boot on the page alone was recorded by this clock.
+pub fn run_on<RT, B, C, R, W, E>(
     rt: &RT,
-    clock: C,
+    clock: B,
     alloc: Global,
     words: &[&str],
     reader: &mut R,
@@ -37,8 +39,12 @@ pub fn run_on<RT, C, R, W, E>(
     errors: &mut E,
 ) -> Exit
 where
-    RT: Witness<Shared, Worked<Recorder<C>>, Work<Recorder<C>>> + Wait + Sync,
-    C: TurnClock + Copy + Send + Drop,
+    RT: Witness<Shared, Worked<Recorder<C>>, Work<Recorder<C>>>
+        + Dropper<Booted<Recorder<C>>>
+        + Wait
+        + Sync,
+    B: BootTimer<C> + Drop,
+    C: TurnClock + Send + Drop,
     R: Source,
     W: Sink,
     E: Write,
@@ -49,8 +55,10 @@ where
     ensures view { (command : commands.Command) → IsCommand (map (λ word. word.now) words.now) command
         → (answer : Result Ended BootFault)
         × IsViewedBy RT.ran RT.shown
-        (calls ⟦<Recorder<C> as Gate>⟧.observes ⟦<Recorder<C> as TurnGate>⟧.learns) clock (C.says clock 0)
-        command (R.remaining reader.old) answer (W.contents writer.old) (W.contents writer.new)
+        (calls ⟦<Recorder<C> as Gate>⟧.observes ⟦<Recorder<C> as TurnGate>⟧.learns)
+        (B.made clock) RT.gone (B.read_by clock) (C.says (B.read_by clock) 0) command
+        (R.remaining reader.old) answer (W.contents writer.old) (W.contents writer.new)
+        × (answer ≢ Err BootFault.Read → (n : ℕ) × HasRead R.answers n reader.old reader.new)
         × HasBootCause R.answers W.fails answer reader.old reader.new writer.new
         × IsExit result (boot_exit_code_of answer) (boot_words_of answer)
         (E.contents errors.old) (E.contents errors.new) }
@@ -66,9 +74,9 @@ where
 }
 
 /// As `run_on`, for streams that are handed over, with the exit status alone. Faults of the error stream are ignored.
-pub fn run_main<RT, C, R, W, E>(
+pub fn run_main<RT, B, C, R, W, E>(
     rt: &RT,
-    clock: C,
+    clock: B,
     alloc: Global,
     words: &[&str],
     mut reader: R,
@@ -76,16 +84,20 @@ pub fn run_main<RT, C, R, W, E>(
     mut errors: E,
 ) -> u8
 where
-    RT: Witness<Shared, Worked<Recorder<C>>, Work<Recorder<C>>> + Wait + Sync,
-    C: TurnClock + Copy + Send + Drop,
+    RT: Witness<Shared, Worked<Recorder<C>>, Work<Recorder<C>>>
+        + Dropper<Booted<Recorder<C>>>
+        + Wait
+        + Sync,
+    B: BootTimer<C> + Drop,
+    C: TurnClock + Send + Drop,
     R: Source + Drop,
     W: Sink + Drop,
     E: Write + Drop,
     ensures usage { IsNoCommand (map (λ word. word.now) words.now) → result ≡ 2 }
     ensures view { (command : commands.Command) → IsCommand (map (λ word. word.now) words.now) command
         → IsViewStatus RT.ran RT.shown
-        (calls ⟦<Recorder<C> as Gate>⟧.observes ⟦<Recorder<C> as TurnGate>⟧.learns) clock (C.says clock 0)
-        command (R.remaining reader) result }
+        (calls ⟦<Recorder<C> as Gate>⟧.observes ⟦<Recorder<C> as TurnGate>⟧.learns)
+        (B.made clock) RT.gone (B.read_by clock) (C.says (B.read_by clock) 0) command (R.remaining reader) result }
     ensures error { result ≡ 5 → (last : R) × (written : W) × HasStreamFailed R.answers W.fails reader last written }
 {
     let exit = run_on(

@@ -5,6 +5,7 @@ pub returns-in-Ok : goal.returns-in-Ok
 returns-in-Ok g c = record {
   recorders = c.in_ok-gates.gates.items;
   many = sym c.in_ok-gates.gates.ok.0 ∙ c.in_ok-gates.ensures.many;
-  empty = c.in_ok-gates.ensures.empty;
+  all_made = c.in_ok-gates.ensures.made;
+  new = c.in_ok-gates.ensures.new;
   boot = rw c.requires.report at c.in-Ok.ensures.ok;
 }

@@ -1,7 +1,8 @@
 -- What a split, a join and a close mean for their caller.
-use Rattle.thread_table.proofs.Common.{◌≡◌, inl, ℕ, ◌+◌, ◌≤◌, Bool, false, List, [], ◌∷◌, ◌++◌, ◌∙◌, refl, sym, ap, arith, length, length-append, get_or, Option, Some, None, append-nil, Step, View, Place, SplitBy, IsNewEnd, JoinedBy, ClosedNow, count_up, count_down, ends_word}
+use Rattle.thread_table.proofs.Common.{◌≡◌, inl, ℕ, ◌+◌, ◌-◌, ◌≤◌, Bool, false, List, [], ◌∷◌, ◌++◌, ◌∙◌, refl, sym, ap, arith, length, length-append, get_or, Option, Some, None, append-nil, Step, View, Place, SplitBy, SplitShare, IsNewEnd, IsNewEndWith, JoinedBy, ClosedNow, count_up, count_down, ends_word}
 use Rattle.std.specs.Option.{option_or}
 use Rattle.table_theory.specs.Ledgers as ends
+use Rattle.table_theory.proofs.Counting.{given_kept}
 use Rattle.table_theory.specs.Sharing.{given, kept}
 use Rattle.thread_table.specs.Closings.{WereOpen}
 use Rattle.thread_table.specs.Rules.{serving}
@@ -22,7 +23,7 @@ nothing_held first e mask = get_or-copies 64 false e
 nothing_on : (first p : ℕ) (mask : List Bool) → get_or (serving first mask).on p None ≡ None
 nothing_on first p mask = get_or-copies 8 None p
 
-module _ (mask : ℕ) (v w b : View) (s : SplitBy mask v w) (n : IsNewEnd mask v w b) where
+module _ (parts mask : ℕ) (v w b : View) (s : SplitShare parts mask v w) (n : IsNewEndWith parts mask w b) where
   pub split_effect : DidSplit mask v w b
   split_effect = let held = ap (λ (z : View). z.own.held) n.same in let on = ap (λ (z : View). z.own.on) n.same in record {
     gave = λ p low. (s.serves p low, n.serves p low);
@@ -47,18 +48,17 @@ module _ (mask : ℕ) (v w b : View) (s : SplitBy mask v w) (n : IsNewEnd mask v
     first = ap (λ (z : View). z.own.first) s.acts.has;
   }
 
-  pub split_owns : PartsShare v w b
-  split_owns = let gets = ap (λ (z : View). z.member.share) n.same in let keeps = ap (λ (z : View). z.member.share) s.acts.has in
-      (gets, omega (arith, gets, keeps, at_most v.member.share))
-    where
-      at_most : (share : ℕ) → kept share + given share ≡ share
-      at_most share = omega arith
+  pub split_owns : parts ≤ v.member.share → (b.member.share ≡ parts) × (w.member.share + parts ≡ v.member.share)
+  split_owns few = let gets = ap (λ (z : View). z.member.share) n.same in let keeps = ap (λ (z : View). z.member.share) s.acts.has in (gets, omega (arith, keeps, few))
 
   pub split_bound : (length w.steps ≤ length v.steps + 1) × (b.steps ≡ [])
   split_bound = (
     (let is = ap (λ (z : List Step). length z) s.acts.adds.entries_are ∙ length-append v.steps (count_up ends_word s.found ∷ []) in omega (arith, is)),
     ap (λ (z : View). z.steps) n.same,
   )
+
+pub split_parts : (mask : ℕ) (v w b : View) → SplitBy mask v w → IsNewEnd mask v w b → PartsShare v w b
+split_parts mask v w b s n = let all = given_kept v.member.share in let x = split_owns (given v.member.share) mask v w b s n (omega arith) in let gets = x.0 in let sum = x.1 in (gets, omega arith)
 
 -- JOINS
 

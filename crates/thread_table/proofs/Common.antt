@@ -67,7 +67,7 @@ pub use Rattle.table_theory.specs.Sharing.{IsWhole, total}
 pub use Rattle.table_theory.specs.declared.views.Part.{Part}
 pub use Rattle.thread_table.specs.Answers.{DeliverAnswer, DoneAnswer, IsTicket, MoveAnswer, MovedBy, Overtaken, ParkAnswer, ReadPc, StartAnswer, TakeAnswer, TakesOff, WaitAnswer, head_in, is_in, mark_in, raise_event}
 pub use Rattle.thread_table.specs.Closings.{ClosedNow, IsIn, PlaceOf, ProcessorOf, RingOf, StandsAt, is_left, place_by, word_at}
-pub use Rattle.thread_table.specs.Endings.{SplitBy, IsNewEnd, JoinedBy}
+pub use Rattle.thread_table.specs.Endings.{SplitBy, SplitShare, IsNewEnd, IsNewEndWith, JoinedBy}
 pub use Rattle.thread_table.specs.Entries.{PerformsEvents, Step, change, claim_event, seen_as, steps_by, steps_in, take_event, with_event}
 pub use Rattle.thread_table.specs.Handles.{call_of, view_of}
 pub use Rattle.thread_table.specs.Joins.{AreJoined, joining, uncounted}
@@ -80,7 +80,7 @@ pub use Rattle.thread_table.specs.Retiring.{items_of, retired_by, retired_in, ta
 pub use Rattle.thread_table.specs.Rules.{HandIs, HasStood, IsActive, IsClaimed, IsCounted, IsNewest, IsOpen, IsSteady, MayStep, Rule, Seen, done_at, has, may_step, newcomer, nothing_of, nothing_on, now_of, running, serves}
 pub use Rattle.thread_table.specs.Schedules.{Course, Grows, Past, QueueGrows, element_at, element_of, no_run, ring_at, ring_name, thread_at}
 pub use Rattle.thread_table.specs.Shown.{PlaceShows, RingShows, StateShows, WordsShow, bit_of, head_shown, mark_of, processor_shown, tail_shown}
-pub use Rattle.thread_table.specs.Steps.{CountedDown, HandDid, Found, Sees, HandStands, any_both, both, either, either_on, emptied, had_by_both, newborn, parted, rest_of}
+pub use Rattle.thread_table.specs.Steps.{CountedDown, HandDid, Found, Sees, HandStands, any_both, both, either, either_on, emptied, had_by_both, newborn, newborn_with, parted, rest_of, rest_without}
 pub use Rattle.thread_table.specs.Telling.{IsValidHandView, of_hands}
 pub use Rattle.thread_table.specs.Views.{HasClaimed, claim_of, count_of, having, having_found, left_by_event, quiet, with_held, with_taken_off}
 pub use Rattle.thread_table.specs.Wakes.{BeforeAnswer, NotifiedNow}

@@ -391,7 +391,7 @@ pub record KeepsElements (v w : View) : Type 0 where
   pub made : w.own.made ≡ v.own.made
   pub first : w.own.first ≡ v.own.first
 
--- the new hand gets half of the share, but at most 2^43 parts, and the hand keeps the rest
+-- the new hand gets half of the share, but at most 2^21 parts, and the hand keeps the rest
 abbrev pub PartsShare : View → View → View → Type 0
 PartsShare old new born = (born.member.share ≡ given old.member.share)
     × (new.member.share + born.member.share ≡ old.member.share)

@@ -1,8 +1,8 @@
 -- How a split and a join of hands change what the hands know.
-use Rattle.std.specs.Prelude.{◌≡◌, ◌+◌, ◌<◌, ◌&&◌, ◌||◌, ℕ, not, false, [], ◌∷◌, None}
+use Rattle.std.specs.Prelude.{◌≡◌, ◌+◌, ◌-◌, ◌<◌, ◌&&◌, ◌||◌, ℕ, not, false, [], ◌∷◌, None}
 use Rattle.table_theory.specs.Ends.{Begins}
 use Rattle.table_theory.specs.Ledgers as ends
-use Rattle.table_theory.specs.Sharing.{kept}
+use Rattle.table_theory.specs.Sharing.{given}
 use Rattle.thread_table.specs.declared.layout.TheConstants.{PROCESSORS}
 use Rattle.thread_table.specs.Own.{View}
 use Rattle.thread_table.specs.Layout.{ends_word}
@@ -12,28 +12,35 @@ use Rattle.thread_table.specs.Steps.{both}
 use Rattle.thread_table.specs.Entries.{PerformsEvents}
 use Rattle.thread_table.specs.Answers.{is_in}
 
--- the hand serves what w serves, has one more split and one more load that no list has, and keeps its part of the share
-abbrev pub with_split : View → View → View
-with_split v w = record v {
+-- the hand serves what w serves, has one more split and one more load that no list has, and keeps all but so many parts
+abbrev pub with_split : ℕ → View → View → View
+with_split parts v w = record v {
   own = record v.own { serves = w.own.serves; counted = None };
   member = record v.member {
-    share = kept v.member.share;
+    share = v.member.share - parts;
     splits = v.member.splits + 1;
     unlisted = v.member.unlisted + 1;
   };
 }
 
--- The number of hands was found and made one more. The hand gave away a part of its share and the processors of the
--- mask. Nothing else changed except the counts in `with_split`.
-pub record SplitBy (mask : ℕ) (v w : View) : Type 0 where
+-- The number of hands was found and made one more. The hand gave away so many parts of its share and the processors of
+-- the mask. Nothing else changed except the counts in `with_split`.
+pub record SplitShare (parts mask : ℕ) (v w : View) : Type 0 where
   pub serves : (p : ℕ) → p < PROCESSORS → serves w p ≡ (serves v p && not (is_in mask p))
   pub found : Past
-  pub acts : PerformsEvents v (ends.count_up ends_word found ∷ []) (with_split v w) w
+  pub acts : PerformsEvents v (ends.count_up ends_word found ∷ []) (with_split parts v w) w
 
--- the new hand has only the processors of the mask and its part of the share, and has seen what the other hand had seen
-pub record IsNewEnd (mask : ℕ) (old new born : View) : Type 0 where
+-- the new hand has only the processors of the mask and so many parts, and has seen what the other hand had seen
+pub record IsNewEndWith (parts mask : ℕ) (new born : View) : Type 0 where
   pub serves : (p : ℕ) → p < PROCESSORS → serves born p ≡ is_in mask p
-  pub same : ends.IsNewEnd (serving new.own.first born.own.serves) old new born
+  pub same : ends.IsNewEndWith parts (serving new.own.first born.own.serves) new born
+
+-- the same two, if nobody says how many parts are given
+abbrev pub SplitBy : ℕ → View → View → Type 0
+SplitBy mask v w = SplitShare (given v.member.share) mask v w
+
+abbrev pub IsNewEnd : ℕ → View → View → View → Type 0
+IsNewEnd mask old new born = IsNewEndWith (given old.member.share) mask new born
 
 -- the view of what both hands have, before one of them has the share of both: the step of the join, which is on no
 -- word, comes between this and the hand's next step

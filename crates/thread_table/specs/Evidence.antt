@@ -4,5 +4,5 @@ pub use Rattle.thread_table.specs.Answers.{TakeAnswer, MoveAnswer, WaitAnswer, I
 pub use Rattle.thread_table.specs.Answers.{ParkAnswer, SignalAnswer, IsPending, DeliverAnswer, ReadPc, DoneAnswer}
 pub use Rattle.thread_table.specs.Answers.{PutsOn, TakesOff}
 pub use Rattle.thread_table.specs.Wakes.{WokeAll, NotifiedNow, BeforeAnswer}
-pub use Rattle.thread_table.specs.Endings.{SplitBy, JoinedBy}
+pub use Rattle.thread_table.specs.Endings.{SplitBy, SplitShare, JoinedBy}
 pub use Rattle.thread_table.specs.Closings.{WereOpen}

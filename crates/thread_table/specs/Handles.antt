@@ -4,6 +4,7 @@ use Rattle.thread_table.specs.Own.{View}
 use Rattle.thread_table.specs.declared.hand.ThreadTable.{ThreadTable}
 use Rattle.thread_table.specs.declared.hand.Hand.{Hand}
 use Rattle.table_theory.specs.Seating as seats
+use Rattle.table_theory.specs.Sharing.{IsPortion}
 
 -- the view of the hand: what it knows
 abbrev pub view_of : Hand → View
@@ -20,6 +21,14 @@ IsOnlyHand hand = seats.IsOnly hand.seat
 -- the hand can be split: it has two parts of the share or more
 abbrev pub IsDivisible : Hand → Type 0
 IsDivisible hand = seats.IsDivisible hand.seat
+
+-- the hand's share of its table, in parts
+abbrev pub share_of : Hand → ℕ
+share_of hand = hand.seat.me.0.member.share
+
+-- the hand can give so many parts to a new hand: one or more, and one or more are kept
+abbrev pub CanGive : Hand → ℕ → Type 0
+CanGive hand parts = IsPortion parts hand.seat.me.0.member.share
 
 -- it is a hand of this table
 abbrev pub IsHandOf : ThreadTable → Hand → Type 0

@@ -7,7 +7,7 @@ use Rattle.table_theory.specs.declared.views.Part.{Part}
 use Rattle.table_theory.specs.Ends.{Begins}
 use Rattle.table_theory.specs.Ledgers as ends
 use Rattle.table_theory.specs.Ledgers.{load}
-use Rattle.table_theory.specs.Sharing.{IsWhole, IsCount}
+use Rattle.table_theory.specs.Sharing.{IsWhole, IsCount, given}
 use Rattle.event_theory.specs.Lawful.{IsLawfulElements}
 use Rattle.event_theory.specs.declared.event.Event.{Event}
 use Rattle.thread_table.specs.Own.{View}
@@ -175,14 +175,21 @@ either_on (x ∷ xs) [] = x ∷ xs
 either_on (None ∷ xs) (y ∷ ys) = y ∷ either_on xs ys
 either_on (Some x ∷ xs) (y ∷ ys) = Some x ∷ either_on xs ys
 
--- the view that a split leaves to the hand
-abbrev pub rest_of : List Bool → View → View
-rest_of mask v =
-    record (ends.rest_of v) { own = record v.own { serves = parted v.own.serves mask; counted = None } }
+-- the view that a split leaves which gives so many parts and the processors of the mask
+abbrev pub rest_without : ℕ → List Bool → View → View
+rest_without parts mask v =
+    record (ends.rest_without parts v) { own = record v.own { serves = parted v.own.serves mask; counted = None } }
 
--- the view of a new hand, which serves the processors of the mask
+-- the view of a new hand, which has so many parts and serves the processors of the mask
+abbrev pub newborn_with : ℕ → List Bool → View → View
+newborn_with parts mask v = ends.newborn_with parts (serving v.own.first mask) v
+
+-- both views, if nobody says how many parts are given
+abbrev pub rest_of : List Bool → View → View
+rest_of mask v = rest_without (given v.member.share) mask v
+
 abbrev pub newborn : List Bool → View → View
-newborn mask v = ends.newborn (serving v.own.first mask) v
+newborn mask v = newborn_with (given v.member.share) mask v
 
 -- the contents of a hand after it took in another, which had `e`
 abbrev pub had_by_both : HandState → HandState → HandState

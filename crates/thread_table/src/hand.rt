@@ -118,9 +118,10 @@ impl ThreadTable {
     /// A new hand, which holds nothing and serves the processors of the mask, bit p for processor p. Both hands are to
     /// be joined again before the table can be closed.
     ///
-    /// Conditions: the first hand serves the processors of the mask, which are empty, and has two parts or more of its
-    /// table's 2^64 - 1. The first hand can be split two million times without a join, and each of those hands 43 times
-    /// in a chain.
+    /// The new hand gets half of the hand's share, and 2^21 parts at most. Conditions: the first hand serves the
+    /// processors of the mask, which are empty, and has two parts or more of its table's 2^64 - 1. The first hand can
+    /// be split 2^43 times without a join, and each of those hands 21 times in a chain. `split_share` gives as many
+    /// parts as its caller says.
     pub fn split(&self, hand: &mut Hand, processors: u8) -> Hand
         requires table { IsHandOf self.now hand.old }
         requires parts { IsDivisible hand.old }

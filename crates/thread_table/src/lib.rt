@@ -56,6 +56,7 @@ mod processors;
 mod programs;
 mod rule;
 mod sets;
+mod shares;
 mod states;
 mod steps;
 mod takings;

@@ -3,7 +3,7 @@ ghost use Rattle.std.specs.Prelude.{ℕ, List, Bool, []};
 ghost use Rattle.event_theory.specs.declared.event.Event.{Event};
 ghost use Rattle.event_theory.specs.declared.event.Event.TheVariants as events;
 ghost use Rattle.thread_table.specs.Steps.{finds, makes, stores, tries, reads_pc, counts_up, counts_down};
-ghost use Rattle.thread_table.specs.Steps.{rest_of, newborn, both};
+ghost use Rattle.thread_table.specs.Steps.{rest_of, rest_without, newborn, newborn_with, both};
 ghost use Rattle.thread_table.specs.Rules.{newcomer};
 ghost use Rattle.thread_table.specs.Own.{View};
 
@@ -110,6 +110,29 @@ impl<J: Mask> Split<View> for Halves<J> {
     ghost left = { rest_of J.mask };
 
     ghost right = { newborn J.mask };
+}
+
+/// The processors that a new hand serves, and the number of its parts.
+pub trait MaskedPortion {
+    ghost mask: { List Bool };
+
+    ghost parts: { ℕ };
+}
+
+impl MaskedPortion for Brand {
+    ghost mask = { [] };
+
+    ghost parts = { 0 };
+}
+
+pub struct GivesShare<J> {
+    marker: PhantomData<J>,
+}
+
+impl<J: MaskedPortion> Split<View> for GivesShare<J> {
+    ghost left = { rest_without J.parts J.mask };
+
+    ghost right = { newborn_with J.parts J.mask };
 }
 
 /// The view of a hand that was taken in.

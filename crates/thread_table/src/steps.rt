@@ -17,7 +17,8 @@ ghost use Rattle.thread_table.specs.Entries.{claim_event, take_event};
 ghost use Rattle.thread_table.specs.Answers.{raise_event, is_in};
 ghost use Rattle.thread_table.specs.Sets.{marks};
 ghost use Rattle.thread_table.specs.Steps.{Found, HandDid, IsTurn, ReadPc, CountedUp, CountedDown};
-ghost use Rattle.thread_table.specs.Steps.{rest_of, newborn, both, emptied};
+ghost use Rattle.thread_table.specs.Steps.{rest_of, rest_without, newborn, newborn_with, both, emptied};
+ghost use Rattle.table_theory.specs.Sharing.{IsPortion};
 ghost use Rattle.event_theory.specs.declared.event.Event.TheVariants as events;
 ghost use Rattle.thread_table.specs.Reads.{Peeked, StateIs};
 
@@ -26,8 +27,8 @@ use crate::layout::{
     wait_ring,
 };
 use crate::plays::{
-    Caller, CountDown, CountUp, EventOf, Halves, Joins, LoadDone, Look, Makes, Mask, Spent, Stores,
-    Tries,
+    Caller, CountDown, CountUp, EventOf, GivesShare, Halves, Joins, LoadDone, Look, Makes, Mask,
+    MaskedPortion, Spent, Stores, Tries,
 };
 use crate::rule::{Shape, ThreadRule, View};
 use atomic_table::{Seat, Shared};
@@ -367,6 +368,28 @@ pub(crate) fn split_off<J: Mask>(
 {
     let _ = processors;
     words.split_seat::<Halves<J>>(seat)
+}
+
+// The new hand serves the processors of the mask, as in `split_off`, and gets `share` parts.
+pub(crate) fn split_share_off<J: MaskedPortion>(
+    words: &Words,
+    seat: &mut Seat<(), View>,
+    processors: u8,
+    share: u64,
+) -> Seat<(), View>
+    requires queue { (seat.old.table_id ≡ words.now.table_id) × (words.now.table_id.words ≡ WORDS) }
+    requires live { seat.old.me.0.member.ends ≡ 2 }
+    requires stands { ∥ HasStood seat.old.id seat.old.me.0 ∥₁ }
+    requires mask { (J.mask ≡ marks PROCESSORS processors) × ((p : ℕ) → p < PROCESSORS → is_in processors p ≡ true
+        → (serves seat.old.me.0 p ≡ true) × (running seat.old.me.0 p ≡ None)) }
+    requires portion { (J.parts ≡ share) × IsPortion share seat.old.me.0.member.share }
+    ensures queue { IsSame seat.old seat.new × (result.table_id ≡ seat.old.table_id) }
+    ensures stands { ∥ HasStood seat.new.id seat.new.me.0 ∥₁ × ∥ HasStood result.id result.me.0 ∥₁ }
+    ensures split { (seat.new.me ≡ (rest_without share J.mask seat.old.me.0, seat.old.me.1))
+        × (result.me ≡ (newborn_with share J.mask seat.old.me.0, [])) }
+{
+    let _ = (processors, share);
+    words.split_seat::<GivesShare<J>>(seat)
 }
 
 pub(crate) fn take_in<J: Spent>(words: &Words, seat: &mut Seat<(), View>, other: Seat<(), View>)

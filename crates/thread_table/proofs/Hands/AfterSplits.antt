@@ -1,5 +1,5 @@
 -- What a hand knows after a split, and after a join.
-use Rattle.thread_table.proofs.Common.{◌≡◌, ℕ, zero, suc, ◌+◌, ◌-◌, Bool, false, ◌||◌, ◌&&◌, not, List, [], ◌∷◌, length, get_or, refl, sym, ap, ◌∙◌, subst, arith, and_right, or_parts, nat_lt, Event, Begins, count_up, count_down, begins_trans, ends_word, seen_as, View, is_in, Sees, CountedDown, any_both, rest_of, newborn, both, SplitBy, IsNewEnd, JoinedBy}
+use Rattle.thread_table.proofs.Common.{◌≡◌, ℕ, zero, suc, ◌+◌, ◌-◌, Bool, false, ◌||◌, ◌&&◌, not, List, [], ◌∷◌, length, get_or, refl, sym, ap, ◌∙◌, subst, arith, and_right, or_parts, nat_lt, Event, Begins, count_up, count_down, begins_trans, ends_word, seen_as, View, is_in, Sees, CountedDown, any_both, rest_of, rest_without, newborn, newborn_with, both, SplitBy, SplitShare, IsNewEnd, IsNewEndWith, JoinedBy}
 use Rattle.table_theory.specs.Ledgers.{Step}
 use Rattle.table_theory.specs.Sharing.{given}
 use Rattle.table_theory.proofs.Parting.{one_seen}
@@ -17,22 +17,26 @@ both_low (b ∷ bs) (m ∷ ms) none zero = (or_parts (b && m) (any_both bs ms) n
 both_low (b ∷ bs) (m ∷ ms) none (suc i) = both_low bs ms (or_parts (b && m) (any_both bs ms) none).1 i
 
 -- the first hand, after it counted the new one and gave it the processors of the mask
-pub divided : (number : ℕ) (mask : List Bool) (v x : View) (found : ℕ) → ((p : ℕ) → get_or mask p false ≡ is_in number p) → CountedUp v found x → SplitBy number v (rest_of mask x)
-divided number mask v x found is t = let w : View = rest_of mask x in let e : Step (List Event) = count_up ends_word t.before in let less : v.member.ends + 1 - 1 ≡ v.member.ends = omega arith in
-    let y : View = rest_of mask (after (record v { member = valid.with_split v.member }) t.past e) in let goes : w ≡ y = ap (rest_of mask) t.same in record {
+pub divided : (parts number : ℕ) (mask : List Bool) (v x : View) (found : ℕ) → ((p : ℕ) → get_or mask p false ≡ is_in number p) → CountedUp v found x → SplitShare parts number v (rest_without parts mask x)
+divided parts number mask v x found is t = let w : View = rest_without parts mask x in let e : Step (List Event) = count_up ends_word t.before in let less : v.member.ends + 1 - 1 ≡ v.member.ends = omega arith in
+    let y : View = rest_without parts mask (after (record v { member = valid.with_split v.member }) t.past e) in let goes : w ≡ y = ap (rest_without parts mask) t.same in record {
       serves = λ p below. parted_and x.own.serves mask p
           ∙ (ap (λ (z : List Bool). get_or z p false && not (get_or mask p false)) (ap (λ (z : View). z.own.serves) t.same) ∙ ap (λ (b : Bool). get_or v.own.serves p false && not b) (is p));
       found = t.before;
-      acts = acts_kept v w (with_split v w) t.past e t.follows t.newest (subst (λ (z : List Event). Sees v z) (sym (ap (λ (z : View). z.seen.object) t.same)) t.sees) (ap (λ (z : View). z.first) t.same) (ap (λ (z : View). z.steps) t.same) (ap (λ (z : View). z.course) t.same) (ap (λ (z : View). z.seen) t.same)
+      acts = acts_kept v w (with_split parts v w) t.past e t.follows t.newest (subst (λ (z : List Event). Sees v z) (sym (ap (λ (z : View). z.seen.object) t.same)) t.sees) (ap (λ (z : View). z.first) t.same) (ap (λ (z : View). z.steps) t.same) (ap (λ (z : View). z.course) t.same) (ap (λ (z : View). z.seen) t.same)
           (ap (λ (z : View). z.own.made) t.same)
-          (goes ∙ ((λ i. record y { member = record y.member { ends = less i } }) ∙ sym (ap (λ (z : View). seen_as (with_split v z) z) goes)));
+          (goes ∙ ((λ i. record y { member = record y.member { ends = less i } }) ∙ sym (ap (λ (z : View). seen_as (with_split parts v z) z) goes)));
     }
 
-pub born : (number : ℕ) (mask : List Bool) (v x : View) (found : ℕ) → ((p : ℕ) → get_or mask p false ≡ is_in number p) → CountedUp v found x → IsNewEnd number v (rest_of mask x) (newborn mask x)
-born number mask v x found is t = record {
-  serves = λ p below. is p;
-  same = (λ i. record (newborn mask x) { member = record (newborn mask x).member { share = given (t.same i).member.share } });
-}
+pub born : (parts number : ℕ) (mask : List Bool) (x : View) → ((p : ℕ) → get_or mask p false ≡ is_in number p) → IsNewEndWith parts number (rest_without parts mask x) (newborn_with parts mask x)
+born parts number mask x is = record { serves = λ p below. is p; same = refl }
+
+-- the same two, of a split in which nobody says how many parts are given
+pub divided_so : (number : ℕ) (mask : List Bool) (v x : View) (found : ℕ) → ((p : ℕ) → get_or mask p false ≡ is_in number p) → CountedUp v found x → SplitBy number v (rest_of mask x)
+divided_so number mask v x found is t = subst (λ (s : ℕ). SplitShare (given s) number v (rest_of mask x)) (ap (λ (z : View). z.member.share) t.same) (divided (given x.member.share) number mask v x found is t)
+
+pub born_so : (number : ℕ) (mask : List Bool) (v x : View) (found : ℕ) → ((p : ℕ) → get_or mask p false ≡ is_in number p) → CountedUp v found x → IsNewEnd number v (rest_of mask x) (newborn mask x)
+born_so number mask v x found is t = subst (λ (s : ℕ). IsNewEndWith (given s) number (rest_of mask x) (newborn mask x)) (ap (λ (z : View). z.member.share) t.same) (born (given x.member.share) number mask x is)
 
 -- what both saw, without their share
 sees_together : (v u w : View) (found : ℕ) → CountedDown (both v u) found w → Sees (together v u) w.seen.object

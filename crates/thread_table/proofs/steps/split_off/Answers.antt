@@ -1,4 +1,5 @@
 use Rattle.thread_table.proofs.Common.{rules, ◌≡◌, ◌<◌, true, None, is_in, serves, running, PROCESSORS, ℕ, List, Bool, sym, subst, ∥∥₁_map, Splits, View, Rule, HasStood, rest_of, newborn}
+use Rattle.table_theory.proofs.Counting.{given_fits}
 use Rattle.thread_table.specs.Sets.{marks}
 use Rattle.thread_table.proofs.Lists.BitSets.{length-marks, marked}
 use Rattle.thread_table.proofs.Hands.SplitSteps.{CanPart, splits, rest_stands, born_stands}
@@ -13,12 +14,12 @@ split_seat-requires g c = (
   search rules,
   search rules,
   subst (λ (m : List Bool). Splits (Rule c.args.words.now.key) c.args.seat.now.id c.args.seat.now.me.0 (rest_of m c.args.seat.now.me.0) (newborn m c.args.seat.now.me.0)) (sym c.requires.mask.0)
-      (splits c.args.words.now.key c.args.seat.now.id c.args.seat.now.me.0 (marks 8 c.args.processors) c.requires.live (length-marks 8 c.args.processors) (parts c.args.processors c.args.seat.now.me.0 c.requires.mask.1)),
+      (splits c.args.words.now.key c.args.seat.now.id c.args.seat.now.me.0 _ (marks 8 c.args.processors) (given_fits _) c.requires.live (length-marks 8 c.args.processors) (parts c.args.processors c.args.seat.now.me.0 c.requires.mask.1)),
 )
 
 pub returns-clause-stands : goal.returns-clause-stands
 returns-clause-stands g c = let v : View = c.args.seat.now.me.0 in let m : List Bool = marks 8 c.args.processors in
     let left : c.split_seat.new.seat.me.0 ≡ rest_of m v = search rules in let right : c.split_seat.result.me.0 ≡ newborn m v = search rules in let id : c.split_seat.new.seat.id ≡ c.args.seat.now.id = search rules in (
-      ∥∥₁_map c.requires.stands (λ h. subst (λ (n : ℕ). HasStood n c.split_seat.new.seat.me.0) (sym id) (subst (HasStood c.args.seat.now.id) (sym left) (rest_stands c.args.seat.now.id v m (parts c.args.processors c.args.seat.now.me.0 c.requires.mask.1) h))),
-      ∣ subst (HasStood c.split_seat.result.id) (sym right) (born_stands c.split_seat.result.id v m) ∣₁,
+      ∥∥₁_map c.requires.stands (λ h. subst (λ (n : ℕ). HasStood n c.split_seat.new.seat.me.0) (sym id) (subst (HasStood c.args.seat.now.id) (sym left) (rest_stands c.args.seat.now.id v _ m (parts c.args.processors c.args.seat.now.me.0 c.requires.mask.1) h))),
+      ∣ subst (HasStood c.split_seat.result.id) (sym right) (born_stands c.split_seat.result.id v _ m) ∣₁,
     )

@@ -32,7 +32,11 @@ impl<C: Protocol> BatchQueue<C> {
     {
         // linearization point: the new end is counted, before it exists, so a close cannot miss it
         count_up(&self.table.shared, &mut end.seat, ENDS);
-        let seat = split_share_off::<_, _, _, _, _, Brand>(&self.table.shared, &mut end.seat, share);
+        let seat = split_share_off::<_, _, _, _, _, Brand>(
+            &self.table.shared,
+            &mut end.seat,
+            share,
+        );
         BatchEnd { seat }
     }
 }

@@ -1,12 +1,12 @@
 -- Each change of a chain is an event of the core for each history of what the step found.
-use Rattle.proc_chain.proofs.Common.{◌≡◌, ◌≢◌, ℕ, zero, suc, ◌+◌, ◌<◌, ◌≤◌, Bool, true, false, ◌&&◌, List, [], Batch, is_idle, ◌∷◌, map, sym, ap, ◌∙◌, subst, refl, arith, Option, Some, None, if◌then◌else◌, length, inl, inr, ⊎_elim, ◌⊎◌, Positions, Owned, Chain, is_call, raised_below, stage_at, Lawful, with_write, Step, IsValidStep, GatedQueue, View, with_note, with_raise, with_taken, with_gate, gate_of, AreShown, IsChainEvent, chain_of, Becomes, of_chains}
+use Rattle.proc_chain.proofs.Common.{◌≡◌, ◌≢◌, ℕ, zero, suc, ◌+◌, ◌<◌, ◌≤◌, Bool, true, false, ◌&&◌, List, [], Batch, is_idle, ◌∷◌, sym, ap, ◌∙◌, subst, refl, arith, Option, Some, None, length, inl, inr, ⊎_elim, ◌⊎◌, Positions, Owned, Chain, is_call, raised_below, stage_at, Lawful, with_write, Step, IsValidStep, GatedQueue, View, with_note, with_taken, with_gate, gate_of, AreShown, IsChainEvent, chain_of, Becomes, of_chains}
 use Rattle.std.proofs.Common.{not, Ok, Err, Result, option_map}
 use Rattle.std.proofs.lemmas.Option.{slice_get-map}
 use Rattle.std.specs.List.{slice_get}
 use Rattle.std.specs.Option.{is_some}
 use Rattle.event_theory.specs.declared.refusal.Refusal.{Refusal}
 use Rattle.event_theory.specs.declared.refusal.Refusal.TheVariants.{NotRunner}
-use Rattle.event_theory.specs.Queues.{Queue, left_pairs, after_claim, after_take, claim, raise, take_first}
+use Rattle.event_theory.specs.Queues.{Queue, left_pairs, after_claim, after_take, claim, take_first}
 use Rattle.event_theory.specs.Results.{◌>>=◌, refused_if}
 use Rattle.event_theory.specs.Chains.{forgotten, is_forgotten, owes, with_number, runner_after, claim_note, raise_note, take_note, notify, round, leave, is_more}
 use Rattle.event_theory.proofs.Keeping.Chains.{claim_note_law, raise_note_law, take_note_law, notify_law, round_law, leave_law}
@@ -16,7 +16,7 @@ use Rattle.table_theory.proofs.QueueOf.{left_long, is_lawful_queue}
 use Rattle.table_theory.proofs.QueueEvents.{claim_goes, claimed_is, take_goes, first_raised}
 use Rattle.table_theory.proofs.Saying.{real_change}
 use Rattle.proc_chain.specs.Changes.{claimed, raised, took, notified, round as rounded, left}
-use Rattle.proc_chain.specs.Happenings.{Kind, Does, Happens, IsEvent, event_by, claims, raises, takes, notifies, rounds, leaves}
+use Rattle.proc_chain.specs.Happenings.{Kind, Does, IsEvent, event_by, claims, raises, takes, notifies, rounds, leaves}
 use Rattle.proc_chain.specs.Histories.{History, chain_with, IsHistoryOf, IsEventWith, with_run, with_raised, IsRaiseOf, IsEventOfEach, is_claim, is_raise, is_taking, is_notify, is_round, is_leave}
 use Rattle.proc_chain.proofs.Becoming.{raise_is}
 use Rattle.proc_chain.proofs.Events.{and_false, runner_none, claim_note_goes, raise_note_goes, take_note_goes, notify_goes, round_goes, leave_goes}

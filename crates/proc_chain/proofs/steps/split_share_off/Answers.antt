@@ -1,4 +1,4 @@
-use Rattle.proc_chain.proofs.Common.{rules, ◌≡◌, ◌<◌, ℕ, sym, subst}
+use Rattle.proc_chain.proofs.Common.{rules, ℕ, sym, subst}
 use Rattle.table_theory.specs.Sharing.{IsPortion}
 use Rattle.proc_chain.proofs.Tallying.{splits}
 use Rattle.proc_chain.proofs.steps.split_share_off.Goals as goal

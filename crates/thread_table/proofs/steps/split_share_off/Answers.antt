@@ -15,7 +15,7 @@ split_seat-requires g c = (
   search rules,
   subst (λ (m : List Bool). Splits (Rule c.args.words.now.key) c.args.seat.now.id c.args.seat.now.me.0 (rest_without g.J.MaskedPortion.parts m c.args.seat.now.me.0) (newborn_with g.J.MaskedPortion.parts m c.args.seat.now.me.0)) (sym c.requires.mask.0)
       (splits c.args.words.now.key c.args.seat.now.id c.args.seat.now.me.0 g.J.MaskedPortion.parts (marks 8 c.args.processors) (λ h. subst (λ (p : ℕ). IsPortion p c.args.seat.now.me.0.member.share) (sym c.requires.portion.0) c.requires.portion.1)
-          c.requires.live (length-marks 8 c.args.processors) (parts c.args.processors c.args.seat.now.me.0 c.requires.mask.1)),
+      c.requires.live (length-marks 8 c.args.processors) (parts c.args.processors c.args.seat.now.me.0 c.requires.mask.1)),
 )
 
 pub returns-clause-stands : goal.returns-clause-stands

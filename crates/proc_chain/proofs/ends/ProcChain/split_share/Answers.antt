@@ -1,4 +1,4 @@
-use Rattle.proc_chain.proofs.Common.{refl, ap, arith, ◌≡◌, ◌-◌, Part, ◌+◌, ◌∙◌, ends_word, nothing_did, did_both, suits, makes}
+use Rattle.proc_chain.proofs.Common.{refl, ap, arith, Part, ◌∙◌, ends_word, nothing_did, did_both, suits, makes}
 use Rattle.table_theory.proofs.Parting.{share_views}
 use Rattle.proc_chain.proofs.Clients.{one_more}
 use Rattle.proc_chain.proofs.Finding.{slot_on, slot_down}

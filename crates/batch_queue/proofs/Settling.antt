@@ -1,7 +1,11 @@
 -- The items and numbers that are read from a closed table.
-use Rattle.batch_queue.proofs.Common.{parts_of, AreInOrder, AreSolid, Batch, BatchState, Bool, Cell, ClosedNow, EndRecord, HeldSlots, Holds, IsBatch, InvHeldOf, IsSettled, IsWhole, List, AbsState, OwnShows, Owned, POSITIONS, PartsShow, QueueView, Rule, SHUT, Shape, View, ViewsShow, WordsShow, [], ap, arith, at_map, concat, dec_lt, dite, drop, ends_word, entry_of, false, get_elem?, get_or, head_word, inl, item_of, items_of, left_from, left_is, length, line_of, map, mark, no_slots, nothing_did, part_of, phase_at, positions_of, refl, shuts_of, some, some-injective, some-ne-none, subst, suc, sym, tail_word, take, true, zero, ℕ, ℕ_discrete, ◌%◌, ◌+◌, ◌-◌, ◌<◌, ◌∙◌, ◌∷◌, ◌≡◌, ◌≢◌, ◌≤◌}
+use Rattle.batch_queue.proofs.Common.{parts_of, AreInOrder, AreSolid, Batch, BatchState, IsEdge, IsStop, Lawful, Bool, Cell, ClosedNow, EndRecord, HeldSlots, Holds, IsBatch, InvHeldOf, IsSettled, IsWhole, List, AbsState, OwnShows, Owned, POSITIONS, PartsShow, QueueView, Rule, SHUT, Shape, View, ViewsShow, WordsShow, [], ap, arith, at_map, concat, dec_lt, dite, drop, ends_word, entry_of, false, get_elem?, get_or, head_word, inl, item_of, items_of, left_from, left_is, length, line_of, map, mark, no_slots, nothing_did, part_of, phase_at, positions_of, refl, shuts_of, some, some-injective, some-ne-none, subst, suc, sym, tail_word, take, true, zero, ℕ, ℕ_discrete, ◌%◌, ◌+◌, ◌-◌, ◌<◌, ◌∙◌, ◌∷◌, ◌≡◌, ◌≢◌, ◌≤◌, ◌⊎◌, ⊎_elim, mark_word, ◌/◌}
 use Rattle.std.specs.Prelude.{Some, None}
 use Rattle.std.specs.List.{slice_get}
+use Rattle.std.proofs.Common.{◌*◌}
+use Rattle.std.specs.Mem.Slots.{slots_items}
+use Rattle.batch_queue.specs.Lefts.{AllPublished, items_left, mark_left}
+use Rattle.batch_queue.specs.declared.left.LeftItems.{LeftItems}
 use Rattle.std.proofs.lemmas.List.{drop_more, drop_all, take-map}
 use Rattle.std.proofs.Math.Path.{transport}
 use Rattle.atomic_table.specs.Table.{Final, Seen}
@@ -12,14 +16,14 @@ use Rattle.table_theory.proofs.Cutting.{settled}
 use Rattle.table_theory.proofs.Listing.{first_seen, listed_sole}
 use Rattle.table_theory.proofs.Positioned as positioned
 use Rattle.table_theory.proofs.Owned.{at_map_back, file_map, one_at, reported}
-use Rattle.table_theory.proofs.Reading.{read_word}
+use Rattle.table_theory.proofs.Reading.{read_length, read_word}
 use Rattle.table_theory.proofs.Stepping.{closes as closed, rest_idle}
 use Rattle.table_theory.proofs.Totals.{sole_total}
-use Rattle.batch_queue.proofs.Growing.{freed_taken, taken_claimed}
+use Rattle.batch_queue.proofs.Growing.{claimed_at, freed_taken, taken_claimed}
 use Rattle.batch_queue.proofs.Grouping.{lines_are}
 use Rattle.batch_queue.proofs.Placing.{cells_items, cells_length}
 use Rattle.batch_queue.proofs.Stepping.{St}
-use Rattle.batch_queue.proofs.Whole.{Lists}
+use Rattle.batch_queue.proofs.Whole.{Lists, batch_end, edge_batch}
 
 pub low_of : (n h : ℕ) (b : Bool) → n < SHUT → h ≡ n + mark b → h % SHUT ≡ n
 low_of n h true bounded is = omega arith
@@ -73,13 +77,19 @@ sole key s k id w at whole = listed_sole (positions_of k.now.object) (map part_o
 none_held : (d : EndRecord) (i : ℕ) → d.held ≡ no_slots → Holds d.held i → ⊥
 none_held d i e h = let h' : Holds no_slots i = subst (λ (z : HeldSlots). Holds z i) e h in let l = h'.0 in let r = h'.1 in omega arith
 
+-- if no end holds a slot, each item that is left is published
+up_left : (key : Shape) (s : St) (k : Rule key s) (id : ℕ) (w : View) → get_elem? s.views id ≡ some w → w.own.held ≡ no_slots → ((i : ℕ) (u : View) → get_elem? s.views i ≡ some u → i ≢ id → u.own ≡ nothing_did)
+    → (p : ℕ) → p < length (items_of k.now.object) → 1 ≤ phase_at k.now.object p
+up_left key s k id w at bare idle p below = let o : BatchState = k.now.object in
+    dite (dec_lt 0 (phase_at o p)) (λ y. omega arith) (λ no. let h = k.owned p below (inl (omega arith)) in absurd (dite (ℕ_discrete h.number id)
+    (λ same. let is : h.view ≡ w = one_at s.views id h.view w (subst (λ (z : ℕ). get_elem? s.views z ≡ some h.view) same h.here) at in none_held h.view.own p (ap (λ (z : View). z.own.held) is ∙ bare) h.in_held)
+    (λ ne. none_held h.view.own p (ap (λ (z : EndRecord). z.held) (idle h.number h.view h.here ne)) h.in_held)))
+
 -- if no end holds a slot, each item that is left is in the slot of its place
 left_home : (key : Shape) (s : St) (k : Rule key s) (id : ℕ) (w : View) → get_elem? s.views id ≡ some w → w.own.held ≡ no_slots → ((i : ℕ) (u : View) → get_elem? s.views i ≡ some u → i ≢ id → u.own ≡ nothing_did)
     → (p : ℕ) → k.now.object.taken ≤ p → p < length (items_of k.now.object) → get_elem? s.homes (p % k.now.object.room) ≡ some (some (get_or (items_of k.now.object) p 0))
 left_home key s k id w at bare idle p from below = let o : BatchState = k.now.object in let a = k.stands.lawful.after p from in let f = freed_taken o k.stands.lawful in let r = k.stands.lawful.within in
-    (k.homes p (omega arith) (omega arith)).up (dite (dec_lt 0 (phase_at o p)) (λ y. omega arith) (λ no. let h = k.owned p below (inl (omega arith)) in absurd (dite (ℕ_discrete h.number id)
-    (λ same. let is : h.view ≡ w = one_at s.views id h.view w (subst (λ (z : ℕ). get_elem? s.views z ≡ some h.view) same h.here) at in none_held h.view.own p (ap (λ (z : View). z.own.held) is ∙ bare) h.in_held)
-    (λ ne. none_held h.view.own p (ap (λ (z : EndRecord). z.held) (idle h.number h.view h.here ne)) h.in_held))))
+    let up = up_left key s k id w at bare idle p below in (k.homes p (omega arith) (omega arith)).up (omega arith)
 
 pub closes : (key : Shape) (v w : View) (id h t put : ℕ) (ws slots left : List ℕ) → v.member.ends ≡ 1 → v.own.held ≡ no_slots → Tallied ends_word v 1 w → Final (Seen (Rule key) id w) ws slots → get_elem? ws head_word ≡ some h → get_elem? ws tail_word ≡ some t
     → put ≡ h % SHUT → left ≡ left_from key.room slots t (put - t) → ClosedNow v put t left
@@ -119,3 +129,46 @@ whole_lists v r whole = record {
 -- the views of all ends list what an end has seen, its own among them
 pub ruled_lists : (v : View) → InvHeldOf v → (views : List QueueView) × (seat : ℕ) × ViewsShow (positions_of v.seen.object) views × (get_elem? views seat ≡ some (part_of v))
 ruled_lists v r = (map part_of r.state.views, r.number, subst (λ (z : AbsState BatchState). ViewsShow (positions_of z.object) (map part_of r.state.views)) (sym r.seen) r.rule.listed, at_map part_of r.state.views r.number v r.here)
+
+-- WHAT IS PUBLISHED
+
+-- the batch, or the rest of one, from the position p on is published up to e: its mark says so
+record MarkedTo (o : BatchState) (words : List ℕ) (p e : ℕ) : Type 0 where
+  says : get_or words (mark_word o.room p) 0 ≡ 2 * e
+  past : p < e
+  at_edge : IsEdge o.batches e
+
+-- a batch, or the rest of one, from a position on that is not taken has its mark
+marked_to : (o : BatchState) (words : List ℕ) (p : ℕ) → Lawful o → WordsShow o words → o.taken ≤ p → IsStop o p → 1 ≤ phase_at o p → (e : ℕ) × MarkedTo o words p e
+marked_to o words p l h later stop up = ⊎_elim
+    (λ edge. (let t = edge_batch o.batches p edge (claimed_at o l p up) in (t.0, record { says = h.batch_mark p t.0 t.1 t.2 later up; past = t.2; at_edge = batch_end o.batches p t.0 t.1 })))
+    (λ parted. (let t = h.rest_mark p parted later in (t.0, record { says = t.2; past = t.1.some_item; at_edge = batch_end o.batches t.1.start t.0 t.1.batch })))
+    stop
+
+-- from a stop on, marks lead past each position that is published, if all from the stop up to it are
+covered : (n : ℕ) (o : BatchState) (words : List ℕ) (q p : ℕ) → p < q + n → Lawful o → WordsShow o words → o.taken ≤ q → IsStop o q → q ≤ p → ((i : ℕ) → q ≤ i → i ≤ p → 1 ≤ phase_at o i)
+    → (s e : ℕ) × (q ≤ s) × (s ≤ p) × (p < e) × (get_or words (mark_word o.room s) 0 ≡ 2 * e)
+covered zero o words q p near l h later stop le up = absurd (omega arith)
+covered (suc n) o words q p near l h later stop le up = let t = marked_to o words q l h later stop (up q (omega arith) le) in let e : ℕ = t.0 in let m = t.1 in let past : q < e = m.past in dite (dec_lt p e)
+    (λ y. (q, e, omega arith, le, y, m.says))
+    (λ no. let r = covered n o words e p (omega arith) l h (omega arith) (inl m.at_edge) (omega arith) (λ i near_i to. up i (omega arith) to) in (r.0, r.1, (let a = r.2 in omega arith), r.3, r.4, r.5))
+
+-- a mark that is twice the end of a batch leads on, up to there
+leads : (start first past m p e : ℕ) → start + first ≡ p → start + past ≡ e → p < e → m ≡ 2 * e → ((m % 2 ≡ 0) × (start + first < m / 2)) × (start + past ≡ m / 2)
+leads start first past m p e a b less is = ((omega arith, omega arith), omega arith)
+
+-- by the marks of a closed table, all items left are published
+pub published_left : (key : Shape) (v w : View) (id h t : ℕ) (ws slots : List ℕ) (left : LeftItems) → v.member.ends ≡ 1 → v.own.held ≡ no_slots → Tallied ends_word v 1 w → Final (Seen (Rule key) id w) ws slots → get_elem? ws head_word ≡ some h → get_elem? ws tail_word ≡ some t
+    → left.room ≡ key.room → left.start ≡ t → left.count ≡ h % SHUT - t → slots_items left.closed.words ≡ ws → AllPublished left
+published_left key v w id h t ws slots left one_end bare tallied fin at_h at_t rooms start count words i less =
+    let s : St = fin.0 in let k = fin.1.0 in let here = fin.1.1 in let o : BatchState = k.now.object in let sh : WordsShow o ws = subst (WordsShow o) fin.2 k.stands.shows in let lawful = k.stands.lawful in
+    let c = closed k.stands id v w here ends_word 1 tallied refl one_end in let bounded = sh.bounded in
+    let hd : h % SHUT ≡ length (items_of o) = low_of (length (items_of o)) h o.shut (omega arith) (sym (read_word ws head_word h at_h) ∙ sh.head) in let tl : t ≡ o.taken = sym (read_word ws tail_word t at_t) ∙ sh.tail in
+    let bare_w : w.own.held ≡ no_slots = ap (λ (z : EndRecord). z.held) tallied.made.did ∙ bare in
+    let long : length (items_left left) ≡ left.count = read_length _ left.start left.count in let below : i < left.count = subst (λ (z : ℕ). i < z) long less in
+    let up : (p : ℕ) → p < length (items_of o) → 1 ≤ phase_at o p = up_left key s k id w here bare_w (λ j u at ne. (c.idle j u at ne).own) in
+    let r = covered (suc i) o ws o.taken (o.taken + i) (omega arith) lawful sh (omega arith) lawful.stop (omega arith) (λ p later to. up p (omega arith)) in
+    let from : ℕ = r.0 in let end : ℕ = r.1 in let not_before = r.2 in let up_to = r.3 in let over = r.4 in let first : ℕ = from - t in let past : ℕ = end - t in
+    let begins : t + first ≡ from = omega arith in let ends : t + past ≡ end = omega arith in
+    let m : mark_left left first ≡ 2 * end = (λ j. get_or (words j) (mark_word ((rooms ∙ sym k.room) j) (start j + first)) 0) ∙ (ap (λ (z : ℕ). get_or ws (mark_word o.room z) 0) begins ∙ r.5) in
+    (first, past, omega arith, omega arith, leads left.start first past (mark_left left first) from end (ap (λ (z : ℕ). z + first) start ∙ begins) (ap (λ (z : ℕ). z + past) start ∙ ends) (omega arith) m)

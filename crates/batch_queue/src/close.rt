@@ -5,7 +5,7 @@ ghost use Rattle.batch_queue.specs.Client.{GoesOn, HasShut, IsLater};
 ghost use Rattle.batch_queue.specs.Closings.{ClosedNow};
 ghost use Rattle.batch_queue.specs.Evidence.{ShutNow};
 ghost use Rattle.batch_queue.specs.Layout.{ends_word};
-ghost use Rattle.batch_queue.specs.Lefts.{items_left};
+ghost use Rattle.batch_queue.specs.Lefts.{AllPublished, items_left};
 ghost use Rattle.batch_queue.specs.Lines.{SameLines};
 
 use crate::ends::{BatchEnd, BatchQueue};
@@ -49,6 +49,7 @@ impl<C: Protocol> BatchQueue<C> {
         requires { IsEndOf self end }
         ensures only { IsOnlyEnd end → MatchResult result (λ c. Unit {0}) (λ e. ⊥) }
         ensures effect { IfOk result (λ c. ClosedNow (view_of end) c.put c.taken (items_left c.left)) }
+        ensures published { IfOk result (λ c. AllPublished c.left) }
         ensures error { IfErr result (λ e. WereOpen ends_word (view_of end) e.2.others (view_of e.1)) }
         ensures frame { IfErr result (λ e. SameLines (view_of end) (view_of e.1) × GoesOn (view_of end) (view_of e.1)) }
         ensures handle { IfErr result (λ e. (e.0 ≡ self) × IsSameEnd end e.1) }

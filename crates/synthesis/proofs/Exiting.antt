@@ -1,6 +1,6 @@
 -- The words of an exit, on an error stream that was let go.
 use Rattle.std.proofs.Common.{◌≡◌, inl, inr, ℕ, List, Option, Result, Ok, Err}
-use Rattle.std.specs.Prelude.{Unit, OnOk, OnErr}
+use Rattle.std.specs.Prelude.{OnOk, OnErr}
 use Rattle.std.specs.declared.io.Error.{Error}
 use Rattle.std.specs.Io.KnownBytes.{Appends}
 use Rattle.boot_script.specs.declared.exit.Exit.{Exit}

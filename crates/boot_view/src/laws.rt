@@ -7,6 +7,7 @@ ghost use Rattle.boot_view.specs.Views.{HasBooted, HasFrontOf, room_for};
 ghost use Rattle.processor.specs.Points.{calls};
 ghost use Rattle.synth_kernel.specs.declared.printing.Booted.{Booted};
 
+use crate::boot_timer::BootTimer;
 use boot_log::{Recorder, TurnClock};
 use processor::{Gate, Shared, TurnGate};
 use synth_kernel::{Witness, Work, Worked};
@@ -14,13 +15,15 @@ use synth_kernel::{Witness, Work, Worked};
 /// The recorders of a boot of fewer than 2^64 turns on each processor have the first turns of each, in their order, and
 /// the number of all later ones. There was no room for the first of those that were missed. The times are the clock's,
 /// none is before `from`, and none is before an earlier one.
-pub fn pages_have_fronts<R, C>()
+pub fn pages_have_fronts<R, B, C>()
 where
     R: Witness<Shared, Worked<Recorder<C>>, Work<Recorder<C>>>,
+    B: BootTimer<C>,
     C: TurnClock,
-    ensures { (made : List (Recorder C) → Type 0) (clock : C) (from : ℕ) (command : Command)
-        (read : Option (List ℕ)) (report : List ℕ) (booted : Booted (Recorder C)) (came : HasBooted R.ran R.shown
-        (calls ⟦<Recorder<C> as Gate>⟧.observes ⟦<Recorder<C> as TurnGate>⟧.learns) made clock from command read
-        report booted) → command.turns < 2 ^ 64 → AllZip (HasFrontOf (C.says clock) from (room_for command.turns))
+    ensures { (clock : B) (from : ℕ) (command : Command) (read : Option (List ℕ)) (report : List ℕ)
+        (booted : Booted (Recorder C)) (came : HasBooted R.ran R.shown
+        (calls ⟦<Recorder<C> as Gate>⟧.observes ⟦<Recorder<C> as TurnGate>⟧.learns) (B.made clock) (B.read_by clock)
+        from command read report booted) → command.turns < 2 ^ 64
+        → AllZip (HasFrontOf (C.says (B.read_by clock)) from (room_for command.turns))
         came.boot.run.booted.logs booted.gates.items }
 {}

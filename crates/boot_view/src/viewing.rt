@@ -155,7 +155,8 @@ where
     let page = page_of(alloc, &boot, command.view, from, booted.gates());
     let ended = booted.ended();
     rt.let_go(booted);
-    Ok((ended, page?))
+    let page = page?;
+    Ok((ended, page))
 }
 
 /// Boots a script, and returns how the boot has ended, and the page with this view of it.

@@ -6,6 +6,6 @@ returns-in-Ok g c = record {
   recorders = c.in_ok-gates.gates.items;
   many = sym c.in_ok-gates.gates.ok.0 ∙ c.in_ok-gates.ensures.many;
   all_made = c.in_ok-gates.ensures.made;
-  new = c.in_ok-gates.ensures.new;
+  new = rw c.min-most.ensures at c.in_ok-gates.ensures.new;
   boot = rw c.requires.report at c.in-Ok.ensures.ok;
 }

@@ -210,7 +210,7 @@ impl BatchEnd {
     ///
     /// # Errors
     ///
-    /// The queue has more than two million ends, or memory is refused.
+    /// The queue has more than 2^43 ends, or memory is refused.
     pub fn split(&self) -> Result<BatchEnd, SplitError> {
         Ok(BatchEnd { share: self.share.split()?, capacity: self.capacity })
     }

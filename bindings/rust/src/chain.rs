@@ -158,7 +158,7 @@ impl ChainEnd {
     ///
     /// # Errors
     ///
-    /// The chain has more than two million ends, or memory is refused.
+    /// The chain has more than 2^43 ends, or memory is refused.
     pub fn split(&self) -> Result<ChainEnd, SplitError> {
         Ok(ChainEnd { share: self.share.split()? })
     }

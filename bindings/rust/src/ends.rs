@@ -19,7 +19,7 @@ pub struct OutOfMemory;
 #[derive(Clone, Copy, Debug, PartialEq, Eq, Hash)]
 #[non_exhaustive]
 pub enum SplitError {
-    /// The object has more than two million ends. Drop some, or join them to others.
+    /// The object has more than 2^43 ends. Drop some, or join them to others.
     NoShare,
     /// An allocation was refused.
     OutOfMemory,

@@ -113,7 +113,7 @@ pub enum SplitError {
     NotServed,
     /// An element is on one of the processors.
     Busy,
-    /// The table has more than two million hands. Drop some, or join them to others.
+    /// The table has more than 2^43 hands. Drop some, or join them to others.
     NoShare,
     /// An allocation was refused.
     OutOfMemory,

@@ -71,7 +71,7 @@
 //! | [`hand`] | thread elements, for a scheduler | 64 elements, 8 processors, 16 wait queues; 2^32 - 1 moves each |
 //! | [`Event`] | an event count: threads that sleep until another has put something | |
 //!
-//! An object may have two million ends at a time. The library is for 64-bit Linux on x86-64-v2 processors.
+//! An object may have 2^43 ends at a time. The library is for 64-bit Linux on x86-64-v2 processors.
 //!
 //! # Ends
 //!

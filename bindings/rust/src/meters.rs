@@ -148,7 +148,7 @@ impl MeterSeat {
     ///
     /// # Errors
     ///
-    /// The meters have more than two million ends, or memory is refused.
+    /// The meters have more than 2^43 ends, or memory is refused.
     pub fn split(&self) -> Result<MeterSeat, SplitError> {
         Ok(MeterSeat { share: self.share.split()? })
     }

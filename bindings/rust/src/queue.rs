@@ -170,7 +170,7 @@ impl<const N: usize> QueueEnd<N> {
     ///
     /// # Errors
     ///
-    /// The queue has more than two million ends, or memory is refused.
+    /// The queue has more than 2^43 ends, or memory is refused.
     pub fn split(&self) -> Result<QueueEnd<N>, SplitError> {
         Ok(QueueEnd { share: self.share.split()? })
     }

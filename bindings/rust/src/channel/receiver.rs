@@ -205,7 +205,7 @@ impl<T> Receiver<T> {
     ///
     /// # Errors
     ///
-    /// The channel has more than two million halves, or memory is refused.
+    /// The channel has more than 2^43 halves, or memory is refused.
     pub fn try_clone(&self) -> Result<Receiver<T>, SplitError> {
         Half::new(&self.half.shared).map(Receiver::new)
     }
@@ -322,7 +322,7 @@ impl From<NotTaken> for TryRecvError {
 ///
 /// # Panics
 ///
-/// If memory is refused, or the channel has more than two million halves: see [`Receiver::try_clone`].
+/// If memory is refused, or the channel has more than 2^43 halves: see [`Receiver::try_clone`].
 impl<T> Clone for Receiver<T> {
     #[track_caller]
     fn clone(&self) -> Receiver<T> {

@@ -262,7 +262,7 @@ impl<T> Sender<T> {
     ///
     /// # Errors
     ///
-    /// The channel has more than two million halves, or memory is refused.
+    /// The channel has more than 2^43 halves, or memory is refused.
     pub fn try_clone(&self) -> Result<Sender<T>, SplitError> {
         Half::new(&self.half.shared).map(Sender::new)
     }
@@ -338,7 +338,7 @@ fn unpack_all<T>(words: &[Word]) -> impl Iterator<Item = T> {
 ///
 /// # Panics
 ///
-/// If memory is refused, or the channel has more than two million halves: see [`Sender::try_clone`].
+/// If memory is refused, or the channel has more than 2^43 halves: see [`Sender::try_clone`].
 impl<T> Clone for Sender<T> {
     #[track_caller]
     fn clone(&self) -> Sender<T> {

@@ -18,7 +18,7 @@ close_queues-requires c = let all = c.close_chains-counts.ensures in let new = c
         all.ends.small,
         (
           small_whole c.args.shared c.args.parts c.requires.wholes (homes_in c.close_chains-counts.result.items) c.args.parts.queues.small.items new all.homes all.ends.small refl all.gained.small_gained,
-          c.requires.room.small,
+          (c.requires.room.small.0, let room = c.requires.room.small.1 in omega arith),
         ),
       ),
     ),
@@ -36,7 +36,7 @@ close_queues-requires-2 c = let all = c.close_chains-counts.ensures in let new =
         all.ends.large,
         (
           large_whole c.args.shared c.args.parts c.requires.wholes (homes_in c.close_chains-counts.result.items) c.args.parts.queues.large.items new all.homes all.ends.large refl all.gained.large_gained,
-          c.requires.room.large,
+          (c.requires.room.large.0, let room = c.requires.room.large.1 in omega arith),
         ),
       ),
     ),

@@ -37,10 +37,11 @@ SIZE(synth_positions, 16);
 FIELD(synth_positions, head, 0, 8);
 FIELD(synth_positions, tail, 8, 8);
 
-SIZE(synth_batch_totals, 24);
+SIZE(synth_batch_totals, 32);
 FIELD(synth_batch_totals, put, 0, 8);
 FIELD(synth_batch_totals, taken, 8, 8);
 FIELD(synth_batch_totals, left, 16, 8);
+FIELD(synth_batch_totals, broken, 24, 8);
 
 SIZE(synth_batch_status, 32);
 FIELD(synth_batch_status, tail, 0, 8);

@@ -1,8 +1,8 @@
 /*
  * Queues of which an end was lost are abandoned: `lost [TRIES]`, 200 where no number is given. An end is freed with its
  * items in the queue. Then, so many times, a signal handler leaves a put by longjmp, wherever it is, so its end is
- * broken and used no more; what the abandon gives are the first of the items that were put. Prints one line. Status 1:
- * an answer differs.
+ * broken and used no more; what the abandon gives are the first of the items that were put. A long put that was left so
+ * is noticed by the finish of a batch queue whose ends are all joined. Prints one line. Status 1: an answer differs.
  */
 #define _XOPEN_SOURCE 700
 #include "rows.h"
@@ -201,10 +201,57 @@ static void left_puts(size_t tries)
     free(queues);
 }
 
+enum { MANY = 1 << 20, LONG = MANY - 100 };
+
+/* A put of so many items is left within its writes, if the signal comes then, and its end is joined all the same. */
+static synth_code finish_a_long_put(const uint64_t *many, uint64_t *left, struct synth_batch_totals *totals)
+{
+    static struct synth_batch batch, other;
+    ROW(synth_batch_new(MANY, &batch), SYNTH_OK);
+    ROW(synth_batch_split(&batch, &other), SYNTH_OK);
+    ROW(synth_batch_try_put(&batch, items, 3, NULL), SYNTH_OK);
+    if (sigsetjmp(back, 1) == 0) {
+        start_timer(LEAST);
+        (void)(synth_batch_try_put(&other, many, LONG, NULL) == SYNTH_OK);
+    }
+    start_timer(0);
+    ROW(synth_batch_try_put(&batch, items + 3, 2, NULL), SYNTH_OK);
+    ROW(synth_batch_join(&batch, &other), SYNTH_OK);
+    const synth_code code = synth_batch_finish(&batch, left, MANY, totals);
+    ROW(batch.full || other.full, false);
+    return code;
+}
+
+/* What was put before and after the put that was left is there, and nothing of that put is. */
+static void broken_puts(size_t tries)
+{
+    uint64_t *many = (uint64_t *)calloc(MANY, sizeof *many), *left = (uint64_t *)calloc(MANY, sizeof *left);
+    bool is_broken = false;
+    ROW(many && left, true);
+    for (size_t i = 0; i < tries && !is_broken; i++) {
+        struct synth_batch_totals totals;
+        const synth_code code = finish_a_long_put(many, left, &totals);
+        is_broken = code == SYNTH_BROKEN;
+        ROW(is_broken || code == SYNTH_OK, true);
+        ROW(totals.broken, is_broken ? LONG : 0);
+        ROW(totals.taken == 0 && totals.put == totals.left + totals.broken, true);
+        if (is_broken) {
+            ROW(totals.left == 5 && left[0] == 21 && left[2] == 23 && left[3] == 24 && left[4] == 25, true);
+        }
+    }
+#ifndef __SANITIZE_THREAD__ /* this one keeps signals back until a call of the system */
+    ROW(tries < 100 || is_broken, true);
+#endif
+    free(many);
+    free(left);
+}
+
 int main(int number, char **words)
 {
+    const size_t tries = number > 1 ? strtoul(words[1], NULL, 10) : 200;
     freed_ends();
     full_ends();
-    left_puts(number > 1 ? strtoul(words[1], NULL, 10) : 200);
+    left_puts(tries);
+    broken_puts(tries);
     return rows_end("lost");
 }

@@ -98,6 +98,7 @@ std::string_view name_of(synth_codes code)
         CODE(AllWoken, ALL_WOKEN);
         CODE(Stopped, STOPPED);
         CODE(Taken, TAKEN);
+        CODE(Broken, BROKEN);
         CODE(Run, RUN);
         CODE(Left, LEFT);
         CODE(Note, NOTE);

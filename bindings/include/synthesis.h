@@ -31,7 +31,7 @@
  *   once there, may be used by all calls but those six.
  * - Not fork-safe: in the forked child of a process with threads no handle is used.
  * - Not cancellation-safe: a thread that is cancelled asynchronously within a call, or leaves it by longjmp, breaks its
- *   handle, and takers may wait for good for what it put.
+ *   handle, and takers may wait for good for what it put. synth_batch_finish notices such a put: SYNTH_BROKEN.
  * - Handles may lie side by side, since tries don't write to them.
  * - A batch queue takes 540 bytes of memory and 16 for each place, a claim queue 280 and 16, a chain 600, meters 360, a
  *   line 540 and its room, thread elements 16,350, and each split 64. While they are made, some take about twice as
@@ -160,6 +160,7 @@ enum synth_codes {
     SYNTH_ALL_WOKEN = 15,   /**< each place that was claimed before the notify is taken */
     SYNTH_STOPPED = 16,     /**< the element's stop bit is set */
     SYNTH_TAKEN = 17,       /**< another hand has taken the element */
+    SYNTH_BROKEN = 18,      /**< the queue is ended, and a put of it never ended: its items are missing */
     SYNTH_RUN = 20,         /**< the note is chained, and this handle runs notes from now on */
     SYNTH_LEFT = 21,        /**< the note is chained, and the handle that runs notes is given it */
     SYNTH_NOTE = 22,        /**< the next note */
@@ -238,7 +239,8 @@ struct synth_positions {
 struct synth_batch_totals {
     uint64_t put;   /**< how many items were put */
     uint64_t taken; /**< how many were taken; they are the first of those put */
-    size_t left;    /**< how many were left, all others */
+    size_t left;    /**< how many were left, all others but those missing */
+    size_t broken;  /**< how many of those put are missing, since their puts never ended: 0 unless SYNTH_BROKEN */
 };
 
 /**
@@ -374,8 +376,10 @@ SYNTH_CALL_ synth_code synth_batch_shut(struct synth_batch *batch);
 
 /**
  * Ends the queue by a handle to which all others were joined, and empties it. The items left go to `left`, in their
- * order; `room` is at least the number of places.
- * @return SYNTH_EMPTY_HANDLE; SYNTH_SHORT_BUFFER; SYNTH_OPEN: always if others were freed.
+ * order; `room` is at least the number of places. SYNTH_BROKEN also ends the queue, and sets what SYNTH_OK sets: a
+ * thread was ended within a put, or left it by longjmp. The items of that put are missing; those put after it are in
+ * `left`. A taking that was left so isn't noticed: its items count as taken.
+ * @return SYNTH_EMPTY_HANDLE; SYNTH_SHORT_BUFFER; SYNTH_OPEN: always if others were freed; SYNTH_BROKEN.
  */
 SYNTH_MUST_USE SYNTH_CALL_ synth_code synth_batch_finish(struct synth_batch *SYNTH_RESTRICT_ batch,
                                                          uint64_t *SYNTH_RESTRICT_ left, size_t room,

@@ -40,6 +40,8 @@ const char *synth_code_name(synth_code code)
         return "SYNTH_STOPPED";
     case SYNTH_TAKEN:
         return "SYNTH_TAKEN";
+    case SYNTH_BROKEN:
+        return "SYNTH_BROKEN";
     case SYNTH_RUN:
         return "SYNTH_RUN";
     case SYNTH_LEFT:
@@ -109,6 +111,8 @@ const char *synth_code_text(synth_code code)
         return "the element's stop bit is set";
     case SYNTH_TAKEN:
         return "another hand has taken the element";
+    case SYNTH_BROKEN:
+        return "a put never ended: its items are missing";
     case SYNTH_RUN:
         return "the note is chained, and this handle runs notes from now on";
     case SYNTH_LEFT:

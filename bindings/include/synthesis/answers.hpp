@@ -33,6 +33,7 @@ enum class [[nodiscard]] Code : std::int32_t {
     AllWoken = SYNTH_ALL_WOKEN,
     Stopped = SYNTH_STOPPED,
     Taken = SYNTH_TAKEN,
+    Broken = SYNTH_BROKEN,
     Run = SYNTH_RUN,
     Left = SYNTH_LEFT,
     Note = SYNTH_NOTE,
@@ -70,6 +71,7 @@ enum class [[nodiscard]] Code : std::int32_t {
     case Code::AllWoken: return "SYNTH_ALL_WOKEN";
     case Code::Stopped: return "SYNTH_STOPPED";
     case Code::Taken: return "SYNTH_TAKEN";
+    case Code::Broken: return "SYNTH_BROKEN";
     case Code::Run: return "SYNTH_RUN";
     case Code::Left: return "SYNTH_LEFT";
     case Code::Note: return "SYNTH_NOTE";

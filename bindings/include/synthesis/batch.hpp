@@ -37,7 +37,8 @@ struct [[nodiscard]] BatchTakeAnswer {
 };
 
 /// What a batch queue had at its end, by its numbers alone: how many items were put; how many were taken, which are the
-/// first ones of those put; and how many were left, all others, which are in the caller's buffer.
+/// first ones of those put; how many were left, all others, which are in the caller's buffer; and how many of those put
+/// are missing, since their puts never ended (`broken`).
 using BatchNumbers = synth_batch_totals;
 
 /// What a look at a batch queue found.
@@ -48,6 +49,7 @@ struct BatchTotals {
     std::uint64_t put;
     std::uint64_t taken;
     std::vector<std::uint64_t> left; ///< the items left, in their order
+    std::size_t broken;              ///< how many of those put are missing, since their puts never ended
 };
 
 namespace detail {
@@ -196,12 +198,13 @@ public:
     Code shut() noexcept { return detail::as_code(synth_batch_shut(raw())); }
 
     /// Ends the queue by an end to which all others were joined, and empties it. The items left become the first ones
-    /// of the buffer. EmptyHandle; ShortBuffer: it has less room than the queue has places; Open.
+    /// of the buffer. If a put never ended, `broken` of the value isn't 0. EmptyHandle; ShortBuffer: it has less room
+    /// than the queue has places; Open.
     Expected<BatchNumbers> finish(View<std::uint64_t> buffer) noexcept
     {
         synth_batch_totals totals = {};
         const synth_code code = synth_batch_finish(raw(), buffer.data(), buffer.size(), &totals);
-        return detail::value_of(code, totals);
+        return detail::value_of(code == SYNTH_BROKEN ? SYNTH_OK : code, totals);
     }
     /// The same, with the items left in a list. EmptyHandle; NoMemory: none for the list, of as many items as the queue
     /// has places, and the end is still full; Open.
@@ -220,7 +223,7 @@ public:
             return totals.code();
         }
         left.resize(totals->left);
-        return BatchTotals{totals->put, totals->taken, std::move(left)};
+        return BatchTotals{totals->put, totals->taken, std::move(left), totals->broken};
     }
 
     /// Gives the queue up, of which an end was lost or freed: shuts it, takes what can be taken into the buffer, as

@@ -14,6 +14,7 @@ template <class T> struct BatchTotalsOf {
     std::uint64_t put;
     std::uint64_t taken;
     std::vector<T> left; ///< the values left, in their order
+    std::size_t broken;  ///< how many of those put are missing, since their puts never ended
 };
 
 /// An end of a batch queue whose items are values of T: a pointer, a number, an enum or a small struct. A value is
@@ -104,7 +105,7 @@ public:
         for (std::size_t i = 0; i < left.size(); i++) {
             left[i] = Words::value_of(totals->left[i]);
         }
-        return BatchTotalsOf<T>{totals->put, totals->taken, std::move(left)};
+        return BatchTotalsOf<T>{totals->put, totals->taken, std::move(left), totals->broken};
     }
 
     /// As BatchEnd::put_wait. TooLong also for more than 256 values.

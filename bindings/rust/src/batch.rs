@@ -460,7 +460,8 @@ impl BatchEnd {
         // SAFETY: the pointer leads to as much room as the number says, and nobody else has it. Clause `closed`:
         // the call writes there what is left, and nothing else.
         match unsafe { raw::synth_raw_batch_close(handle, left.as_mut_ptr(), left.len(), &mut numbers) } {
-            raw::OK => {}
+            // A put that never ended has no items here: a thread was ended within it, from outside of Rust.
+            raw::OK | raw::BROKEN => {}
             code => raw::no_such_answer(code),
         }
         left.truncate(numbers.left);

@@ -90,6 +90,7 @@ pub(crate) struct BatchClosed {
     pub put: u64,
     pub taken: u64,
     pub left: usize,
+    pub broken: usize,
 }
 
 #[repr(C)]
@@ -207,6 +208,7 @@ numbers! {
         ALL_WOKEN = 15,
         STOPPED = 16,
         TAKEN = 17,
+        BROKEN = 18,
         RUN = 20,
         LEFT = 21,
         NOTE = 22,

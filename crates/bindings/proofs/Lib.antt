@@ -4,6 +4,7 @@ pub mod Calls
 mod HandFits
 mod HandKeeps
 mod Holding
+mod Publishing
 mod QueueEnds
 mod Runs
 mod Telling

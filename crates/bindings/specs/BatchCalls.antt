@@ -57,6 +57,10 @@ ReportsTake (Ok n) old_count count old new code = (code ≡ Done) × (count ≡ 
 ReportsTake (Err r) old_count count old new code =
     (code ≡ code_of_batch r) × (count ≡ count_of_take r old_count) × (new ≡ positions_of_take r old)
 
+-- the code of a closed queue: Done if no put was broken, else 18
+abbrev pub IsClosedCode : SynthBatchClosed → ℤ → Type 0
+IsClosedCode c code = (c.broken ≡ 0 → code ≡ Done) × (0 < c.broken → code ≡ pos 18)
+
 -- the buffer has fewer places than the queue, and nothing happened; or the outcome of the close is reported
 abbrev pub WasClosed : HeldBatch → List ℕ → List ℕ → Option Payload → SynthBatchClosed → SynthBatchClosed → ℤ → Type 0
 WasClosed x old_items items new old reported code =

@@ -1,6 +1,7 @@
 -- The effects of the calls of a batch queue on an end of it. Each definition states what the library's call states.
 use Rattle.std.specs.Prelude.{◌≡◌, ◌≤◌, ◌<◌, ◌+◌, ◌++◌, ℕ, Bool, true, take, List, length, Result, MatchResult, IfErr}
-use Rattle.std.specs.Prelude.{Ok, Err}
+use Rattle.std.specs.Prelude.{Ok, Err, Some, zero, suc, [], ◌∷◌, ◌⊎◌, slice_set}
+use Rattle.std.specs.List.{slice_get}
 use Rattle.std.specs.Arc.{arc_value}
 use Rattle.batch_queue.specs.Lines.{SameLines, PutLine, lines_put, lines_taken, times_parted}
 use Rattle.batch_queue.specs.Parts.{FilledSome, SameSome, WhyNotTakenSome, TookSome, RefusedTakeSome}
@@ -10,6 +11,8 @@ use Rattle.batch_queue.specs.Client.{WhyNotPut, WhyNotPutSome, WhyNotTaken}
 pub use Rattle.batch_queue.specs.Handles.{IsSameEnd, view_of, room_of}
 use Rattle.batch_queue.specs.Takings.{FilledBuffer, TookBatches, RefusedTake}
 use Rattle.batch_queue.specs.Closings.{ShutNow, ClosedNow}
+use Rattle.batch_queue.specs.Lefts.{IsPublished, IsPublishedFrom, items_left}
+use Rattle.batch_queue.specs.declared.left.LeftItems.{LeftItems}
 use Rattle.batch_queue.specs.Rules.{newcomer}
 use Rattle.batch_queue.specs.Plain.{BatchQueue}
 use Rattle.batch_queue.specs.Layout.{IsPowerOfTwo}
@@ -135,10 +138,29 @@ pub record WasShut (was_open : Bool) (x y : HeldBatch) : Type 0 where
   pub effect : DidNothing x y × ((view_of y.end).seen.object.shut ≡ true)
   pub trace : ShutNow (view_of x.end) was_open (view_of y.end)
 
--- the queue is closed; the `c.left` items left are at the beginning of the buffer, whose rest is unchanged
+-- the items of the first n numbers that were published, in their order
+abbrev pub PublishedOf : LeftItems → ℕ → List ℕ → Type 0
+PublishedOf left zero xs = xs ≡ []
+PublishedOf left (suc n) xs = (IsPublished left n × (before : List ℕ) × (x : ℕ) × PublishedOf left n before
+    × (slice_get (items_left left) n ≡ Some x) × (xs ≡ before ++ x ∷ []))
+    ⊎ ((IsPublished left n → ⊥) × PublishedOf left n xs)
+
+-- `to` is `past`, or a published batch that begins with the item i ends there; and none that begins there ends later
+abbrev pub Reaches : LeftItems → ℕ → ℕ → ℕ → Type 0
+Reaches left i past to = (past ≤ to) × ((e : ℕ) → IsPublishedFrom left i e → e ≤ to)
+    × ((to ≡ past) ⊎ IsPublishedFrom left i to)
+
+-- the item i is before `past`, and is at this place of the buffer; or it isn't, and nothing was copied
+abbrev pub CopiedNext : LeftItems → ℕ → ℕ → ℕ → List ℕ → List ℕ → ℕ → Type 0
+CopiedNext left i past place old new next = ((past ≤ i) × (next ≡ place) × (new ≡ old))
+    ⊎ ((i < past) × (next ≡ place + 1)
+    × (x : ℕ) × (slice_get (items_left left) i ≡ Some x) × (new ≡ slice_set old place x))
+
+-- The queue is closed; the `c.left` items left are at the beginning of the buffer, whose rest is unchanged. Each put
+-- returned, so none is broken
 abbrev pub ClosedInto : List ℕ → List ℕ → SynthBatchClosed → BatchQueue → BatchEnd → Type 0
 ClosedInto old new c queue end = (c.left ≤ room_of queue) × IsKeptFrom c.left old new
-    × ClosedNow (view_of end) c.put c.taken (take c.left new)
+    × ClosedNow (view_of end) c.put c.taken (take c.left new) × (c.broken ≡ 0)
 
 -- the end has all parts, and closed the queue; or the end and the buffer are unchanged
 abbrev pub Ended : List ℕ → List ℕ → Result SynthBatchClosed HeldBatch → HeldBatch → Type 0

@@ -38,6 +38,8 @@ pub const NOT_SERVED: i32 = 14;
 
 pub const ALL_WOKEN: i32 = 15;
 
+pub const BROKEN: i32 = 18;
+
 pub const RUN: i32 = 20;
 
 pub const LEFT: i32 = 21;

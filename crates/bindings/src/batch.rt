@@ -6,14 +6,14 @@ ghost use Rattle.bindings.specs.Handles.{Batch};
 ghost use Rattle.bindings.specs.BatchHeld.{IsCapacity, IsNewBatch, SplitBy, Joined, AreOfOneQueue, places_of, Put};
 ghost use Rattle.bindings.specs.BatchHeld.{PutSome, Took, TookUpTo, Counted, WasShut, found_by, WasLookedAt};
 ghost use Rattle.bindings.specs.BatchCalls.{ReportsPut, ReportsPutSome, ReportsTake, code_of_put, positions_of_put};
-ghost use Rattle.bindings.specs.BatchCalls.{WasClosed};
+ghost use Rattle.bindings.specs.BatchCalls.{IsClosedCode, WasClosed};
 ghost use Rattle.bindings.specs.Shares.{HasTwo, HasNoTwo, IsOneMark};
 
 mod closing;
 pub mod held;
 
 use crate::answer::{
-    BAD_NUMBER, CLOSED, DONE, EMPTY, EMPTY_HANDLE, FULL, FULL_HANDLE, LOST, NO_ITEMS, OPEN,
+    BAD_NUMBER, BROKEN, CLOSED, DONE, EMPTY, EMPTY_HANDLE, FULL, FULL_HANDLE, LOST, NO_ITEMS, OPEN,
     SHORT_BUFFER, SPENT, TOO_LONG,
 };
 use crate::ends::{fill, free, join, split};
@@ -124,6 +124,13 @@ pub struct SynthBatchLook {
     pub published: u64,
     pub head: u64,
     pub shut: bool,
+}
+
+// The code of a closed queue.
+fn code_of_closed(closed: &SynthBatchClosed) -> i32
+    ensures { IsClosedCode closed.now result }
+{
+    if closed.broken == 0 { DONE } else { BROKEN }
 }
 
 // The result of the look, as C has it.
@@ -345,8 +352,9 @@ pub extern "C" fn synth_raw_batch_close(
     match HeldBatch::unwrap(payload).close(left) {
         Ok(reported) => {
             let _alloc = room.free();
+            let code = code_of_closed(&reported);
             *closed = reported;
-            DONE
+            code
         }
         Err(held) => {
             batch.put(Loose::fill(room, Payload::Batch(held)).into_box());

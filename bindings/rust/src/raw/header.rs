@@ -138,7 +138,7 @@ fn each_struct_lies_in_memory_as_that_of_the_header() {
         synth_hand: Hand { at, full }
         synth_positions: Positions { head, tail }
         synth_batch_status: BatchStatus { tail, published, head, shut }
-        synth_batch_totals: BatchClosed { put, taken, left }
+        synth_batch_totals: BatchClosed { put, taken, left, broken }
         synth_queue_status: QueueStatus { tail, head, raised, shut }
         synth_queue_totals: Closed { first, put, taken, left }
         synth_chain_totals: Chained { put, run }

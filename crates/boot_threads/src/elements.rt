@@ -30,9 +30,8 @@ fn take_free<R: Wait>(rt: &R, threads: &ThreadTable, hand: &mut Hand, element: E
         if hand.holds(element) {
             return;
         }
-        if threads.try_free(hand).is_err() {
-            backoff.spin();
-        }
+        let _taken = threads.try_free(hand);
+        backoff.spin();
     }
 }
 

@@ -10,5 +10,5 @@ loop-preserved g c = record {
   steps = search rules;
   its = search rules;
   same = search rules;
-  took = took_on (view_of c.args.hand.now) (view_of c.loop.hand) (view_of c.try_free.new.hand) c.loop.invariant.took (take_took (call_of c.loop.hand) (view_of c.loop.hand) (view_of c.try_free.new.hand) c.try_free.result c.loop.hand.valid c.try_free.new.hand.valid c.try_free.ensures.trace);
+  took = took_on (view_of c.args.hand.now) (view_of c.loop.hand) (view_of c.try_free-taken.new.hand) c.loop.invariant.took (take_took (call_of c.loop.hand) (view_of c.loop.hand) (view_of c.try_free-taken.new.hand) c.try_free-taken.result c.loop.hand.valid c.try_free-taken.new.hand.valid c.try_free-taken.ensures.trace);
 }

@@ -112,7 +112,7 @@ const char *synth_code_text(synth_code code)
     case SYNTH_TAKEN:
         return "another hand has taken the element";
     case SYNTH_BROKEN:
-        return "the queue is ended, and a put of it never ended: its items are missing";
+        return "the queue is ended, and a put of it never ended";
     case SYNTH_RUN:
         return "the note is chained, and this handle runs notes from now on";
     case SYNTH_LEFT:
